@@ -1,0 +1,112 @@
+//! A run of the program: from the words of its command line to what it prints and its exit status.
+use crate::bytes::{read_bytes, write_text};
+use crate::command::{Place, Request, read_request};
+use crate::place::run_place;
+use crate::status::{Output, Status};
+use clap::Error;
+use clap::error::ErrorKind;
+use fs_kinds::Fault;
+use std::fs::File;
+use std::process::ExitCode;
+use std::rt::{Env, Files};
+use std::{env, io};
+
+/// Tests and prices are read up to this many bytes.
+const INPUT_LIMIT: usize = 1_048_576;
+
+/// Does what the process's command line asks for, and answers the exit status: 0 where it was done, 2 for a fault or a
+/// bad command line, 3 where memory ran out. A fault or a bad command line prints on standard error, and nothing on
+/// standard output unless it was standard output that failed.
+pub fn run<R: Env + Files + Input + Print + Eprint + AllocGlobal>(rt: &R) -> ExitCode {
+    ExitCode::from(status_of_run(rt).code())
+}
+
+fn status_of_run<R: Env + Files + Input + Print + Eprint + AllocGlobal>(rt: &R) -> Status {
+    let words = match words(rt) {
+        Ok(words) => words,
+        Err(status) => return status,
+    };
+    let request = match read_request(rt.alloc(), words.as_slice()) {
+        Ok(request) => request,
+        Err(error) => return explain(rt, &error),
+    };
+    match answer(rt, &request) {
+        Ok(output) => match write_text(&mut io::writer(rt), output.text.as_bytes()) {
+            Ok(()) => output.status,
+            Err(fault) => report(rt, fault),
+        },
+        Err(fault) => report(rt, fault),
+    }
+}
+
+/// The words of the command line, the program's name first.
+fn words<R: Env + Eprint + AllocGlobal>(rt: &R) -> Result<Vec<String>, Status> {
+    let refused = match env::args(rt) {
+        Ok(words) => match words.collect(rt.alloc()) {
+            Ok(words) => return Ok(words),
+            Err(_) => return Err(report(rt, Fault::Memory)),
+        },
+        Err(refused) => refused,
+    };
+    if refused.kind() == io::ErrorKind::OutOfMemory {
+        return Err(report(rt, Fault::Memory));
+    }
+    let _ = rt.eprintln("error: a word of the command line is not UTF-8");
+    Err(Status::Failure)
+}
+
+/// Prints why there is no request: help on standard output, anything else on standard error.
+fn explain<R: Print + Eprint>(rt: &R, error: &Error) -> Status {
+    if matches!(error.kind(), ErrorKind::OutOfMemory) {
+        return report(rt, Fault::Memory);
+    }
+    let printed = error.print(rt);
+    if error.use_stderr() {
+        return Status::Failure;
+    }
+    match printed {
+        Ok(()) => Status::Success,
+        Err(_) => report(rt, Fault::WriteFault),
+    }
+}
+
+/// Prints the fault's line on standard error. Where that fails too, the status alone tells.
+fn report<R: Eprint>(rt: &R, fault: Fault) -> Status {
+    let _ = rt.eprintln(fault);
+    Status::of_fault(fault)
+}
+
+fn answer<R: Files + Input + AllocGlobal>(rt: &R, request: &Request<'_>) -> Result<Output, Fault> {
+    match request {
+        Request::Place(place) => answer_place(rt, place),
+    }
+}
+
+fn answer_place<R: Files + Input + AllocGlobal>(
+    rt: &R,
+    place: &Place<'_>,
+) -> Result<Output, Fault> {
+    let test = read_input(rt, place.test)?;
+    let prices = match place.prices {
+        Some(path) => Some(read_file(rt, path)?),
+        None => None,
+    };
+    let prices = prices.as_ref().map(|bytes| bytes.as_slice());
+    run_place(rt.alloc(), &test, prices, &place.fences)
+}
+
+/// The bytes of a test: of standard input where it is called `stdin`, else of the file.
+fn read_input<R: Files + Input + AllocGlobal>(rt: &R, path: &str) -> Result<Vec<u8>, Fault> {
+    if path == "stdin" {
+        return read_bytes(rt.alloc(), &mut rt.reader(), INPUT_LIMIT);
+    }
+    read_file(rt, path)
+}
+
+/// The bytes of the file, where there are at most `INPUT_LIMIT`. One that can't be opened is a `ReadFault`.
+fn read_file<R: Files + AllocGlobal>(rt: &R, path: &str) -> Result<Vec<u8>, Fault> {
+    match File::open(rt, path) {
+        Ok(mut file) => read_bytes(rt.alloc(), &mut file, INPUT_LIMIT),
+        Err(_) => Err(Fault::ReadFault),
+    }
+}

@@ -1,0 +1,6 @@
+pub mod FirstFault
+pub mod CellLemmas
+pub mod ColumnLemmas
+pub mod LabelLemmas
+pub mod CodeLemmas
+pub mod HartLemmas

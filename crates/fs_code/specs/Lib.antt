@@ -1,0 +1,5 @@
+pub mod Order
+pub mod Cells
+pub mod Columns
+pub mod Labels
+pub mod Codes

@@ -1,0 +1,17 @@
+//! From the cells of a litmus test's rows to each hart's code: labels, instructions and branch targets.
+#![tactic(auto)]
+
+mod branches;
+mod cell;
+mod codes;
+mod column;
+mod hart;
+mod labels;
+mod order;
+mod slices;
+
+pub use codes::read_codes;
+pub use hart::HartCode;
+
+#[cfg(test)]
+mod tests;

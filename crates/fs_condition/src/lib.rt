@@ -1,0 +1,14 @@
+//! The condition of a litmus test: from tokens to a tree.
+#![tactic(auto)]
+
+mod atom;
+mod condition;
+mod layer;
+mod part;
+mod reader;
+
+pub use condition::{Atom, Condition, Tree};
+pub use reader::read_condition;
+
+#[cfg(test)]
+mod tests;

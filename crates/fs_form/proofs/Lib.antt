@@ -1,0 +1,10 @@
+pub mod Answering
+pub mod InitResidual
+pub mod InitReading
+pub mod HeaderResidual
+pub mod RowsResidual
+pub mod RowsReading
+pub mod Cells
+pub mod Columns
+pub mod Joining
+pub mod FormReading

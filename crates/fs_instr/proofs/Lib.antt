@@ -1,0 +1,10 @@
+pub mod Spelling
+pub mod Lengths
+pub mod TextLemmas
+pub mod RoundTrip
+pub mod Printed
+pub mod ReadsBack
+pub mod OfTableLemmas
+pub mod PrintedWords
+pub mod PrintedParts
+pub mod DistinctNames

@@ -1,0 +1,12 @@
+pub mod Rows
+pub mod Names
+pub mod Registers
+pub mod FenceLetters
+pub mod Operands
+pub mod Instructions
+pub mod Reading
+pub mod Writing
+pub mod OfTable
+pub mod Spelled
+pub mod Texts
+pub mod PrintedTokens

@@ -1,0 +1,11 @@
+pub mod Lists
+pub mod Trimming
+pub mod Naming
+pub mod Places
+pub mod Ranges
+pub mod Jumps
+pub mod Forward
+pub mod Kept
+pub mod Interpreting
+pub mod CodeFaults
+pub mod Reading

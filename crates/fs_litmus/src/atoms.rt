@@ -1,0 +1,78 @@
+//! The condition, in terms of a test's harts, registers and locations.
+
+ghost use Rattle.std.specs.Prelude.{◌≡◌, ◌≤◌, ◌<◌, length, option_map, IfOk, IfSome, Some};
+ghost use Rattle.fs_condition.specs.Views.{tree_of};
+ghost use Rattle.fs_syntax.specs.Condition.{condition_of, SpeaksOf};
+ghost use Rattle.fs_litmus.specs.Settings.{setting_of, IsThere};
+ghost use Rattle.fs_litmus.specs.Atoms.{atom_at, condition_in};
+
+use crate::names::Names;
+use crate::settings::{Place, setting_of};
+use fs_condition::Tree;
+use fs_instr::Reg;
+use fs_syntax::Outcome;
+use std::alloc::{AllocError, Global};
+
+// The register or location has the word at the end.
+fn outcome_at(columns: usize, names: &Names, place: Place, word: u32) -> Outcome
+    requires harts { columns ≤ 8 }
+    requires locations { length names.now ≤ 8 }
+    requires there { IsThere columns (length names.now) place }
+    ensures value { condition_of result ≡ atom_at place word }
+    ensures there { SpeaksOf columns (length names.now) (condition_of result) }
+{
+    match place {
+        Place::Register(hart, register) => Outcome::register_is(hart as u8, Reg::x(register), word),
+        Place::Location(location) => Outcome::LocationIs {
+            location: location as u8,
+            word,
+        },
+    }
+}
+
+/// The condition that a tree is, in a test of at most 8 harts and 8 locations; nothing where an atom names what isn't there.
+/// Recursion goes as deep as the tree, whose depth is at most 64.
+pub fn outcome_of(
+    alloc: Global,
+    columns: usize,
+    names: &Names,
+    tree: &Tree,
+) -> Result<Option<Outcome>, AllocError>
+    requires harts { columns ≤ 8 }
+    requires locations { length names.now ≤ 8 }
+    ensures value { IfOk result (λ o. option_map condition_of o ≡ condition_in columns names.now (tree_of tree.now)) }
+    ensures there { IfOk result (λ o. IfSome o (λ x. SpeaksOf columns (length names.now) (condition_of x))) }
+{
+    match tree {
+        Tree::Atom(atom) => match setting_of(columns, names, atom.target, atom.value) {
+            Some(setting) => Ok(Some(outcome_at(columns, names, setting.place, setting.word))),
+            None => Ok(None),
+        },
+        Tree::True => Ok(Some(Outcome::Always)),
+        Tree::False => Ok(Some(Outcome::Never)),
+        Tree::Deny(inner) => match outcome_of(alloc, columns, names, inner)? {
+            Some(outcome) => Ok(Some(Outcome::Deny(Box::new(alloc, outcome)?))),
+            None => Ok(None),
+        },
+        Tree::Both(left, right) => {
+            let Some(left) = outcome_of(alloc, columns, names, left)? else {
+                return Ok(None);
+            };
+            let Some(right) = outcome_of(alloc, columns, names, right)? else {
+                return Ok(None);
+            };
+            let left = Box::new(alloc, left)?;
+            Ok(Some(Outcome::Both(left, Box::new(alloc, right)?)))
+        }
+        Tree::Either(left, right) => {
+            let Some(left) = outcome_of(alloc, columns, names, left)? else {
+                return Ok(None);
+            };
+            let Some(right) = outcome_of(alloc, columns, names, right)? else {
+                return Ok(None);
+            };
+            let left = Box::new(alloc, left)?;
+            Ok(Some(Outcome::Either(left, Box::new(alloc, right)?)))
+        }
+    }
+}

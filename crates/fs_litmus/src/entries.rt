@@ -1,0 +1,73 @@
+//! The block of initial values, as settings.
+
+ghost use Rattle.std.specs.Prelude.{◌≡◌, ◌++◌, ◌∷◌, IfOk, IfErr, IfSome, IsTrue, not, option_and_then, Some, [], List};
+ghost use Rattle.std.specs.List.{list_any};
+ghost use Rattle.fs_form.specs.Init.{entries_of};
+ghost use Rattle.fs_litmus.specs.Reads.{IsReaderFault};
+ghost use Rattle.fs_litmus.specs.Settings.{entry_bindings, settings_after, is_x0, same_place, fresh};
+
+use crate::names::Names;
+use crate::settings::{Place, Setting, setting_of};
+use fs_form::Entry;
+use fs_kinds::Fault;
+use indexmap::IndexSet;
+use std::alloc::{AllocError, Global};
+
+fn is_x0(place: Place) -> bool
+    ensures { result ≡ is_x0 place }
+{
+    match place {
+        Place::Register(_, register) => register == 0,
+        Place::Location(_) => false,
+    }
+}
+
+// Is the place new? It is among those that were seen from then on.
+fn see(seen: &mut IndexSet<Place>, place: Place) -> Result<bool, AllocError>
+    ensures added { IfOk result (λ new. new ≡ not (list_any (same_place place) seen.old.keys)) }
+    ensures keys { IfOk result (λ new. IsTrue new → seen.new.keys ≡ seen.old.keys ++ place ∷ []) }
+{
+    Ok(seen.insert(place)?)
+}
+
+// The setting, unless it is of x0 or of a place that was seen. Its place is among those that were seen from then on.
+fn fresh(seen: &mut IndexSet<Place>, found: Option<Setting>) -> Result<Option<Setting>, AllocError>
+    ensures value { IfOk result (λ s. s ≡ option_and_then (fresh seen.old.keys) found) }
+    ensures keys { IfOk result (λ r. IfSome r (λ s. seen.new.keys ≡ seen.old.keys ++ s.place ∷ [])) }
+{
+    let Some(setting) = found else {
+        return Ok(None);
+    };
+    if is_x0(setting.place) {
+        return Ok(None);
+    }
+    if see(seen, setting.place)? {
+        Ok(Some(setting))
+    } else {
+        Ok(None)
+    }
+}
+
+/// What the entries of the block of initial values set. F7, with the line of the first token of the entry's target, at the
+/// first entry with a hart that has no column, an unknown register, x0, a number out of range, or a target a second time;
+/// F19. Linear in the entries.
+pub fn read_settings(
+    alloc: Global,
+    columns: usize,
+    names: &Names,
+    entries: &[Entry],
+) -> Result<Vec<Setting>, Fault>
+    ensures ok { IfOk result (λ v. settings_after columns names.now [] (entry_bindings (entries_of entries.now)) ≡ Some v.items) }
+    ensures err { IfErr result IsReaderFault }
+{
+    let mut settings = Vec::new(alloc);
+    let mut seen = IndexSet::new(alloc);
+    for entry in entries {
+        let found = setting_of(columns, names, entry.target, entry.value);
+        let Some(setting) = fresh(&mut seen, found)? else {
+            return Err(Fault::BadInit { line: entry.line });
+        };
+        settings.push(setting)?;
+    }
+    Ok(settings)
+}

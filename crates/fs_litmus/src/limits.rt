@@ -1,0 +1,79 @@
+//! The limits of a test.
+
+ghost use Rattle.std.specs.Prelude.{◌≡◌, ◌≤◌, List, All, length, map, sum_by, count_by, true, false, MatchOption, IfOk, IfSome, IsTrue};
+ghost use Rattle.std.specs.List.{list_all};
+ghost use Rattle.fs_instr.specs.declared.instr.Instr.{Instr};
+ghost use Rattle.fs_code.specs.Codes.{AreKept};
+ghost use Rattle.fs_instr.specs.Instructions.{is_memory};
+ghost use Rattle.fs_litmus.specs.Kept.{instrs_of, is_short};
+
+use fs_code::HartCode;
+use fs_instr::Instr;
+use fs_syntax::Code;
+use std::alloc::{AllocError, Global};
+
+/// The most harts of a test.
+pub const HARTS: usize = 8;
+
+/// The most memory instructions of a test, in all harts together.
+pub const ACCESSES: usize = 48;
+
+/// The most locations of a test.
+pub const LOCATIONS: usize = 8;
+
+// The code that is kept; nothing where it has more than 32 instructions.
+fn kept_code(alloc: Global, kept: &HartCode) -> Result<Option<Code>, AllocError>
+    ensures { IfOk result (λ o. MatchOption o (is_short kept.now ≡ false) (λ c. (c ≡ instrs_of kept.now) × (is_short kept.now ≡ true))) }
+{
+    match kept {
+        HartCode::Short(instrs) => Ok(Some(Code::new(Vec::from_slice(alloc, instrs)?))),
+        HartCode::Long(_) => Ok(None),
+    }
+}
+
+// The code of each hart; nothing where one has more than 32 instructions.
+fn kept_codes(alloc: Global, kept: &[HartCode]) -> Result<Option<Vec<Code>>, AllocError>
+    ensures { IfOk result (λ o. IfSome o (λ v. (v.items ≡ map instrs_of kept.now) × (list_all is_short kept.now ≡ true))) }
+{
+    let mut codes = Vec::new(alloc);
+    for hart in kept {
+        match kept_code(alloc, hart)? {
+            Some(code) => codes.push(code)?,
+            None => return Ok(None),
+        }
+    }
+    Ok(Some(codes))
+}
+
+/// The code of each hart; nothing where one has more than 32 instructions.
+pub fn short_codes(alloc: Global, kept: &[HartCode]) -> Result<Option<Vec<Code>>, AllocError>
+    ensures codes { IfOk result (λ o. IfSome o (λ v. (codes : List (List Instr)) → AreKept codes kept.now → v.items ≡ codes)) }
+    ensures within { IfOk result (λ o. IfSome o (λ v. (codes : List (List Instr)) → AreKept codes kept.now → All (λ code. length code ≤ 32) codes)) }
+{
+    match kept_codes(alloc, kept)? {
+        Some(codes) => Ok(Some(codes)),
+        None => Ok(None),
+    }
+}
+
+fn access_count(code: &[Instr]) -> usize
+    ensures value { result ≡ count_by is_memory code.now }
+    ensures within { result ≤ length code.now }
+{
+    code.iter().filter(|instr| instr.is_memory()).count()
+}
+
+/// Have the codes at most 48 memory instructions in all?
+pub fn has_few_accesses(codes: &[Code]) -> bool
+    ensures { IsTrue result → sum_by (count_by is_memory) codes.now ≤ 48 }
+{
+    let mut total = 0;
+    for code in codes {
+        let count = access_count(code.as_slice());
+        if count > ACCESSES - total {
+            return false;
+        }
+        total += count;
+    }
+    true
+}

@@ -1,0 +1,88 @@
+//! Registers and locations that have a value, and the words that are written for them.
+
+ghost use Rattle.std.specs.Prelude.{◌≡◌, ℕ, IfSome, length};
+ghost use Rattle.fs_tokens.specs.Values.{target_of, value_of};
+ghost use Rattle.fs_litmus.specs.Settings.{signed, address_of, word_of, register_place, place_of, setting_of, IsThere};
+
+use crate::names::Names;
+use fs_instr::Reg;
+use fs_tokens::{Target, Value, number_of};
+
+/// A register of a hart, or a location by its number.
+#[derive(Clone, Copy, Debug, PartialEq, Eq, Hash)]
+pub enum Place {
+    Register(u32, u8),
+    Location(usize),
+}
+
+/// A register or location with a word.
+#[derive(Clone, Copy, Debug)]
+pub struct Setting {
+    pub place: Place,
+    pub word: u32,
+}
+
+fn signed(negative: bool, number: u32) -> Option<u32>
+    ensures { result ≡ signed negative number }
+{
+    if !negative {
+        return Some(number);
+    }
+    if number > 1 << 31 {
+        return None;
+    }
+    Some(number.wrapping_neg())
+}
+
+fn address_of(location: usize) -> u32
+    ensures { result ≡ address_of location }
+{
+    let within = location % (1 << 28);
+    ((4096 + 16 * within) % (1 << 32)) as u32
+}
+
+/// The word that a value means; nothing for a number out of range, -2147483648 to 4294967295, and for a name that isn't
+/// declared.
+pub fn word_of(names: &Names, value: Value) -> Option<u32>
+    ensures { result ≡ word_of names.now (value_of value.entry) }
+{
+    match value {
+        Value::Number { negative, digits } => signed(negative, number_of(digits)?),
+        Value::Address(name) => Some(address_of(names.number_of(name)?)),
+    }
+}
+
+fn register_place(columns: usize, hart: u32, register: Reg) -> Option<Place>
+    ensures value { result ≡ register_place columns hart register }
+    ensures within { IfSome result (λ p. (locations : ℕ) → IsThere columns locations p) }
+{
+    if (hart as usize) < columns {
+        Some(Place::Register(hart, register.number()))
+    } else {
+        None
+    }
+}
+
+/// The register or location that a target means; nothing for a hart without a column, for an unknown register, and for a
+/// name that isn't declared.
+pub fn place_of(columns: usize, names: &Names, target: Target) -> Option<Place>
+    ensures value { result ≡ place_of columns names.now (target_of target.entry) }
+    ensures within { IfSome result (λ p. IsThere columns (length names.now) p) }
+{
+    match target {
+        Target::Register { hart, register } => {
+            register_place(columns, number_of(hart)?, Reg::of(register)?)
+        }
+        Target::Location(name) => Some(Place::Location(names.number_of(name)?)),
+    }
+}
+
+/// The register or location of a binding, and its word.
+pub fn setting_of(columns: usize, names: &Names, target: Target, value: Value) -> Option<Setting>
+    ensures value { result ≡ setting_of columns names.now (target_of target.entry, value_of value.entry) }
+    ensures within { IfSome result (λ s. IsThere columns (length names.now) s.place) }
+{
+    let place = place_of(columns, names, target)?;
+    let word = word_of(names, value)?;
+    Some(Setting { place, word })
+}

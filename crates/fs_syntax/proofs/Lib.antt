@@ -1,0 +1,10 @@
+pub mod AccessSteps
+pub mod Assembled
+pub mod Conditions
+pub mod FencedSteps
+pub mod Numbered
+pub mod Rising
+pub mod SlotLists
+pub mod SmallTest
+pub mod Tested
+pub mod Texts

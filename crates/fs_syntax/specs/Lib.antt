@@ -1,0 +1,6 @@
+pub mod Condition
+pub mod Fenced
+pub mod Placed
+pub mod Printed
+pub mod Slots
+pub mod Test

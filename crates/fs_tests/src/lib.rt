@@ -1,0 +1,11 @@
+//! Tests that cross crates: what whole commands answer on tests known from the literature, and on bad input.
+#![tactic(auto)]
+
+#[cfg(test)]
+mod bytes;
+#[cfg(test)]
+mod litmus;
+#[cfg(test)]
+mod place;
+#[cfg(test)]
+mod prices;

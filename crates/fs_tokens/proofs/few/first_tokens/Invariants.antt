@@ -1,0 +1,16 @@
+use Rattle.std.proofs.Common.{◌+◌, ◌≤◌, ◌++◌, ℕ, List, Bool, length}
+use Rattle.fs_tokens.specs.Tokens.{Lined, AreTokens}
+use Rattle.fs_tokens.specs.Few.{AreFirst}
+use Rattle.fs_tokens.proofs.few.first_tokens.Given as goal
+
+abbrev pub invariant-loop-first : goal.invariant-loop-first
+invariant-loop-first l = record {
+  room : l.line + length l.rest ≤ length l.text;
+  counted : l.len + length l.rest ≤ length l.text;
+  seen : List Lined;
+  first : AreFirst l.tokens l.len seen;
+  more : (ts : List Lined) (closed : Bool) → AreTokens l.rest l.line ts closed → AreTokens l.text 0 (seen ++ ts) closed;
+}
+
+abbrev pub decreases-loop-first : goal.decreases-loop-first
+decreases-loop-first l = length l.rest
