@@ -8,7 +8,8 @@ use Rattle.fs_kinds.specs.PriceObject.{ArePrices, IsPriceFault, price_in}
 use Rattle.fs_kinds.specs.declared.kind.Kind.TheVariants.{RwRw}
 use Rattle.fs_kinds.specs.PriceTable.{PriceTable}
 use Rattle.fs_syntax.specs.declared.test.Test.{Test}
-use Rattle.fs_litmus.specs.Reads.{Reads, IsTestFault}
+use Rattle.fs_litmus.specs.Reads.{Reads}
+use Rattle.fs_litmus.specs.Faults.{IsTestFault}
 use Rattle.fs_app.specs.Place.{ArePriced, IsPricesFault, IsBadFences, IsFirstFault, of_prices, of_test, of_fences, of_memory, no_prices, no_top}
 
 pub is_memory : (f : Fault) → (f ≡ Memory) ⊎ (f ≢ Memory)

@@ -12,7 +12,8 @@ use Rattle.fs_syntax.specs.Fenced.{fenced}
 use Rattle.fs_syntax.specs.Placed.{IsNoFence, IsPlaced}
 use Rattle.fs_syntax.specs.Printed.{printed}
 use Rattle.fs_syntax.specs.Slots.{slots}
-use Rattle.fs_litmus.specs.Reads.{Reads, IsTestFault}
+use Rattle.fs_litmus.specs.Reads.{Reads}
+use Rattle.fs_litmus.specs.Faults.{IsTestFault}
 
 -- the table is that of the given prices, or none was given
 abbrev pub ArePriced : Option (List ℕ) → Option PriceTable → Type 0

@@ -3,7 +3,7 @@ use Rattle.std.proofs.Common.{◌≡◌, ℕ, ◌<◌, ◌≤◌, ◌⊎◌, inl
 use Rattle.std.proofs.lemmas.Bool.Decides.{nat_tests}
 use Rattle.fs_kinds.specs.FaultLine.{number}
 use Rattle.fs_kinds.specs.declared.fault.Fault.{Fault}
-use Rattle.fs_code.specs.Order.{line_of, IsNoLater, IsFirst, IsFirstOf, is_earlier, earliest}
+use Rattle.fs_code.specs.Order.{rank_of, IsNoLater, IsFirst, IsFirstOf, is_earlier, earliest}
 
 abbrev pub NoLater : ℕ → ℕ → ℕ → ℕ → Type 0
 NoLater a x b y = (a < b) ⊎ ((a ≡ b) × (x ≤ y))
@@ -21,7 +21,7 @@ joined a b c x y z (inr h) (inl k) = inl (omega arith)
 joined a b c x y z (inr h) (inr k) = inr (omega arith, omega arith)
 
 then : (f g h : Fault) → IsNoLater f g → IsNoLater g h → IsNoLater f h
-then f g h p q = joined (number f) (number g) (number h) (line_of f) (line_of g) (line_of h) p q
+then f g h p q = joined (number f) (number g) (number h) (rank_of f) (rank_of g) (rank_of h) p q
 
 -- ---- one kind of fault for another
 
@@ -56,8 +56,8 @@ module _ (P R Q : Fault → Type 0) (pq : (g : Fault) → P g → Q g) (rq : (g 
   left_first f e r p h g (inr k) = then e f g h (r.first g k)
 
   first_of_two : (f e : Fault) → IsFirst R f → IsFirst P e → (b : Bool) → is_earlier f e ≡ b → IsFirst Q (cond b f e)
-  first_of_two f e r p true h = record { is = rq f r.is; first = λ g q. right_first f e r p (lesser (number f) (number e) (line_of f) (line_of e) h) g (qs g q) }
-  first_of_two f e r p false h = record { is = pq e p.is; first = λ g q. left_first f e r p (not_lesser (number f) (number e) (line_of f) (line_of e) h) g (qs g q) }
+  first_of_two f e r p true h = record { is = rq f r.is; first = λ g q. right_first f e r p (lesser (number f) (number e) (rank_of f) (rank_of e) h) g (qs g q) }
+  first_of_two f e r p false h = record { is = pq e p.is; first = λ g q. left_first f e r p (not_lesser (number f) (number e) (rank_of f) (rank_of e) h) g (qs g q) }
 
   -- the first of two kinds
   pub first_join : (o r : Option Fault) → IsFirstOf P o → IsFirstOf R r → IsFirstOf Q (earliest o r)

@@ -38,7 +38,7 @@ pub data IsCell : List Lined → List Item → Type 0 where
   labels : {ts : List Lined} {xs : List Item} → AreLabels ts xs [] → IsCell ts xs
   instruction : {ts rest : List Lined} {xs ys : List Item} {t : Tok} {line : ℕ} {i : Instr} {target : Option (List ℕ)} → AreLabels ts xs ((t, line) ∷ rest) → Spells (t ∷ without_lines rest) i target → ys ≡ xs ++ Instruction i target line ∷ [] → IsCell ts ys
 
--- neither an instruction, nor one of the two that are left out, nor begun by a word that is no mnemonic
+-- neither an instruction, nor an lr.w.rl or sc.w.aq, nor begun by a word that is no mnemonic
 pub record IsMalformed (ts : List Tok) : Type 0 where
   pub no_instruction : (i : Instr) (target : Option (List ℕ)) → ¬ Spells ts i target
   pub known : ¬ IsUnknown ts

@@ -1,19 +1,34 @@
 //! Which of two faults is given.
 
 ghost use Rattle.std.specs.Prelude.{◌≡◌};
-ghost use Rattle.fs_code.specs.Order.{line_of, is_earlier, earliest};
+ghost use Rattle.fs_code.specs.Order.{limit_rank, rank_of, is_earlier, earliest};
 
-use fs_kinds::Fault;
+use fs_kinds::{Fault, Limit};
 
-// The line of a fault of a cell or a label.
-fn line_of(fault: Fault) -> usize
-    ensures { result ≡ line_of fault }
+// The place of a limit among the limits.
+fn limit_rank(limit: Limit) -> usize
+    ensures { result ≡ limit_rank limit }
+{
+    match limit {
+        Limit::Harts => 0,
+        Limit::Instructions => 1,
+        Limit::Accesses => 2,
+        Limit::Locations => 3,
+        Limit::Depth => 4,
+    }
+}
+
+// Where a fault of a test file stands among those of its number: its line, or the place of its limit.
+fn rank_of(fault: Fault) -> usize
+    ensures { result ≡ rank_of fault }
 {
     match fault {
         Fault::Syntax { line }
         | Fault::UnknownInstr { line }
         | Fault::BadAnnotation { line }
-        | Fault::BadLabel { line } => line,
+        | Fault::BadLabel { line }
+        | Fault::BadInit { line } => line,
+        Fault::TooBig { what } => limit_rank(what),
         _ => 0,
     }
 }
@@ -22,7 +37,7 @@ fn is_earlier(fault: Fault, than: Fault) -> bool
     ensures { result ≡ is_earlier fault than }
 {
     fault.number() < than.number()
-        || fault.number() == than.number() && line_of(fault) < line_of(than)
+        || fault.number() == than.number() && rank_of(fault) < rank_of(than)
 }
 
 /// The first of two faults, that of the lesser number, and of one number that of the lesser line; or the one that was found.

@@ -1,5 +1,6 @@
 pub mod Spelling
 pub mod Lengths
+pub mod PlainTokens
 pub mod TextLemmas
 pub mod RoundTrip
 pub mod Printed

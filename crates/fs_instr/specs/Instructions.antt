@@ -12,8 +12,6 @@ use Rattle.fs_instr.specs.declared.operands.Part.TheVariants.{Rd, First, Second,
 use Rattle.fs_instr.specs.declared.instr.Instr.{Instr}
 use Rattle.fs_instr.specs.declared.instr.Instr.TheVariants as instr
 use Rattle.fs_instr.specs.declared.instr.Roles.{Roles}
-use Rattle.fs_instr.specs.declared.instr.Roles.{Roles}
-use Rattle.fs_instr.specs.declared.instr.Roles.{Roles}
 
 abbrev pub comma : Part
 comma = Sign Comma

@@ -1,6 +1,7 @@
 -- Which text spells which instruction.
 use Rattle.std.specs.Prelude.{◌≡◌, ℕ, List, Option, option_map, Result, Ok, Err, true}
 use Rattle.fs_tokens.specs.Tokens.{Tok, Lined, AreTokens, without_lines}
+use Rattle.fs_tokens.specs.Few.{are_plain}
 use Rattle.fs_kinds.specs.declared.fault.Fault.{Fault}
 use Rattle.fs_kinds.specs.declared.fault.Fault.TheVariants.{Syntax, UnknownInstr, BadAnnotation}
 use Rattle.fs_instr.specs.Reading.{Outcome}
@@ -17,14 +18,18 @@ HasTokens text P = (ts : List Lined) × AreTokens text 0 ts true × P (without_l
 abbrev pub SpellsText : List ℕ → Instr → Option (List ℕ) → Type 0
 SpellsText text i l = HasTokens text (λ ts. Spells ts i l)
 
--- the text spells no instruction, and its first word isn't what is wrong with it
+-- the text is of words and marks, and its first word names no row
+abbrev pub IsUnknownText : List ℕ → Type 0
+IsUnknownText text = HasTokens text (λ ts. (are_plain ts ≡ true) × IsUnknown ts)
+
+-- the text spells no instruction, and its first word isn't all that is wrong with it
 abbrev pub IsNoForm : List ℕ → Type 0
-IsNoForm text = ((i : Instr) (l : Option (List ℕ)) → ¬ SpellsText text i l) × (¬ HasTokens text IsUnknown) × (¬ HasTokens text IsUnsupported)
+IsNoForm text = ((i : Instr) (l : Option (List ℕ)) → ¬ SpellsText text i l) × (¬ IsUnknownText text) × (¬ HasTokens text IsUnsupported)
 
 -- the outcome of reading this text is as it says
 abbrev pub TextAnswers : List ℕ → Outcome → Type 0
 TextAnswers text (Ok x) = SpellsText text x.0 x.1
-TextAnswers text (Err Name) = HasTokens text IsUnknown
+TextAnswers text (Err Name) = IsUnknownText text
 TextAnswers text (Err Suffix) = HasTokens text IsUnsupported
 TextAnswers text (Err Form) = IsNoForm text
 
@@ -44,7 +49,7 @@ fault_of Suffix = BadAnnotation 1
 
 abbrev pub HasFault : List ℕ → Fault → Type 0
 HasFault text (Syntax line) = (line ≡ 1) × IsNoForm text
-HasFault text (UnknownInstr line) = (line ≡ 1) × HasTokens text IsUnknown
+HasFault text (UnknownInstr line) = (line ≡ 1) × IsUnknownText text
 HasFault text (BadAnnotation line) = (line ≡ 1) × HasTokens text IsUnsupported
 HasFault text _ = ⊥
 

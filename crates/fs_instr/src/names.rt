@@ -75,32 +75,6 @@ pub struct Ann {
     pub release: bool,
 }
 
-impl Ann {
-    /// No suffix.
-    pub const PLAIN: Ann = Ann {
-        acquire: false,
-        release: false,
-    };
-
-    /// `.aq`.
-    pub const ACQUIRE: Ann = Ann {
-        acquire: true,
-        release: false,
-    };
-
-    /// `.rl`.
-    pub const RELEASE: Ann = Ann {
-        acquire: false,
-        release: true,
-    };
-
-    /// `.aqrl` or `.aq.rl`.
-    pub const BOTH: Ann = Ann {
-        acquire: true,
-        release: true,
-    };
-}
-
 /// A row of the instruction table: a name, or the two of an annotation with both bits. The last five are short for others.
 #[derive(Clone, Copy, Debug, PartialEq, Eq)]
 pub enum Op {

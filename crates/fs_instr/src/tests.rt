@@ -55,6 +55,14 @@ fn names_each_fault(rt: HostRuntime) -> Result<(), Fail> {
     printed(&rt, "fence wr,r", "syntax")?;
     printed(&rt, "beq x5,x6,5", "syntax")?;
     printed(&rt, "nop (* open", "syntax")?;
+    printed(&rt, "foo", "unknown")?;
+    printed(&rt, "foo $", "syntax")?;
+    printed(&rt, "nop $", "syntax")?;
+    printed(
+        &rt,
+        "foo 1 2 3 4 5 6 7 8 9 10 11 12 13 14 15 16 17 18 19 20 $",
+        "syntax",
+    )?;
     printed(&rt, "", "syntax")
 }
 

@@ -30,17 +30,17 @@ cell_spelled : {ts : List Lined} {xs : List Item} → IsCell ts xs → AreSpelle
 cell_spelled (only_labels h) = labels_spelled h
 cell_spelled (with_instruction {ys = ys} h s e) = subst AreSpelled (sym e) (spelled-append (labels_spelled h) (spelled s nothing))
 
-cells_spelled : {cs : List (List Lined)} {xs : List Item} → AreCells cs xs → AreSpelled xs
+pub cells_spelled : {cs : List (List Lined)} {xs : List Item} → AreCells cs xs → AreSpelled xs
 cells_spelled empty = nothing
 cells_spelled (next h k e) = subst AreSpelled (sym e) (spelled-append (cell_spelled h) (cells_spelled k))
 
 -- a label stands within the code
-stands_within : {w : List ℕ} {p line : ℕ} {xs : List Item} → StandsAt w p line xs → p ≤ instruction_count xs
+pub stands_within : {w : List ℕ} {p line : ℕ} {xs : List Item} → StandsAt w p line xs → p ≤ instruction_count xs
 stands_within here = omega arith
 stands_within (past_label h) = stands_within h
 stands_within (past_instruction h) = let k = stands_within h in omega (arith, k)
 
-resolved_length : {hart xs : List Item} {n : ℕ} {code : List Instr} → AreResolved hart n xs code → length code ≡ instruction_count xs
+pub resolved_length : {hart xs : List Item} {n : ℕ} {code : List Instr} → AreResolved hart n xs code → length code ≡ instruction_count xs
 resolved_length none = refl
 resolved_length (label h) = resolved_length h
 resolved_length (plain h) = ap suc (resolved_length h)

@@ -27,7 +27,7 @@ use Rattle.fs_litmus.specs.declared.settings.Place.TheVariants as place
 use Rattle.fs_litmus.specs.declared.settings.Setting.{Setting}
 use Rattle.fs_litmus.proofs.Forward.{goes_forward}
 
-get_or_there : {A : Type 0} (xs : List A) (k : ℕ) (d : A) → k < length xs → slice_get xs k ≡ Some (get_or xs k d)
+pub get_or_there : {A : Type 0} (xs : List A) (k : ℕ) (d : A) → k < length xs → slice_get xs k ≡ Some (get_or xs k d)
 get_or_there [] k d h = absurd (omega arith)
 get_or_there (x ∷ xs) zero d h = refl
 get_or_there (x ∷ xs) (suc k) d h = let low : k < length xs = omega arith in get_or_there xs k d low
@@ -79,12 +79,12 @@ limits f s t h =
 max_same : (a b c d : ℕ) → a ≡ c → b ≡ d → max a b + 1 ≡ max c d + 1
 max_same a b c d e f = rw (e, f) refl
 
-both_there : (f : Condition → Condition → Condition) (a b : Option Condition) (c : Condition) → with_both f a b ≡ Some c → (x : Condition) × (y : Condition) × (a ≡ Some x) × (b ≡ Some y) × (f x y ≡ c)
+pub both_there : (f : Condition → Condition → Condition) (a b : Option Condition) (c : Condition) → with_both f a b ≡ Some c → (x : Condition) × (y : Condition) × (a ≡ Some x) × (b ≡ Some y) × (f x y ≡ c)
 both_there f None b c e = absurd (cc)
 both_there f (Some x) None c e = absurd (cc)
 both_there f (Some x) (Some y) c e = (x, y, refl, refl, cc)
 
-deny_there : (a : Option Condition) (c : Condition) → option_map Deny a ≡ Some c → (x : Condition) × (a ≡ Some x) × (Deny x ≡ c)
+pub deny_there : (a : Option Condition) (c : Condition) → option_map Deny a ≡ Some c → (x : Condition) × (a ≡ Some x) × (Deny x ≡ c)
 deny_there None c e = absurd (cc)
 deny_there (Some x) c e = (x, refl, cc)
 
@@ -97,7 +97,7 @@ atom_nesting None c e = absurd (cc)
 atom_nesting (Some x) c e = let same : atom_at x.place x.word ≡ c = cc in subst (λ y. nesting y ≡ 0) same (atom_flat x.place x.word)
 
 -- the condition is as deep as it is grouped
-nesting_same : (columns : ℕ) (names : Names) (w : meaning.Condition) (c : Condition) → condition_in columns names w ≡ Some c → nesting c ≡ grouped_depth w
+pub nesting_same : (columns : ℕ) (names : Names) (w : meaning.Condition) (c : Condition) → condition_in columns names w ≡ Some c → nesting c ≡ grouped_depth w
 nesting_same columns names (meaning.Atom t v) c e = atom_nesting (setting_of columns names (t, v)) c e
 nesting_same columns names meaning.True c e = let same : Always ≡ c = cc in subst (λ y. nesting y ≡ 0) same refl
 nesting_same columns names meaning.False c e = let same : Never ≡ c = cc in subst (λ y. nesting y ≡ 0) same refl
@@ -116,14 +116,14 @@ nesting_same columns names (meaning.Either a b) c e =
     let right = nesting_same columns names b x.1 x.3 in
     subst (λ y. nesting y ≡ max (grouped_depth a) (grouped_depth b) + 1) x.4 (max_same (nesting x.0) (nesting x.1) (grouped_depth a) (grouped_depth b) left right)
 
-shallow : (s : Syntax) → depth_of s ≤ 64 → grouped_depth (meaning.condition_of s) ≤ 64
+pub shallow : (s : Syntax) → depth_of s ≤ 64 → grouped_depth (meaning.condition_of s) ≤ 64
 shallow s h = omega (arith, h)
 
-located : (names : Names) (settings : List Setting) (xs : List Location) → AreLocations names settings xs → length xs ≡ length names
+pub located : (names : Names) (settings : List Setting) (xs : List Location) → AreLocations names settings xs → length xs ≡ length names
 located names settings xs h = sym (length-map xs (λ x. x.name)) ∙ ap length h.named
 
 -- each code goes forward
-forward : (columns : ℕ) (cells : List (List Lined)) (codes : List (List Instr)) → AreCodes columns cells codes → All GoesForward codes
+pub forward : (columns : ℕ) (cells : List (List Lined)) (codes : List (List Instr)) → AreCodes columns cells codes → All GoesForward codes
 forward columns cells codes h k d low =
     let found = get_or_there codes k d low in
     let hart = h.each k (get_or codes k d) found in

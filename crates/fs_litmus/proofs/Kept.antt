@@ -1,7 +1,7 @@
 -- Codes that are kept whole.
-use Rattle.std.proofs.Common.{◌≡◌, ℕ, ◌≤◌, ◌+◌, ◌<◌, List, [], ◌∷◌, ◌++◌, Bool, true, false, ◌&&◌, refl, sym, ap, ◌∙◌, length, map, take, get_or, zero, suc, arith}
+use Rattle.std.proofs.Common.{◌≡◌, ℕ, ◌≤◌, ◌+◌, ◌<◌, ◌⊎◌, inl, inr, List, [], ◌∷◌, ◌++◌, Bool, true, false, ◌&&◌, refl, sym, ap, ◌∙◌, length, map, take, get_or, zero, suc, arith}
 use Rattle.std.specs.Prelude.{All}
-use Rattle.std.specs.List.{list_all}
+use Rattle.std.specs.List.{Any, list_all}
 use Rattle.std.proofs.lemmas.List.{take_more, map-append}
 use Rattle.fs_instr.specs.declared.instr.Instr.{Instr}
 use Rattle.fs_code.specs.declared.hart.HartCode.{HartCode}
@@ -54,3 +54,34 @@ kept_within (c ∷ cs) (k ∷ ks) h e =
     all_cons c cs (one_kept c k h.0 s.0).1 (kept_within cs ks h.1 s.1)
 kept_within [] (k ∷ ks) h e = absurd h
 kept_within (c ∷ cs) [] h e = absurd h
+
+-- ---- codes that are too long
+
+either_false : (a b : Bool) → (a && b) ≡ false → (a ≡ false) ⊎ (b ≡ false)
+either_false true b e = inr e
+either_false false b e = inl refl
+
+one_long : (code : List Instr) (k : HartCode) → IsKept code k → is_short k ≡ false → 32 < length code
+one_long code (Short kept) h e = absurd (cc)
+one_long code (Long n) h e = h.0
+
+any_later : (c : List Instr) (cs : List (List Instr)) → Any (λ code. 32 < length code) cs → Any (λ code. 32 < length code) (c ∷ cs)
+any_later c cs (k, x, within, is, long) = (suc k, x, omega arith, is, long)
+
+pub kept_long : (codes : List (List Instr)) (kept : List HartCode) → AreKept codes kept → list_all is_short kept ≡ false → Any (λ code. 32 < length code) codes
+kept_long [] [] h e = absurd (cc)
+kept_long (c ∷ cs) (k ∷ ks) h e =
+    elim (either_false (is_short k) (list_all is_short ks) e) [
+      | inl long ↦ (0, c, omega arith, refl, one_long c k h.0 long)
+      | inr later ↦ any_later c cs (kept_long cs ks h.1 later)
+    ]
+kept_long [] (k ∷ ks) h e = absurd h
+kept_long (c ∷ cs) [] h e = absurd h
+
+-- no code is short and too long
+pub none_long : (codes : List (List Instr)) → All (λ code. length code ≤ 32) codes → Any (λ code. 32 < length code) codes → ⊥
+none_long codes short long =
+    let at = short long.0 long.1 long.2 in
+    let same = ap length long.3 in
+    let more = long.4 in
+    omega arith

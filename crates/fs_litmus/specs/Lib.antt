@@ -5,3 +5,7 @@ pub mod Atoms
 pub mod Starts
 pub mod Kept
 pub mod Reads
+pub mod Rising
+pub mod Faults
+pub mod Sections
+pub mod Checks

@@ -1,9 +1,6 @@
 -- Which bytes read as which test (herd7's format of litmus tests).
-use Rattle.std.specs.Prelude.{◌≡◌, ◌⊎◌, ℕ, ◌≤◌, List, [], Some, true, length, sum_by, count_by, All}
+use Rattle.std.specs.Prelude.{◌≡◌, ℕ, ◌≤◌, List, [], Bool, Some, true, length, sum_by, count_by, All}
 use Rattle.std.specs.Str.{IsUtf8}
-use Rattle.fs_kinds.specs.FaultLine.{number}
-use Rattle.fs_kinds.specs.declared.fault.Fault.{Fault}
-use Rattle.fs_kinds.specs.declared.fault.Fault.TheVariants.{Memory}
 use Rattle.fs_tokens.specs.Tokens.{Lined, AreTokens}
 use Rattle.fs_form.specs.Form.{Form, IsForm}
 use Rattle.fs_form.specs.Body.{flatten}
@@ -26,17 +23,20 @@ use Rattle.fs_litmus.specs.Starts.{starts_of, AreLocations}
 use Rattle.fs_litmus.specs.Atoms.{condition_in}
 use Rattle.fs_litmus.specs.declared.settings.Setting.{Setting}
 
--- The text has this form: its first line has the name; the lines after it are doc text, up to the block of initial values;
--- and from there its tokens are the sections and the condition, and no comment is left open.
-pub record HasForm (bytes name : List ℕ) (form : Form) (s : Syntax) : Type 0 where
-  pub title : HasTitle bytes name
+-- Below the first line there is doc text, up to the block of initial values, and from there these are the tokens; closed says
+-- that no comment is open at the end.
+pub record HasTokens (bytes : List ℕ) (tokens : List Lined) (closed : Bool) : Type 0 where
   pub doc : List ℕ
   pub after_title : after_line bytes ≡ Some doc
   pub body : List ℕ
   pub line : ℕ
   pub is_body : IsBody doc 2 body line
+  pub are_tokens : AreTokens body line tokens closed
+
+-- The text below its first line has this form: its tokens are the sections and then the condition, and no comment is left open.
+pub record HasForm (bytes : List ℕ) (form : Form) (s : Syntax) : Type 0 where
   pub tokens : List Lined
-  pub are_tokens : AreTokens body line tokens true
+  pub has_tokens : HasTokens bytes tokens true
   pub rest : List Lined
   pub is_form : IsForm tokens form rest
   pub is_condition : IsCondition rest s
@@ -72,9 +72,10 @@ pub record IsWithinLimits (form : Form) (s : Syntax) (t : Test) : Type 0 where
 -- The bytes read as the test.
 pub record Reads (bytes : List ℕ) (t : Test) : Type 0 where
   pub utf8 : IsUtf8 bytes
+  pub title : HasTitle bytes t.name
   pub form : Form
   pub syntax_of : Syntax
-  pub has_form : HasForm bytes t.name form syntax_of
+  pub has_form : HasForm bytes form syntax_of
   pub means : MeanTest form syntax_of t
   pub limits : IsWithinLimits form syntax_of t
 
@@ -84,13 +85,3 @@ pub record Reads (bytes : List ℕ) (t : Test) : Type 0 where
 pub record IsOutcome (columns : ℕ) (names : Names) (s : Syntax) (o : Outcome) : Type 0 where
   pub depth : depth_of s ≤ 64
   pub means : condition_in columns names (meaning.condition_of s) ≡ Some (condition_of o)
-
--- ---- faults
-
--- one of the faults of a test file, F1 to F9, or want of memory
-abbrev pub IsReaderFault : Fault → Type 0
-IsReaderFault f = (number f ≤ 9) ⊎ (f ≡ Memory)
-
--- one of the faults of a test file
-abbrev pub IsTestFault : List ℕ → Fault → Type 0
-IsTestFault bytes f = number f ≤ 9

@@ -15,7 +15,7 @@ abbrev pub signed : Bool → ℕ → Option ℕ
 signed false n = Some n
 signed true n = if nat_le n 2147483648 then Some ((2 ^ 32 - n) % (2 ^ 32)) else None
 
--- location k, counted from 0, has the address 4096 + 16k
+-- location k, counted from 0, has the address 4096 + 16k, as a word; a test has so few locations that it never wraps
 abbrev pub address_of : ℕ → ℕ
 address_of k = (4096 + 16 * k) % (2 ^ 32)
 
@@ -37,7 +37,7 @@ abbrev pub setting_of : ℕ → Names → Binding → Option Setting
 setting_of columns names b =
     option_and_then (λ p. option_map (λ w. record { place = p; word = w }) (word_of names b.1)) (place_of columns names b.0)
 
--- each binding is of a hart, a register, a location and a number that are there
+-- each binding is of a hart, a register and a location that are there, and of a number in range
 abbrev pub are_there : ℕ → Names → List Binding → Bool
 are_there columns names [] = true
 are_there columns names (b ∷ bs) = is_some (setting_of columns names b) && are_there columns names bs

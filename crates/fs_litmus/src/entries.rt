@@ -1,9 +1,11 @@
 //! The block of initial values, as settings.
 
-ghost use Rattle.std.specs.Prelude.{◌≡◌, ◌++◌, ◌∷◌, IfOk, IfErr, IfSome, IsTrue, not, option_and_then, Some, [], List};
+ghost use Rattle.std.specs.Prelude.{◌≡◌, ◌≢◌, ◌++◌, ◌∷◌, IfOk, IfErr, IfSome, IsTrue, not, option_and_then, Some, [], List};
 ghost use Rattle.std.specs.List.{list_any};
 ghost use Rattle.fs_form.specs.Init.{entries_of};
-ghost use Rattle.fs_litmus.specs.Reads.{IsReaderFault};
+ghost use Rattle.fs_code.specs.Order.{IsFirst};
+ghost use Rattle.fs_litmus.specs.Checks.{IsEntryFault};
+ghost use Rattle.fs_litmus.specs.Rising.{Rising, entry_lines};
 ghost use Rattle.fs_litmus.specs.Settings.{entry_bindings, settings_after, is_x0, same_place, fresh};
 
 use crate::names::Names;
@@ -57,8 +59,9 @@ pub fn read_settings(
     names: &Names,
     entries: &[Entry],
 ) -> Result<Vec<Setting>, Fault>
+    requires rising { Rising 0 (entry_lines (entries_of entries.now)) }
     ensures ok { IfOk result (λ v. settings_after columns names.now [] (entry_bindings (entries_of entries.now)) ≡ Some v.items) }
-    ensures err { IfErr result IsReaderFault }
+    ensures first { IfErr result (λ f. f ≢ Fault.Memory → IsFirst (IsEntryFault columns names.now (entries_of entries.now)) f) }
 {
     let mut settings = Vec::new(alloc);
     let mut seen = IndexSet::new(alloc);

@@ -5,6 +5,7 @@ mod atoms;
 mod declared;
 mod entries;
 mod limits;
+mod meaning;
 mod names;
 mod reader;
 mod settings;

@@ -1,7 +1,8 @@
 //! The limits of a test.
 
-ghost use Rattle.std.specs.Prelude.{◌≡◌, ◌≤◌, List, All, length, map, sum_by, count_by, true, false, MatchOption, IfOk, IfSome, IsTrue};
-ghost use Rattle.std.specs.List.{list_all};
+ghost use Rattle.std.specs.Prelude.{◌≡◌, ◌≤◌, ◌<◌, List, All, length, map, nat_le, sum_by, count_by, true, false, MatchOption, IfOk, IfSome};
+ghost use Rattle.std.specs.List.{Any, list_all};
+ghost use Rattle.std.specs.Option.{IfNone};
 ghost use Rattle.fs_instr.specs.declared.instr.Instr.{Instr};
 ghost use Rattle.fs_code.specs.Codes.{AreKept};
 ghost use Rattle.fs_instr.specs.Instructions.{is_memory};
@@ -33,7 +34,8 @@ fn kept_code(alloc: Global, kept: &HartCode) -> Result<Option<Code>, AllocError>
 
 // The code of each hart; nothing where one has more than 32 instructions.
 fn kept_codes(alloc: Global, kept: &[HartCode]) -> Result<Option<Vec<Code>>, AllocError>
-    ensures { IfOk result (λ o. IfSome o (λ v. (v.items ≡ map instrs_of kept.now) × (list_all is_short kept.now ≡ true))) }
+    ensures some { IfOk result (λ o. IfSome o (λ v. (v.items ≡ map instrs_of kept.now) × (list_all is_short kept.now ≡ true))) }
+    ensures none { IfOk result (λ o. IfNone o (list_all is_short kept.now ≡ false)) }
 {
     let mut codes = Vec::new(alloc);
     for hart in kept {
@@ -49,6 +51,7 @@ fn kept_codes(alloc: Global, kept: &[HartCode]) -> Result<Option<Vec<Code>>, All
 pub fn short_codes(alloc: Global, kept: &[HartCode]) -> Result<Option<Vec<Code>>, AllocError>
     ensures codes { IfOk result (λ o. IfSome o (λ v. (codes : List (List Instr)) → AreKept codes kept.now → v.items ≡ codes)) }
     ensures within { IfOk result (λ o. IfSome o (λ v. (codes : List (List Instr)) → AreKept codes kept.now → All (λ code. length code ≤ 32) codes)) }
+    ensures long { IfOk result (λ o. IfNone o ((codes : List (List Instr)) → AreKept codes kept.now → Any (λ code. 32 < length code) codes)) }
 {
     match kept_codes(alloc, kept)? {
         Some(codes) => Ok(Some(codes)),
@@ -65,7 +68,7 @@ fn access_count(code: &[Instr]) -> usize
 
 /// Have the codes at most 48 memory instructions in all?
 pub fn has_few_accesses(codes: &[Code]) -> bool
-    ensures { IsTrue result → sum_by (count_by is_memory) codes.now ≤ 48 }
+    ensures { result ≡ nat_le (sum_by (count_by is_memory) codes.now) 48 }
 {
     let mut total = 0;
     for code in codes {

@@ -1,49 +1,28 @@
 //! Reads a test file.
 
-ghost use Rattle.std.specs.Prelude.{◌≡◌, ◌≢◌, ◌≤◌, List, [], Some, All, length, map, sum_by, count_by, IfOk, IfErr};
+ghost use Rattle.std.specs.Prelude.{◌≡◌, ◌≢◌, IfOk, IfErr};
 ghost use Rattle.fs_form.specs.Body.{cells_of, flatten};
 ghost use Rattle.fs_form.specs.Form.{form_of};
-ghost use Rattle.fs_instr.specs.Instructions.{is_memory};
-ghost use Rattle.fs_instr.specs.declared.instr.Instr.{Instr};
-ghost use Rattle.fs_code.specs.Codes.{AreCodes, AreKept};
-ghost use Rattle.fs_syntax.specs.Condition.{condition_of, SpeaksOf};
-ghost use Rattle.fs_syntax.specs.Test.{IsBounded};
-ghost use Rattle.fs_condition.specs.Answer.{Means};
-ghost use Rattle.fs_condition.specs.Grammar.{Syntax};
-ghost use Rattle.fs_condition.specs.Views.{atom_of};
-ghost use Rattle.fs_litmus.specs.Settings.{are_there, settings_after, entry_bindings};
-ghost use Rattle.fs_litmus.specs.Starts.{starts_of, AreLocations};
-ghost use Rattle.fs_litmus.specs.Reads.{names_in, IsOutcome, MeanTest, IsWithinLimits, Reads, IsReaderFault, IsTestFault, quantifier_of};
+ghost use Rattle.fs_syntax.specs.Test.{IsTest, IsSame};
+ghost use Rattle.fs_syntax.specs.declared.test.Test as tests;
+ghost use Rattle.fs_tokens.specs.Tokens.{views};
+ghost use Rattle.fs_kinds.specs.declared.fault.Fault as faults;
+ghost use Rattle.fs_litmus.specs.Faults.{HasFault, IsTestFault};
+ghost use Rattle.fs_litmus.specs.Sections.{AreSections, IsTextStop, fault_of};
+ghost use Rattle.fs_litmus.specs.Reads.{Reads};
 
-use crate::atoms::outcome_of;
-use crate::declared::declared_names;
-use crate::entries::read_settings;
-use crate::limits::{HARTS, LOCATIONS, has_few_accesses, short_codes};
-use crate::names::Names;
-use crate::settings::{Setting, setting_of};
-use crate::starts::{locations_of, starts_of};
-use crate::title::{Body, find_body, last_line, read_title, skip_title};
-use fs_code::{HartCode, read_codes};
-use fs_condition::{Atom, Condition, read_condition};
+use crate::meaning::interpret;
+use crate::title::{Body, last_line, read_title, skip_title};
+use fs_condition::{Condition, read_condition};
 use fs_form::{Form, read_form};
-use fs_kinds::{Fault, Limit};
-use fs_syntax::{Code, Codes, Name, Outcome, Quantifier, Test};
-use fs_tokens::{Stop, tokens};
-use std::alloc::{AllocError, Global};
-
-fn quantifier_of(asked: fs_form::Quantifier) -> Quantifier
-    ensures { result ≡ quantifier_of asked }
-{
-    match asked {
-        fs_form::Quantifier::Exists => Quantifier::Exists,
-        fs_form::Quantifier::NotExists => Quantifier::NotExists,
-        fs_form::Quantifier::Forall => Quantifier::Forall,
-    }
-}
+use fs_kinds::Fault;
+use fs_syntax::Test;
+use fs_tokens::{Stop, Token, tokens};
+use std::alloc::Global;
 
 // The fault where the tokens stop being of the form: in the line of the first that can't stand there, or in the last line.
 fn stopped(stop: Stop, last: usize) -> Fault
-    ensures { IsReaderFault result }
+    ensures { result ≡ fault_of stop.entry last }
 {
     match stop {
         Stop::Memory => Fault::Memory,
@@ -54,159 +33,18 @@ fn stopped(stop: Stop, last: usize) -> Fault
     }
 }
 
-// Does each atom speak of a hart, a register and a number that are there?
-fn atoms_are_there(columns: usize, names: &Names, atoms: &[Atom]) -> bool
-    ensures { result ≡ are_there columns names.now (map atom_of atoms.now) }
-{
-    for atom in atoms {
-        if setting_of(columns, names, atom.target, atom.value).is_none() {
-            return false;
-        }
-    }
-    true
-}
-
-// The test of these parts.
-fn build(
+// The sections and the condition that the tokens are, all of them.
+fn read_sections<'b, 'a>(
     alloc: Global,
-    title: &str,
-    columns: u32,
-    quantifier: Quantifier,
-    codes: Vec<Code>,
-    names: &Names,
-    settings: &[Setting],
-    condition: Outcome,
-) -> Result<Test, AllocError>
-    ensures name { IfOk result (λ t. t.name ≡ title.now) }
-    ensures codes { IfOk result (λ t. t.codes ≡ codes.items) }
-    ensures starts { IfOk result (λ t. t.starts ≡ starts_of columns settings.now) }
-    ensures locations { IfOk result (λ t. AreLocations names.now settings.now t.locations) }
-    ensures quantifier { IfOk result (λ t. t.quantifier ≡ quantifier) }
-    ensures condition { IfOk result (λ t. condition_of t.condition ≡ condition_of condition) }
+    tokens: &'b [Token<'a>],
+) -> Result<(Form<'b, 'a>, Condition<'a>), Stop<'b, 'a>>
+    ensures ok { IfOk result (λ x. AreSections (views tokens.now) (form_of x.0) x.1) }
+    ensures whole { IfOk result (λ x. cells_of x.0.cells.items ≡ flatten (form_of x.0).rows) }
+    ensures stops { IfErr result (IsTextStop (views tokens.now)) }
 {
-    Ok(Test {
-        name: Name::new(String::from_str(alloc, title)?),
-        codes: Codes::new(codes),
-        starts: starts_of(alloc, columns, settings)?,
-        locations: locations_of(alloc, names, settings)?,
-        quantifier,
-        condition,
-    })
-}
-
-// The codes of a form, where they are within the limits.
-fn read_short_codes(alloc: Global, kept: &[HartCode]) -> Result<Vec<Code>, Fault>
-    ensures codes { IfOk result (λ v. (codes : List (List Instr)) → AreKept codes kept.now → v.items ≡ codes) }
-    ensures within { IfOk result (λ v. (codes : List (List Instr)) → AreKept codes kept.now → All (λ code. length code ≤ 32) codes) }
-    ensures accesses { IfOk result (λ v. sum_by (count_by is_memory) v.items ≤ 48) }
-    ensures err { IfErr result IsReaderFault }
-{
-    let Some(codes) = short_codes(alloc, kept)? else {
-        return Err(Fault::TooBig {
-            what: Limit::Instructions,
-        });
-    };
-    if !has_few_accesses(&codes) {
-        return Err(Fault::TooBig {
-            what: Limit::Accesses,
-        });
-    }
-    Ok(codes)
-}
-
-// The locations of a form and its condition.
-fn read_names<'a>(
-    alloc: Global,
-    form: &Form<'_, 'a>,
-    condition: &Condition<'a>,
-) -> Result<Names<'a>, AllocError>
-    ensures { IfOk result (λ n. (s : Syntax) → Means condition.now s → n ≡ names_in (form_of form.now) s) }
-{
-    Ok(declared_names(alloc, &form.entries, &condition.atoms)?)
-}
-
-// The settings of a form whose atoms are all of what is there.
-fn read_bindings(
-    alloc: Global,
-    names: &Names,
-    form: &Form,
-    condition: &Condition,
-) -> Result<Vec<Setting>, Fault>
-    ensures ok { IfOk result (λ v. settings_after form.now.columns names.now []
-        (entry_bindings (form_of form.now).entries) ≡ Some v.items) }
-    ensures err { IfErr result IsReaderFault }
-{
-    let settings = read_settings(alloc, form.columns, names, &form.entries)?;
-    if !atoms_are_there(form.columns, names, &condition.atoms) {
-        return Err(Fault::BadCondition);
-    }
-    Ok(settings)
-}
-
-// The condition, where it isn't too deep.
-fn read_outcome(
-    alloc: Global,
-    columns: usize,
-    names: &Names,
-    condition: &Condition,
-) -> Result<Outcome, Fault>
-    requires harts { columns ≤ 8 }
-    requires locations { length names.now ≤ 8 }
-    ensures value { IfOk result (λ o. (s : Syntax) → Means condition.now s → IsOutcome columns names.now s o) }
-    ensures there { IfOk result (λ o. SpeaksOf columns (length names.now) (condition_of o)) }
-    ensures err { IfErr result IsReaderFault }
-{
-    let Some(tree) = &condition.tree else {
-        return Err(Fault::TooBig { what: Limit::Depth });
-    };
-    match outcome_of(alloc, columns, names, tree)? {
-        Some(outcome) => Ok(outcome),
-        None => Err(Fault::BadCondition),
-    }
-}
-
-// The harts' codes, as the form's cells mean them.
-fn read_kept(alloc: Global, form: &Form) -> Result<Vec<HartCode>, Fault>
-    requires { cells_of form.now.cells.items ≡ flatten (form_of form.now).rows }
-    ensures codes { IfOk result (λ kept. (codes : List (List Instr))
-        × AreCodes form.now.columns (flatten (form_of form.now).rows) codes × AreKept codes kept.items) }
-    ensures err { IfErr result IsReaderFault }
-{
-    read_codes(alloc, form.columns, &form.cells)
-}
-
-// The test that a form and its condition mean.
-fn interpret<'a>(
-    alloc: Global,
-    title: &str,
-    form: &Form<'_, 'a>,
-    condition: &Condition<'a>,
-) -> Result<Test, Fault>
-    requires { cells_of form.now.cells.items ≡ flatten (form_of form.now).rows }
-    ensures name { IfOk result (λ t. t.name ≡ title.now) }
-    ensures means { IfOk result (λ t. (s : Syntax) → Means condition.now s → MeanTest (form_of form.now) s t) }
-    ensures limits { IfOk result (λ t. (s : Syntax) → Means condition.now s → IsWithinLimits (form_of form.now) s t) }
-    ensures bounded { IfOk result (λ t. (s : Syntax) → Means condition.now s → IsBounded t) }
-    ensures err { IfErr result IsReaderFault }
-{
-    let kept = read_kept(alloc, form)?;
-    let names = read_names(alloc, form, condition)?;
-    let settings = read_bindings(alloc, &names, form, condition)?;
-    if form.columns > HARTS {
-        return Err(Fault::TooBig { what: Limit::Harts });
-    }
-    let codes = read_short_codes(alloc, &kept)?;
-    if names.len() > LOCATIONS {
-        return Err(Fault::TooBig {
-            what: Limit::Locations,
-        });
-    }
-    let outcome = read_outcome(alloc, form.columns, &names, condition)?;
-    let quantifier = quantifier_of(form.quantifier);
-    let columns = form.columns as u32;
-    Ok(build(
-        alloc, title, columns, quantifier, codes, &names, &settings, outcome,
-    )?)
+    let (form, rest) = read_form(alloc, tokens)?;
+    let condition = read_condition(alloc, rest)?;
+    Ok((form, condition))
 }
 
 /// The litmus test that the bytes of a file in herd7's format for RISC-V read as.
@@ -216,14 +54,21 @@ fn interpret<'a>(
 /// value; F8 an atom of the condition; F9 a limit, the first of harts, instructions, accesses, locations and depth. F19
 /// where memory was refused. Linear in the bytes.
 pub fn read_test(alloc: Global, bytes: &[u8]) -> Result<Test, Fault>
+    // The bytes read as this test.
     ensures ok { IfOk result (Reads bytes.now) }
-    ensures valid { IfOk result IsBounded }
+    // They read as no other.
+    ensures once { IfOk result (λ t. (u : tests.Test) → Reads bytes.now u → IsSame t u) }
+    // It is a test in all its parts.
+    ensures test { IfOk result IsTest }
+    // Then the file has no fault.
+    ensures clean { IfOk result (λ t. (f : faults.Fault) → ¬ HasFault bytes.now f) }
+    // Else the first fault of the file is given.
     ensures err { IfErr result (λ f. f ≢ Fault.Memory → IsTestFault bytes.now f) }
 {
-    let Ok(_text) = str::from_utf8(bytes) else {
+    let Ok(content) = str::from_utf8(bytes) else {
         return Err(Fault::BadUtf8);
     };
-    let Some(name) = read_title(bytes) else {
+    let Some(title) = read_title(content) else {
         return Err(Fault::NotRiscv);
     };
     let last = last_line(bytes);
@@ -231,19 +76,12 @@ pub fn read_test(alloc: Global, bytes: &[u8]) -> Result<Test, Fault>
         return Err(Fault::Syntax { line: last });
     };
     let (tokens, closed) = tokens(alloc, text, line)?;
-    let (form, rest) = match read_form(alloc, &tokens) {
+    let (form, condition) = match read_sections(alloc, &tokens) {
         Ok(sections) => sections,
-        Err(stop) => return Err(stopped(stop, last)),
-    };
-    let condition = match read_condition(alloc, rest) {
-        Ok(condition) => condition,
         Err(stop) => return Err(stopped(stop, last)),
     };
     if !closed {
         return Err(Fault::Syntax { line: last });
     }
-    let Ok(title) = str::from_utf8(name) else {
-        return Err(Fault::BadUtf8);
-    };
     interpret(alloc, title, &form, &condition)
 }

@@ -1,6 +1,6 @@
 //! What stands before the tokens of a test file: the first line, and doc text.
 
-ghost use Rattle.std.specs.Prelude.{◌≡◌, ℕ, List, ◌+◌, ◌<◌, ◌≤◌, ◌^◌, ◌++◌, length, IfSome, option_map};
+ghost use Rattle.std.specs.Prelude.{◌≡◌, ℕ, List, ◌+◌, ◌<◌, ◌≤◌, ◌^◌, ◌++◌, length, Some, IfSome, IsNone, option_map};
 ghost use Rattle.std.specs.List.{prefix_len, list_all};
 ghost use Rattle.fs_tokens.specs.Bytes.{is_blank, begins};
 ghost use Rattle.fs_litmus.specs.Title.{last_line, is_within_line, line_of, after_line, unindented, ends_in_blank, begins_with_blank, IsTrimmed, HasTitle, IsBody};
@@ -97,10 +97,10 @@ fn begins_with_brace(bytes: &[u8]) -> bool
     }
 }
 
-/// The test's name: what follows `RISCV` and a blank in the first line, blanks cut off at both ends; nothing where the
-/// first line is no such line.
-pub fn read_title(bytes: &[u8]) -> Option<&[u8]>
+// The test's name, as bytes.
+fn title_of(bytes: &[u8]) -> Option<&[u8]>
     ensures named { IfSome result (λ name. HasTitle bytes.now name.now) }
+    ensures absent { IsNone result → (name : List ℕ) → ¬ HasTitle bytes.now name }
 {
     let words = line_of(bytes).strip_prefix(b"RISCV")?;
     let (blank, rest) = words.split_first()?;
@@ -111,11 +111,22 @@ pub fn read_title(bytes: &[u8]) -> Option<&[u8]>
     if name.is_empty() { None } else { Some(name) }
 }
 
+/// The test's name: what follows `RISCV` and a blank in the first line, blanks cut off at both ends; nothing where the
+/// first line is no such line.
+pub fn read_title(text: &str) -> Option<&str>
+    ensures named { IfSome result (λ name. HasTitle text.now name.now) }
+    ensures absent { IsNone result → (name : List ℕ) → ¬ HasTitle text.now name }
+{
+    // Cut out between ASCII characters, the name is UTF-8 too.
+    str::from_utf8(title_of(text.as_bytes())?).ok()
+}
+
 /// The block of initial values and what comes after it, in a text whose first byte stands in line `line`; nothing where
 /// no line begins with `{` past its blanks.
 pub fn find_body(bytes: &[u8], line: usize) -> Option<Body<'_>>
     requires { line + length bytes.now < 2 ^ 64 }
     ensures value { IfSome result (λ b. IsBody bytes.now line b.text.now b.line) }
+    ensures absent { IsNone result → (body : List ℕ) → (at : ℕ) → ¬ IsBody bytes.now line body at }
     ensures room { IfSome result (λ b. b.line + length b.text.now ≤ line + length bytes.now) }
 {
     let mut rest = bytes;
@@ -134,6 +145,7 @@ pub fn find_body(bytes: &[u8], line: usize) -> Option<Body<'_>>
 /// begins with `{` past its blanks.
 pub fn skip_title(bytes: &[u8]) -> Option<Body<'_>>
     ensures value { IfSome result (λ b. (doc : List ℕ) × (after_line bytes.now ≡ Some doc) × IsBody doc 2 b.text.now b.line) }
+    ensures absent { IsNone result → (doc body : List ℕ) → (at : ℕ) → after_line bytes.now ≡ Some doc → ¬ IsBody doc 2 body at }
     ensures room { IfSome result (λ b. b.line + length b.text.now < 2 ^ 64) }
 {
     find_body(after_line(bytes)?, 2)

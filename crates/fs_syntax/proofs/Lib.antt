@@ -8,3 +8,6 @@ pub mod SlotLists
 pub mod SmallTest
 pub mod Tested
 pub mod Texts
+pub mod FencedPlaces
+pub mod MovedSlots
+pub mod FencedTest

@@ -1,8 +1,6 @@
 -- The small test of the unit tests is bounded.
-use Rattle.std.proofs.Common.{◌≡◌, ℕ, ◌<◌, ◌≤◌, ◌^◌, List, [], ◌∷◌, All, true, pos, codes, length, replicate, refl, arith, IsTrue}
+use Rattle.std.proofs.Common.{◌≡◌, ℕ, ◌≤◌, List, [], ◌∷◌, true, pos, codes, length, replicate, refl, arith}
 use Rattle.std.proofs.lemmas.Bool.Decides.{nat_tests}
-use Rattle.std.proofs.lemmas.List.{get_or-replicate}
-use Rattle.fs_instr.specs.OfTable.{IsOfTable}
 use Rattle.fs_instr.specs.declared.instr.Instr.{Instr}
 use Rattle.fs_instr.specs.declared.instr.Instr.TheVariants.{Lw, Sw, Branch}
 use Rattle.fs_instr.specs.declared.names.BranchOp.TheVariants.{Bne}

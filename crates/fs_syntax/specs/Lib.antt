@@ -4,3 +4,4 @@ pub mod Placed
 pub mod Printed
 pub mod Slots
 pub mod Test
+pub mod Moved

@@ -1,6 +1,7 @@
 -- What a litmus test is: a value that herd7's format for RISC-V can write, within the limits.
 use Rattle.std.specs.Prelude.{◌≡◌, ◌≢◌, ℕ, ◌+◌, ◌*◌, ◌<◌, ◌≤◌, ◌^◌, List, [], ◌∷◌, length, sum_by, count_by, Bool, false, not, ◌&&◌, ◌||◌, ◌==◌, IsTrue, Option, Some, None, option_and_then, All, AllPairs, slice_get, slice_index}
 use Rattle.std.specs.Char.{is_ascii_alphabetic, is_ascii_alphanumeric}
+use Rattle.std.specs.Str.{IsUtf8}
 use Rattle.std.specs.List.{list_any, list_all, last_or}
 use Rattle.fs_instr.specs.Instructions.{is_memory, target_of}
 use Rattle.fs_instr.specs.OfTable.{IsOfTable}
@@ -50,7 +51,9 @@ pub record IsBounded (t : Test) : Type 0 where
   pub locations : length t.locations ≤ 8
   pub depth : nesting (condition_of t.condition) ≤ 64
 
+-- a test: its name is text in one line, and each part is of its kind
 pub record IsTest (t : Test) : Type 0 where
+  pub utf8 : IsUtf8 t.name
   pub bounded : IsBounded t
   pub title : IsTrue (is_title t.name)
   pub some_hart : 1 ≤ length t.codes

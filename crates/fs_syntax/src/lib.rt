@@ -5,6 +5,7 @@ mod accesses;
 mod columns;
 mod fencing;
 mod lists;
+mod moves;
 mod outcome;
 mod print;
 mod test;
@@ -12,6 +13,7 @@ mod words;
 
 pub use accesses::slots;
 pub use lists::{Code, Codes, Locations, Name, Registers, Starts};
+pub use moves::fences_move;
 pub use outcome::Outcome;
 pub use print::write_fenced;
 pub use test::{Location, Quantifier, Test};

@@ -4,8 +4,12 @@
 #[cfg(test)]
 mod bytes;
 #[cfg(test)]
+mod fenced;
+#[cfg(test)]
 mod litmus;
 #[cfg(test)]
 mod place;
 #[cfg(test)]
 mod prices;
+#[cfg(test)]
+mod slots;

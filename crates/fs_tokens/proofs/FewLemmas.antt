@@ -4,12 +4,14 @@ use Rattle.std.proofs.lemmas.Grind.{common_steps}
 use Rattle.std.proofs.Math.ListN.{set}
 use Rattle.std.proofs.Math.Seq.{take-suc-set}
 use Rattle.std.proofs.lemmas.List.{take-set, take_all, take-append-le, length-set, map-append}
-use Rattle.std.proofs.Common.{length-append, append_assoc, suc, Bool, true, false, ltb, ltb-true}
+use Rattle.std.proofs.Common.{length-append, append_assoc, suc, Bool, true, false, ◌&&◌, ltb, ltb-true}
+use Rattle.std.proofs.Math.Bool.{and-true}
+use Rattle.std.proofs.lemmas.List.Folds.{list_all-append}
 use Rattle.std.proofs.lemmas.Bool.Decides.{nat_tests}
-use Rattle.fs_tokens.specs.Tokens.{Take, piece, token, AreTokens}
+use Rattle.fs_tokens.specs.Tokens.{Take, piece, token, AreTokens, without_lines}
 use Rattle.fs_tokens.specs.Tokens.{Lined, view}
 use Rattle.fs_tokens.specs.declared.token.Token.{Token}
-use Rattle.fs_tokens.specs.Few.{AreFirst}
+use Rattle.fs_tokens.specs.Few.{AreFirst, is_plain, are_plain}
 
 pub none_first : (xs : List Token) → length xs ≡ 20 → AreFirst xs 0 []
 none_first xs h = record { count = refl; room = h; kept = grind (arith, common_steps) }
@@ -47,6 +49,12 @@ side n false e = let h : 20 ≤ n = grind (arith, nat_tests) in inr h
 
 pub sides : (n : ℕ) → (n < 20) ⊎ (20 ≤ n)
 sides n = side n (ltb n 20) refl
+
+pub next_plain : (before after : Bool) (seen : List Lined) (x : Lined) → before ≡ are_plain (without_lines seen) → after ≡ is_plain x.0 → (before && after) ≡ are_plain (without_lines (seen ++ x ∷ []))
+next_plain before after seen x h k =
+    let split = ap are_plain (map-append (λ (t : Lined). t.0) seen (x ∷ [])) ∙ list_all-append is_plain (without_lines seen) (x.0 ∷ []) in
+    let one = ap (λ b. are_plain (without_lines seen) && b) (and-true (is_plain x.0)) in
+    ap (λ b. b && after) h ∙ ap (λ b. are_plain (without_lines seen) && b) k ∙ sym (split ∙ one)
 
 -- a token with what comes after it
 pub more_takes : (text bytes : List ℕ) (b : ℕ) (after rest : List ℕ) (line : ℕ) (seen : List Lined) (x : Token) (ts : List Lined) (closed : Bool) → ((us : List Lined) (d : Bool) → AreTokens bytes line us d → AreTokens text 0 (seen ++ us) d) → bytes ≡ b ∷ after → Take (view x).0 rest ≡ piece b after line → x.line ≡ line → AreTokens rest line ts closed → AreTokens text 0 ((seen ++ view x ∷ []) ++ ts) closed

@@ -19,6 +19,6 @@ begins_with_plus (c ∷ cs) = c == 43
 unfoldable pub numeral : ℕ → List ℕ → Option ℕ
 numeral radix ds = if is_numeral radix ds then Some (digits_value radix ds) else None
 
--- decimal digits, or 0x and hexadecimal digits
+-- decimal digits, or 0x and hexadecimal digits; nothing from 2^32 on
 unfoldable pub number_of : List ℕ → Option ℕ
 number_of word = if starts_with nat_eq word (codes "0x") then numeral 16 (drop 2 word) else numeral 10 word

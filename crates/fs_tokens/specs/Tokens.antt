@@ -72,7 +72,7 @@ piece b bs line =
     else (if b == 40 && begins 42 bs then after_comment (comment_end (tail bs) line)
     else single (mark_of b) bs)))))
 
--- at most as many bytes and lines are left as there were
+-- fewer bytes are left than there were, and no more lines and bytes together
 abbrev pub Shrinks : ℕ → ℕ → Front → Type 0
 Shrinks line n (Skip rest next) = (length rest < n) × (next + length rest ≤ line + n)
 Shrinks line n (Take t rest) = length rest < n

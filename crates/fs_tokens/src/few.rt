@@ -1,16 +1,29 @@
 //! The tokens of a short text, without memory.
 
 ghost use Rattle.std.specs.Prelude.{◌≡◌, ◌+◌, ◌^◌, ◌<◌, slice_set, length};
-ghost use Rattle.fs_tokens.specs.Few.{IsFew};
+ghost use Rattle.fs_tokens.specs.Tokens.{kind_of};
+ghost use Rattle.fs_tokens.specs.Few.{IsFew, is_plain};
 
 use crate::token::{Kind, Piece, Token, front};
 
-/// The first tokens of a text; how many it has, up to a comment that isn't closed; and whether there is no such comment.
+/// The first tokens of a text; how many it has, up to a comment that isn't closed; whether there is no such comment; and
+/// whether each of its tokens, also past the first ones, is a word or a mark.
 #[derive(Clone, Copy)]
 pub struct Few<'a> {
     pub tokens: [Token<'a>; 20],
     pub len: usize,
     pub closed: bool,
+    pub plain: bool,
+}
+
+// A word or a mark.
+fn is_plain(kind: Kind<'_>) -> bool
+    ensures { result ≡ is_plain (kind_of kind.entry) }
+{
+    match kind {
+        Kind::Word(_, _) | Kind::Sign(_) => true,
+        Kind::Strange => false,
+    }
 }
 
 fn push<'a>(tokens: &mut [Token<'a>], len: usize, token: Token<'a>)
@@ -32,6 +45,7 @@ pub fn first_tokens<'a>(text: &'a [u8]) -> Few<'a>
     let mut len = 0;
     let mut rest = text;
     let mut line = 0;
+    let mut plain = true;
     while let Some((first, after)) = rest.split_first() {
         match front(*first, after, rest, line) {
             Piece::Skip(next, at) => {
@@ -41,12 +55,14 @@ pub fn first_tokens<'a>(text: &'a [u8]) -> Few<'a>
             Piece::Take(kind, next) => {
                 push(&mut tokens, len, Token { kind, line });
                 len += 1;
+                plain &= is_plain(kind);
                 rest = next;
             }
             Piece::Unclosed => return Few {
                 tokens,
                 len,
                 closed: false,
+                plain,
             },
         }
     }
@@ -54,5 +70,6 @@ pub fn first_tokens<'a>(text: &'a [u8]) -> Few<'a>
         tokens,
         len,
         closed: true,
+        plain,
     }
 }

@@ -2,7 +2,7 @@ use Rattle.std.proofs.Common.{◌≡◌, ◌∙◌, sym, ap, subst, Option}
 use Rattle.std.specs.Prelude.{option_and_then, IfSome, ◌++◌, ◌∷◌, []}
 use Rattle.fs_litmus.specs.declared.settings.Setting.{Setting}
 use Rattle.fs_litmus.specs.Settings.{fresh, places}
-use Rattle.fs_litmus.proofs.Places.{step, places_pushed}
+use Rattle.fs_litmus.proofs.Places.{step, stopped, places_pushed}
 use Rattle.fs_litmus.proofs.entries.read_settings.Goals as goal
 
 pub loop-entry-preserved : goal.loop-entry-preserved
@@ -15,5 +15,11 @@ loop-entry-preserved c =
     let found = ap (λ o. option_and_then (fresh (places c.loop-entry.settings.items)) o) (sym c.setting_of-found.ensures.value) ∙ ap (λ ks. option_and_then (fresh ks) c.setting_of-found.result) (sym seen) ∙ sym h.value ∙ was in
     record {
       seen = keys ∙ ap (λ ks. ks ++ c.in-Some.setting.place ∷ []) seen ∙ sym (places_pushed _ _ _ pushed);
-      rest = step c.args.columns c.args.names.now _ _ c.args.entries.now c.loop-entry.entry-index _ c.in-Some.setting c.loop-entry-test.true found pushed ∙ c.loop-entry.invariant.rest;
+      so_far = step c.args.columns c.args.names.now _ _ c.args.entries.now c.loop-entry.entry-index _ c.in-Some.setting c.loop-entry-test.true c.loop-entry.invariant.so_far found pushed;
     }
+
+pub returns-in_default-clause-first : goal.returns-in_default-clause-first
+returns-in_default-clause-first c =
+    let h = c.in_ok-setting.ensures.value in
+    let found = ap (λ o. option_and_then (fresh (places c.loop-entry.settings.items)) o) (sym c.setting_of-found.ensures.value) ∙ ap (λ ks. option_and_then (fresh ks) c.setting_of-found.result) (sym c.loop-entry.invariant.seen) ∙ sym h ∙ c.in_default.is in
+    λ _. stopped c.args.columns c.args.names.now _ c.args.entries.now c.loop-entry.entry-index _ c.loop-entry-test.true c.loop-entry.invariant.so_far found c.requires.rising

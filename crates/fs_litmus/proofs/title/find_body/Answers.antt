@@ -1,6 +1,7 @@
 use Rattle.std.proofs.Common.{◌≡◌, sym, subst, ◌∙◌, arith, true, false}
 use Rattle.fs_tokens.specs.Bytes.{begins}
 use Rattle.fs_litmus.specs.Title.{IsBody, here, later}
+use Rattle.fs_litmus.proofs.Bodies.{below}
 use Rattle.fs_litmus.proofs.title.find_body.Goals as goal
 
 pub returns-then-begins_with_brace-clause-value : goal.returns-then-begins_with_brace-clause-value
@@ -16,4 +17,5 @@ loop-rest-preserved c =
     record {
       room = omega (arith, c.in_ok-rest.ensures.shorter);
       found = λ text n h. c.loop-rest.invariant.found text n (later here_false (sym c.in_ok-rest.ensures.value) h);
+      kept = λ text n h. below here_false (sym c.in_ok-rest.ensures.value) (c.loop-rest.invariant.kept text n h);
     }

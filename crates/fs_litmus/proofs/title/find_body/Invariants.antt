@@ -6,6 +6,7 @@ abbrev pub invariant-loop-rest : goal.invariant-loop-rest
 invariant-loop-rest l = record {
   room : l.at + length l.rest ≤ l.fn.line + length l.fn.bytes;
   found : (text : List ℕ) (n : ℕ) → IsBody l.rest l.at text n → IsBody l.fn.bytes l.fn.line text n;
+  kept : (text : List ℕ) (n : ℕ) → IsBody l.fn.bytes l.fn.line text n → IsBody l.rest l.at text n;
 }
 
 abbrev pub decreases-loop-rest : goal.decreases-loop-rest

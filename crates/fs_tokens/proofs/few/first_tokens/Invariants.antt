@@ -1,6 +1,6 @@
-use Rattle.std.proofs.Common.{◌+◌, ◌≤◌, ◌++◌, ℕ, List, Bool, length}
-use Rattle.fs_tokens.specs.Tokens.{Lined, AreTokens}
-use Rattle.fs_tokens.specs.Few.{AreFirst}
+use Rattle.std.proofs.Common.{◌≡◌, ◌+◌, ◌≤◌, ◌++◌, List, Bool, length}
+use Rattle.fs_tokens.specs.Tokens.{Lined, AreTokens, without_lines}
+use Rattle.fs_tokens.specs.Few.{AreFirst, are_plain}
 use Rattle.fs_tokens.proofs.few.first_tokens.Given as goal
 
 abbrev pub invariant-loop-first : goal.invariant-loop-first
@@ -9,6 +9,7 @@ invariant-loop-first l = record {
   counted : l.len + length l.rest ≤ length l.text;
   seen : List Lined;
   first : AreFirst l.tokens l.len seen;
+  plain : l.plain ≡ are_plain (without_lines seen);
   more : (ts : List Lined) (closed : Bool) → AreTokens l.rest l.line ts closed → AreTokens l.text 0 (seen ++ ts) closed;
 }
 

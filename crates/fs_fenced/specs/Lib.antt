@@ -1,0 +1,3 @@
+pub mod Fence
+pub mod Printable
+pub mod Written

@@ -1,0 +1,98 @@
+-- Store buffering without fences is allowed, and its execution is none with w,r before a load.
+use Rattle.std.proofs.Common.{◌≡◌, ℕ, zero, suc, ◌+◌, ◌*◌, ◌<◌, Bool, true, ◌&&◌, ◌||◌, not, None, Some, List, [], ◌∷◌, inl, refl, arith, lit<, lit≤, Box}
+use Rattle.std.specs.declared.alloc.Global.{Global}
+use Rattle.std.proofs.lemmas.Bool.{and_from, not-true, and_parts, false≢true, both_ways}
+use Rattle.fs_kinds.specs.declared.kind.Kind.TheVariants.{WR}
+use Rattle.fs_model.specs.Numbers.{stands_before}
+use Rattle.fs_model.specs.Operations.{PreExecution, steps_of, po, paired}
+use Rattle.fs_model.specs.Source.{gmo, source_in}
+use Rattle.fs_model.specs.Preserved.{ppo}
+use Rattle.fs_model.specs.Execution.{IsExecution, ObeysAxioms, IsTrace, IsAtomic, ReturnsSources, Respects}
+use Rattle.fs_syntax.proofs.Tested.{All-nil, All-cons}
+use Rattle.fs_model.specs.declared.step.Step.{Step}
+use Rattle.fs_model.specs.Values.{LoadsOne, LoadsFrom, IsGrounded, IsValue}
+use Rattle.fs_model.specs.Allows.{Allows}
+use Rattle.fs_model.specs.StoreBuffering.{sb, steps, buffered, fences}
+use Rattle.fs_model.proofs.Ranges.{each_two_below, implies_at, po_in_range}
+use Rattle.fs_syntax.specs.Test.{address_of}
+
+abbrev x : PreExecution
+x = record { traces = steps 4096 4112 ∷ steps 4112 4096 ∷ []; words = 0 ∷ 0 ∷ [] }
+
+abbrev order : List ℕ
+order = 1 ∷ 3 ∷ 0 ∷ 2 ∷ []
+
+abbrev keeps : ℕ → ℕ → Bool
+keeps a b = not (ppo x (fences None None) (source_in x order) a b) || stands_before (gmo x order) a b
+
+preserved : Respects (gmo x order) (λ a b. ppo x (fences None None) (source_in x order) a b ≡ true)
+preserved a b h =
+    let there = po_in_range x a b (and_parts _ _ h).0 in
+    implies_at _ _ (each_two_below keeps 6 a b refl there.0 there.1) h
+
+abbrev no_pair : ℕ → ℕ → Bool
+no_pair a b = not (po x a b && paired x a b)
+
+atomic : IsAtomic x (source_in x order) (gmo x order)
+atomic r w s before pair returned =
+    let there = po_in_range x r w before in
+    absurd (both_ways _ (not-true _ (each_two_below no_pair 6 r w refl there.0 there.1)) (and_from _ _ before pair))
+
+values : ReturnsSources x (source_in x order)
+values zero h = absurd (false≢true h)
+values (suc zero) h = refl
+values (suc (suc zero)) h = absurd (false≢true h)
+values (suc (suc (suc zero))) h = refl
+values (suc (suc (suc (suc zero)))) h = absurd (false≢true h)
+values (suc (suc (suc (suc (suc zero))))) h = absurd (false≢true h)
+values (suc (suc (suc (suc (suc (suc k)))))) h = absurd (false≢true h)
+
+axioms : ObeysAxioms x (fences None None) order
+axioms = record { once = refl; preserved = preserved; values = values; atomic = atomic }
+
+module _ (p q : Box (Unit {0}) Global) where
+  first : IsTrace (sb p q) 0 (steps 4096 4112)
+  first = (((refl, refl, (refl, refl, refl)), ((refl, refl, ((refl, (0, lit< tt, refl)), refl, refl)), ((refl, refl, ((refl, (1, lit< tt, refl)), lit< tt, refl)), tt))), lit≤ tt)
+
+  second : IsTrace (sb p q) 1 (steps 4112 4096)
+  second = (((refl, refl, (refl, refl, refl)), ((refl, refl, ((refl, (1, lit< tt, refl)), refl, refl)), ((refl, refl, ((refl, (0, lit< tt, refl)), lit< tt, refl)), tt))), lit≤ tt)
+
+  runs : (hart : ℕ) → hart < 2 → IsTrace (sb p q) hart (steps_of buffered.traces hart)
+  runs zero h = first
+  runs (suc zero) h = second
+  runs (suc (suc hart)) h = absurd (omega arith)
+
+  execution : IsExecution (sb p q) (fences None None) buffered
+  execution = record { harts = refl; runs = runs; axioms = axioms }
+
+  same : {a b : ℕ} → Some a ≡ Some b → a ≡ b
+  same h = cc
+
+  -- the two locations hold 0 at first
+  at_x : (k word : ℕ) → Some 4096 ≡ Some (address_of k) → Some 0 ≡ Some word → IsValue (sb p q) k word
+  at_x zero word a l = inl (inl l)
+  at_x (suc k) word a l = let e : 4096 ≡ 4096 + 16 * suc k = same a in absurd (omega (arith, e))
+
+  at_y : (k word : ℕ) → Some 4112 ≡ Some (address_of k) → Some 0 ≡ Some word → IsValue (sb p q) k word
+  at_y zero word a l = let e : 4112 ≡ 4096 + 16 * zero = same a in absurd (omega (arith, e))
+  at_y (suc zero) word a l = inl (inl l)
+  at_y (suc (suc k)) word a l = let e : 4112 ≡ 4096 + 16 * suc (suc k) = same a in absurd (omega (arith, e))
+
+  -- the first two steps load nothing, and the third loads 0
+  abbrev Loads : Step → Type 0
+  Loads = LoadsOne (IsValue (sb p q))
+
+  loads : (s u v : Step) → s.loaded ≡ None → u.loaded ≡ None → Loads v → LoadsFrom (IsValue (sb p q)) (s ∷ u ∷ v ∷ [])
+  loads s u v none none' third = All-cons Loads s (u ∷ v ∷ []) (λ k word a l. cc) (All-cons Loads u (v ∷ []) (λ k word a l. cc) (All-cons Loads v [] third (All-nil Loads)))
+
+  grounded : IsGrounded (sb p q) buffered
+  grounded zero h = loads _ _ _ refl refl at_y
+  grounded (suc zero) h = loads _ _ _ refl refl at_x
+  grounded (suc (suc hart)) h = absurd (omega arith)
+
+  pub allowed : Allows (sb p q) (fences None None)
+  allowed = (buffered, record { execution = execution; grounded = grounded; outcome = refl })
+
+  -- with w,r in hart 0 the order goes against preserved program order
+  pub refused : IsExecution (sb p q) (fences (Some WR) None) buffered → ⊥
+  refused e = false≢true (e.axioms.preserved 0 1 refl)

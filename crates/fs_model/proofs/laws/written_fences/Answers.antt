@@ -1,0 +1,11 @@
+use Rattle.fs_model.proofs.Examples.{written, tso, devices}
+use Rattle.fs_model.proofs.laws.written_fences.Goals as goal
+
+pub returns-clause-written : goal.returns-clause-written
+returns-clause-written c = written
+
+pub returns-clause-tso : goal.returns-clause-tso
+returns-clause-tso c = tso
+
+pub returns-clause-devices : goal.returns-clause-devices
+returns-clause-devices c = devices

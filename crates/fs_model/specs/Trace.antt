@@ -1,0 +1,72 @@
+-- Runs of one hart (RISC-V Unprivileged ISA 20191213, chapters "RV32I Base Integer Instruction Set" and "“A” Standard Extension
+-- for Atomic Instructions"). A load may return any word here, and an sc.w may fail.
+use Rattle.std.specs.Prelude.{◌≡◌, ℕ, ◌^◌, ◌<◌, ◌≤◌, ◌⊎◌, Option, None, Some, List, [], ◌∷◌, length, slice_get}
+use Rattle.fs_instr.specs.declared.instr.Instr.{Instr}
+use Rattle.fs_instr.specs.declared.instr.Instr.TheVariants.{Lw, Sw, Lr, Sc, Amo}
+use Rattle.fs_syntax.specs.Test.{address_of}
+use Rattle.fs_model.specs.declared.hart.Hart.{Hart}
+use Rattle.fs_model.specs.declared.step.Step.{Step}
+use Rattle.fs_model.specs.Execute.{address_in, stored_in, executed, next_after}
+
+-- the address of one of the first so many locations
+abbrev pub IsDeclared : (locations : ℕ) → Option ℕ → Type 0
+IsDeclared locations address = (k : ℕ) × (k < locations) × (address ≡ Some (address_of k))
+
+abbrev pub IsWord : Option ℕ → Type 0
+IsWord None = ⊥
+IsWord (Some word) = word < 2 ^ 32
+
+-- an access to a declared location, at the address that the instruction has in this state
+abbrev pub IsAtLocation : ℕ → Hart → Step → Type 0
+IsAtLocation n h s = (s.address ≡ address_in h.registers s.instr) × IsDeclared n s.address
+
+abbrev pub StoresItsWord : Hart → Step → Type 0
+StoresItsWord h s = s.stored ≡ stored_in h.registers s.loaded s.instr
+
+abbrev pub AccessesNothing : Step → Type 0
+AccessesNothing s = (s.address ≡ None) × (s.loaded ≡ None) × (s.stored ≡ None)
+
+-- an sc.w succeeds only where it is paired with an lr.w of its address
+abbrev pub Succeeds : Hart → Step → Type 0
+Succeeds h s = (s.address ≡ address_in h.registers s.instr) × (s.address ≡ h.paired) × (s.loaded ≡ None) × StoresItsWord h s
+
+-- the access of a step, by its instruction, in a test with n locations
+abbrev pub Accesses : ℕ → Hart → Step → Instr → Type 0
+Accesses n h s (Lw rd base offset) = IsAtLocation n h s × IsWord s.loaded × (s.stored ≡ None)
+Accesses n h s (Lr ann rd base) = IsAtLocation n h s × IsWord s.loaded × (s.stored ≡ None)
+Accesses n h s (Sw value base offset) = IsAtLocation n h s × (s.loaded ≡ None) × StoresItsWord h s
+Accesses n h s (Amo op ann rd value base) = IsAtLocation n h s × IsWord s.loaded × StoresItsWord h s
+Accesses n h s (Sc ann rd value base) = Succeeds h s ⊎ AccessesNothing s
+Accesses n h s _ = AccessesNothing s
+
+abbrev pub paired_after : Hart → Step → Instr → Option ℕ
+paired_after h s (Lr ann rd base) = s.address
+paired_after h s (Sc ann rd value base) = None
+paired_after h s _ = h.paired
+
+abbrev pub after_step : Hart → Step → Hart
+after_step h s = record {
+  at = next_after h.registers h.at s.instr;
+  registers = executed h.registers s.loaded s.stored s.instr;
+  paired = paired_after h s s.instr;
+}
+
+-- a step of the hart in this state: the instruction that is next, with its access
+abbrev pub IsStep : ℕ → List Instr → Hart → Step → Type 0
+IsStep n code h s = (s.at ≡ h.at) × (slice_get code h.at ≡ Some s.instr) × Accesses n h s s.instr
+
+-- steps one after the other
+abbrev pub AreSteps : ℕ → List Instr → Hart → List Step → Type 0
+AreSteps n code h [] = Unit {0}
+AreSteps n code h (s ∷ ss) = IsStep n code h s × AreSteps n code (after_step h s) ss
+
+abbrev pub hart_after : Hart → List Step → Hart
+hart_after h [] = h
+hart_after h (s ∷ ss) = hart_after (after_step h s) ss
+
+-- a run from the first instruction to the end of the code
+abbrev pub start_with : List ℕ → Hart
+start_with registers = record { at = 0; registers = registers; paired = None }
+
+abbrev pub Runs : ℕ → List Instr → (registers : List ℕ) → List Step → Type 0
+Runs n code registers steps = AreSteps n code (start_with registers) steps × (length code ≤ (hart_after (start_with registers) steps).at)

@@ -1,0 +1,40 @@
+-- Which words a location can come to hold, counted in rounds: a run whose loads take words of one round adds what it stores to
+-- the next.
+use Rattle.std.specs.Prelude.{◌≡◌, ℕ, zero, suc, ◌<◌, ◌⊎◌, Some, List, [], ◌∷◌, All, length, slice_get, sum_by, count_by}
+use Rattle.fs_syntax.specs.declared.test.Test.{Test}
+use Rattle.fs_syntax.specs.Test.{address_of}
+use Rattle.fs_model.specs.declared.step.Step.{Step}
+use Rattle.fs_model.specs.Forms.{is_storing}
+use Rattle.fs_model.specs.Operations.{steps_of}
+use Rattle.fs_model.specs.Execution.{Execution, IsTrace, initial_words}
+
+-- what the step loads is a word of its location
+abbrev pub LoadsOne : (ℕ → ℕ → Type 0) → Step → Type 0
+LoadsOne V s = (k word : ℕ) → s.address ≡ Some (address_of k) → s.loaded ≡ Some word → V k word
+
+abbrev pub LoadsFrom : (ℕ → ℕ → Type 0) → List Step → Type 0
+LoadsFrom V steps = All (LoadsOne V) steps
+
+-- some step stores the word at location k
+abbrev pub StoresWord : List Step → ℕ → ℕ → Type 0
+StoresWord [] k word = ⊥
+StoresWord (s ∷ ss) k word = ((s.address ≡ Some (address_of k)) × (s.stored ≡ Some word)) ⊎ StoresWord ss k word
+
+-- location k can hold the word after n rounds
+abbrev pub IsValueAfter : Test → ℕ → ℕ → ℕ → Type 0
+IsValueAfter t zero k word = slice_get (initial_words t) k ≡ Some word
+IsValueAfter t (suc n) k word =
+    IsValueAfter t n k word
+    ⊎ ((hart : ℕ) × (steps : List Step) × (hart < length t.codes) × IsTrace t hart steps
+    × LoadsFrom (IsValueAfter t n) steps × StoresWord steps k word)
+
+-- as many rounds as the test has sw, sc.w and AMO instructions
+abbrev pub rounds : Test → ℕ
+rounds t = sum_by (count_by is_storing) t.codes
+
+abbrev pub IsValue : Test → ℕ → ℕ → Type 0
+IsValue t k word = IsValueAfter t (rounds t) k word
+
+-- each word that is loaded is a value of its location
+abbrev pub IsGrounded : Test → Execution → Type 0
+IsGrounded t e = (hart : ℕ) → hart < length t.codes → LoadsFrom (IsValue t) (steps_of e.traces hart)

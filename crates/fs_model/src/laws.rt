@@ -1,0 +1,75 @@
+//! Laws of the definitions: what decides a run, and each rule of preserved program order at work in a small execution.
+
+ghost use Rattle.std.specs.Prelude.{◌≡◌, ℕ, List, [], ◌∷◌, None, Some};
+ghost use Rattle.std.proofs.Common.{Box};
+ghost use Rattle.std.specs.declared.alloc.Global.{Global};
+ghost use Rattle.fs_kinds.specs.declared.kind.Kind.TheVariants.{RR, WR, WW};
+ghost use Rattle.fs_instr.specs.declared.instr.Instr.{Instr};
+ghost use Rattle.fs_instr.specs.declared.instr.Instr.TheVariants.{Fence, FenceTso};
+ghost use Rattle.fs_syntax.specs.Fenced.{read, write};
+ghost use Rattle.fs_model.specs.declared.step.Choice.{Choice};
+ghost use Rattle.fs_model.specs.Choices.{MakeOneRun, StopOnce, NeverDoBoth};
+ghost use Rattle.fs_model.specs.Preserved.{R1, R2, R3, R4, R5, R6, R7, R8, R9, R10, R11, R12, R13};
+ghost use Rattle.fs_model.specs.Execution.{IsExecution};
+ghost use Rattle.fs_model.specs.Allows.{Allows};
+ghost use Rattle.fs_model.specs.StoreBuffering.{sb, buffered, fences};
+ghost use Rattle.fs_model.specs.Examples.{rules_of, fence_at_1, load_then_store, coherent_reads, reserved, store_then_load, swap_then_load, around, output, input, message_passing, release_then_acquire, address_known_late, forwarded, branched};
+
+/// A law: the choices of a hart decide its run. They make one whole run, or one run that stops in one way, and not both.
+pub fn choices_decide()
+    ensures whole { (n : ℕ) (code : List Instr) (registers : List ℕ) (choices : List Choice) → MakeOneRun n code registers choices }
+    ensures stopped { (n : ℕ) (code : List Instr) (registers : List ℕ) (choices : List Choice) → StopOnce n code registers choices }
+    ensures apart { (n : ℕ) (code : List Instr) (registers : List ℕ) (choices : List Choice) → NeverDoBoth n code registers choices }
+{}
+
+/// A law: store buffering without fences is allowed, wherever the parts of its condition lie in memory. With `w,r` before the load
+/// of hart 0, the execution that shows it is none.
+pub fn store_buffering()
+    ensures allowed { (p q : Box (Unit {0}) Global) → Allows (sb p q) (fences None None) }
+    ensures refused { (p q : Box (Unit {0}) Global) → IsExecution (sb p q) (fences (Some WR) None) buffered → ⊥ }
+{}
+
+/// A law: overlapping addresses. A store after an access to its word (rule 1), two loads that return different stores (2), and
+/// a load that returns what an sc.w wrote (3).
+pub fn overlapping_addresses()
+    ensures same_word { rules_of load_then_store [] (0 ∷ 1 ∷ []) 0 1 ≡ R1 ∷ [] }
+    ensures reads { rules_of coherent_reads [] (2 ∷ 0 ∷ 1 ∷ []) 1 2 ≡ R2 ∷ [] }
+    ensures returned { rules_of reserved [] (0 ∷ 1 ∷ 2 ∷ []) 1 2 ≡ R3 ∷ [] }
+{}
+
+/// A law: placed fences (rule 4). A store and a later load of another word are ordered by a placed `w,r`, and by nothing else there. An
+/// AMO is both a load and a store to a fence.
+pub fn placed_fences()
+    ensures unfenced { rules_of store_then_load [] (0 ∷ 1 ∷ []) 0 1 ≡ [] }
+    ensures fenced { rules_of store_then_load (fence_at_1 WR) (0 ∷ 1 ∷ []) 0 1 ≡ R4 ∷ [] }
+    ensures swap_writes { rules_of swap_then_load (fence_at_1 WR) (0 ∷ 1 ∷ []) 0 1 ≡ R4 ∷ [] }
+    ensures swap_reads { rules_of swap_then_load (fence_at_1 RR) (0 ∷ 1 ∷ []) 0 1 ≡ R4 ∷ [] }
+    ensures swap_passes { rules_of swap_then_load (fence_at_1 WW) (0 ∷ 1 ∷ []) 0 1 ≡ [] }
+{}
+
+/// A law: fences of a test (rule 4). Between a store and a later load of another word, `fence w,r` orders them, `fence.tso` doesn't,
+/// and nor does `fence o,i`, which is for devices.
+pub fn written_fences()
+    ensures written { rules_of (around (Fence write read)) [] (0 ∷ 1 ∷ []) 0 1 ≡ R4 ∷ [] }
+    ensures tso { rules_of (around FenceTso) [] (0 ∷ 1 ∷ []) 0 1 ≡ [] }
+    ensures devices { rules_of (around (Fence output input)) [] (0 ∷ 1 ∷ []) 0 1 ≡ [] }
+{}
+
+/// A law: annotations and pairs. In message passing an acquiring lr.w comes before the load after it (rule 5) and a releasing
+/// AMO after the store before it (6); a release comes before a later acquire (7), and an lr.w before its sc.w (8).
+pub fn annotations()
+    ensures acquired { rules_of message_passing [] (3 ∷ 0 ∷ 1 ∷ 2 ∷ []) 2 3 ≡ R5 ∷ [] }
+    ensures released { rules_of message_passing [] (3 ∷ 0 ∷ 1 ∷ 2 ∷ []) 0 1 ≡ R6 ∷ [] }
+    ensures both { rules_of release_then_acquire [] (0 ∷ 1 ∷ []) 0 1 ≡ R7 ∷ [] }
+    ensures paired { rules_of reserved [] (0 ∷ 1 ∷ 2 ∷ []) 0 1 ≡ R1 ∷ R8 ∷ [] }
+{}
+
+/// A law: dependencies. A loaded word is a later access's address (rule 9), is stored (10) or decides a branch before a store
+/// (11); it is stored and then loaded again (12), or is the address of an access before a store (13).
+pub fn dependencies()
+    ensures address { rules_of address_known_late [] (0 ∷ 1 ∷ 2 ∷ []) 0 1 ≡ R9 ∷ [] }
+    ensures word { rules_of forwarded [] (2 ∷ 0 ∷ 1 ∷ []) 0 1 ≡ R10 ∷ [] }
+    ensures control { rules_of branched [] (0 ∷ 1 ∷ []) 0 1 ≡ R11 ∷ [] }
+    ensures through_store { rules_of forwarded [] (2 ∷ 0 ∷ 1 ∷ []) 0 2 ≡ R12 ∷ [] }
+    ensures address_first { rules_of address_known_late [] (0 ∷ 1 ∷ 2 ∷ []) 0 2 ≡ R13 ∷ [] }
+{}

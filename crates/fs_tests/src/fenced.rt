@@ -1,0 +1,61 @@
+//! The fenced test, read back from its printed form.
+use crate::litmus::{MP, MPB};
+use fs_fenced::fence;
+use fs_kinds::{Fault, Limit, Placement, Slot};
+use fs_litmus::{Test, read_fences, read_test, slots};
+use std::alloc::Global;
+use std::test::Fail;
+
+/// The test that the text reads as, with fences by these words.
+fn fenced(alloc: Global, text: &str, words: &[&str]) -> Result<Test, Fault> {
+    let test = read_test(alloc, text.as_bytes())?;
+    let mut fences = Vec::new(alloc);
+    for word in words {
+        fences.push(String::from_str(alloc, word)?)?;
+    }
+    let placement = read_fences(alloc, &test, None, &fences)?;
+    fence(alloc, &test, &placement)
+}
+
+#[test]
+fn slots_move_with_their_instructions(rt: HostRuntime) -> Result<(), Fail> {
+    let alloc = rt.alloc();
+    let test = fenced(alloc, MP, &["P0:3=w,w", "P1:1=r,r"])?;
+    let found = slots(alloc, &test)?;
+    let wanted = [Slot { hart: 0, at: 4 }, Slot { hart: 1, at: 2 }];
+    assert_eq!(rt; found.as_slice(), wanted.as_slice());
+    let branching = fenced(alloc, MPB, &["P1:2=r,r"])?;
+    let found = slots(alloc, &branching)?;
+    let wanted = [Slot { hart: 0, at: 3 }, Slot { hart: 1, at: 3 }];
+    assert_eq!(rt; found.as_slice(), wanted.as_slice());
+    Ok(())
+}
+
+#[test]
+fn a_full_hart_has_no_room_for_a_fence(rt: HostRuntime) -> Result<(), Fail> {
+    let alloc = rt.alloc();
+    let mut text = String::from_str(alloc, "RISCV Full\n{ 0:x6=x; }\nP0 ;\n")?;
+    for _ in 0..32 {
+        text.push_str("lw x5,0(x6) ;\n")?;
+    }
+    text.push_str("exists (0:x5=0)\n")?;
+    let bare = fenced(alloc, text.as_str(), &[])?;
+    assert_eq!(rt; bare.codes.as_slice().len(), 1);
+    match fenced(alloc, text.as_str(), &["P0:31=r,r"]) {
+        Ok(_) => assert!(rt; false),
+        Err(fault) => assert_eq!(rt; fault, Fault::TooBig { what: Limit::Instructions }),
+    }
+    Ok(())
+}
+
+#[test]
+fn a_placement_of_other_slots_is_refused(rt: HostRuntime) -> Result<(), Fail> {
+    let alloc = rt.alloc();
+    let test = read_test(alloc, MP.as_bytes())?;
+    let none = Placement::bottom(alloc, &[])?;
+    match fence(alloc, &test, &none) {
+        Ok(_) => assert!(rt; false),
+        Err(fault) => assert_eq!(rt; fault, Fault::BadFence),
+    }
+    Ok(())
+}

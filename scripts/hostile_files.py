@@ -1,0 +1,432 @@
+"""Hostile files for `rvfence place`, each with its answer: the line of its fault, or READ. The answers are those of
+docs/FORMAT.md. None is taken from the program: they are derived where the file is made, as the comments say, and for the
+files that are changed or composed by a second reader of the format."""
+import os
+import random
+import re
+
+from reference import READ, fault_of
+
+TOP = os.path.dirname(os.path.dirname(os.path.realpath(__file__)))
+TOKENS_CHANGED = 3000
+TESTS_COMPOSED = 6000
+
+# The greatest size of a file that is read.
+MEBIBYTE = 1024 * 1024
+
+
+def syntax(line):
+    return f"fault F3 Syntax line {line}"
+
+
+UTF8 = "fault F1 BadUtf8"
+TITLE = "fault F2 NotRiscv"
+CONDITION = "fault F8 BadCondition"
+DEPTH = "fault F9 TooBig depth"
+LOCATIONS = "fault F9 TooBig locations"
+PRICES = "fault F10 BadPrices"
+NO_FENCE = "fault F12 BadFence"
+TOO_LONG = "fault F20 ReadFault"
+
+
+def last_line(text):
+    """The number of the last line. A line end at the end of the text begins none."""
+    return text.count(b"\n") + (not text.endswith(b"\n"))
+
+
+def litmus(init="0:x6=x;", cell="lw x5,0(x6)", condition="0:x5=0"):
+    """A test of one hart. Its init block is line 2, its cell line 4, and its condition line 5."""
+    return f"RISCV T\n{{ {init} }}\nP0 ;\n{cell} ;\nexists {condition}\n".encode("ascii")
+
+
+def examples():
+    """The examples, each with its name."""
+    folder = f"{TOP}/examples"
+    for name in sorted(os.listdir(folder)):
+        if name.endswith(".litmus"):
+            with open(f"{folder}/{name}", "rb") as file:
+                yield name, file.read()
+
+
+def without_documentation(whole):
+    """The first line, and the lines from the init block on."""
+    title, below = whole.split(b"\n", 1)
+    return title + below[below.index(b"\n{") :]
+
+
+def beginnings():
+    """Every beginning of every example. Up to its name the first line is no title, and the name of each example begins at
+    its seventh byte. From there on the text ends too soon, at its last line: each line begins what the whole test goes
+    on with, and a sign that is cut in two (`/` of `/\\`) is cut at the end. Each condition ends with `)`; what comes
+    after that is the line end alone."""
+    for name, whole in examples():
+        for count in range(len(whole) + 1):
+            text = whole[:count]
+            if count <= 6:
+                wanted = TITLE
+            elif count < len(whole) - 1:
+                wanted = syntax(last_line(text))
+            else:
+                wanted = READ
+            yield f"the first {count} bytes of {name}", text, wanted
+
+
+TELLING = b"()[]{};|,:=~-/\\*._#\"'+<@!% \t\n\r\0" + b"09xaPw\x7f\x80\xff"
+
+
+def bytes_changed():
+    """MP with each byte replaced by each telling one. A byte of 128 or more beside ASCII alone is no UTF-8."""
+    whole = without_documentation(dict(examples())["MP.litmus"])
+    for at in range(len(whole)):
+        for byte in TELLING:
+            text = whole[:at] + bytes([byte]) + whole[at + 1 :]
+            yield f"MP with byte {at} {byte:#04x}", text, UTF8 if byte >= 128 else fault_of(text)
+
+
+# What may come in place of a token: marks, line ends, comments, keywords, numbers at the borders of their ranges, names,
+# and instructions whole and in parts.
+WORDS = (
+    "{ } ; | , : = ( ) [ ] ~ - /\\ \\/ # * / \n (* *) (*) (*a\n*) not true false int uint32_t exists forall locations"
+    " 0 1 00 0x0 0x 0x7ff 31 32 2047 2048 1048575 1048576 2147483648 2147483649 4294967295 4294967296 -1 -0 -2048 -2049"
+    " 0: 1: 2: 8: [x] x y z P0 P1 P00 P2 x0 x5 x6 x31 x32 t0 s0 fp zero ra a7 s12 L: LC00: L LC00 _a a.b 0:x6 1:s0 x=1"
+    " x=0 x=1; [y]=2; 0:x9=z; int 1:x9=1; 0:x6=1;"
+    " nop fence fence.tso rw,rw wr,r w,w r,r iorw lw sw lr.w sc.w lr.w.rl lr.w.aqrl sc.w.aq sc.w.aq.rl amoadd.w"
+    " amomaxu.w.rl beq bnez j jal li lui add addi slli srai mv lw.aq 0(x6) (x6) -0(x6) 4(x6) x5,0(x6) x5,(x6)"
+    " x5,x5,(x6) x5,x6 x0,L addi\0x5,x5,-2048 slli\0x5,x5,31 li\0x5,-2147483648 beq\0x5,x0,LC00"
+    " j\0LC00 ;\nnop;\n ;\nnop|nop;\n"
+).split(" ")
+
+
+def one_changed(chance, parts):
+    """The parts with one left out, put in, doubled, replaced, or swapped with another."""
+    at = chance.randrange(len(parts))
+    word = chance.choice(WORDS).replace("\0", " ")
+    way = chance.randrange(5)
+    if way == 0:
+        return parts[:at] + parts[at + 1 :]
+    if way == 1:
+        return parts[:at] + [word, " "] + parts[at:]
+    if way == 2:
+        return parts[: at + 1] + [" "] + parts[at:]
+    if way == 3:
+        return parts[:at] + [word] + parts[at + 1 :]
+    other = chance.randrange(len(parts))
+    parts = list(parts)
+    parts[at], parts[other] = parts[other], parts[at]
+    return parts
+
+
+def tokens_changed():
+    """The examples with up to three of their tokens changed, the same ones each time."""
+    chance = random.Random(1)
+    wholes = [(name, without_documentation(whole).decode("ascii")) for name, whole in examples()]
+    for number in range(TOKENS_CHANGED):
+        name, whole = wholes[number % len(wholes)]
+        parts = re.findall(r"[A-Za-z0-9_.+]+|/\\|\\/|.|\n", whole)
+        for _ in range(1 + number // len(wholes) % 3):
+            parts = one_changed(chance, parts)
+        text = "".join(parts).encode("ascii")
+        yield f"change {number} of {name} to {text!r}", text, fault_of(text)
+
+
+# Parts of tests: those that are in order wherever they stand, and those that are a fault somewhere.
+ENTRIES = [
+    "x=1", "y=-1", "z=0x10", "[w]=y", "int v=u", "uint32_t int=2", "0:x6=x", "0:t2=y", "0x0:s0=4096", "00:x31=-0",
+]
+ODD_ENTRIES = [
+    "0:x0=1", "0:zero=x", "1:x6=x", "2:x6=y", "99:x6=x", "0:x32=1", "0:X5=1", "0:x=y", "x=4294967296", "x=2", "[x]=3",
+    "0:x6=0", "0:fp=1", "0:x8=1", "y=-2147483649", "a=b", "c=d", "e=f", "0:x9=99999999999999999999",
+]
+CELLS = [
+    "", "nop", "lw x5,0(x6)", "sw a0,-4(s1)", "A: lr.w x5,(x6)", "sc.w x5,x6,0(x7)", "amoadd.w.aqrl x5,x5,-0(x5)",
+    "B: C: fence", "fence rw,w", "fence.tso", "li x5,-2147483648", "lui x0,1048575", "addi t0,t0,2047", "mv x5,x6",
+    "slli x5,x5,31", "j Z", "beq x5,x0,Z", "bnez x5,Z", "jal zero,Z", "D:", "lr.w.aq.rl x5,(x6)",
+    "sc.w.rl x5,x6,(x7)",
+]
+ODD_CELLS = [
+    "lw.aq x5,0(x6)", "LW x5,0(x6)", "fence.i", "5: nop", "exist", "lr.w.rl x5,(x6)", "sc.w.aq x5,x6,(x7)",
+    "lr.w.rl x5,4(x6)", "sc.w.aq x5,x6", "addi x5,x5,2048", "addi x5,x5,-2049", "slli x5,x5,32", "lui x5,1048576",
+    "lui x5,-1", "li x5,4294967296", "lw x5,(x6)", "lr.w x5,4(x6)", "fence wr,w", "fence rr,w", "fence r", "nop nop",
+    "jal x1,Z", "j Q", "E: j E", "beq x5,x0,A", "A: nop", "Z: nop", "B:\nB: nop", "(nop)", "A: : nop", "nop # x", "-",
+]
+ATOMS = [
+    "x=1", "[y]=x", "0:x5=0", "0:a0=-1", "0x0:x0=0", "true", "false", "not=1", "true=x", "exists=0", "z=4294967295",
+]
+ODD_ATOMS = [
+    "1:x5=0", "7:x5=0", "0:x32=1", "0:y=1", "x=4294967296", "0:x5=-2147483649", "p=q", "r=s", "x", "0:5", "[0]=1",
+    "1=1",
+]
+CONNECTIVES = ["/\\", "\\/"]
+
+
+def picked(chance, plain, odd, oddness):
+    """One of the plain parts, or with this chance one of the odd ones."""
+    return chance.choice(odd if chance.random() < oddness else plain)
+
+
+def condition_of(chance, oddness, height):
+    """A condition that is a tree of at most this height, as text."""
+    way = chance.randrange(6) if height else 0
+    if way < 2:
+        return picked(chance, ATOMS, ODD_ATOMS, oddness)
+    first = condition_of(chance, oddness, height - 1)
+    if way < 4:
+        second = condition_of(chance, oddness, height - 1)
+        return f"{first} {chance.choice(CONNECTIVES)} {second}"
+    return chance.choice(["~{}", "not {}", "({})", "~({})", "( {} ) (* c *)"]).format(first)
+
+
+def composed(chance):
+    """A test made of parts, some of them odd. Now and then a limit is passed."""
+    oddness = chance.choice((0, 0.03, 0.1))
+    harts = chance.choice((1, 1, 2, 2, 3, 8, 9))
+    many = chance.random() < 0.1
+    entries = [picked(chance, ENTRIES, ODD_ENTRIES, oddness) for _ in range(chance.randrange(4))]
+    entries = list(dict.fromkeys(entries))
+    lines = ["RISCV T", "{", *[f"{entry};" for entry in entries], "}"]
+    lines.append(" | ".join(f"P{hart}" for hart in range(harts)) + " ;")
+    cells = CELLS[: 4 if many else chance.choice((4, 12, 99))]
+    for _ in range(chance.randrange(20, 48) if many else chance.randrange(6)):
+        lines.append(" | ".join(picked(chance, cells, ODD_CELLS, oddness / harts) for _ in range(harts)) + " ;")
+    lines.append("| ".join(["Z: "] * harts) + ";")
+    lines += chance.choice(([], [], ["locations [x; 0:x5 ~(]"]))
+    joined = chance.choice(([],) * 10 + (["x=0"] * chance.randrange(63, 67), [f"n{name}=0" for name in range(8)]))
+    condition = chance.choice((" /\\ ", " \\/ ")).join(joined + [condition_of(chance, oddness, 4)])
+    lines.append(f"{chance.choice(('exists', '~exists', '~ exists', 'forall'))} {condition}")
+    return chance.choice(("\n", "\n", "\r\n", "\n\n")).join(lines) + "\n"
+
+
+def tests_composed():
+    """Tests made of parts, the same ones each time."""
+    chance = random.Random(2)
+    for number in range(TESTS_COMPOSED):
+        text = composed(chance).encode("ascii")
+        yield f"composed test {number}, {text!r}", text, fault_of(text)
+
+
+SIGNS = [b"(", b"~", b"{", b"[", b"(*", b"\\/", b"|", b";", b"a", b"0", b"-", b"\n", b"\r", b"\0", b"\xff"]
+
+# Where a flood may begin: what stands before it, its line, and what stands after it, on lines of its own.
+PLACES = {
+    "in the init block": (b"RISCV T\n{ ", b"\n}\nP0 ;\n;\nexists true\n"),
+    "in a row": (b"RISCV T\n{ }\nP0 ;\n", b"\n;\nexists true\n"),
+    "in a cell": (b"RISCV T\n{ }\nP0 ;\nnop\n", b"\n;\nexists true\n"),
+    "in the condition": (b"RISCV T\n{ }\nP0 ;\nnop ;\nexists ", b"\n"),
+    "in locations": (b"RISCV T\n{ }\nP0 ;\nnop ;\nlocations [ ", b"\n]\nexists true\n"),
+}
+
+
+def floods():
+    """A mebibyte of each sign: bare; after a good beginning, to the end; and after a good beginning and before what
+    ends the test well."""
+    for sign in SIGNS:
+        bare = sign * (MEBIBYTE // len(sign))
+        yield f"{sign!r} alone", bare, UTF8 if sign == b"\xff" else TITLE
+        for place, (before, after) in PLACES.items():
+            text = before + sign * ((MEBIBYTE - len(before)) // len(sign))
+            # No flood ends the test, so the text ends too soon, unless a sign breaks the form before; all but the line
+            # ends stand in one line.
+            yield f"{sign!r} {place}, cut", text, UTF8 if sign == b"\xff" else syntax(last_line(text))
+            text = before + sign * ((MEBIBYTE - len(before) - len(after)) // len(sign)) + after
+            yield f"{sign!r} {place}", text, within(sign, place, before, text)
+
+
+def within(sign, place, before, text):
+    """The answer of a test with a flood inside."""
+    line = last_line(before + b".")
+    if sign == b"\xff":
+        return UTF8
+    if sign in (b"\n", b"\r"):
+        return READ if place != "in the condition" else syntax(last_line(text))
+    if sign == b"(*":
+        # a comment that isn't closed
+        return syntax(last_line(text))
+    if sign == b"\0":
+        # a character of no token breaks the form wherever it stands
+        return syntax(line)
+    if place == "in the init block":
+        # a word or number after which comes `}`: the entry breaks there. All else begins no entry.
+        return syntax(line + 1 if sign in (b"a", b"0") else line)
+    if place == "in a row":
+        return {
+            b"~": syntax(line),  # ends the rows, and no `exists` follows
+            b"|": syntax(line),  # a cell too many
+            b";": READ,  # empty rows
+            b"a": f"fault F4 UnknownInstr line {line}",
+            b"0": f"fault F4 UnknownInstr line {line}",
+        }.get(sign, syntax(line))  # a cell that begins with another token than a word
+    if place == "in a cell":
+        if sign == b";":
+            return READ
+        # a cell too many; else operands of another shape, at the first token of the cell, a line before the flood
+        return syntax(line if sign == b"|" else line - 1)
+    if place == "in the condition":
+        # operands of nothing; after parentheses, denials, a word or a number the text ends too soon
+        return syntax(last_line(text) if sign in (b"(", b"~", b"a", b"0") else line)
+    # between the brackets anything but `]` is skipped
+    return READ
+
+
+def nested(before, after, count, inner="0:x5=0"):
+    return litmus(condition=before * count + inner + after * count)
+
+
+def depths():
+    """Conditions of depth 64 are read, and no deeper ones."""
+    for count, wanted in ((64, READ), (65, DEPTH), (500_000, DEPTH)):
+        yield f"{count} parentheses", nested("(", ")", count), wanted
+        yield f"{count} parentheses, one not closed", nested("(", ")", count)[:-2] + b"\n", syntax(5)
+        yield f"{count} denials", nested("~", "", count), wanted
+    for count, wanted in ((64, READ), (65, DEPTH), (200_000, DEPTH)):
+        yield f"{count} denials by word", nested("not ", "", count), wanted
+    for count, wanted in ((32, READ), (33, DEPTH), (300_000, DEPTH)):
+        # each layer is a denial and a pair of parentheses
+        yield f"{count} denied parentheses", nested("~(", ")", count), wanted
+    # 64 connectives join 65 conjuncts. The last conjunct is the shallowest, so 65 connectives are too deep, though a
+    # parenthesis in their last conjunct may be as deep as the rest.
+    for sign in ("/\\", "\\/"):
+        for count, wanted in ((65, READ), (66, DEPTH), (200_000, DEPTH)):
+            yield f"{count} atoms joined by {sign}", litmus(condition=sign.join(["x=0"] * count)), wanted
+        text = litmus(condition=sign.join(["x=0"] * 65 + ["(" * 63 + "x=0" + ")" * 63]))
+        yield f"65 connectives {sign}", text, DEPTH
+        text = litmus(condition=sign.join(["x=0"] * 64 + ["(" * 64 + "x=0" + ")" * 64]))
+        yield f"64 connectives {sign} and 64 parentheses", text, READ
+        # 400,000 conjuncts are more than a mebibyte
+        yield f"400,000 atoms joined by {sign}", litmus(condition=sign.join(["x=0"] * 400_000)), TOO_LONG
+
+
+def names(count):
+    """This many names, all different."""
+    return [f"a{number:x}" for number in range(count)]
+
+
+def numbers_of_parts():
+    """Very many labels, entries, cells and rows."""
+    labels = "".join(f"L{number}:" for number in range(100_000))
+    yield "100,000 labels", litmus(cell=labels), READ
+    yield "100,000 labels and an instruction", litmus(cell=labels + " nop"), READ
+    yield "a branch over 100,000 labels", litmus(cell="beq x0,x0,L99999 ;\n" + labels), READ
+    # the second of two, on line 5
+    yield "a label again after 100,000", litmus(cell=labels + ";\nL50000:"), "fault F6 BadLabel line 5"
+    yield "one label 100,000 times", litmus(cell="L:" * 100_000), "fault F6 BadLabel line 4"
+    # the shortest entry has four bytes, so 500,000 are more than a mebibyte
+    yield "500,000 entries", litmus(init="x=1;" * 500_000), TOO_LONG
+    yield "250,000 entries of one name", litmus(init="x=1;\n" + "x=1;" * 250_000), "fault F7 BadInit line 3"
+    yield "100,000 entries", litmus(init="".join(f"{name}=1;" for name in names(100_000))), LOCATIONS
+    yield "100,000 values", litmus(init="0:x5=a;" + "".join(f"{name}=a;" for name in names(90_000))), LOCATIONS
+    # the atoms are too deep too, and locations come first
+    condition = "\\/".join(f"{name}=1" for name in names(90_000))
+    yield "100,000 locations in atoms", litmus(condition=condition), LOCATIONS
+    for count, wanted in ((8, READ), (9, LOCATIONS)):
+        yield f"{count} locations", litmus(init="".join(f"{name}=1;" for name in names(count)), cell=""), wanted
+    for count, wanted in ((32, READ), (33, "fault F9 TooBig instructions"), (100_000, "fault F9 TooBig instructions")):
+        yield f"{count} instructions", litmus(cell=";\n".join(["nop"] * count)), wanted
+    for count, wanted in ((8, READ), (9, "fault F9 TooBig harts"), (100_000, "fault F9 TooBig harts")):
+        header = "|".join(f"P{hart}" for hart in range(count))
+        yield f"{count} harts", f"RISCV T\n{{ }}\n{header};\n{'|' * (count - 1)};\nexists true\n".encode(), wanted
+        # one cell is missing
+        text = f"RISCV T\n{{ }}\n{header};\n{'|' * (count - 2)};\nexists true\n".encode()
+        yield f"{count} harts and a cell too few", text, syntax(4)
+    rows = "sw x5,0(x6) | sw x5,0(x6) ;\n" * 24
+    for row, wanted in (("", READ), ("| sw x5,0(x6) ;\n", "fault F9 TooBig accesses")):
+        text = f"RISCV T\n{{ }}\nP0 | P1 ;\n{rows}{row}exists true\n".encode()
+        yield f"48 memory instructions{' and one' * (row != '')}", text, wanted
+
+
+def long_words():
+    """Names and numbers of almost a mebibyte."""
+    name, zeros, nines = (sign * (MEBIBYTE - 200) for sign in "a09")
+    yield "a long title", litmus().replace(b"RISCV T", b"RISCV " + name.encode()), READ
+    yield "a long documentation line", litmus().replace(b"T\n", b"T\n" + name.encode() + b"\n"), READ
+    yield "a long name of a location", litmus(init=f"{name}=1;"), READ
+    yield "a long name in an atom", litmus(condition=f"{name}=1"), READ
+    yield "a long name for an address", litmus(init=f"0:x6={name};"), READ
+    yield "a long name of a register", litmus(init=f"0:{name}=1;"), "fault F7 BadInit line 2"
+    yield "a long name of a register in an atom", litmus(condition=f"0:{name}=1"), CONDITION
+    yield "a long header", litmus().replace(b"P0", b"P" + zeros.encode()), syntax(3)
+    yield "a long mnemonic", litmus(cell=f"{name} x5"), "fault F4 UnknownInstr line 4"
+    yield "a long operand", litmus(cell=f"lw {name},0(x6)"), syntax(4)
+    yield "a long label", litmus(cell=f"{name}: nop"), READ
+    yield "a branch to a long label", litmus(cell=f"j {name}"), "fault F6 BadLabel line 4"
+    yield "a branch to a long label further on", litmus(cell=f"j {name[::2]} ;\n{name[::2]}: nop"), READ
+    yield "a long comment", litmus(init=f"(* {name} *)"), READ
+    # 0 however often it is written, and a 1 after it
+    yield "zeros for a word", litmus(init=f"x={zeros};"), READ
+    yield "zeros for a word in hexadecimal", litmus(init=f"x=0x{zeros};"), READ
+    yield "zeros for a negative word", litmus(init=f"x=-{zeros};"), READ
+    yield "zeros for a hart", litmus(init=f"{zeros}:x6=x;"), READ
+    yield "zeros for a hart in an atom", litmus(condition=f"{zeros}:x6=x"), READ
+    yield "zeros for an offset", litmus(cell=f"lw x5,{zeros}1(x6)"), READ
+    yield "zeros for a constant", litmus(cell=f"li x5,-{zeros}1"), READ
+    yield "zeros for a shift amount", litmus(cell=f"slli x5,x5,{zeros}"), READ
+    yield "zeros for a register", litmus(init=f"0:x{zeros}6=1;"), "fault F7 BadInit line 2"
+    yield "nines for a word", litmus(init=f"x={nines};"), "fault F7 BadInit line 2"
+    yield "nines for a word in an atom", litmus(condition=f"x={nines}"), CONDITION
+    yield "nines for a hart", litmus(init=f"{nines}:x6=x;"), "fault F7 BadInit line 2"
+    yield "nines for a hart in an atom", litmus(condition=f"{nines}:x6=x"), CONDITION
+    yield "nines for an immediate", litmus(cell=f"addi x5,x5,{nines}"), syntax(4)
+    yield "nines for a constant", litmus(cell=f"li x5,{nines}"), syntax(4)
+
+
+def sizes():
+    """A mebibyte is read, and not a byte more."""
+    whole = litmus()
+    for size, wanted in ((MEBIBYTE, READ), (MEBIBYTE + 1, TOO_LONG), (2 * MEBIBYTE, TOO_LONG)):
+        yield f"{size} bytes with blanks at the end", whole + b" " * (size - len(whole)), wanted
+        yield f"{size} bytes with line ends", whole + b"\n" * (size - len(whole)), wanted
+        # a file that is too long is not looked at
+        yield f"{size} bytes of 0xff", b"\xff" * size, UTF8 if size == MEBIBYTE else TOO_LONG
+
+
+def prices():
+    """Prices for MP. What is no JSON, or no object of prices, is bad; blanks around are nothing."""
+    good = b'{"rw,rw":1}'
+    signs = [b"[", b"{", b"]", b"}", b'{"rw,rw":', b'{"weights":', b'"', b"\\", b"0", b"-", b"1", b".", b"e", b",", b":"]
+    signs += [b"\0", b"\xff"]
+    for sign in signs:
+        flood = sign * ((MEBIBYTE - 100) // len(sign))
+        yield f"{sign!r} alone", flood, PRICES
+        yield f"{sign!r} for a price", b'{"rw,rw":1,"w,w":' + flood + b"}", PRICES
+        yield f"{sign!r} for a kind", b'{"rw,rw":1,"' + flood + b'":1}', PRICES
+        yield f"{sign!r} for a weight", b'{"rw,rw":1,"weights":{"P0:3":' + flood + b"}}", PRICES
+        yield f"{sign!r} for a slot", b'{"rw,rw":1,"weights":{"' + flood + b'":1}}', PRICES
+    for count in range(len(good)):
+        yield f"the first {count} bytes of prices", good[:count], PRICES
+    for size, wanted in ((MEBIBYTE, READ), (MEBIBYTE + 1, TOO_LONG)):
+        yield f"prices of {size} bytes", good + b" " * (size - len(good)), wanted
+    every = ",".join(f'"P{hart}:{at}":{at}' for hart in range(256) for at in range(256))
+    yield "a weight for every slot", b'{"rw,rw":1,"weights":{' + every.encode("ascii") + b"}}", READ
+    yield "a price 100,000 times", b"{" + b'"w,w":2,' * 100_000 + good[1:], READ
+    yield "a price 100,000 times and no rw,rw", b"{" + b'"w,w":2,' * 100_000 + b'"r,r":2}', "fault F11 NoTop"
+    yield "no top", b"{}", "fault F11 NoTop"
+
+
+def fences():
+    """Words for MP that name no fence, or one that its slots don't have."""
+    zeros = "0" * 100_000
+    words = """
+        = : P P0 P0: P0:3 P0:3= P0:3=w P0:3=w, P0:3=,w P0:3=W,W p0:3=w,w 0:3=w,w P00:3=w,w P0:03=w,w P+0:3=w,w P0:+3=w,w
+        P0:-3=w,w P0:3=w,w=w,w P0:0=w,w P0:1=w,w P0:4=w,w P1:0=r,r P1:2=r,r P2:1=r,r P256:3=w,w P0:259=w,w
+        P0:4294967299=w,w P0:18446744073709551619=w,w
+    """.split()
+    words += ["", " ", "P0:3=\u00e9", " P0:3=w,w", "P0:3=w,w ", "P0:3 =w,w", f"P{zeros}:3=w,w", f"P0:{zeros}3=w,w"]
+    words += [f"P0:3={zeros}", "P0:3=" + "w," * 50_000]
+    for word in words:
+        yield f"the word {word[:40]!r}", [word], NO_FENCE
+    yield "a fence 5,000 times", ["P0:3=w,w"] * 5_000, NO_FENCE
+    yield "5,000 words of no fence", ["w"] * 5_000, NO_FENCE
+    yield "two fences", ["P1:1=r,r", "P0:3=w,w"], READ
+
+
+# All the kinds of hostile tests.
+TESTS = [
+    beginnings,
+    bytes_changed,
+    tokens_changed,
+    tests_composed,
+    floods,
+    depths,
+    numbers_of_parts,
+    long_words,
+    sizes,
+]

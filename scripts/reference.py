@@ -1,0 +1,385 @@
+"""A second reader of test files, written from docs/FORMAT.md and plain rather than fast. It says which fault a file has,
+so that the program's answers can be held against it."""
+import re
+
+# The answer of a file that is a test.
+READ = "a test"
+
+BLANKS = " \t\r"
+TYPES = ("int", "int32_t", "uint32_t")
+TOKEN = re.compile(r"[A-Za-z0-9_.]+|/\\|\\/|[^ \t\r\n]")
+MARKS = set("{};|,:=()[]~-") | {"/\\", "\\/"}
+
+REGISTERS = {f"x{number}": number for number in range(32)}
+REGISTERS |= {"zero": 0, "ra": 1, "sp": 2, "gp": 3, "tp": 4, "t0": 5, "t1": 6, "t2": 7, "s0": 8, "fp": 8, "s1": 9}
+REGISTERS |= {f"a{number}": number + 10 for number in range(8)}
+REGISTERS |= {f"s{number}": number + 16 for number in range(2, 12)}
+REGISTERS |= {f"t{number}": number + 25 for number in range(3, 7)}
+
+# The operands of each instruction: r is a register, i an immediate, n a shift amount, u the number of `lui`, c a
+# constant, o the offset 0, z the register x0, l a label, f the letters of a fence; other signs stand for themselves.
+SHAPES = {}
+SHAPES |= dict.fromkeys("add sub xor or and sll srl sra slt sltu".split(), ["r,r,r"])
+SHAPES |= dict.fromkeys("addi xori ori andi slti sltiu".split(), ["r,r,i"])
+SHAPES |= dict.fromkeys("slli srli srai".split(), ["r,r,n"])
+SHAPES |= dict.fromkeys("beq bne blt bge bltu bgeu".split(), ["r,r,l"])
+SHAPES |= dict.fromkeys("lw sw".split(), ["r,i(r)"])
+SHAPES |= {"lui": ["r,u"], "li": ["r,c"], "jal": ["z,l"], "fence": ["f,f", ""], "fence.tso": [""]}
+SHAPES |= {"nop": [""], "mv": ["r,r"], "beqz": ["r,l"], "bnez": ["r,l"], "j": ["l"]}
+ATOMICS = [f"amo{name}.w" for name in "swap add xor and or min max minu maxu".split()]
+for suffix in ("", ".aq", ".rl", ".aqrl", ".aq.rl"):
+    SHAPES |= dict.fromkeys([name + suffix for name in ["sc.w"] + ATOMICS], ["r,r,o(r)", "r,r,(r)"])
+    SHAPES["lr.w" + suffix] = ["r,o(r)", "r,(r)"]
+REFUSED = ("lr.w.rl", "sc.w.aq")
+RANGES = {"i": (-2048, 2047), "n": (0, 31), "u": (0, 1048575), "c": (-(2**31), 2**32 - 1), "o": (0, 0)}
+
+
+class Fault(Exception):
+    """The fault that the file has, as its printed line says it."""
+
+
+def is_word(token):
+    return re.match(r"[A-Za-z0-9_.]", token) is not None
+
+
+def is_name(token):
+    return re.fullmatch(r"[A-Za-z_][A-Za-z0-9_]*", token) is not None
+
+
+def is_number(token):
+    return re.fullmatch(r"[0-9]+|0x[0-9A-Fa-f]+", token) is not None
+
+
+def number_of(token):
+    """The number of a word, or 2^64 where it has too many digits to be in any range."""
+    base, digits = (16, token[2:]) if token.startswith("0x") else (10, token)
+    digits = digits.lstrip("0")
+    return int(digits or "0", base) if len(digits) <= 20 else 2**64
+
+
+class Tokens:
+    """The tokens of a text with their lines, and a place among them."""
+
+    def __init__(self, text, line, last):
+        self.words, self.lines = [], []
+        self.at, self.last, self.closed = 0, last, True
+        place = 0
+        while place < len(text):
+            if text.startswith("(*", place):
+                end = text.find("*)", place + 2)
+                self.closed = end >= 0
+                end = end + 2 if self.closed else len(text)
+                line += text.count("\n", place, end)
+                place = end
+            elif text[place] in BLANKS + "\n":
+                line += text[place] == "\n"
+                place += 1
+            else:
+                word = TOKEN.match(text, place).group()
+                self.words.append(word)
+                self.lines.append(line)
+                place += len(word)
+
+    def peek(self, ahead=0):
+        """The token here, or the empty text at the end."""
+        return self.words[self.at + ahead] if self.at + ahead < len(self.words) else ""
+
+    def line(self):
+        return self.lines[self.at] if self.at < len(self.lines) else self.last
+
+    def next(self, is_wanted):
+        """Takes the token here, where it is wanted; else the form breaks here."""
+        token = self.peek()
+        if not token or not is_wanted(token):
+            raise Fault(f"fault F3 Syntax line {self.line()}")
+        self.at += 1
+        return token
+
+    def expect(self, *wanted):
+        return self.next(lambda token: token in wanted)
+
+
+def read_target(tokens):
+    """A hart and the word for a register, or no hart and the name of a location."""
+    if is_number(tokens.peek()):
+        hart = number_of(tokens.next(is_number))
+        tokens.expect(":")
+        return hart, tokens.next(is_word)
+    if tokens.peek() == "[":
+        tokens.expect("[")
+        name = tokens.next(is_name)
+        tokens.expect("]")
+        return None, name
+    return None, tokens.next(is_name)
+
+
+def read_value(tokens):
+    """A number, or the name of a location."""
+    if tokens.peek() == "-":
+        tokens.expect("-")
+        return -number_of(tokens.next(is_number))
+    if is_number(tokens.peek()):
+        return number_of(tokens.next(is_number))
+    return tokens.next(is_name)
+
+
+def read_entries(tokens):
+    """The entries of the init block: line, target and value of each."""
+    entries = []
+    tokens.expect("{")
+    while tokens.peek() != "}":
+        if tokens.peek() in TYPES and tokens.peek(1) != "=":
+            tokens.expect(*TYPES)
+        line = tokens.line()
+        target = read_target(tokens)
+        tokens.expect("=")
+        entries.append((line, target, read_value(tokens)))
+        if tokens.peek() != "}":
+            tokens.expect(";")
+    tokens.expect("}")
+    return entries
+
+
+def read_header(tokens):
+    """The number of harts."""
+    tokens.expect("P0")
+    harts = 1
+    while tokens.expect("|", ";") == "|":
+        tokens.expect(f"P{harts}")
+        harts += 1
+    return harts
+
+
+def read_rows(tokens, harts):
+    """For each hart its cells, each a list of tokens and a list of their lines."""
+    columns = [[] for _ in range(harts)]
+    while tokens.peek() not in ("locations", "exists", "forall", "~"):
+        for hart in range(harts):
+            start = tokens.at
+            while tokens.peek() not in ("|", ";"):
+                tokens.next(lambda token: is_word(token) or token in MARKS)
+            columns[hart].append((tokens.words[start : tokens.at], tokens.lines[start : tokens.at]))
+            tokens.expect("|" if hart + 1 < harts else ";")
+    return columns
+
+
+def skip_locations(tokens):
+    if tokens.peek() == "locations":
+        tokens.expect("locations")
+        tokens.expect("[")
+        while tokens.peek() != "]":
+            tokens.next(lambda token: is_word(token) or token in MARKS)
+        tokens.expect("]")
+
+
+def joined(stack, depth, signs):
+    """The depth as grouped, once the signs that end here are off the stack."""
+    while stack and stack[-1][0] in signs:
+        depth = 1 + max(stack.pop()[1], depth)
+    return depth
+
+
+def read_operand(tokens, stack, atoms):
+    """Puts open parentheses and denials on the stack, up to an atom, `true` or `false`."""
+    while tokens.peek() in ("(", "~") or (tokens.peek() == "not" and tokens.peek(1) != "="):
+        stack.append(("(" if tokens.expect("(", "~", "not") == "(" else "~", 0))
+    if tokens.peek() in ("true", "false") and tokens.peek(1) != "=":
+        tokens.expect("true", "false")
+        return
+    target = read_target(tokens)
+    tokens.expect("=")
+    atoms.append((target, read_value(tokens)))
+
+
+def read_condition(tokens):
+    """The atoms of the condition, and its depth. The stack has what is open: parentheses, denials, and connectives with
+    the depth of what they join to the left."""
+    atoms, stack, deepest = [], [], 0
+    while True:
+        read_operand(tokens, stack, atoms)
+        deepest = max(deepest, sum(sign in ("(", "~") for sign, _ in stack))
+        depth = joined(stack, 0, ("~", "/\\"))
+        is_open = any(sign == "(" for sign, _ in stack)
+        while is_open and tokens.peek() == ")":
+            tokens.expect(")")
+            depth = joined(stack, depth, ("\\/",))
+            stack.pop()
+            depth = joined(stack, depth, ("~", "/\\"))
+            is_open = any(sign == "(" for sign, _ in stack)
+        if not is_open and not tokens.peek():
+            return atoms, max(deepest, joined(stack, depth, ("\\/",)))
+        sign = tokens.expect("/\\", "\\/")
+        if sign == "\\/":
+            depth = joined(stack, depth, ("\\/",))
+        stack.append((sign, depth))
+
+
+def has_operand(letter, words):
+    """Takes an operand off the words. Was there one?"""
+    negative = letter in RANGES and words[:1] == ["-"]
+    if negative:
+        words.pop(0)
+    word = words.pop(0) if words else ""
+    if letter in RANGES:
+        low, high = RANGES[letter]
+        return is_number(word) and low <= (-number_of(word) if negative else number_of(word)) <= high
+    if letter == "r":
+        return word in REGISTERS
+    if letter == "z":
+        return REGISTERS.get(word) == 0
+    if letter == "l":
+        return is_name(word)
+    if letter == "f":
+        return re.fullmatch("(?=.)i?o?r?w?", word) is not None
+    return word == letter
+
+
+def has_shape(shape, words):
+    words = list(words)
+    return all(has_operand(letter, words) for letter in shape) and not words
+
+
+class Hart:
+    """What the cells of a hart have: instructions, branches with their lines and labels, and labels with their places."""
+
+    def __init__(self, faults):
+        self.faults = faults
+        self.instructions = self.accesses = 0
+        self.branches, self.labels = [], {}
+
+    def read_cell(self, words, lines):
+        at = 0
+        while words[at + 1 : at + 2] == [":"] and is_name(words[at]):
+            if words[at] in self.labels:
+                self.faults.append((6, lines[at]))
+            self.labels.setdefault(words[at], []).append(self.instructions)
+            at += 2
+        if at == len(words):
+            return
+        if not is_word(words[at]):
+            self.faults.append((3, lines[0]))
+        elif words[at] not in SHAPES:
+            self.faults.append((4, lines[at]))
+        elif not any(has_shape(shape, words[at + 1 :]) for shape in SHAPES[words[at]]):
+            self.faults.append((3, lines[0]))
+        elif words[at] in REFUSED:
+            self.faults.append((5, lines[at]))
+        else:
+            self.add(words[at], words[-1], lines[at])
+
+    def add(self, mnemonic, last, line):
+        if "l" in SHAPES[mnemonic][0]:
+            self.branches.append((line, self.instructions, last))
+        self.accesses += mnemonic in ("lw", "sw") or ".w" in mnemonic
+        self.instructions += 1
+
+    def judge_branches(self):
+        for line, at, label in self.branches:
+            places = self.labels.get(label, [])
+            if not places or min(places) <= at:
+                self.faults.append((6, line))
+
+
+def place_of(target, harts):
+    """The hart and the number of a register, or the name of a location; nothing where there is none."""
+    hart, word = target
+    if hart is None:
+        return word
+    return (hart, REGISTERS[word]) if hart < harts and word in REGISTERS else None
+
+
+def is_value(value):
+    return isinstance(value, str) or -(2**31) <= value < 2**32
+
+
+def judge_entries(entries, harts, faults):
+    seen = set()
+    for line, target, value in entries:
+        place = place_of(target, harts)
+        is_zero = isinstance(place, tuple) and place[1] == 0
+        if place is None or is_zero or place in seen or not is_value(value):
+            faults.append((7, line))
+        seen.add(place)
+
+
+def judge_limits(entries, atoms, depth, columns, faults):
+    pairs = [(target, value) for _, target, value in entries] + atoms
+    names = {word for (hart, word), _ in pairs if hart is None}
+    names |= {value for _, value in pairs if isinstance(value, str)}
+    limits = [
+        ("harts", len(columns) > 8),
+        ("instructions", any(hart.instructions > 32 for hart in columns)),
+        ("accesses", sum(hart.accesses for hart in columns) > 48),
+        ("locations", len(names) > 8),
+        ("depth", depth > 64),
+    ]
+    faults += [(9, place) for place, (_, is_passed) in enumerate(limits) if is_passed]
+    return [name for name, _ in limits]
+
+
+def find_block(text):
+    """The text from the line that begins with `{` on, and the number of that line."""
+    start, line = text.find("\n") + 1, 2
+    while start:
+        end = text.find("\n", start)
+        if text[start : end if end >= 0 else len(text)].lstrip(BLANKS).startswith("{"):
+            return text[start:], line
+        start, line = end + 1, line + 1
+    return "", line
+
+
+def read_form(text):
+    """Entries, columns of cells, atoms and depth of a text that is of the form."""
+    last = text.count("\n") + (not text.endswith("\n"))
+    body, line = find_block(text)
+    tokens = Tokens(body, line, last)
+    entries = read_entries(tokens)
+    columns = read_rows(tokens, read_header(tokens))
+    skip_locations(tokens)
+    if tokens.expect("exists", "forall", "~") == "~":
+        tokens.expect("exists")
+    atoms, depth = read_condition(tokens)
+    if not tokens.closed:
+        raise Fault(f"fault F3 Syntax line {last}")
+    return entries, columns, atoms, depth
+
+
+def judge(data):
+    """Raises the fault of the file where it has one."""
+    if len(data) > 1024 * 1024:
+        raise Fault("fault F20 ReadFault")
+    try:
+        text = data.decode("utf-8")
+    except UnicodeDecodeError:
+        raise Fault("fault F1 BadUtf8") from None
+    title = text.split("\n", 1)[0]
+    if not re.match("RISCV[ \t\r]", title) or not title[5:].strip(BLANKS):
+        raise Fault("fault F2 NotRiscv")
+    entries, columns, atoms, depth = read_form(text)
+    faults, harts = [], []
+    for cells in columns:
+        harts.append(Hart(faults))
+        for words, lines in cells:
+            harts[-1].read_cell(words, lines)
+        harts[-1].judge_branches()
+    judge_entries(entries, len(harts), faults)
+    if any(place_of(target, len(harts)) is None or not is_value(value) for target, value in atoms):
+        faults.append((8, 0))
+    limits = judge_limits(entries, atoms, depth, harts, faults)
+    if faults:
+        number, place = min(faults)
+        names = {3: "Syntax", 4: "UnknownInstr", 5: "BadAnnotation", 6: "BadLabel", 7: "BadInit"}
+        if number == 8:
+            raise Fault("fault F8 BadCondition")
+        if number == 9:
+            raise Fault(f"fault F9 TooBig {limits[place]}")
+        raise Fault(f"fault F{number} {names[number]} line {place}")
+
+
+def fault_of(data):
+    """The line of the file's fault, or READ."""
+    try:
+        judge(data)
+    except Fault as fault:
+        return str(fault)
+    return READ
