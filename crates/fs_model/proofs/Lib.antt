@@ -1,6 +1,7 @@
 pub mod Declared
 pub mod Examples
 pub mod OneStop
+pub mod Preserved
 pub mod Ranges
 pub mod Runs
 pub mod Stepping

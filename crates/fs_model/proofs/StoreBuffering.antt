@@ -1,19 +1,20 @@
 -- Store buffering without fences is allowed, and its execution is none with w,r before a load.
 use Rattle.std.proofs.Common.{◌≡◌, ℕ, zero, suc, ◌+◌, ◌*◌, ◌<◌, Bool, true, ◌&&◌, ◌||◌, not, None, Some, List, [], ◌∷◌, inl, refl, arith, lit<, lit≤, Box}
 use Rattle.std.specs.declared.alloc.Global.{Global}
-use Rattle.std.proofs.lemmas.Bool.{and_from, not-true, and_parts, false≢true, both_ways}
+use Rattle.std.proofs.lemmas.Bool.{and_from, not-true, false≢true, both_ways}
 use Rattle.fs_kinds.specs.declared.kind.Kind.TheVariants.{WR}
 use Rattle.fs_model.specs.Numbers.{stands_before}
 use Rattle.fs_model.specs.Operations.{PreExecution, steps_of, po, paired}
 use Rattle.fs_model.specs.Source.{gmo, source_in}
 use Rattle.fs_model.specs.Preserved.{ppo}
 use Rattle.fs_model.specs.Execution.{IsExecution, ObeysAxioms, IsTrace, IsAtomic, ReturnsSources, Respects}
+use Rattle.fs_model.proofs.Ranges.{each_two_below, implies_at, po_in_range}
+use Rattle.fs_model.proofs.Preserved.{ppo_in_po}
 use Rattle.fs_syntax.proofs.Tested.{All-nil, All-cons}
 use Rattle.fs_model.specs.declared.step.Step.{Step}
 use Rattle.fs_model.specs.Values.{LoadsOne, LoadsFrom, IsGrounded, IsValue}
 use Rattle.fs_model.specs.Allows.{Allows}
 use Rattle.fs_model.specs.StoreBuffering.{sb, steps, buffered, fences}
-use Rattle.fs_model.proofs.Ranges.{each_two_below, implies_at, po_in_range}
 use Rattle.fs_syntax.specs.Test.{address_of}
 
 abbrev x : PreExecution
@@ -27,7 +28,7 @@ keeps a b = not (ppo x (fences None None) (source_in x order) a b) || stands_bef
 
 preserved : Respects (gmo x order) (λ a b. ppo x (fences None None) (source_in x order) a b ≡ true)
 preserved a b h =
-    let there = po_in_range x a b (and_parts _ _ h).0 in
+    let there = po_in_range x a b (ppo_in_po x (fences None None) (source_in x order) a b h) in
     implies_at _ _ (each_two_below keeps 6 a b refl there.0 there.1) h
 
 abbrev no_pair : ℕ → ℕ → Bool

@@ -28,12 +28,13 @@ pub record IsPlacement (t : Test) (prices : PriceTable) (p : List Entry) : Type 
 abbrev pub is_better : PriceTable → List Entry → List Entry → Bool
 is_better prices p q = nat_lt (cost prices p) (cost prices q) || (cost prices p == cost prices q) && precedes p q
 
--- p forbids the outcome, and every better placement allows it: the answer is the first of the cheapest
+-- p forbids the outcome, and every better placement allows it: the answer is the first of the cheapest. It says little of a test
+-- with runs that go astray, since these are no executions.
 pub record IsCheapest (t : Test) (prices : PriceTable) (p : List Entry) : Type 0 where
   pub placement : IsPlacement t prices p
   pub forbids : Allows t p → ⊥
   pub better : (q : List Entry) → IsPlacement t prices q → is_better prices q p ≡ true → Allows t q
 
--- no placement forbids it: with rw,rw in every slot this execution shows it
+-- even with rw,rw in every slot this execution shows it
 abbrev pub RefutesAll : Test → Execution → Type 0
 RefutesAll t e = Shows t (all_with (Some RwRw) (slots t)) e

@@ -62,7 +62,7 @@ StopsAt n h i choices BadChoice = (GoesAstray n h i → ⊥) × (is_choosing i �
 StopsAt n h i choices Short = (GoesAstray n h i → ⊥) × (is_choosing i ≡ true) × (choices ≡ [])
 StopsAt n h i choices Long = ⊥
 
--- nor is it at the end of the code with no choice left
+-- the run stops here: at the end of the code with choices left, or at the next instruction
 abbrev pub StopsIn : ℕ → List Instr → Hart → List Choice → Stop → Type 0
 StopsIn n code h choices Long = (length code ≤ h.at) × (choices ≢ [])
 StopsIn n code h choices stop = (i : Instr) × (slice_get code h.at ≡ Some i) × StopsAt n h i choices stop

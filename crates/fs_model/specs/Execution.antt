@@ -1,6 +1,6 @@
 -- Executions of a fenced test (RISC-V Unprivileged ISA 20191213, chapter "RVWMO Memory Consistency Model", section "Memory Model
--- Axioms"). An execution of a test with a placement of fences is one of the unfenced test's runs and an order; rule 4 knows the
--- placed fences. The progress axiom holds of every such execution, since runs are finite.
+-- Axioms"). An execution of a test with a placement of fences is runs of the unfenced test, one for each hart, and an order; rule
+-- 4 knows the placed fences. The progress axiom holds of every such execution, since runs are finite.
 use Rattle.std.specs.Prelude.{◌≡◌, ℕ, ◌<◌, true, false, Option, Some, List, [], map, length, option_and_then}
 use Rattle.std.specs.List.{slice_index_or}
 use Rattle.fs_kinds.specs.declared.placement.Entry.{Entry}

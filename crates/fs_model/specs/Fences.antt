@@ -28,7 +28,8 @@ abbrev pub placed_before : PreExecution → List Entry → ℕ → ℕ → Optio
 placed_before x p a k =
     option_and_then (λ hart. option_and_then (λ s. kind_at (slot_at hart s.at) p) (slice_get (trace_of x a) k)) (operation x a).hart
 
--- a fence between a and b orders them: one of the test, or a placed one before an instruction after a and up to b
+-- a fence between a and b orders them: one of the test, or a placed one before an instruction after a and up to b, b
+-- itself included
 abbrev pub fence_between : PreExecution → List Entry → ℕ → ℕ → Bool
 fence_between x p a b =
     list_any (λ k. instr_orders (classes x a) (classes x b) (instr_at (trace_of x a) k)) (between (place x a) (place x b))

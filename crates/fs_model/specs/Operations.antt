@@ -97,10 +97,11 @@ trace_of x a = unwrap_or (option_map (steps_of x.traces) (operation x a).hart) [
 abbrev pub instr_at : List Step → ℕ → Instr
 instr_at steps k = unwrap_or (option_map (λ s. s.instr) (slice_get steps k)) nop
 
--- an lr.w and an sc.w with no other lr.w or sc.w between
+-- an lr.w and a later sc.w with no other lr.w or sc.w between
 abbrev pub are_paired : List Step → ℕ → ℕ → Bool
 are_paired steps i j =
-    is_lr (instr_at steps i) && is_sc (instr_at steps j) && not (list_any (λ k. is_lr (instr_at steps k) || is_sc (instr_at steps k)) (between i j))
+    nat_lt i j && is_lr (instr_at steps i) && is_sc (instr_at steps j)
+    && not (list_any (λ k. is_lr (instr_at steps k) || is_sc (instr_at steps k)) (between i j))
 
 abbrev pub paired : PreExecution → ℕ → ℕ → Bool
 paired x a b = are_paired (trace_of x a) (place x a) (place x b)

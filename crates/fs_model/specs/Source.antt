@@ -1,4 +1,4 @@
--- The global memory order, and from where loads return (RISC-V Unprivileged ISA 20191213, chapter "RVWMO Memory Consistency
+-- The global memory order, and what loads return (RISC-V Unprivileged ISA 20191213, chapter "RVWMO Memory Consistency
 -- Model", section "Memory Model Axioms", the load value axiom).
 use Rattle.std.specs.Prelude.{ℕ, ◌==◌, Bool, ◌&&◌, ◌||◌, Option, None, List, ◌++◌, filter, length}
 use Rattle.std.specs.List.{range_with_len, last_or, list_all}

@@ -28,7 +28,8 @@ fn is_declared(locations: u8, address: u32) -> bool
 pub struct Hart {
     /// The position of the next instruction in the hart's code.
     pub at: u8,
-    /// The words of its registers; that of x0 is 0.
+    /// The words of its registers. A test starts x0 with 0, and no step writes it; of a hart that starts otherwise x0 keeps the
+    /// word that it was given.
     pub registers: [u32; 32],
     /// The address of the lr.w with which an sc.w here is paired: the lr.w before it with no other lr.w or sc.w between.
     pub paired: Option<u32>,

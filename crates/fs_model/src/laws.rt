@@ -1,6 +1,7 @@
-//! Laws of the definitions: what decides a run, and each rule of preserved program order at work in a small execution.
+//! Laws of the definitions: what decides a run, and each rule of preserved program order at work in small
+//! runs. `rules_of` lists all rules that hold of two operations; the runs and orders there need not obey the axioms.
 
-ghost use Rattle.std.specs.Prelude.{◌≡◌, ℕ, List, [], ◌∷◌, None, Some};
+ghost use Rattle.std.specs.Prelude.{◌≡◌, ℕ, true, false, List, [], ◌∷◌, None, Some};
 ghost use Rattle.std.proofs.Common.{Box};
 ghost use Rattle.std.specs.declared.alloc.Global.{Global};
 ghost use Rattle.fs_kinds.specs.declared.kind.Kind.TheVariants.{RR, WR, WW};
@@ -9,13 +10,14 @@ ghost use Rattle.fs_instr.specs.declared.instr.Instr.TheVariants.{Fence, FenceTs
 ghost use Rattle.fs_syntax.specs.Fenced.{read, write};
 ghost use Rattle.fs_model.specs.declared.step.Choice.{Choice};
 ghost use Rattle.fs_model.specs.Choices.{MakeOneRun, StopOnce, NeverDoBoth};
+ghost use Rattle.fs_model.specs.Operations.{are_paired};
 ghost use Rattle.fs_model.specs.Preserved.{R1, R2, R3, R4, R5, R6, R7, R8, R9, R10, R11, R12, R13};
 ghost use Rattle.fs_model.specs.Execution.{IsExecution};
 ghost use Rattle.fs_model.specs.Allows.{Allows};
 ghost use Rattle.fs_model.specs.StoreBuffering.{sb, buffered, fences};
-ghost use Rattle.fs_model.specs.Examples.{rules_of, fence_at_1, load_then_store, coherent_reads, reserved, store_then_load, swap_then_load, around, output, input, message_passing, release_then_acquire, address_known_late, forwarded, branched};
+ghost use Rattle.fs_model.specs.Examples.{rules_of, fence_at, load_then_store, coherent_reads, reserved, swap_then_read, store_then_read, read_store_read, store_then_load, swap_then_load, around, load_and_store_around, jumped, reserved_twice, tried_twice, output, input, message_passing, release_then_acquire, address_known_late, forwarded, branched, carried, overwritten, branch_then_load, address_then_load};
 
-/// A law: the choices of a hart decide its run. They make one whole run, or one run that stops in one way, and not both.
+/// A law: the choices of a hart decide its run. They make at most one whole run, or stop in at most one way, and not both.
 pub fn choices_decide()
     ensures whole { (n : ℕ) (code : List Instr) (registers : List ℕ) (choices : List Choice) → MakeOneRun n code registers choices }
     ensures stopped { (n : ℕ) (code : List Instr) (registers : List ℕ) (choices : List Choice) → StopOnce n code registers choices }
@@ -37,30 +39,33 @@ pub fn overlapping_addresses()
     ensures returned { rules_of reserved [] (0 ∷ 1 ∷ 2 ∷ []) 1 2 ≡ R3 ∷ [] }
 {}
 
-/// A law: placed fences (rule 4). A store and a later load of another word are ordered by a placed `w,r`, and by nothing else there. An
-/// AMO is both a load and a store to a fence.
+/// A law: placed fences (rule 4). A store and a later load of another word are ordered by a placed `w,r`, and by no
+/// other rule. An AMO is both a load and a store to a fence.
 pub fn placed_fences()
     ensures unfenced { rules_of store_then_load [] (0 ∷ 1 ∷ []) 0 1 ≡ [] }
-    ensures fenced { rules_of store_then_load (fence_at_1 WR) (0 ∷ 1 ∷ []) 0 1 ≡ R4 ∷ [] }
-    ensures swap_writes { rules_of swap_then_load (fence_at_1 WR) (0 ∷ 1 ∷ []) 0 1 ≡ R4 ∷ [] }
-    ensures swap_reads { rules_of swap_then_load (fence_at_1 RR) (0 ∷ 1 ∷ []) 0 1 ≡ R4 ∷ [] }
-    ensures swap_passes { rules_of swap_then_load (fence_at_1 WW) (0 ∷ 1 ∷ []) 0 1 ≡ [] }
+    ensures fenced { rules_of store_then_load (fence_at 0 1 WR) (0 ∷ 1 ∷ []) 0 1 ≡ R4 ∷ [] }
+    ensures swap_writes { rules_of swap_then_load (fence_at 0 1 WR) (0 ∷ 1 ∷ []) 0 1 ≡ R4 ∷ [] }
+    ensures swap_reads { rules_of swap_then_load (fence_at 0 1 RR) (0 ∷ 1 ∷ []) 0 1 ≡ R4 ∷ [] }
+    ensures swap_passes { rules_of swap_then_load (fence_at 0 1 WW) (0 ∷ 1 ∷ []) 0 1 ≡ [] }
 {}
 
-/// A law: fences of a test (rule 4). Between a store and a later load of another word, `fence w,r` orders them, `fence.tso` doesn't,
-/// and nor does `fence o,i`, which is for devices.
+/// A law: fences of a test (rule 4). Between a store and a later load of another word, `fence w,r` orders them, `fence.tso`
+/// doesn't, and nor does `fence o,i`, which is for devices. `fence.tso` orders a load and a later store.
 pub fn written_fences()
     ensures written { rules_of (around (Fence write read)) [] (0 ∷ 1 ∷ []) 0 1 ≡ R4 ∷ [] }
     ensures tso { rules_of (around FenceTso) [] (0 ∷ 1 ∷ []) 0 1 ≡ [] }
+    ensures tso_keeps { rules_of (load_and_store_around FenceTso) [] (0 ∷ 1 ∷ []) 0 1 ≡ R4 ∷ [] }
     ensures devices { rules_of (around (Fence output input)) [] (0 ∷ 1 ∷ []) 0 1 ≡ [] }
 {}
 
 /// A law: annotations and pairs. In message passing an acquiring lr.w comes before the load after it (rule 5) and a releasing
-/// AMO after the store before it (6); a release comes before a later acquire (7), and an lr.w before its sc.w (8).
+/// AMO after the store before it (6); a release comes before a later acquire (7), and against program order no rule
+/// holds; an lr.w comes before its sc.w (8).
 pub fn annotations()
     ensures acquired { rules_of message_passing [] (3 ∷ 0 ∷ 1 ∷ 2 ∷ []) 2 3 ≡ R5 ∷ [] }
     ensures released { rules_of message_passing [] (3 ∷ 0 ∷ 1 ∷ 2 ∷ []) 0 1 ≡ R6 ∷ [] }
     ensures both { rules_of release_then_acquire [] (0 ∷ 1 ∷ []) 0 1 ≡ R7 ∷ [] }
+    ensures against { rules_of release_then_acquire [] (0 ∷ 1 ∷ []) 1 0 ≡ [] }
     ensures paired { rules_of reserved [] (0 ∷ 1 ∷ 2 ∷ []) 0 1 ≡ R1 ∷ R8 ∷ [] }
 {}
 
@@ -68,8 +73,49 @@ pub fn annotations()
 /// (11); it is stored and then loaded again (12), or is the address of an access before a store (13).
 pub fn dependencies()
     ensures address { rules_of address_known_late [] (0 ∷ 1 ∷ 2 ∷ []) 0 1 ≡ R9 ∷ [] }
-    ensures word { rules_of forwarded [] (2 ∷ 0 ∷ 1 ∷ []) 0 1 ≡ R10 ∷ [] }
+    ensures word { rules_of forwarded [] (0 ∷ 2 ∷ 1 ∷ []) 0 1 ≡ R10 ∷ [] }
     ensures control { rules_of branched [] (0 ∷ 1 ∷ []) 0 1 ≡ R11 ∷ [] }
-    ensures through_store { rules_of forwarded [] (2 ∷ 0 ∷ 1 ∷ []) 0 2 ≡ R12 ∷ [] }
+    ensures through_store { rules_of forwarded [] (0 ∷ 2 ∷ 1 ∷ []) 0 2 ≡ R12 ∷ [] }
     ensures address_first { rules_of address_known_late [] (0 ∷ 1 ∷ 2 ∷ []) 0 2 ≡ R13 ∷ [] }
+{}
+
+/// A law: a load that returns what an AMO before it wrote is ordered after it (rule 3; also 2, since an AMO is a load). One
+/// that returns what an sw before it wrote isn't, and nor are two loads with a store to their word between.
+pub fn stores_and_reads()
+    ensures amo_returned { rules_of swap_then_read [] (0 ∷ 1 ∷ []) 0 1 ≡ R2 ∷ R3 ∷ [] }
+    ensures store_returned { rules_of store_then_read [] (0 ∷ 1 ∷ []) 0 1 ≡ [] }
+    ensures store_between { rules_of read_store_read [] (0 ∷ 1 ∷ 2 ∷ []) 0 2 ≡ [] }
+{}
+
+/// A law: a placed fence is known by its hart and its position in the code, and not by the number of its step. It orders
+/// what the run has before it and after it (rule 4); it orders nothing where a branch jumps past it, in another hart, or where
+/// both operations come after it.
+pub fn fences_by_position()
+    ensures run_between { rules_of jumped (fence_at 1 3 WR) (0 ∷ 1 ∷ 2 ∷ 3 ∷ []) 1 3 ≡ R4 ∷ [] }
+    ensures jumped_past { rules_of jumped (fence_at 1 2 WR) (0 ∷ 1 ∷ 2 ∷ 3 ∷ []) 1 3 ≡ [] }
+    ensures other_hart { rules_of jumped (fence_at 0 3 WR) (0 ∷ 1 ∷ 2 ∷ 3 ∷ []) 1 3 ≡ [] }
+    ensures before_both { rules_of jumped (fence_at 1 3 RR) (0 ∷ 1 ∷ 2 ∷ 3 ∷ []) 2 3 ≡ [] }
+{}
+
+/// A law: an lr.w and an sc.w with another lr.w or sc.w between them are no pair, so rule 8 doesn't hold of them; a failed sc.w
+/// counts too.
+pub fn pairs()
+    ensures first_lr { rules_of reserved_twice [] (0 ∷ 1 ∷ 2 ∷ []) 0 2 ≡ R1 ∷ [] }
+    ensures second_lr { rules_of reserved_twice [] (0 ∷ 1 ∷ 2 ∷ []) 1 2 ≡ R1 ∷ R8 ∷ [] }
+    ensures first_sc { are_paired tried_twice 0 1 ≡ true }
+    ensures second_sc { are_paired tried_twice 0 2 ≡ false }
+{}
+
+/// A law: a computation carries a dependency from a source to its destination (rule 10), and a write to the register
+/// ends it.
+pub fn dependencies_carried()
+    ensures carries { rules_of carried [] (0 ∷ 1 ∷ []) 0 1 ≡ R10 ∷ [] }
+    ensures ends { rules_of overwritten [] (0 ∷ 1 ∷ []) 0 1 ≡ [] }
+{}
+
+/// A law: neither a branch on a loaded word (rule 11) nor an access with its address from one (rule 13) comes before a later
+/// load.
+pub fn loads_run_ahead()
+    ensures branch { rules_of branch_then_load [] (0 ∷ 1 ∷ []) 0 1 ≡ [] }
+    ensures address_between { rules_of address_then_load [] (0 ∷ 1 ∷ 2 ∷ []) 0 2 ≡ [] }
 {}

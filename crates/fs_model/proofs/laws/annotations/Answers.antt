@@ -1,4 +1,4 @@
-use Rattle.fs_model.proofs.Examples.{acquired, released, both_annotated, paired}
+use Rattle.fs_model.proofs.Examples.{acquired, released, both_annotated, paired, against}
 use Rattle.fs_model.proofs.laws.annotations.Goals as goal
 
 pub returns-clause-acquired : goal.returns-clause-acquired
@@ -12,3 +12,6 @@ returns-clause-both c = both_annotated
 
 pub returns-clause-paired : goal.returns-clause-paired
 returns-clause-paired c = paired
+
+pub returns-clause-against : goal.returns-clause-against
+returns-clause-against c = against

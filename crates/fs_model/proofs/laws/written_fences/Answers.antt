@@ -1,4 +1,4 @@
-use Rattle.fs_model.proofs.Examples.{written, tso, devices}
+use Rattle.fs_model.proofs.Examples.{written, tso, devices, tso_keeps}
 use Rattle.fs_model.proofs.laws.written_fences.Goals as goal
 
 pub returns-clause-written : goal.returns-clause-written
@@ -9,3 +9,6 @@ returns-clause-tso c = tso
 
 pub returns-clause-devices : goal.returns-clause-devices
 returns-clause-devices c = devices
+
+pub returns-clause-tso_keeps : goal.returns-clause-tso_keeps
+returns-clause-tso_keeps c = tso_keeps
