@@ -43,7 +43,12 @@ fn a_full_hart_has_no_room_for_a_fence(rt: HostRuntime) -> Result<(), Fail> {
     assert_eq!(rt; bare.codes.as_slice().len(), 1);
     match fenced(alloc, text.as_str(), &["P0:31=r,r"]) {
         Ok(_) => assert!(rt; false),
-        Err(fault) => assert_eq!(rt; fault, Fault::TooBig { what: Limit::Instructions }),
+        Err(fault) => assert_eq!(rt;
+            fault,
+            Fault::TooBig {
+                what: Limit::Instructions
+            }
+        ),
     }
     Ok(())
 }
