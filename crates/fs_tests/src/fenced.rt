@@ -2,30 +2,29 @@
 use crate::litmus::{MP, MPB};
 use fs_fenced::fence;
 use fs_kinds::{Fault, Limit, Placement, Slot};
-use fs_litmus::{Test, read_fences, read_test, slots};
+use fs_litmus::{read_fences, read_test, slots};
 use std::alloc::Global;
 use std::test::Fail;
 
-/// The test that the text reads as, with fences by these words.
-fn fenced(alloc: Global, text: &str, words: &[&str]) -> Result<Test, Fault> {
-    let test = read_test(alloc, text.as_bytes())?;
+/// The slots of the test that the text reads as, with fences by these words.
+fn moved_slots(alloc: Global, text: &str, words: &[&str]) -> Result<Vec<Slot>, Fault> {
     let mut fences = Vec::new(alloc);
     for word in words {
         fences.push(String::from_str(alloc, word)?)?;
     }
+    let test = read_test(alloc, text.as_bytes())?;
     let placement = read_fences(alloc, &test, None, &fences)?;
-    fence(alloc, &test, &placement)
+    let fenced = fence(alloc, &test, &placement)?;
+    slots(alloc, &fenced)
 }
 
 #[test]
 fn slots_move_with_their_instructions(rt: HostRuntime) -> Result<(), Fail> {
     let alloc = rt.alloc();
-    let test = fenced(alloc, MP, &["P0:3=w,w", "P1:1=r,r"])?;
-    let found = slots(alloc, &test)?;
+    let found = moved_slots(alloc, MP, &["P0:3=w,w", "P1:1=r,r"])?;
     let wanted = [Slot { hart: 0, at: 4 }, Slot { hart: 1, at: 2 }];
     assert_eq!(rt; found.as_slice(), wanted.as_slice());
-    let branching = fenced(alloc, MPB, &["P1:2=r,r"])?;
-    let found = slots(alloc, &branching)?;
+    let found = moved_slots(alloc, MPB, &["P1:2=r,r"])?;
     let wanted = [Slot { hart: 0, at: 3 }, Slot { hart: 1, at: 3 }];
     assert_eq!(rt; found.as_slice(), wanted.as_slice());
     Ok(())
@@ -39,9 +38,9 @@ fn a_full_hart_has_no_room_for_a_fence(rt: HostRuntime) -> Result<(), Fail> {
         text.push_str("lw x5,0(x6) ;\n")?;
     }
     text.push_str("exists (0:x5=0)\n")?;
-    let bare = fenced(alloc, text.as_str(), &[])?;
-    assert_eq!(rt; bare.codes.as_slice().len(), 1);
-    match fenced(alloc, text.as_str(), &["P0:31=r,r"]) {
+    let found = moved_slots(alloc, text.as_str(), &[])?;
+    assert_eq!(rt; found.as_slice().len(), 31);
+    match moved_slots(alloc, text.as_str(), &["P0:31=r,r"]) {
         Ok(_) => assert!(rt; false),
         Err(fault) => assert_eq!(rt;
             fault,
