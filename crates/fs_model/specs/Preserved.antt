@@ -10,35 +10,35 @@ use Rattle.fs_model.specs.Dependencies.{address_dependency, data_dependency, con
 
 -- the manual's rules, by their numbers
 pub data Rule : Type 0 where
-  R1 R2 R3 R4 R5 R6 R7 R8 R9 R10 R11 R12 R13 : Rule
+  Rule1 Rule2 Rule3 Rule4 Rule5 Rule6 Rule7 Rule8 Rule9 Rule10 Rule11 Rule12 Rule13 : Rule
 
 abbrev pub all_rules : List Rule
-all_rules = R1 ∷ R2 ∷ R3 ∷ R4 ∷ R5 ∷ R6 ∷ R7 ∷ R8 ∷ R9 ∷ R10 ∷ R11 ∷ R12 ∷ R13 ∷ []
+all_rules = Rule1 ∷ Rule2 ∷ Rule3 ∷ Rule4 ∷ Rule5 ∷ Rule6 ∷ Rule7 ∷ Rule8 ∷ Rule9 ∷ Rule10 ∷ Rule11 ∷ Rule12 ∷ Rule13 ∷ []
 
 -- The rules, for operations a and b. rf gives the operation that wrote what a load returns.
 module _ (x : PreExecution) (p : List Entry) (rf : ℕ → Option ℕ) (a b : ℕ) where
   -- what each rule asks besides program order
   abbrev pub case_of : Rule → Bool
   -- overlapping addresses
-  case_of R1 = is_store x b && same_word x a b
-  case_of R2 =
+  case_of Rule1 = is_store x b && same_word x a b
+  case_of Rule2 =
       is_load x a && is_load x b && same_word x a b
       && not (any_between x (λ m. is_store x m && same_word x m a) a b) && not (is_same (rf a) (rf b))
-  case_of R3 = is_amo_or_sc x a && is_load x b && is_same (rf b) (Some a)
+  case_of Rule3 = is_amo_or_sc x a && is_load x b && is_same (rf b) (Some a)
   -- explicit synchronization
-  case_of R4 = fence_between x p a b
-  case_of R5 = is_acquire x a
-  case_of R6 = is_release x b
-  case_of R7 = is_rcsc x a && is_rcsc x b
-  case_of R8 = paired x a b
+  case_of Rule4 = fence_between x p a b
+  case_of Rule5 = is_acquire x a
+  case_of Rule6 = is_release x b
+  case_of Rule7 = is_rcsc x a && is_rcsc x b
+  case_of Rule8 = paired x a b
   -- syntactic dependencies
-  case_of R9 = address_dependency x a b
-  case_of R10 = data_dependency x a b
-  case_of R11 = is_store x b && control_dependency x a b
+  case_of Rule9 = address_dependency x a b
+  case_of Rule10 = data_dependency x a b
+  case_of Rule11 = is_store x b && control_dependency x a b
   -- pipeline dependencies
-  case_of R12 =
+  case_of Rule12 =
       is_load x b && any_between x (λ m. is_store x m && (address_dependency x a m || data_dependency x a m) && is_same (rf b) (Some m)) a b
-  case_of R13 = is_store x b && address_between x a b
+  case_of Rule13 = is_store x b && address_between x a b
 
   -- a before b is a case of rule r
   abbrev pub rule : Rule → Bool
