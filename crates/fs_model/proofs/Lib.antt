@@ -6,4 +6,9 @@ pub mod Ranges
 pub mod Runs
 pub mod Stepping
 pub mod Stops
+pub mod Witnesses
+pub mod SearchBoard
+pub mod CoherentReads
+pub mod PlacedPairs
+pub mod ExactWidths
 pub mod StoreBuffering

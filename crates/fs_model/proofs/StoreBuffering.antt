@@ -17,10 +17,10 @@ use Rattle.fs_model.specs.Allows.{Allows}
 use Rattle.fs_model.specs.StoreBuffering.{sb, steps, buffered, fences}
 use Rattle.fs_syntax.specs.Test.{address_of}
 
-abbrev x : PreExecution
+abbrev pub x : PreExecution
 x = record { traces = steps 4096 4112 ∷ steps 4112 4096 ∷ []; words = 0 ∷ 0 ∷ [] }
 
-abbrev order : List ℕ
+abbrev pub order : List ℕ
 order = 1 ∷ 3 ∷ 0 ∷ 2 ∷ []
 
 abbrev keeps : ℕ → ℕ → Bool
@@ -39,7 +39,7 @@ atomic r w s before pair returned =
     let there = po_in_range x r w before in
     absurd (both_ways _ (not-true _ (each_two_below no_pair 6 r w refl there.0 there.1)) (and_from _ _ before pair))
 
-values : ReturnsSources x (source_in x order)
+pub values : ReturnsSources x (source_in x order)
 values zero h = absurd (false≢true h)
 values (suc zero) h = refl
 values (suc (suc zero)) h = absurd (false≢true h)
@@ -52,10 +52,10 @@ axioms : ObeysAxioms x (fences None None) order
 axioms = record { once = refl; preserved = preserved; values = values; atomic = atomic }
 
 module _ (p q : Box (Unit {0}) Global) where
-  first : IsTrace (sb p q) 0 (steps 4096 4112)
+  pub first : IsTrace (sb p q) 0 (steps 4096 4112)
   first = (((refl, refl, (refl, refl, refl)), ((refl, refl, ((refl, (0, lit< tt, refl)), refl, refl)), ((refl, refl, ((refl, (1, lit< tt, refl)), lit< tt, refl)), tt))), lit≤ tt)
 
-  second : IsTrace (sb p q) 1 (steps 4112 4096)
+  pub second : IsTrace (sb p q) 1 (steps 4112 4096)
   second = (((refl, refl, (refl, refl, refl)), ((refl, refl, ((refl, (1, lit< tt, refl)), refl, refl)), ((refl, refl, ((refl, (0, lit< tt, refl)), lit< tt, refl)), tt))), lit≤ tt)
 
   runs : (hart : ℕ) → hart < 2 → IsTrace (sb p q) hart (steps_of buffered.traces hart)
@@ -63,7 +63,7 @@ module _ (p q : Box (Unit {0}) Global) where
   runs (suc zero) h = second
   runs (suc (suc hart)) h = absurd (omega arith)
 
-  execution : IsExecution (sb p q) (fences None None) buffered
+  pub execution : IsExecution (sb p q) (fences None None) buffered
   execution = record { harts = refl; runs = runs; axioms = axioms }
 
   same : {a b : ℕ} → Some a ≡ Some b → a ≡ b

@@ -1,10 +1,11 @@
 -- Memory operations (RISC-V Unprivileged ISA 20191213, chapter "RVWMO Memory Consistency Model", section "Memory Model
 -- Primitives"). An operation is known by its number: hart by hart in program order, and then the initial stores.
-use Rattle.std.specs.Prelude.{ℕ, nat_lt, Bool, ◌&&◌, ◌||◌, not, Option, None, Some, is_some, option_map, unwrap_or, List, [], ◌++◌, map, filter, length, slice_get}
+use Rattle.std.specs.Prelude.{ℕ, nat_lt, Bool, ◌&&◌, ◌||◌, not, None, Some, is_some, option_map, unwrap_or, List, [], ◌++◌, map, filter, length, slice_get}
 use Rattle.std.specs.List.{enumerate_from, flat_map, list_any, slice_index_or}
 use Rattle.fs_kinds.specs.declared.kind.Classes.{Classes}
 use Rattle.fs_instr.specs.declared.instr.Instr.{Instr}
 use Rattle.fs_syntax.specs.Test.{address_of}
+use Rattle.fs_model.specs.declared.operation.Operation.{Operation}
 use Rattle.fs_model.specs.declared.step.Step.{Step}
 use Rattle.fs_model.specs.Forms.{nop, is_lr, is_sc, is_amo, annotation}
 use Rattle.fs_model.specs.Numbers.{is_same, numbers_below, between}
@@ -13,16 +14,6 @@ use Rattle.fs_model.specs.Numbers.{is_same, numbers_below, between}
 pub record PreExecution : Type 0 where
   pub traces : List (List Step)
   pub words : List ℕ
-
--- A load, a store, or both at once. An initial store has no hart, and nop for its instruction. `place` is the place of its step
--- in the hart's run.
-pub record Operation : Type 0 where
-  pub hart : Option ℕ
-  pub place : ℕ
-  pub instr : Instr
-  pub address : Option ℕ
-  pub loaded : Option ℕ
-  pub stored : Option ℕ
 
 abbrev pub access_of : ℕ → ℕ × Step → Operation
 access_of hart (place, s) =

@@ -1,11 +1,14 @@
 //! The memory model RVWMO: the definitions of runs, executions and answers, and the steps of a hart.
 #![tactic(auto)]
 
+pub mod answers;
 mod arithmetic;
 mod hart;
 pub mod laws;
+mod operation;
 mod registers;
 mod step;
 
 pub use hart::Hart;
+pub use operation::Operation;
 pub use step::{Choice, Step, Stop};

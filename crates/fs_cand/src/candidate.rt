@@ -1,0 +1,62 @@
+//! Candidate executions.
+
+ghost use Rattle.std.specs.Prelude.{◌≡◌, ◌≤◌, length, IfOk, IsOkUnless};
+ghost use Rattle.fs_kinds.specs.declared.fault.Fault.TheVariants.{Memory};
+ghost use Rattle.fs_syntax.specs.Test.{IsBounded};
+ghost use Rattle.fs_model.specs.Execution.{initial_words};
+ghost use Rattle.fs_cand.specs.Candidates.{IsMade, AreShort};
+
+use crate::lists::{Dependencies, Sources, StoreOrder, Traces};
+use fs_hart::{Operations, operations};
+use fs_kinds::Fault;
+use fs_syntax::Test;
+use std::alloc::Global;
+
+/// A candidate execution: a run of each hart, a source for each load, and an order of each location's stores. It has no global
+/// memory order.
+///
+/// Operations go by their numbers: hart by hart in program order, and then the initial stores by location.
+#[derive(Drop)]
+pub struct Candidate {
+    /// A run of each hart.
+    pub traces: Traces,
+    /// The dependencies in each hart's run.
+    pub deps: Dependencies,
+    /// The operations of the runs, and the initial stores.
+    pub operations: Operations,
+    /// For each operation the one that wrote what it loads, where it loads.
+    pub source: Sources,
+    /// The stores of each location in order, the initial one first.
+    pub store_order: StoreOrder,
+}
+
+impl Candidate {
+    /// The candidate of these runs of the test's harts, sources and orders: its operations and dependencies are made of the
+    /// runs. A run of a bounded test has at most 32 steps. The error is F19.
+    pub fn new(
+        alloc: Global,
+        test: &Test,
+        traces: Traces,
+        source: Sources,
+        store_order: StoreOrder,
+    ) -> Result<Candidate, Fault>
+        requires test { IsBounded test.now }
+        requires harts { length traces ≤ 8 }
+        requires steps { AreShort traces }
+        ensures made { IfOk result (λ candidate. IsMade (initial_words test.now) candidate) }
+        ensures traces { IfOk result (λ candidate. candidate.traces ≡ traces) }
+        ensures source { IfOk result (λ candidate. candidate.source ≡ source) }
+        ensures store_order { IfOk result (λ candidate. candidate.store_order ≡ store_order) }
+        ensures err { IsOkUnless result Memory }
+    {
+        let operations = operations(alloc, test, traces.as_slice())?;
+        let deps = Dependencies::of(alloc, traces.as_slice())?;
+        Ok(Candidate {
+            traces,
+            deps,
+            operations,
+            source,
+            store_order,
+        })
+    }
+}

@@ -1,0 +1,8 @@
+//! Candidate executions: runs, sources and store orders, before any global memory order.
+#![tactic(auto)]
+
+mod candidate;
+mod lists;
+
+pub use candidate::Candidate;
+pub use lists::{Dependencies, Sources, StoreOrder, Stores, Traces};

@@ -1,0 +1,6 @@
+pub mod Between
+pub mod Bits
+pub mod Chains
+pub mod OneMore
+pub mod Tracked
+pub mod Listed

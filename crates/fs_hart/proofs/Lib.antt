@@ -1,0 +1,3 @@
+pub mod Forward
+pub mod Along
+pub mod Numbering

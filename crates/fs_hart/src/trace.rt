@@ -1,0 +1,50 @@
+//! Whole runs of a hart.
+
+ghost use Rattle.std.specs.Prelude.{◌≡◌};
+ghost use Rattle.fs_model.specs.Execute.{read};
+
+use crate::lists::Steps;
+use fs_instr::Reg;
+use fs_model::Step;
+
+/// A run of a hart from its first instruction to the end of its code.
+#[derive(Drop)]
+pub struct Trace {
+    /// The executed instructions, in program order.
+    pub steps: Steps,
+    /// The words of the registers at the end.
+    pub registers: [u32; 32],
+}
+
+impl Trace {
+    /// The executed instructions, in program order.
+    pub fn steps(&self) -> &[Step]
+        ensures { result.now ≡ self.now.steps }
+    {
+        self.steps.as_slice()
+    }
+
+    /// The word of the register at the end of the run.
+    pub fn final_reg(&self, register: Reg) -> u32
+        ensures { result ≡ read self.now.registers register }
+    {
+        self.registers[register.number() as usize]
+    }
+}
+
+/// What choices make of a hart: a whole run, or the first reason, in the order of the run, why there is none.
+#[derive(Drop)]
+pub enum Run {
+    /// The run, where the choices fit it exactly.
+    Whole(Trace),
+    /// The choices are used up before the end.
+    Short,
+    /// Choices are left at the end.
+    Long,
+    /// A choice is of the wrong kind: a word for an sc.w, or success or failure for a load.
+    BadChoice,
+    /// An sc.w is to succeed that isn't paired with an lr.w of its address.
+    BadSc,
+    /// The instruction at this position accesses an address that is no location's.
+    Astray(u8),
+}

@@ -1,0 +1,17 @@
+pub mod PrintedSpread
+pub mod PrintedSteps
+pub mod PrintedInstr
+pub mod PrintedDepends
+pub mod PrintedOperations
+pub mod PrintedAlike
+pub mod PrintedFences
+pub mod PrintedCode
+pub mod PrintedRuns
+pub mod PrintedOutcome
+pub mod PrintedExecutions
+pub mod PrintedValues
+pub mod PrintedLaw
+pub mod PrintedSame
+pub mod PrintedChoices
+pub mod Filled
+pub mod Weakening

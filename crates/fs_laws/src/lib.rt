@@ -1,0 +1,10 @@
+//! Theorems over the definitions of the memory model. The functions do nothing: each stands for the laws that it promises.
+#![tactic(auto)]
+
+mod printed;
+mod strength;
+
+pub use printed::{
+    fenced_test_means_placement, fences_keep_runs, no_entries_no_fences, same_tests_show_alike,
+};
+pub use strength::{full_fences_decide, kept_pairs_decide, weaker_fences_allow_more};

@@ -1,0 +1,4 @@
+pub mod Axioms
+pub mod Listed
+pub mod Earlier
+pub mod Counted

@@ -1,0 +1,3 @@
+pub mod Among
+pub mod Earlier
+pub mod Final

@@ -1,0 +1,55 @@
+//! Which store a load returns: the load value axiom (RISC-V Unprivileged ISA 20191213, section "Memory Model Axioms").
+
+ghost use Rattle.std.specs.Prelude.{◌≡◌, ℕ, Option, List};
+ghost use Rattle.fs_model.specs.Operations.{PreExecution, operations as operations_of};
+ghost use Rattle.fs_model.specs.Source.{gmo, source_in};
+ghost use Rattle.fs_order.specs.Among.{may_return};
+ghost use Rattle.fs_model.specs.Tests.{returns_source};
+
+use crate::global_order::GlobalOrder;
+use crate::numbered::{is_earlier, is_same_word, operation};
+use fs_model::Operation;
+
+// Is s a store to the load's word that precedes it in the global memory order or in program order?
+fn may_return(operations: &[Operation], order: &GlobalOrder, load: u8, s: u8) -> bool
+    ensures { result ≡ may_return operations.now order.now load s }
+{
+    let loading = operation(operations, load);
+    let storing = operation(operations, s);
+    storing.stored.is_some()
+        && is_same_word(storing.address, loading.address)
+        && (order.stands_before(s, load) || is_earlier(&storing, &loading))
+}
+
+/// The number of the store that the load returns in this global memory order: the latest of the stores to its word that precede
+/// it in this order or in program order.
+pub fn source_in(operations: &[Operation], order: &GlobalOrder, load: u8) -> Option<u8>
+    ensures { (x : PreExecution) (listed : List ℕ)
+        → operations.now ≡ operations_of x
+        → order.now ≡ gmo x listed
+        → result ≡ source_in x listed load }
+{
+    let mut source = None;
+    for s in order.as_slice() {
+        if may_return(operations, order, load, *s) {
+            source = Some(*s);
+        }
+    }
+    source
+}
+
+/// Does operation a, which has this source, return its word? It does where it isn't a load.
+pub fn returns_source(operations: &[Operation], source: Option<u8>, a: u8) -> bool
+    ensures { (x : PreExecution) (rf : ℕ → Option ℕ)
+        → operations.now ≡ operations_of x
+        → source ≡ rf a
+        → result ≡ returns_source x rf a }
+{
+    let Some(loaded) = operation(operations, a).loaded else {
+        return true;
+    };
+    let Some(source) = source else {
+        return false;
+    };
+    operation(operations, source).stored == Some(loaded)
+}

@@ -1,0 +1,4 @@
+pub mod Located
+pub mod Tests
+pub mod Made
+pub mod Between

@@ -1,0 +1,10 @@
+//! The rules of preserved program order, on the operations of a candidate.
+#![tactic(auto)]
+
+mod cases;
+mod dependencies;
+mod fences;
+mod operations;
+mod rules;
+
+pub use rules::{fence_rule, rule};
