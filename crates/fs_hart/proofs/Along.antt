@@ -11,7 +11,6 @@ use Rattle.fs_syntax.specs.Test.{GoesForward}
 use Rattle.fs_model.specs.declared.hart.Hart.{Hart}
 use Rattle.fs_model.specs.declared.step.Step.{Step}
 use Rattle.fs_model.specs.declared.step.Choice.{Choice}
-use Rattle.fs_model.specs.declared.step.Choice.TheVariants.{Success}
 use Rattle.fs_model.specs.declared.step.Stop.{Stop}
 use Rattle.fs_model.specs.declared.step.Stop.TheVariants.{Short, Long, BadChoice, BadSc, Astray}
 use Rattle.fs_model.specs.Forms.{is_loading, is_sc}
@@ -119,7 +118,7 @@ stops_more n h i rest c BadChoice e b = (b.0, b.1, ap (option_map (fits i)) (sam
 stops_more n h i rest c Short e b = (b.0, b.1, none_left i rest c e b.1 b.2)
 stops_more n h i rest c Long e b = b
 
-stops_in : (n : ℕ) (code : List Instr) (h : Hart) (i : Instr) (rest : List Choice) (stop : Stop) → slice_get code h.at ≡ Some i → StopsAt n h i rest stop → StopsIn n code h rest stop
+pub stops_in : (n : ℕ) (code : List Instr) (h : Hart) (i : Instr) (rest : List Choice) (stop : Stop) → slice_get code h.at ≡ Some i → StopsAt n h i rest stop → StopsIn n code h rest stop
 stops_in n code h i rest (Astray at) e b = (i, e, b)
 stops_in n code h i rest BadSc e b = (i, e, b)
 stops_in n code h i rest BadChoice e b = (i, e, b)

@@ -1,5 +1,5 @@
 -- Runs go forward in code whose branches do.
-use Rattle.std.proofs.Common.{◌≡◌, ℕ, ◌+◌, ◌<◌, ◌≤◌, Bool, true, false, if◌then◌else◌, Option, None, Some, List, [], ◌∷◌, length, refl, ap, subst, sym, ◌∙◌, arith}
+use Rattle.std.proofs.Common.{◌≡◌, ℕ, ◌+◌, ◌<◌, ◌≤◌, Bool, true, false, if◌then◌else◌, Some, List, [], ◌∷◌, length, refl, ap, ◌∙◌, arith}
 use Rattle.std.specs.Prelude.{slice_get, option_and_then}
 use Rattle.fs_instr.specs.declared.instr.Instr.{Instr}
 use Rattle.fs_instr.specs.declared.instr.Instr.TheVariants.{Register, Immediate, Shift, Lui, Li, Lw, Sw, Lr, Sc, Amo, Branch, Jump, Fence, FenceTso}
@@ -12,7 +12,7 @@ use Rattle.fs_model.specs.Execution.{IsTrace, code_of, registers_of}
 use Rattle.fs_model.specs.declared.hart.Hart.{Hart}
 use Rattle.fs_model.specs.declared.step.Step.{Step}
 use Rattle.fs_model.specs.Execute.{next_after, does_branch, read}
-use Rattle.fs_model.specs.Trace.{AreSteps, IsStep, Runs, after_step, hart_after, start_with}
+use Rattle.fs_model.specs.Trace.{AreSteps, Runs, after_step, hart_after, start_with}
 
 -- the next position is later, and not past the end of the code
 abbrev pub IsLater : List Instr → ℕ → ℕ → Type 0

@@ -18,11 +18,13 @@ registers_after t hart steps = (hart_after (start_with (registers_of t hart)) st
 
 -- the choices make some steps of the hart, and then the run stops
 abbrev pub Stops : Test → ℕ → List Choice → Stop → Type 0
-Stops t hart choices stop = (steps : List Step) × IsStopped (length t.locations) (code_of t hart) (registers_of t hart) choices steps stop
+Stops t hart choices stop =
+    (steps : List Step) × IsStopped (length t.locations) (code_of t hart) (registers_of t hart) choices steps stop
 
 -- what the choices make of the hart: the whole run with the registers at its end, or how it stops
 abbrev pub IsRunOf : Test → ℕ → List Choice → Run → Type 0
-IsRunOf t hart choices (run.Whole trace) = Chooses t hart choices trace.steps × (trace.registers ≡ registers_after t hart trace.steps)
+IsRunOf t hart choices (run.Whole trace) =
+    Chooses t hart choices trace.steps × (trace.registers ≡ registers_after t hart trace.steps)
 IsRunOf t hart choices run.Short = Stops t hart choices stop.Short
 IsRunOf t hart choices run.Long = Stops t hart choices stop.Long
 IsRunOf t hart choices run.BadChoice = Stops t hart choices stop.BadChoice

@@ -2,12 +2,16 @@
 #![tactic(auto)]
 
 mod accesses;
+mod choosing;
+mod listing;
 mod lists;
 mod run;
 mod trace;
+mod walk;
 
 pub use accesses::operations;
 pub use fs_model::{Choice, Operation, Step};
-pub use lists::{Operations, Steps};
+pub use listing::traces_over;
+pub use lists::{Operations, Steps, Words};
 pub use run::{runs_are_short, trace_of};
 pub use trace::{Run, Trace};

@@ -66,3 +66,33 @@ impl Operations {
         self.operations.as_slice()
     }
 }
+
+/// A set of words: those that a location may come to hold.
+#[derive(Drop)]
+pub struct Words {
+    words: Vec<u32>,
+}
+
+impl Model for Words {
+    ghost use Rattle.std.specs.Prelude.{ℕ, List};
+
+    ghost Value = { List ℕ };
+
+    ghost view = { λ w. w.words.items };
+}
+
+impl Words {
+    /// The set of these words.
+    pub fn new(words: Vec<u32>) -> Words
+        ensures { result ≡ words.items }
+    {
+        Words { words }
+    }
+
+    /// The words.
+    pub fn as_slice(&self) -> &[u32]
+        ensures { result.now ≡ self.now }
+    {
+        self.words.as_slice()
+    }
+}

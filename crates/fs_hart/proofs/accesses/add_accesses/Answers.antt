@@ -1,4 +1,4 @@
-use Rattle.std.proofs.Common.{◌≡◌, ◌++◌, [], ◌∷◌, map, filter, refl, sym, ap, ◌∙◌, arith}
+use Rattle.std.proofs.Common.{◌++◌, [], ◌∷◌, map, filter, sym, ap, ◌∙◌, arith}
 use Rattle.fs_syntax.proofs.Numbered.{numbered_end}
 use Rattle.fs_model.specs.Operations.{access_of}
 use Rattle.fs_hart.proofs.Numbering.{does_access, access_added, access_skipped}

@@ -1,5 +1,4 @@
 use Rattle.std.proofs.Common.{◌≡◌, ◌++◌, map, filter, take}
-use Rattle.std.specs.Prelude.{is_some}
 use Rattle.std.specs.List.{enumerate_from}
 use Rattle.fs_model.specs.Operations.{access_of}
 use Rattle.fs_hart.proofs.Numbering.{does_access}

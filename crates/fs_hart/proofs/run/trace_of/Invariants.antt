@@ -1,5 +1,5 @@
-use Rattle.std.proofs.Common.{◌≡◌, ◌-◌, length}
-use Rattle.fs_model.specs.Execution.{code_of, registers_of}
+use Rattle.std.proofs.Common.{◌-◌, length}
+use Rattle.fs_model.specs.Execution.{registers_of}
 use Rattle.fs_hart.proofs.Along.{Along}
 use Rattle.fs_hart.proofs.run.trace_of.Given as goal
 
