@@ -1,11 +1,11 @@
-"""Hostile files for `rvfence place`, each with its answer: the line of its fault, or READ. The answers are those of
-docs/FORMAT.md. None is taken from the program: they are derived where the file is made, as the comments say, and for the
-files that are changed or composed by a second reader of the format."""
+"""Hostile files for `rvfence place` and hostile witnesses for `rvfence order`, each with its answer: the line of its fault, or
+READ, or what `order` says. The answers are those of docs/FORMAT.md. None is taken from the program: they are derived where
+the file is made, as the comments say, and for the files that are changed or composed by a second reader of the formats."""
 import os
 import random
 import re
 
-from reference import READ, fault_of
+from reference import ANSWERED, READ, fault_of, is_witness
 
 TOP = os.path.dirname(os.path.dirname(os.path.realpath(__file__)))
 TOKENS_CHANGED = 3000
@@ -26,6 +26,7 @@ DEPTH = "fault F9 TooBig depth"
 LOCATIONS = "fault F9 TooBig locations"
 PRICES = "fault F10 BadPrices"
 NO_FENCE = "fault F12 BadFence"
+WITNESS = "fault F17 BadWitness"
 TOO_LONG = "fault F20 ReadFault"
 
 
@@ -416,6 +417,68 @@ def fences():
     yield "a fence 5,000 times", ["P0:3=w,w"] * 5_000, NO_FENCE
     yield "5,000 words of no fence", ["w"] * 5_000, NO_FENCE
     yield "two fences", ["P1:1=r,r", "P0:3=w,w"], READ
+
+
+def witness_signs():
+    """A mebibyte of each sign alone, and in the places of a witness for SB. None makes a witness of two lists."""
+    signs = [b"[", b"[[", b"{", b"]", b"}", b'{"choices":', b'"', b"\\", b"0", b"9", b"-", b"1.", b"e", b",", b":"]
+    signs += [b"\0", b"\xff"]
+    for sign in signs:
+        flood = sign * ((MEBIBYTE - 100) // len(sign))
+        yield f"{sign!r} for a witness", flood, WITNESS
+        yield f"{sign!r} for a choice", b'{"choices":[[' + flood + b'],[0]],"order":["P0:2","P1:2","P0:1","P1:1"]}', WITNESS
+        yield f"{sign!r} for the order", b'{"choices":[[0],[0]],"order":' + flood + b"}", WITNESS
+        yield f"{sign!r} for a name", b'{"choices":[[0],[0]],"order":["' + flood + b'"]}', WITNESS
+        # a name with a number of nines is one, and no operation has it
+        wanted = "no: order" if sign == b"9" else WITNESS
+        yield f"{sign!r} for a number", b'{"choices":[[0],[0]],"order":["P0:' + flood + b'"]}', wanted
+
+
+def witness_of(choices, order):
+    return b'{"choices":[' + choices + b'],"order":[' + order + b"]}"
+
+
+def witness_parts():
+    """Witnesses for SB with very many parts, very deep ones and long numbers. Lists that are too long are a matter of the
+    runs, and names are a matter of the order, whatever their numbers; choices come before the order."""
+    good, order = b"[0],[0]", b'"P0:2","P1:2","P0:1","P1:1"'
+    names = b'"P0:1",' * 130_000
+    yield "a name 130,000 times", witness_of(good, names + b'"P0:1"'), "no: order"
+    yield "90,000 names, all different", witness_of(good, b",".join(b'"P1:%d"' % at for at in range(90_000))), "no: order"
+    yield "a comma after 130,000 names", witness_of(good, names), WITNESS
+    yield "300,000 words for a load", witness_of(b"[" + b"0," * 300_000 + b"0],[0]", order), "no: choices P0"
+    yield "150,000 failures for a load", witness_of(b"[0],[" + b"false," * 150_000 + b"false]", order), "no: choices P1"
+    yield "300,000 lists", witness_of(b"[]," * 300_000 + b"[]", order), WITNESS
+    yield "a word of a mebibyte", witness_of(b"[" + b"9" * (MEBIBYTE - 100) + b"],[0]", order), WITNESS
+    yield "a fraction of a mebibyte", witness_of(b"[0." + b"0" * (MEBIBYTE - 100) + b"],[0]", order), WITNESS
+    yield "a number with zeros in a name", witness_of(good, b'"P0:' + b"0" * (MEBIBYTE - 100) + b'1"'), WITNESS
+    yield "a hart of a mebibyte", witness_of(good, b'"P1' + b"0" * (MEBIBYTE - 100) + b':1"'), "no: order"
+    for count in (3, 100, 127, 128, 129, 500_000):
+        yield f"choices {count} lists deep", witness_of(b"[" * count + b"]" * count, order), WITNESS
+        yield f"an order {count} lists deep", witness_of(good, b"[" * count + b"]" * count), WITNESS
+    yield "a key 40,000 times", b"{" + b'"choices":[[0],[0]],' * 40_000 + witness_of(good, order)[1:], "yes"
+    yield "a key 40,000 times, the last one bad", b"{" + b'"choices":[[0],[0]],' * 40_000 + witness_of(b"", order)[1:], WITNESS
+    yield "60,000 keys", b"{" + b"".join(b'"k%d":0,' % key for key in range(60_000)) + witness_of(good, order)[1:], WITNESS
+    yield "an escape for each sign of a name", witness_of(good, order.replace(b"P0:2", b"\\u0050\\u0030\\u003a\\u0032")), "yes"
+    for text in (b"\xff", b"\xc0\xaf", b"\xed\xa0\x80", b"\\ud800", b"\\u0000", b"\n", b"\0"):
+        yield f"{text!r} in a name", witness_of(good, order.replace(b"P0:2", b"P0:2" + text)), WITNESS
+    for size, wanted in ((MEBIBYTE, "yes"), (MEBIBYTE + 1, TOO_LONG)):
+        whole = witness_of(good, order)
+        yield f"a witness of {size} bytes", whole + b" " * (size - len(whole)), wanted
+        yield f"a witness of {size} bytes, blanks first", b"\n" * (size - len(whole)) + whole, wanted
+
+
+def witnesses():
+    """Every beginning of a witness for SB, and the witness with each byte replaced by each telling one; then the large ones."""
+    whole = witness_of(b"[0],[0]", b'"P0:2","P1:2","P0:1","P1:1"')
+    for count in range(len(whole)):
+        yield f"the first {count} bytes of a witness", whole[:count], WITNESS
+    for at in range(len(whole)):
+        for byte in TELLING:
+            text = whole[:at] + bytes([byte]) + whole[at + 1 :]
+            yield f"a witness with byte {at} {byte:#04x}", text, ANSWERED if is_witness(text, 2) else WITNESS
+    yield from witness_signs()
+    yield from witness_parts()
 
 
 # All the kinds of hostile tests.

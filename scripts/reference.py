@@ -1,9 +1,12 @@
-"""A second reader of test files, written from docs/FORMAT.md and plain rather than fast. It says which fault a file has,
-so that the program's answers can be held against it."""
+"""A second reader of test files and of witness files, written from docs/FORMAT.md and plain rather than fast. It says which
+fault a file has, so that the program's answers can be held against it."""
+import json
 import re
 
 # The answer of a file that is a test.
 READ = "a test"
+# The answer of a file that is a witness: which of the two is a matter of the memory model.
+ANSWERED = "yes or no"
 
 BLANKS = " \t\r"
 TYPES = ("int", "int32_t", "uint32_t")
@@ -383,3 +386,38 @@ def fault_of(data):
     except Fault as fault:
         return str(fault)
     return READ
+
+
+OPERATION = re.compile(r"P(0|[1-9][0-9]*):(0|[1-9][0-9]*)")
+
+
+def is_choice(value):
+    """Is the value a word, or an sc.w's success or failure?"""
+    return isinstance(value, bool) or isinstance(value, int) and 0 <= value < 2**32
+
+
+def is_operation(value):
+    return isinstance(value, str) and OPERATION.fullmatch(value) is not None
+
+
+def refuse_number(text):
+    raise ValueError(text)
+
+
+def integer(text):
+    """A number that JSON writes as an integer. `-0` is none."""
+    return int(text) if text != "-0" else refuse_number(text)
+
+
+def is_witness(data, harts):
+    """Are the bytes a witness for so many harts? Where a key stands twice, the last one counts."""
+    try:
+        value = json.loads(data.decode("utf-8"), parse_int=integer, parse_float=refuse_number, parse_constant=refuse_number)
+    except (ValueError, RecursionError):
+        return False
+    if not isinstance(value, dict) or set(value) != {"choices", "order"}:
+        return False
+    lists, names = value["choices"], value["order"]
+    if not isinstance(lists, list) or not isinstance(names, list) or len(lists) != harts:
+        return False
+    return all(isinstance(choices, list) and all(map(is_choice, choices)) for choices in lists) and all(map(is_operation, names))

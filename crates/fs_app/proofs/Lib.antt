@@ -1,3 +1,4 @@
 pub mod Faults
+pub mod OrderFaults
 pub mod Placements
 pub mod Written

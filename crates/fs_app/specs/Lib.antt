@@ -1,3 +1,4 @@
 pub mod Bytes
+pub mod Order
 pub mod Place
 pub mod Status

@@ -3,10 +3,11 @@ use Rattle.std.specs.Prelude.{ℕ}
 use Rattle.fs_kinds.specs.declared.fault.Fault.{Fault}
 use Rattle.fs_kinds.specs.declared.fault.Fault.TheVariants.{Memory}
 use Rattle.fs_app.specs.declared.status.Status.{Status}
-use Rattle.fs_app.specs.declared.status.Status.TheVariants.{Success, Failure, OutOfMemory}
+use Rattle.fs_app.specs.declared.status.Status.TheVariants.{Success, Denied, Failure, OutOfMemory}
 
 abbrev pub code : Status → ℕ
 code Success = 0
+code Denied = 1
 code Failure = 2
 code OutOfMemory = 3
 

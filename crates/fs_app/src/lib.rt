@@ -3,11 +3,13 @@
 
 mod bytes;
 mod command;
+mod order;
 mod place;
 mod program;
 mod status;
 
 pub use bytes::{read_bytes, write_text};
+pub use order::run_order;
 pub use place::run_place;
 pub use program::run;
 pub use status::{Output, Status};

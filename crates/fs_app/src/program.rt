@@ -1,6 +1,7 @@
 //! A run of the program: from the words of its command line to what it prints and its exit status.
 use crate::bytes::{read_bytes, write_text};
-use crate::command::{Place, Request, read_request};
+use crate::command::{Order, Place, Request, read_request};
+use crate::order::run_order;
 use crate::place::run_place;
 use crate::status::{Output, Status};
 use clap::Error;
@@ -11,10 +12,11 @@ use std::process::ExitCode;
 use std::rt::{Env, Files};
 use std::{env, io};
 
-/// Tests and prices are read up to this many bytes.
+/// Tests, prices and witnesses are read up to this many bytes.
 const INPUT_LIMIT: usize = 1_048_576;
 
-/// Does what the process's command line asks for, and answers the exit status: 0 where it was done, 2 for a fault or a
+/// Does what the process's command line asks for, and answers the exit status: 0 where it was done or the answer
+/// is yes, 1 where it is no, 2 for a fault or a
 /// bad command line, 3 where memory ran out. A fault or a bad command line prints on standard error, and nothing on
 /// standard output unless it was standard output that failed.
 pub fn run<R: Env + Files + Input + Print + Eprint + AllocGlobal>(rt: &R) -> ExitCode {
@@ -79,6 +81,7 @@ fn report<R: Eprint>(rt: &R, fault: Fault) -> Status {
 fn answer<R: Files + Input + AllocGlobal>(rt: &R, request: &Request<'_>) -> Result<Output, Fault> {
     match request {
         Request::Place(place) => answer_place(rt, place),
+        Request::Order(order) => answer_order(rt, order),
     }
 }
 
@@ -93,6 +96,15 @@ fn answer_place<R: Files + Input + AllocGlobal>(
     };
     let prices = prices.as_ref().map(|bytes| bytes.as_slice());
     run_place(rt.alloc(), &test, prices, &place.fences)
+}
+
+fn answer_order<R: Files + Input + AllocGlobal>(
+    rt: &R,
+    order: &Order<'_>,
+) -> Result<Output, Fault> {
+    let test = read_input(rt, order.test)?;
+    let witness = read_file(rt, order.witness)?;
+    run_order(rt.alloc(), &test, &witness, &order.fences)
 }
 
 /// The bytes of a test: of standard input where it is called `stdin`, else of the file.

@@ -7,8 +7,10 @@ use fs_kinds::Fault;
 /// How the program ends.
 #[derive(Clone, Copy, Debug, PartialEq, Eq)]
 pub enum Status {
-    /// The test was placed.
+    /// The test was placed, or the answer is yes.
     Success,
+    /// The answer is no.
+    Denied,
     /// A fault, or a bad command line.
     Failure,
     /// Memory ran out.
@@ -16,12 +18,13 @@ pub enum Status {
 }
 
 impl Status {
-    /// The exit status of the process: 0, 2 or 3.
+    /// The exit status of the process: 0, 1, 2 or 3.
     pub fn code(self) -> u8
         ensures { result ≡ code self }
     {
         match self {
             Status::Success => 0,
+            Status::Denied => 1,
             Status::Failure => 2,
             Status::OutOfMemory => 3,
         }

@@ -2,14 +2,24 @@
 #![tactic(auto)]
 
 #[cfg(test)]
+mod agreement;
+#[cfg(test)]
 mod bytes;
+#[cfg(test)]
+mod dependencies;
 #[cfg(test)]
 mod fenced;
 #[cfg(test)]
 mod litmus;
 #[cfg(test)]
+mod order;
+#[cfg(test)]
 mod place;
 #[cfg(test)]
 mod prices;
 #[cfg(test)]
+mod runs;
+#[cfg(test)]
 mod slots;
+#[cfg(test)]
+mod texts;

@@ -1,0 +1,56 @@
+//! What `order` answers.
+ghost use Rattle.std.specs.Prelude.{◌≡◌, ◌++◌, IfOk, IfErr, IsOkUnless, map, string_bytes};
+ghost use Rattle.fs_app.specs.Order.{IsAnswered, IsFirstOrderFault, verdict_line, verdict_status};
+
+use crate::status::{Output, Status};
+use fs_check::{OrderVerdict, check_order};
+use fs_kinds::Fault;
+use fs_litmus::{read_fences, read_test};
+use std::alloc::Global;
+
+/// What `order` prints for a test file, a witness and the words of fences to place: `yes` where the witness gives an execution,
+/// under RVWMO, of the test with these fences that shows the outcome of its condition; else `no: ` and the first reason against
+/// it. The files are bytes as they were read.
+///
+/// The first fault in this order: those of a test file by number and then line, `BadFence`, `BadWitness`. `Memory` may come in
+/// place of any answer.
+pub fn run_order(
+    alloc: Global,
+    test: &[u8],
+    witness: &[u8],
+    fences: &[String],
+) -> Result<Output, Fault>
+    ensures answer { IfOk result (λ output.
+        IsAnswered test.now witness.now (map string_bytes fences.now) (string_bytes output.text) output.status) }
+    ensures fault { IfErr result (IsFirstOrderFault test.now witness.now (map string_bytes fences.now)) }
+{
+    let test = read_test(alloc, test)?;
+    let placement = read_fences(alloc, &test, None, fences)?;
+    let verdict = check_order(alloc, &test, &placement, witness)?;
+    Ok(Output {
+        text: verdict_text(alloc, verdict)?,
+        status: status_of(verdict),
+    })
+}
+
+// The line of the verdict.
+fn verdict_text(alloc: Global, verdict: OrderVerdict) -> Result<String, Fault>
+    ensures ok { IfOk result (λ text. string_bytes text ≡ verdict_line verdict) }
+    ensures err { IsOkUnless result Fault.Memory }
+{
+    let mut text = String::new(alloc);
+    match verdict {
+        OrderVerdict::Yes => writeln!(text, "yes")?,
+        OrderVerdict::No(reason) => writeln!(text, "no: {}", reason)?,
+    }
+    Ok(text)
+}
+
+fn status_of(verdict: OrderVerdict) -> Status
+    ensures { result ≡ verdict_status verdict }
+{
+    match verdict {
+        OrderVerdict::Yes => Status::Success,
+        OrderVerdict::No(_) => Status::Denied,
+    }
+}

@@ -1,0 +1,14 @@
+pub mod Befores
+pub mod Breaking
+pub mod Distinct
+pub mod Few
+pub mod FirstStops
+pub mod Found
+pub mod Handed
+pub mod Items
+pub mod NamedOrder
+pub mod Once
+pub mod Orderings
+pub mod RunNames
+pub mod Spelling
+pub mod Verdicts

@@ -1,0 +1,20 @@
+-- Runs with an order of their operations.
+use Rattle.std.specs.Prelude.{◌≡◌, ◌≤◌, map, length}
+use Rattle.fs_syntax.specs.declared.test.Test.{Test}
+use Rattle.fs_model.specs.Numbers.{numbers_below}
+use Rattle.fs_model.specs.Operations.{PreExecution}
+use Rattle.fs_model.specs.Source.{gmo, source_in}
+use Rattle.fs_model.specs.Execution.{initial_words}
+use Rattle.fs_cand.specs.Candidates.{runs_of, IsMade}
+use Rattle.fs_check.specs.declared.ordered.Ordered.{Ordered}
+
+-- the runs, in this test
+abbrev pub runs_in : Test → Ordered → PreExecution
+runs_in t o = runs_of o.candidate (initial_words t)
+
+-- the global memory order is the one listed, and the sources are those that it gives
+pub record IsOrdered (t : Test) (o : Ordered) : Type 0 where
+  pub made : IsMade (initial_words t) o.candidate
+  pub few : length o.candidate.operations ≤ 256
+  pub order : o.order ≡ gmo (runs_in t o) o.listed.items
+  pub sources : o.candidate.source ≡ map (source_in (runs_in t o) o.listed.items) (numbers_below (length o.candidate.operations))

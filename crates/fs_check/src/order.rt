@@ -1,0 +1,236 @@
+//! Is a witness an execution that the memory model allows?
+
+ghost use Rattle.std.specs.Prelude.{◌≡◌, ◌<◌, ◌≤◌, ℕ, List, [], All, IfOk, IfErr, IsErrOf, IfSome, IfNone, IsOkUnless, Some, length, map, option_map};
+ghost use Rattle.fs_kinds.specs.declared.fault.Fault.TheVariants.{Memory};
+ghost use Rattle.fs_syntax.specs.Test.{IsBounded, IsStart};
+ghost use Rattle.fs_model.specs.Numbers.{numbers_below};
+ghost use Rattle.fs_model.specs.Operations.{accesses};
+ghost use Rattle.fs_model.specs.Source.{gmo, source_in};
+ghost use Rattle.fs_model.specs.Execution.{initial_words};
+ghost use Rattle.fs_model.specs.Reasons.{LoadsRightly, KeepsRules};
+ghost use Rattle.fs_model.specs.Witness.{Witness, name_of};
+ghost use Rattle.fs_cand.specs.Candidates.{IsMade, runs_of, AreShort};
+ghost use Rattle.fs_order.specs.Final.{AreFinal};
+ghost use Rattle.fs_check.specs.Ordered.{IsOrdered, runs_in};
+ghost use Rattle.fs_check.specs.Verdicts.{IsVerdict, IsWholeFile, IsFoundOrder, IsArranged, IsJudgement, IsLoadReason, IsRuleReason, IsAtomicReason, KeepsAtomicity};
+ghost use Rattle.fs_check.specs.WitnessFile.{IsWitnessFile, IsWitnessFault, Stands};
+
+use crate::names::{name, names, numbers};
+use crate::ordered::Ordered;
+use crate::runs::{Runs, make_runs};
+use crate::witness::{WitnessFile, read_witness};
+use fs_cand::{Candidate, Sources, StoreOrder, Traces};
+use fs_kinds::{Fault, Operation, Placement, Reason};
+use fs_order::{GlobalOrder, count_accesses, has_outcome, lists_each_once, source_in};
+use fs_syntax::Test;
+use std::alloc::Global;
+
+/// What is said of a witness.
+#[derive(Clone, Copy, Debug, PartialEq, Eq)]
+pub enum OrderVerdict {
+    /// It gives an execution of the fenced test that shows the outcome.
+    Yes,
+    /// It gives none, for this reason: the first in the order of the reasons.
+    No(Reason),
+}
+
+/// Whether a witness gives an execution, under the memory model RVWMO, of the test with the placement's fences, and one that
+/// shows the outcome of its condition; or the first reason why not. The witness is a file's bytes, as `read_witness` reads them.
+/// At most cubic in the operations, 48 at most. F17 where the bytes are no witness for so many harts, F19.
+pub fn check_order(
+    alloc: Global,
+    test: &Test,
+    placement: &Placement,
+    witness: &[u8],
+) -> Result<OrderVerdict, Fault>
+    requires test { IsBounded test.now }
+    requires starts { All IsStart test.now.starts }
+    ensures ok { IfOk result (λ verdict.
+        (w : Witness) × IsWitnessFile (length test.now.codes) witness.now w × IsVerdict test.now placement.now w verdict) }
+    ensures bad { IsErrOf result Fault.BadWitness → (w : Witness) → ¬ IsWitnessFile (length test.now.codes) witness.now w }
+    ensures err { IfErr result IsWitnessFault }
+{
+    let file = read_witness(alloc, test.codes.as_slice().len(), witness)?;
+    match make_runs(alloc, test, file.choices.as_slice())? {
+        Runs::Whole(traces) => Ok(judge_runs(alloc, test, placement, &file, traces)?),
+        Runs::Stopped(reason) => Ok(OrderVerdict::No(reason)),
+    }
+}
+
+// What is said of a witness whose choices make these runs.
+fn judge_runs(
+    alloc: Global,
+    test: &Test,
+    placement: &Placement,
+    file: &WitnessFile,
+    traces: Traces,
+) -> Result<OrderVerdict, Fault>
+    requires test { IsBounded test.now }
+    requires starts { length test.now.starts ≡ length test.now.codes }
+    requires whole { IsWholeFile test.now file.now traces }
+    ensures ok { (w : Witness) → Stands file.now w → IfOk result (IsVerdict test.now placement.now w) }
+    ensures err { IsOkUnless result Memory }
+{
+    let candidate = candidate(alloc, test, traces)?;
+    let Some(listed) = listed(alloc, test, file, &candidate)? else {
+        return Ok(OrderVerdict::No(Reason::Order));
+    };
+    let ordered = arrange(alloc, test, candidate, listed)?;
+    Ok(judge(test, placement, &ordered))
+}
+
+// The candidate of these runs, before any order.
+fn candidate(alloc: Global, test: &Test, traces: Traces) -> Result<Candidate, Fault>
+    requires test { IsBounded test.now }
+    requires harts { length traces ≤ 8 }
+    requires steps { AreShort traces }
+    ensures made { IfOk result (λ candidate. IsMade (initial_words test.now) candidate) }
+    ensures traces { IfOk result (λ candidate. candidate.traces ≡ traces) }
+    ensures err { IsOkUnless result Memory }
+{
+    let source = Sources::new(Vec::new(alloc));
+    let store_order = StoreOrder::new(Vec::new(alloc));
+    Candidate::new(alloc, test, traces, source, store_order)
+}
+
+// The numbers of the operations that the file names, where they are each operation of the harts once.
+fn listed(
+    alloc: Global,
+    test: &Test,
+    file: &WitnessFile,
+    candidate: &Candidate,
+) -> Result<Option<Vec<u8>>, Fault>
+    requires test { IsBounded test.now }
+    requires made { IsMade (initial_words test.now) candidate.now }
+    requires whole { IsWholeFile test.now file.now candidate.now.traces }
+    ensures ok { (w : Witness) → Stands file.now w → IfOk result (λ found.
+        IsFoundOrder test.now candidate.now w (option_map (λ listed. listed.items) found)) }
+    ensures err { IsOkUnless result Memory }
+{
+    let operations = candidate.operations.as_slice();
+    let names = names(alloc, candidate.traces.as_slice(), operations)?;
+    let Some(listed) = numbers(alloc, &names, file.order.as_slice())? else {
+        return Ok(None);
+    };
+    if lists_each_once(count_accesses(operations), &listed) {
+        Ok(Some(listed))
+    } else {
+        Ok(None)
+    }
+}
+
+// The runs with this order of their operations.
+fn arrange(
+    alloc: Global,
+    test: &Test,
+    candidate: Candidate,
+    listed: Vec<u8>,
+) -> Result<Ordered, Fault>
+    requires made { IsMade (initial_words test.now) candidate }
+    requires few { length candidate.operations ≤ 256 }
+    ensures ordered { IfOk result (IsOrdered test.now) }
+    ensures same { IfOk result (IsArranged candidate listed.items) }
+    ensures err { IsOkUnless result Memory }
+{
+    let mut candidate = candidate;
+    let order = GlobalOrder::new(alloc, candidate.operations.as_slice(), &listed)?;
+    candidate.source = sources(alloc, &candidate, &order)?;
+    Ok(Ordered {
+        candidate,
+        order,
+        listed,
+    })
+}
+
+// The source of each operation in this order.
+fn sources(alloc: Global, candidate: &Candidate, order: &GlobalOrder) -> Result<Sources, Fault>
+    requires { length candidate.now.operations ≤ 256 }
+    ensures ok { (words : List ℕ) (listed : List ℕ) → IsMade words candidate.now → order.now ≡ gmo (runs_of candidate.now words) listed
+        → IfOk result (λ sources. sources ≡ map (source_in (runs_of candidate.now words) listed) (numbers_below (length candidate.now.operations))) }
+    ensures err { IsOkUnless result Memory }
+{
+    let operations = candidate.operations.as_slice();
+    let mut sources = Vec::new(alloc);
+    for a in 0..operations.len() {
+        sources.push(source_in(operations, order, a as u8))?;
+    }
+    Ok(Sources::new(sources))
+}
+
+// What is said of runs with an order that has each operation once.
+fn judge(test: &Test, placement: &Placement, ordered: &Ordered) -> OrderVerdict
+    requires ordered { IsOrdered test.now ordered.now }
+    requires last { AreFinal test.now ordered.now.candidate.traces }
+    ensures { IsJudgement test.now placement.now ordered.now result }
+{
+    if let Some(reason) = load_reason(test, ordered) {
+        return OrderVerdict::No(reason);
+    }
+    if let Some(reason) = rule_reason(test, placement, ordered) {
+        return OrderVerdict::No(reason);
+    }
+    if let Some(reason) = atomic_reason(test, ordered) {
+        return OrderVerdict::No(reason);
+    }
+    let candidate = &ordered.candidate;
+    let traces = candidate.traces.as_slice();
+    let operations = candidate.operations.as_slice();
+    if has_outcome(test, traces, operations, &ordered.order) {
+        OrderVerdict::Yes
+    } else {
+        OrderVerdict::No(Reason::Outcome)
+    }
+}
+
+// The name of an operation of the harts.
+fn operation_name(test: &Test, ordered: &Ordered, a: usize) -> Operation
+    requires ordered { IsOrdered test.now ordered.now }
+    requires there { a < length (accesses (runs_in test.now ordered.now)) }
+    ensures { name_of (runs_in test.now ordered.now) a ≡ Some result }
+{
+    let candidate = &ordered.candidate;
+    let operation = &candidate.operations.as_slice()[a];
+    name(candidate.traces.as_slice(), operation).unwrap()
+}
+
+// The reason that a load is wrong, where one is.
+fn load_reason(test: &Test, ordered: &Ordered) -> Option<Reason>
+    requires { IsOrdered test.now ordered.now }
+    ensures some { IfSome result (IsLoadReason (runs_in test.now ordered.now) ordered.now.listed.items) }
+    ensures none { IfNone result (LoadsRightly (runs_in test.now ordered.now) [] ordered.now.listed.items) }
+{
+    let load = ordered.wrong_load(test)?;
+    Some(Reason::Load {
+        load: operation_name(test, ordered, load),
+    })
+}
+
+// The reason that a rule is broken, where one is.
+fn rule_reason(test: &Test, placement: &Placement, ordered: &Ordered) -> Option<Reason>
+    requires { IsOrdered test.now ordered.now }
+    ensures some { IfSome result (IsRuleReason (runs_in test.now ordered.now) placement.now ordered.now.listed.items) }
+    ensures none { IfNone result (KeepsRules (runs_in test.now ordered.now) placement.now ordered.now.listed.items) }
+{
+    let rule = ordered.broken_rule(test, placement)?;
+    let first = ordered.rule_broken_after(test, placement, rule)?;
+    let second = ordered.rule_broken_by(test, placement, rule, first)?;
+    Some(Reason::Rule {
+        rule,
+        first: operation_name(test, ordered, first),
+        second: operation_name(test, ordered, second),
+    })
+}
+
+// The reason that atomicity is broken, where it is.
+fn atomic_reason(test: &Test, ordered: &Ordered) -> Option<Reason>
+    requires { IsOrdered test.now ordered.now }
+    ensures some { IfSome result (IsAtomicReason (runs_in test.now ordered.now) ordered.now.listed.items) }
+    ensures none { IfNone result (KeepsAtomicity (runs_in test.now ordered.now) ordered.now.listed.items) }
+{
+    let load = ordered.broken_pair(test)?;
+    let store = ordered.atomicity_broken_by(test, load)?;
+    Some(Reason::Atomic {
+        load: operation_name(test, ordered, load),
+        store: operation_name(test, ordered, store),
+    })
+}

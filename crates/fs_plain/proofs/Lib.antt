@@ -1,0 +1,4 @@
+pub mod Between
+pub mod Chains
+pub mod Counted
+pub mod Cases

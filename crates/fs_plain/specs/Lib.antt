@@ -1,0 +1,2 @@
+pub mod Dependencies
+pub mod Among

@@ -1,0 +1,231 @@
+//! The rules of preserved program order (RISC-V Unprivileged ISA 20191213, section "Preserved Program Order").
+
+ghost use Rattle.std.specs.Prelude.{◌≡◌, ◌<◌, ◌≤◌};
+ghost use Rattle.fs_model.specs.Operations.{PreExecution, operations as operations_of};
+ghost use Rattle.fs_model.specs.Preserved.{ppo};
+ghost use Rattle.fs_plain.specs.Among.{at, runs_in, source_at, is_earlier, is_case, rule_among, any_rule, is_rule};
+ghost use Rattle.fs_plain.specs.Among.{overlaps, is_store_between, any_store_between, reads_differ, returns_amo_or_sc, is_rcsc};
+ghost use Rattle.fs_plain.specs.Among.{passes_on, any_passes_on, any_address_between};
+
+use crate::dependencies::{address_depends, control_depends, data_depends};
+use crate::fences::is_fenced;
+use crate::numbered::{
+    annotation, count_of_harts, is_amo_or_sc, is_earlier, is_from, is_same_number, is_same_word,
+    operation, run_of, source_at,
+};
+use crate::steps::are_paired;
+use fs_hart::Trace;
+use fs_kinds::Placement;
+use fs_model::{Operation, Step};
+
+fn overlaps(first: &Operation, second: &Operation) -> bool
+    ensures { result ≡ overlaps first.now second.now }
+{
+    second.stored.is_some() && is_same_word(first.address, second.address)
+}
+
+// Is m a store to the word of a, between a and b in program order?
+fn is_store_between(operations: &[Operation], a: usize, b: usize, m: usize) -> bool
+    ensures { result ≡ is_store_between operations.now a b m }
+{
+    let first = operation(operations, a);
+    let second = operation(operations, b);
+    let between = operation(operations, m);
+    is_earlier(&first, &between)
+        && is_earlier(&between, &second)
+        && between.stored.is_some()
+        && is_same_word(between.address, first.address)
+}
+
+fn any_store_between(operations: &[Operation], a: usize, b: usize) -> bool
+    ensures { result ≡ any_store_between operations.now a b }
+{
+    (0..count_of_harts(operations)).any(|m| is_store_between(operations, a, b, m))
+}
+
+// Do a and b load the same word, with no store to it between, and return different stores?
+fn reads_differ(operations: &[Operation], sources: &[Option<u8>], a: usize, b: usize) -> bool
+    ensures { result ≡ reads_differ operations.now sources.now a b }
+{
+    let first = operation(operations, a);
+    let second = operation(operations, b);
+    first.loaded.is_some()
+        && second.loaded.is_some()
+        && is_same_word(first.address, second.address)
+        && !any_store_between(operations, a, b)
+        && !is_same_number(source_at(sources, a), source_at(sources, b))
+}
+
+// Is the first one, of this number, of an AMO or an sc.w, and the source of the second?
+fn returns_amo_or_sc(
+    first: &Operation,
+    second: &Operation,
+    source: Option<u8>,
+    number: usize,
+) -> bool
+    ensures { result ≡ returns_amo_or_sc first.now second.now source number }
+{
+    is_amo_or_sc(first.instr) && second.loaded.is_some() && is_from(source, number)
+}
+
+fn is_rcsc(operation: &Operation) -> bool
+    ensures { result ≡ is_rcsc operation.now }
+{
+    annotation(operation.instr).acquire || annotation(operation.instr).release
+}
+
+// Is m a store between a and b that depends on a, and the source?
+fn passes_on(
+    operations: &[Operation],
+    steps: &[Step],
+    source: Option<u8>,
+    a: usize,
+    b: usize,
+    m: usize,
+) -> bool
+    ensures { result ≡ passes_on operations.now steps.now source a b m }
+{
+    let first = operation(operations, a);
+    let second = operation(operations, b);
+    let between = operation(operations, m);
+    let i = usize::from(first.place);
+    let k = usize::from(between.place);
+    is_earlier(&first, &between)
+        && is_earlier(&between, &second)
+        && between.stored.is_some()
+        && (address_depends(steps, i, k) || data_depends(steps, i, k))
+        && is_from(source, m)
+}
+
+fn any_passes_on(
+    operations: &[Operation],
+    steps: &[Step],
+    source: Option<u8>,
+    a: usize,
+    b: usize,
+) -> bool
+    ensures { result ≡ any_passes_on operations.now steps.now source a b }
+{
+    (0..count_of_harts(operations)).any(|m| passes_on(operations, steps, source, a, b, m))
+}
+
+// Has an instruction between steps i and j an address dependency on step i?
+fn any_address_between(steps: &[Step], i: usize, j: usize) -> bool
+    requires first { i < 256 }
+    requires second { j < 256 }
+    ensures { result ≡ any_address_between steps.now i j }
+{
+    (i + 1..j).any(|m| address_depends(steps, i, m))
+}
+
+// Does operation a precede operation b in program order?
+fn precedes(operations: &[Operation], a: usize, b: usize) -> bool
+    ensures { result ≡ is_earlier (at operations.now a) (at operations.now b) }
+{
+    is_earlier(&operation(operations, a), &operation(operations, b))
+}
+
+// What the rule of this number asks besides program order.
+fn is_case(
+    n: u8,
+    traces: &[Trace],
+    operations: &[Operation],
+    placement: &Placement,
+    sources: &[Option<u8>],
+    a: usize,
+    b: usize,
+) -> bool
+    requires { 1 ≤ n }
+    ensures { result ≡ is_case operations.now (runs_in traces.now) placement.now sources.now a b n }
+{
+    let first = operation(operations, a);
+    let second = operation(operations, b);
+    let steps = run_of(traces, &first);
+    let i = usize::from(first.place);
+    let j = usize::from(second.place);
+    match n {
+        1 => overlaps(&first, &second),
+        2 => reads_differ(operations, sources, a, b),
+        3 => returns_amo_or_sc(&first, &second, source_at(sources, b), a),
+        4 => is_fenced(placement, steps, &first, &second),
+        5 => annotation(first.instr).acquire,
+        6 => annotation(second.instr).release,
+        7 => is_rcsc(&first) && is_rcsc(&second),
+        8 => are_paired(steps, i, j),
+        9 => address_depends(steps, i, j),
+        10 => data_depends(steps, i, j),
+        11 => second.stored.is_some() && control_depends(steps, i, j),
+        12 => second.loaded.is_some()
+            && any_passes_on(operations, steps, source_at(sources, b), a, b),
+        13 => second.stored.is_some() && any_address_between(steps, i, j),
+        _ => false,
+    }
+}
+
+// The rule of this number, with program order.
+fn rule_among(
+    n: u8,
+    traces: &[Trace],
+    operations: &[Operation],
+    placement: &Placement,
+    sources: &[Option<u8>],
+    a: usize,
+    b: usize,
+) -> bool
+    requires { 1 ≤ n }
+    ensures { result ≡ rule_among operations.now (runs_in traces.now) placement.now sources.now a b n }
+{
+    precedes(operations, a, b) && is_case(n, traces, operations, placement, sources, a, b)
+}
+
+/// Is operation a before operation b a case of the manual's rule n, from 1 on? `sources` gives for each operation the number of
+/// the one that wrote what it loads. Numbers of rules and of operations that aren't there give false.
+pub fn rule(
+    n: u8,
+    traces: &[Trace],
+    operations: &[Operation],
+    placement: &Placement,
+    sources: &[Option<u8>],
+    a: usize,
+    b: usize,
+) -> bool
+    requires { 1 ≤ n }
+    ensures { (x : PreExecution)
+        → operations.now ≡ operations_of x
+        → x.traces ≡ runs_in traces.now
+        → result ≡ is_rule x placement.now (source_at sources.now) a b n }
+{
+    rule_among(n, traces, operations, placement, sources, a, b)
+}
+
+// Does some rule put a before b?
+fn any_rule(
+    traces: &[Trace],
+    operations: &[Operation],
+    placement: &Placement,
+    sources: &[Option<u8>],
+    a: usize,
+    b: usize,
+) -> bool
+    ensures { result ≡ any_rule operations.now (runs_in traces.now) placement.now sources.now a b }
+{
+    (1..14).any(|n| rule_among(n, traces, operations, placement, sources, a, b))
+}
+
+/// Is operation a before operation b in preserved program order? `sources` gives for each operation the number of the one that
+/// wrote what it loads. Numbers of operations that aren't there give false.
+pub fn ppo(
+    traces: &[Trace],
+    operations: &[Operation],
+    placement: &Placement,
+    sources: &[Option<u8>],
+    a: usize,
+    b: usize,
+) -> bool
+    ensures { (x : PreExecution)
+        → operations.now ≡ operations_of x
+        → x.traces ≡ runs_in traces.now
+        → result ≡ ppo x placement.now (source_at sources.now) a b }
+{
+    any_rule(traces, operations, placement, sources, a, b)
+}
