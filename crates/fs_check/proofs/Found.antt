@@ -131,14 +131,14 @@ module _ (t : Test) (file : WitnessFile) (c : Candidate) (bounded : IsBounded t)
     -- a name that no operation has
     pub no_name : None ≡ numbers_of names wanted → IsFoundOrder t c w None
     no_name e order have once =
-        let found = found_all x w.order order (ranged t w (steps_in c.traces) bounded (of_file t file w c.traces whole stands)) have in
+        let found = found_all x w.order order (ranged t w (steps_in c.traces) (of_file t file w c.traces whole stands) bounded) have in
         let both : None ≡ Some found.0 = sym (same None e) ∙ found.1 in
         cc
 
     -- names that don't list each operation once
     pub not_once : (listed : List ℕ) → Some listed ≡ numbers_of names wanted → lists_each_once x listed ≡ false → IsFoundOrder t c w None
     not_once listed e fails order have once =
-        let one : order ≡ listed = names_say x w.order order listed (known t w (steps_in c.traces) bounded (of_file t file w c.traces whole stands)) have (order_found listed e) in
+        let one : order ≡ listed = names_say x w.order order listed (known t w (steps_in c.traces) (of_file t file w c.traces whole stands) bounded.forward) have (order_found listed e) in
         both_ways _ fails (subst (λ o. lists_each_once x o ≡ true) one once)
 
 -- ---- the outcome

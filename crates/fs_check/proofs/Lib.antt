@@ -8,6 +8,7 @@ pub mod Handed
 pub mod Items
 pub mod NamedOrder
 pub mod Once
+pub mod OneVerdict
 pub mod Orderings
 pub mod RunNames
 pub mod Spelling

@@ -1,6 +1,6 @@
 -- The names of the operations of a witness's runs: each is that of one operation, and its numbers are small.
 use Rattle.std.proofs.Common.{◌≡◌, ℕ, zero, suc, ◌<◌, ◌≤◌, None, Some, List, [], ◌∷◌, length, refl, ap, arith}
-use Rattle.std.specs.Prelude.{slice_get}
+use Rattle.std.specs.Prelude.{All, slice_get}
 use Rattle.std.proofs.lemmas.Bool.{and_from, lt-ltb}
 use Rattle.std.proofs.lemmas.List.Elements.{All-get_or}
 use Rattle.std.proofs.lemmas.Option.{slice_get_within}
@@ -33,26 +33,27 @@ in_code n code h (s ∷ ss) (suc j) u r e = in_code n code (after_step h s) ss j
 small_name : (n : Name) → n.hart < 256 → n.at < 256 → in_range n ≡ Some n
 small_name n low small = rw (and_from _ _ (lt-ltb _ _ low) (lt-ltb _ _ small)) refl
 
-module _ (t : Test) (w : Witness) (traces : List (List Step)) (bounded : IsBounded t) (runs : AreRuns t w traces) where
+module _ (t : Test) (w : Witness) (traces : List (List Step)) (runs : AreRuns t w traces) where
   steps_are : (hart : ℕ) → hart < length traces → AreSteps (length t.locations) (code_of t hart) (start_with (registers_of t hart)) (steps_of traces hart)
   steps_are hart low = (runs.whole hart (omega (arith, low, runs.harts))).0.0
 
-  forward_runs : distinct.AreRuns traces
-  forward_runs hart low = (
+  forward_runs : All GoesForward t.codes → distinct.AreRuns traces
+  forward_runs forward hart low = (
     length t.locations,
     registers_of t hart,
     code_of t hart,
-    All-get_or GoesForward t.codes hart [] (omega (arith, low, runs.harts)) bounded.forward,
+    All-get_or GoesForward t.codes hart [] (omega (arith, low, runs.harts)) forward,
     steps_are hart low,
   )
 
   -- a name is that of one operation
-  pub known : (a b : ℕ) (n : Name) → name_of (pre_execution t traces) a ≡ Some n → name_of (pre_execution t traces) b ≡ Some n → a ≡ b
-  known a b n e k = one_named (pre_execution t traces) a b n forward_runs e k
+  pub known : All GoesForward t.codes → (a b : ℕ) (n : Name) → name_of (pre_execution t traces) a ≡ Some n
+      → name_of (pre_execution t traces) b ≡ Some n → a ≡ b
+  known forward a b n e k = one_named (pre_execution t traces) a b n (forward_runs forward) e k
 
   -- its numbers are small
-  pub ranged : NamesInRange (pre_execution t traces)
-  ranged a n e =
+  pub ranged : IsBounded t → NamesInRange (pre_execution t traces)
+  ranged bounded a n e =
       let of = named (pre_execution t traces) a n e in
       let s = of.step in
       let low = in_list traces n.hart _ s.0 s.1 in
