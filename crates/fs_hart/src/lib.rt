@@ -14,4 +14,4 @@ pub use fs_model::{Choice, Operation, Step};
 pub use listing::traces_over;
 pub use lists::{Operations, Steps, Words};
 pub use run::{runs_are_short, trace_of};
-pub use trace::{Run, Trace};
+pub use trace::{Run, Trace, steps_of};

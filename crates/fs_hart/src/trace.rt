@@ -1,7 +1,8 @@
 //! Whole runs of a hart.
 
-ghost use Rattle.std.specs.Prelude.{◌≡◌};
+ghost use Rattle.std.specs.Prelude.{◌≡◌, [], map, option_map, unwrap_or};
 ghost use Rattle.fs_model.specs.Execute.{read};
+ghost use Rattle.fs_model.specs.Operations.{steps_of};
 
 use crate::lists::Steps;
 use fs_instr::Reg;
@@ -29,6 +30,19 @@ impl Trace {
         ensures { result ≡ read self.now.registers register }
     {
         self.registers[register.number() as usize]
+    }
+}
+
+/// The steps of a hart's run; none where it is no hart, or has no run here.
+pub fn steps_of(traces: &[Trace], hart: Option<u8>) -> &[Step]
+    ensures { result.now ≡ unwrap_or (option_map (steps_of (map (λ trace. trace.steps) traces.now)) hart) [] }
+{
+    let Some(hart) = hart else {
+        return &[];
+    };
+    match traces.get(usize::from(hart)) {
+        Some(trace) => trace.steps(),
+        None => &[],
     }
 }
 

@@ -58,8 +58,11 @@ abbrev pub same_hart : PreExecution → ℕ → ℕ → Bool
 same_hart x a b = is_same (operation x a).hart (operation x b).hart
 
 -- program order
+abbrev pub precedes : Operation → Operation → Bool
+precedes a b = is_same a.hart b.hart && nat_lt a.place b.place
+
 abbrev pub po : PreExecution → ℕ → ℕ → Bool
-po x a b = same_hart x a b && nat_lt (place x a) (place x b)
+po x a b = precedes (operation x a) (operation x b)
 
 -- some operation between a and b in program order passes the test
 abbrev pub any_between : PreExecution → (ℕ → Bool) → ℕ → ℕ → Bool

@@ -6,9 +6,11 @@ mod arithmetic;
 mod hart;
 pub mod laws;
 mod operation;
+mod pairs;
 mod registers;
 mod step;
 
 pub use hart::Hart;
 pub use operation::Operation;
+pub use pairs::are_paired;
 pub use step::{Choice, Step, Stop};

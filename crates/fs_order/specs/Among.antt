@@ -1,14 +1,10 @@
 -- What an execution has, said of a list of operations and a global memory order of them.
-use Rattle.std.specs.Prelude.{ℕ, nat_lt, Bool, true, ◌&&◌, ◌||◌, not, Option, None, Some, is_some, option_and_then, unwrap_or, List, filter, length}
+use Rattle.std.specs.Prelude.{ℕ, Bool, true, ◌&&◌, ◌||◌, not, Option, None, Some, is_some, option_and_then, unwrap_or, List, filter, length}
 use Rattle.std.specs.List.{slice_index_or, last_or, list_any}
 use Rattle.fs_syntax.specs.Test.{address_of}
 use Rattle.fs_model.specs.declared.operation.Operation.{Operation}
 use Rattle.fs_model.specs.Numbers.{is_same, numbers_below, stands_before}
-use Rattle.fs_model.specs.Operations.{nothing}
-
--- program order
-abbrev pub is_earlier : Operation → Operation → Bool
-is_earlier a b = is_same a.hart b.hart && nat_lt a.place b.place
+use Rattle.fs_model.specs.Operations.{nothing, precedes}
 
 abbrev pub at : List Operation → ℕ → Operation
 at operations a = slice_index_or operations a nothing
@@ -16,7 +12,7 @@ at operations a = slice_index_or operations a nothing
 abbrev pub may_return : List Operation → (gmo : List ℕ) → (load s : ℕ) → Bool
 may_return operations gmo load s =
     is_some (at operations s).stored && is_same (at operations s).address (at operations load).address
-    && (stands_before gmo s load || is_earlier (at operations s) (at operations load))
+    && (stands_before gmo s load || precedes (at operations s) (at operations load))
 
 abbrev pub source_among : List Operation → (gmo : List ℕ) → (load : ℕ) → Option ℕ
 source_among operations gmo load = last_or None (filter (may_return operations gmo load) gmo)

@@ -1,70 +1,26 @@
 //! The atomicity axiom (RISC-V Unprivileged ISA 20191213, section "Memory Model Axioms").
 
-ghost use Rattle.std.specs.Prelude.{◌≡◌, ◌<◌, ◌≤◌, ◌||◌, ℕ, Option, List, length, option_map, unwrap_or, []};
+ghost use Rattle.std.specs.Prelude.{◌≡◌, ◌≤◌, ℕ, Option, length};
 ghost use Rattle.std.specs.List.{list_any};
-ghost use Rattle.fs_model.specs.Forms.{is_lr, is_sc};
-ghost use Rattle.fs_model.specs.Numbers.{between, numbers_below};
-ghost use Rattle.fs_model.specs.Operations.{PreExecution, operations as operations_of, instr_at, steps_of, are_paired};
+ghost use Rattle.fs_model.specs.Numbers.{numbers_below};
+ghost use Rattle.fs_model.specs.Operations.{PreExecution, operations as operations_of};
 ghost use Rattle.fs_order.specs.Among.{comes_between, follows_closely};
 ghost use Rattle.fs_order.specs.Final.{steps_in};
 ghost use Rattle.fs_model.specs.Tests.{keeps_atomicity};
 
 use crate::global_order::GlobalOrder;
-use crate::numbered::{is_earlier, is_same_hart, is_same_word, operation};
-use fs_hart::Trace;
-use fs_instr::Instr;
-use fs_model::{Operation, Step};
-
-fn is_lr(steps: &[Step], at: usize) -> bool
-    ensures { result ≡ is_lr (instr_at steps.now at) }
-{
-    at < steps.len() && matches!(steps[at].instr, Instr::Lr { .. })
-}
-
-fn is_sc(steps: &[Step], at: usize) -> bool
-    ensures { result ≡ is_sc (instr_at steps.now at) }
-{
-    at < steps.len() && matches!(steps[at].instr, Instr::Sc { .. })
-}
-
-// Is an lr.w or an sc.w between them?
-fn has_either_between(steps: &[Step], i: usize, j: usize) -> bool
-    requires { i < j }
-    ensures { result ≡ list_any (λ k. is_lr (instr_at steps.now k) || is_sc (instr_at steps.now k)) (between i j) }
-{
-    (i + 1..j).any(|k| is_lr(steps, k) || is_sc(steps, k))
-}
-
-// Are they an lr.w and a later sc.w with no other lr.w or sc.w between?
-fn are_paired(steps: &[Step], i: usize, j: usize) -> bool
-    ensures { result ≡ are_paired steps.now i j }
-{
-    i < j && is_lr(steps, i) && is_sc(steps, j) && !has_either_between(steps, i, j)
-}
-
-// The run of a hart, which is empty where there is no such hart.
-fn steps_of(traces: &[Trace], hart: Option<u8>) -> &[Step]
-    ensures { result.now ≡ unwrap_or (option_map (steps_of (steps_in traces.now)) hart) [] }
-{
-    let Some(hart) = hart else {
-        return &[];
-    };
-    if usize::from(hart) < traces.len() {
-        traces[usize::from(hart)].steps()
-    } else {
-        &[]
-    }
-}
+use fs_hart::{Trace, steps_of};
+use fs_model::{Operation, are_paired};
 
 // Is m a store of another hart to the word of w, after s and before w in the order?
 fn comes_between(operations: &[Operation], order: &GlobalOrder, s: u8, w: u8, m: u8) -> bool
     ensures { result ≡ comes_between operations.now order.now s w m }
 {
-    let ending = operation(operations, w);
-    let storing = operation(operations, m);
-    storing.stored.is_some()
-        && is_same_word(storing.address, ending.address)
-        && !is_same_hart(storing.hart, ending.hart)
+    let ending = Operation::numbered(operations, usize::from(w));
+    let storing = Operation::numbered(operations, usize::from(m));
+    storing.is_store()
+        && storing.is_same_word(&ending)
+        && !storing.is_same_hart(&ending)
         && order.stands_before(s, m)
         && order.stands_before(m, w)
 }
@@ -105,9 +61,9 @@ pub fn keeps_atomicity(
         → source ≡ rf r
         → result ≡ keeps_atomicity x rf order.now r w }
 {
-    let first = operation(operations, r);
-    let second = operation(operations, w);
-    if !is_earlier(&first, &second) {
+    let first = Operation::numbered(operations, usize::from(r));
+    let second = Operation::numbered(operations, usize::from(w));
+    if !first.precedes(&second) {
         return true;
     }
     let steps = steps_of(traces, first.hart);

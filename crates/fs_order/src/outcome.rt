@@ -10,7 +10,6 @@ ghost use Rattle.fs_order.specs.Among.{stores_at, last_store, word_among};
 ghost use Rattle.fs_order.specs.Final.{steps_in, register_in, AreFinal};
 
 use crate::global_order::GlobalOrder;
-use crate::numbered::{is_same_word, operation};
 use fs_hart::Trace;
 use fs_instr::Reg;
 use fs_model::Operation;
@@ -19,8 +18,8 @@ use fs_syntax::{Location, Outcome, Quantifier, Test};
 fn stores_at(operations: &[Operation], address: u32, a: u8) -> bool
     ensures { result ≡ stores_at operations.now address a }
 {
-    let storing = operation(operations, a);
-    storing.stored.is_some() && is_same_word(storing.address, Some(address))
+    let storing = Operation::numbered(operations, usize::from(a));
+    storing.is_store() && storing.address == Some(address)
 }
 
 // The last store to the address.
@@ -47,7 +46,9 @@ pub fn final_word(operations: &[Operation], order: &GlobalOrder, location: u8) -
     let Some(last) = last_store(operations, order, Location::address(location)) else {
         return 0;
     };
-    operation(operations, last).stored.unwrap_or(0)
+    Operation::numbered(operations, usize::from(last))
+        .stored
+        .unwrap_or(0)
 }
 
 // The word that a hart's register ends with; 0 where there is no such hart.

@@ -7,18 +7,17 @@ ghost use Rattle.fs_order.specs.Among.{may_return};
 ghost use Rattle.fs_model.specs.Tests.{returns_source};
 
 use crate::global_order::GlobalOrder;
-use crate::numbered::{is_earlier, is_same_word, operation};
 use fs_model::Operation;
 
 // Is s a store to the load's word that precedes it in the global memory order or in program order?
 fn may_return(operations: &[Operation], order: &GlobalOrder, load: u8, s: u8) -> bool
     ensures { result ≡ may_return operations.now order.now load s }
 {
-    let loading = operation(operations, load);
-    let storing = operation(operations, s);
-    storing.stored.is_some()
-        && is_same_word(storing.address, loading.address)
-        && (order.stands_before(s, load) || is_earlier(&storing, &loading))
+    let loading = Operation::numbered(operations, usize::from(load));
+    let storing = Operation::numbered(operations, usize::from(s));
+    storing.is_store()
+        && storing.is_same_word(&loading)
+        && (order.stands_before(s, load) || storing.precedes(&loading))
 }
 
 /// The number of the store that the load returns in this global memory order: the latest of the stores to its word that precede
@@ -45,11 +44,11 @@ pub fn returns_source(operations: &[Operation], source: Option<u8>, a: u8) -> bo
         → source ≡ rf a
         → result ≡ returns_source x rf a }
 {
-    let Some(loaded) = operation(operations, a).loaded else {
+    let Some(loaded) = Operation::numbered(operations, usize::from(a)).loaded else {
         return true;
     };
     let Some(source) = source else {
         return false;
     };
-    operation(operations, source).stored == Some(loaded)
+    Operation::numbered(operations, usize::from(source)).stored == Some(loaded)
 }

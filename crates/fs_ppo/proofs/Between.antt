@@ -6,15 +6,14 @@ use Rattle.std.proofs.lemmas.List.Folds.{list_any_none}
 use Rattle.std.proofs.lemmas.List.Elements.{All-map}
 use Rattle.fs_model.specs.declared.operation.Operation.{Operation}
 use Rattle.fs_model.specs.Numbers.{is_same}
-use Rattle.fs_model.specs.Operations.{PreExecution, operation, operations, accesses, initial_store, nothing, is_store, same_word, po, any_between}
-use Rattle.fs_ppo.specs.Parts.{comes_before}
+use Rattle.fs_model.specs.Operations.{PreExecution, operation, operations, accesses, initial_store, nothing, is_store, same_word, precedes, po, any_between}
 use Rattle.fs_ppo.proofs.Located.{located}
 use Rattle.fs_ppo.proofs.Made.{po_hart}
 use Rattle.fs_ppo.proofs.Tests.{same_tests, any_from, any_to, any_of_first}
 
 -- between a and b in program order, where the test passes
 abbrev pub stands_between : Operation → Operation → (Operation → Bool) → Operation → Bool
-stands_between a b test m = comes_before a m && comes_before m b && test m
+stands_between a b test m = precedes a m && precedes m b && test m
 
 none_same : (o : Option ℕ) → is_same o None ≡ false
 none_same None = refl

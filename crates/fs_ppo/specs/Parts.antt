@@ -1,12 +1,10 @@
 -- What the private functions find.
-use Rattle.std.specs.Prelude.{ℕ, ◌&&◌, nat_lt, Bool, Option, option_and_then, unwrap_or, List, [], slice_get}
+use Rattle.std.specs.Prelude.{ℕ, Option, option_and_then, unwrap_or, List, [], slice_get}
 use Rattle.fs_kinds.specs.declared.kind.Kind.{Kind}
 use Rattle.fs_kinds.specs.declared.placement.Entry.{Entry}
 use Rattle.fs_kinds.specs.Placement.{kind_at}
 use Rattle.fs_syntax.specs.Slots.{slot_at}
 use Rattle.fs_model.specs.declared.step.Step.{Step}
-use Rattle.fs_model.specs.declared.operation.Operation.{Operation}
-use Rattle.fs_model.specs.Numbers.{is_same}
 use Rattle.fs_deps.specs.declared.deps.Masks.{Masks}
 use Rattle.fs_cand.specs.declared.candidate.Candidate.{Candidate}
 
@@ -17,7 +15,3 @@ deps_of c hart = unwrap_or (option_and_then (slice_get c.deps) hart) []
 -- the fence that the placement has right before step k of a run of the hart
 abbrev pub placed_at : List Step → Option ℕ → List Entry → ℕ → Option Kind
 placed_at steps hart p k = option_and_then (λ h. option_and_then (λ s. kind_at (slot_at h s.at) p) (slice_get steps k)) hart
-
--- o comes before p in program order
-abbrev pub comes_before : Operation → Operation → Bool
-comes_before o p = is_same o.hart p.hart && nat_lt o.place p.place

@@ -4,9 +4,8 @@ ghost use Rattle.std.specs.Prelude.{◌≡◌, ◌<◌, ◌||◌, option_and_the
 ghost use Rattle.std.specs.Option.{option_copied};
 ghost use Rattle.std.specs.List.{list_any};
 ghost use Rattle.fs_deps.specs.Masks.{has_address, has_data, has_control};
-ghost use Rattle.fs_model.specs.Forms.{is_lr, is_sc};
 ghost use Rattle.fs_model.specs.Numbers.{between, is_same};
-ghost use Rattle.fs_model.specs.Operations.{po, place, is_store, any_between, trace_of, instr_at, are_paired, paired};
+ghost use Rattle.fs_model.specs.Operations.{po, place, is_store, any_between, paired};
 ghost use Rattle.fs_model.specs.Dependencies.{address_dependency, data_dependency, control_dependency, address_between};
 ghost use Rattle.fs_cand.specs.Candidates.{rf};
 ghost use Rattle.fs_ppo.specs.Rules.{OfRuns};
@@ -15,8 +14,7 @@ ghost use Rattle.fs_ppo.specs.Parts.{deps_of};
 use crate::operations::{hart, is_store, place, precedes, source, steps};
 use fs_cand::Candidate;
 use fs_deps::Deps;
-use fs_hart::Step;
-use fs_instr::Instr;
+use fs_model::are_paired;
 
 // The dependencies in the run of the hart.
 fn deps(candidate: &Candidate, hart: Option<u8>) -> Option<&Deps>
@@ -25,45 +23,13 @@ fn deps(candidate: &Candidate, hart: Option<u8>) -> Option<&Deps>
     candidate.deps.as_slice().get(usize::from(hart?))
 }
 
-fn is_lr_at(steps: &[Step], k: usize) -> bool
-    ensures { result ≡ is_lr (instr_at steps.now k) }
-{
-    steps
-        .get(k)
-        .is_some_and(|step| matches!(step.instr, Instr::Lr { .. }))
-}
-
-fn is_sc_at(steps: &[Step], k: usize) -> bool
-    ensures { result ≡ is_sc (instr_at steps.now k) }
-{
-    steps
-        .get(k)
-        .is_some_and(|step| matches!(step.instr, Instr::Sc { .. }))
-}
-
-// Is a step between i and j an lr.w or an sc.w?
-fn is_reserved_between(steps: &[Step], i: usize, j: usize) -> bool
-    requires { i < 256 }
-    ensures { result ≡ list_any (λ k. is_lr (instr_at steps.now k) || is_sc (instr_at steps.now k)) (between i j) }
-{
-    (i + 1..j).any(|k| is_lr_at(steps, k) || is_sc_at(steps, k))
-}
-
-// Is step i an lr.w, and step j a later sc.w, with no other lr.w or sc.w between?
-fn are_paired(steps: &[Step], i: u8, j: u8) -> bool
-    ensures { result ≡ are_paired steps.now i j }
-{
-    let (i, j) = (usize::from(i), usize::from(j));
-    i < j && is_lr_at(steps, i) && is_sc_at(steps, j) && !is_reserved_between(steps, i, j)
-}
-
 pub(crate) fn is_paired(candidate: &Candidate, a: usize, b: usize) -> bool
     ensures { OfRuns candidate.now (λ x. result ≡ paired x a b) }
 {
     are_paired(
         steps(candidate, a),
-        place(candidate, a),
-        place(candidate, b),
+        usize::from(place(candidate, a)),
+        usize::from(place(candidate, b)),
     )
 }
 

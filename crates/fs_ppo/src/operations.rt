@@ -2,43 +2,22 @@
 
 ghost use Rattle.std.specs.Prelude.{◌≡◌, ◌&&◌, Some, is_some};
 ghost use Rattle.std.specs.List.{list_any};
-ghost use Rattle.fs_model.specs.Forms.{annotation, is_amo, is_sc, is_lr};
 ghost use Rattle.fs_model.specs.Numbers.{is_same};
-ghost use Rattle.fs_model.specs.Operations.{operation, place, is_load, is_store, same_word, same_hart, po, any_between, is_acquire, is_release, is_rcsc, is_amo_or_sc, classes, trace_of};
+ghost use Rattle.fs_model.specs.Operations.{operation, place, is_load, is_store, same_word, precedes, po, any_between, is_acquire, is_release, is_rcsc, is_amo_or_sc, classes, trace_of};
 ghost use Rattle.fs_cand.specs.Candidates.{rf};
-ghost use Rattle.fs_ppo.specs.Parts.{comes_before};
 ghost use Rattle.fs_ppo.specs.Rules.{OfRuns};
 
 use fs_cand::Candidate;
-use fs_hart::{Operation, Step};
-use fs_instr::{Ann, ImmOp, Instr, Reg};
+use fs_hart::steps_of;
+use fs_instr::Instr;
 use fs_kinds::Classes;
-
-// A number past the last is that of nothing: no hart, no address, no word.
-const NOTHING: Operation = Operation {
-    hart: None,
-    place: 0,
-    instr: Instr::Immediate {
-        op: ImmOp::Addi,
-        rd: Reg::ZERO,
-        first: Reg::ZERO,
-        imm: 0,
-    },
-    address: None,
-    loaded: None,
-    stored: None,
-};
+use fs_model::{Operation, Step};
 
 // The operation of this number.
 fn operation(candidate: &Candidate, a: usize) -> Operation
     ensures { OfRuns candidate.now (λ x. result ≡ operation x a) }
 {
-    candidate
-        .operations
-        .as_slice()
-        .get(a)
-        .copied()
-        .unwrap_or(NOTHING)
+    Operation::numbered(candidate.operations.as_slice(), a)
 }
 
 // The hart that makes the operation.
@@ -59,13 +38,7 @@ pub(crate) fn place(candidate: &Candidate, a: usize) -> u8
 pub(crate) fn steps(candidate: &Candidate, a: usize) -> &[Step]
     ensures { OfRuns candidate.now (λ x. result.now ≡ trace_of x a) }
 {
-    let Some(hart) = operation(candidate, a).hart else {
-        return &[];
-    };
-    match candidate.traces.as_slice().get(usize::from(hart)) {
-        Some(trace) => trace.steps(),
-        None => &[],
-    }
+    steps_of(candidate.traces.as_slice(), hart(candidate, a))
 }
 
 // The operation's instruction.
@@ -78,68 +51,43 @@ pub(crate) fn instr(candidate: &Candidate, a: usize) -> Instr
 pub(crate) fn is_load(candidate: &Candidate, a: usize) -> bool
     ensures { OfRuns candidate.now (λ x. result ≡ is_load x a) }
 {
-    operation(candidate, a).loaded.is_some()
+    operation(candidate, a).is_load()
 }
 
 pub(crate) fn is_store(candidate: &Candidate, a: usize) -> bool
     ensures { OfRuns candidate.now (λ x. result ≡ is_store x a) }
 {
-    operation(candidate, a).stored.is_some()
+    operation(candidate, a).is_store()
 }
 
 // Whether the operation loads, and whether it stores.
 pub(crate) fn classes(candidate: &Candidate, a: usize) -> Classes
     ensures { OfRuns candidate.now (λ x. result ≡ classes x a) }
 {
-    Classes {
-        reads: is_load(candidate, a),
-        writes: is_store(candidate, a),
-    }
-}
-
-// Does the first come before the second in program order?
-fn comes_before(first: &Operation, second: &Operation) -> bool
-    ensures { result ≡ comes_before first.now second.now }
-{
-    match (first.hart, second.hart) {
-        (Some(hart), Some(other)) => hart == other && first.place < second.place,
-        _ => false,
-    }
+    operation(candidate, a).classes()
 }
 
 // Does a come before b in program order?
 pub(crate) fn precedes(candidate: &Candidate, a: usize, b: usize) -> bool
     ensures { OfRuns candidate.now (λ x. result ≡ po x a b) }
 {
-    comes_before(&operation(candidate, a), &operation(candidate, b))
-}
-
-fn has_same_word(first: &Operation, second: &Operation) -> bool
-    ensures { result ≡ is_same first.now.address second.now.address }
-{
-    match (first.address, second.address) {
-        (Some(address), Some(other)) => address == other,
-        _ => false,
-    }
+    operation(candidate, a).precedes(&operation(candidate, b))
 }
 
 pub(crate) fn is_same_word(candidate: &Candidate, a: usize, b: usize) -> bool
     ensures { OfRuns candidate.now (λ x. result ≡ same_word x a b) }
 {
-    has_same_word(&operation(candidate, a), &operation(candidate, b))
+    operation(candidate, a).is_same_word(&operation(candidate, b))
 }
 
 // Does a store to the first one's word stand between the two?
 fn any_store_between(operations: &[Operation], first: &Operation, second: &Operation) -> bool
     ensures { result
-        ≡ list_any (λ m. comes_before first.now m && comes_before m second.now
+        ≡ list_any (λ m. precedes first.now m && precedes m second.now
         && (is_some m.stored && is_same m.address first.now.address)) operations.now }
 {
     operations.iter().any(|m| {
-        comes_before(first, m)
-            && comes_before(m, second)
-            && m.stored.is_some()
-            && has_same_word(m, first)
+        first.precedes(m) && m.precedes(second) && m.is_store() && m.is_same_word(first)
     })
 }
 
@@ -177,28 +125,16 @@ pub(crate) fn reads_from(candidate: &Candidate, b: usize, a: usize) -> bool
     source(candidate, b).is_some_and(|store| usize::from(store) == a)
 }
 
-fn annotation(instr: &Instr) -> Ann
-    ensures { result ≡ annotation instr.now }
-{
-    match *instr {
-        Instr::Lr { ann, .. } | Instr::Sc { ann, .. } | Instr::Amo { ann, .. } => ann,
-        _ => Ann {
-            acquire: false,
-            release: false,
-        },
-    }
-}
-
 pub(crate) fn is_acquire(candidate: &Candidate, a: usize) -> bool
     ensures { OfRuns candidate.now (λ x. result ≡ is_acquire x a) }
 {
-    annotation(&instr(candidate, a)).acquire
+    operation(candidate, a).annotation().acquire
 }
 
 pub(crate) fn is_release(candidate: &Candidate, a: usize) -> bool
     ensures { OfRuns candidate.now (λ x. result ≡ is_release x a) }
 {
-    annotation(&instr(candidate, a)).release
+    operation(candidate, a).annotation().release
 }
 
 // Is it annotated, so that it is RCsc?

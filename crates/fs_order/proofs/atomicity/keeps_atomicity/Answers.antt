@@ -2,8 +2,7 @@ use Rattle.std.proofs.Common.{◌≡◌, ◌∙◌, ℕ, Bool, true, false, Opti
 use Rattle.std.specs.List.{slice_index_or}
 use Rattle.fs_model.specs.declared.operation.Operation.{Operation}
 use Rattle.fs_model.specs.declared.step.Step.{Step}
-use Rattle.fs_model.specs.Operations.{PreExecution, nothing, operations, steps_of, are_paired, po, paired}
-use Rattle.fs_order.specs.Among.{is_earlier}
+use Rattle.fs_model.specs.Operations.{PreExecution, nothing, operations, precedes, steps_of, are_paired, po, paired}
 use Rattle.fs_model.specs.Tests.{keeps_atomicity}
 use Rattle.fs_order.proofs.atomicity.keeps_atomicity.Goals as goal
 
@@ -13,7 +12,7 @@ pair_of traces first second = are_paired (unwrap_or (option_map (steps_of traces
 same_pair : (x : PreExecution) (ops : List Operation) (traces : List (List Step)) (r w : ℕ) (first second : Operation)
     → ops ≡ operations x → x.traces ≡ traces
     → first ≡ slice_index_or ops r nothing → second ≡ slice_index_or ops w nothing
-    → (po x r w ≡ is_earlier first second) × (paired x r w ≡ pair_of traces first second)
+    → (po x r w ≡ precedes first second) × (paired x r w ≡ pair_of traces first second)
 same_pair x ops traces r w first second e t f s = (rw (f, s, e) refl, rw (sym t, f, s, e) refl)
 
 unpaired : (x : PreExecution) (rf : ℕ → Option ℕ) (order : List ℕ) (r w : ℕ) → po x r w ≡ true → paired x r w ≡ false
@@ -23,9 +22,9 @@ unpaired x rf order r w e f = rw (e, f) refl
 pub returns-then-not-are_paired : goal.returns-then-not-are_paired
 returns-then-not-are_paired c = λ x rf e t f.
     let traces : List (List Step) = map (λ trace. trace.steps) c.args.traces.now in
-    let same = same_pair x c.args.operations.now traces c.args.r c.args.w c.operation-first.result c.operation-second.result e t
-    c.operation-first.ensures c.operation-second.ensures in
-    let before : po x c.args.r c.args.w ≡ true = same.0 ∙ sym c.is_earlier.ensures ∙ c.if-not-is_earlier.false in
+    let same = same_pair x c.args.operations.now traces c.args.r c.args.w c.numbered-first.result c.numbered-second.result e t
+    (rw c.from.ensures at c.numbered-first.ensures) (rw c.from-2.ensures at c.numbered-second.ensures) in
+    let before : po x c.args.r c.args.w ≡ true = same.0 ∙ sym c.precedes.ensures ∙ c.if-not-precedes.false in
     let pair : paired x c.args.r c.args.w ≡ c.are_paired.result =
-    rw (c.are_paired.ensures, c.from.ensures, c.from-2.ensures, c.steps_of-steps.ensures) same.1 in
+    rw (c.are_paired.ensures, c.from-3.ensures, c.from-4.ensures, c.steps_of-steps.ensures) same.1 in
     rw c.if-not-are_paired.true (unpaired x rf c.args.order.now c.args.r c.args.w before (pair ∙ c.if-not-are_paired.true))
