@@ -68,7 +68,7 @@ po x a b = precedes (operation x a) (operation x b)
 abbrev pub any_between : PreExecution → (ℕ → Bool) → ℕ → ℕ → Bool
 any_between x test a b = list_any (λ m. po x a m && po x m b && test m) (numbers_below (length (accesses x)))
 
--- annotations: aq acquires and rl releases, and both are RCsc
+-- annotations: aq acquires and rl releases, and each of them is RCsc
 abbrev pub is_acquire : PreExecution → ℕ → Bool
 is_acquire x a = (annotation (operation x a).instr).acquire
 
@@ -81,7 +81,7 @@ is_rcsc x a = is_acquire x a || is_release x a
 abbrev pub is_amo_or_sc : PreExecution → ℕ → Bool
 is_amo_or_sc x a = is_amo (operation x a).instr || is_sc (operation x a).instr
 
--- the run of a hart, and that of an operation's hart
+-- the run of a hart, that of an operation's hart, and the instruction of a run's step number k
 abbrev pub steps_of : List (List Step) → ℕ → List Step
 steps_of traces hart = slice_index_or traces hart []
 
@@ -97,5 +97,6 @@ are_paired steps i j =
     nat_lt i j && is_lr (instr_at steps i) && is_sc (instr_at steps j)
     && not (list_any (λ k. is_lr (instr_at steps k) || is_sc (instr_at steps k)) (between i j))
 
+-- the same of operations of one hart
 abbrev pub paired : PreExecution → ℕ → ℕ → Bool
 paired x a b = are_paired (trace_of x a) (place x a) (place x b)

@@ -61,8 +61,9 @@ fn asks(n: u8, candidate: &Candidate, a: usize, b: usize) -> bool
 }
 
 /// Is operation a before operation b a case of rule n of preserved program order? Rule 4 and other numbers than 1 to 13 have no
-/// case here: rule 4 is `fence_rule`. A number that is no operation's, or an initial store's, is in no case. At most linear in
-/// the operations and in the steps of a hart.
+/// case here: rule 4 is `fence_rule`. A number that is no operation's, or an initial store's, is in no case. The candidate is
+/// made of runs, as `Candidate::new` makes it; of another nothing is promised. Loads without a listed source count as returning
+/// different stores. At most linear in the operations and in the steps of a hart.
 pub fn rule(n: u8, candidate: &Candidate, a: usize, b: usize) -> bool
     ensures { OfRuns candidate.now (λ x. result ≡ numbered_rule n x (rf candidate.now) a b) }
 {
@@ -70,8 +71,8 @@ pub fn rule(n: u8, candidate: &Candidate, a: usize, b: usize) -> bool
 }
 
 /// Is operation a before operation b a case of rule 4 of preserved program order: does a fence between them, one of the test or
-/// one of the placement, order them? A number that is no operation's, or an initial store's, is in no case. Linear in the steps
-/// of a hart, times the slots of the placement.
+/// one of the placement, order them? A number that is no operation's, or an initial store's, is in no case. The candidate is made
+/// of runs, as for `rule`. Linear in the steps of a hart, times the slots of the placement.
 pub fn fence_rule(candidate: &Candidate, placement: &Placement, a: usize, b: usize) -> bool
     ensures { OfRuns candidate.now (λ x. result ≡ rule x placement.now (rf candidate.now) a b Rule4) }
 {
