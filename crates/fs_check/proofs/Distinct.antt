@@ -21,7 +21,7 @@ use Rattle.fs_model.specs.Witness.{name_of}
 
 -- ---- a run goes forward in the code
 
-pub step_forward : (x : List ℕ) (code : List Instr) (at : ℕ) (i : Instr) → GoesForward code → slice_get code at ≡ Some i → at < next_after x at i
+step_forward : (x : List ℕ) (code : List Instr) (at : ℕ) (i : Instr) → GoesForward code → slice_get code at ≡ Some i → at < next_after x at i
 step_forward x code at (Register op rd first second) f e = omega arith
 step_forward x code at (Immediate op rd first immediate) f e = omega arith
 step_forward x code at (Shift op rd first amount) f e = omega arith

@@ -32,7 +32,7 @@ use Rattle.fs_check.specs.Ordered.{IsOrdered, runs_in}
 use Rattle.fs_check.specs.Verdicts.{IsWholeFile, IsFoundOrder, IsArranged, IsJudgement, IsLoadReason, IsRuleReason, IsAtomicReason}
 use Rattle.fs_check.specs.WitnessFile.{Stands, in_range}
 use Rattle.fs_check.proofs.Distinct.{has_name}
-use Rattle.fs_check.proofs.Few.{few_operations}
+use Rattle.fs_hart.proofs.Few.{few_operations}
 use Rattle.fs_check.proofs.FirstStops.{all_whole}
 use Rattle.fs_check.proofs.NamedOrder.{name_is, found_names, found_all, names_say}
 use Rattle.fs_check.proofs.Orderings.{in_operations}

@@ -1,7 +1,6 @@
 pub mod Befores
 pub mod Breaking
 pub mod Distinct
-pub mod Few
 pub mod FirstStops
 pub mod Found
 pub mod Handed

@@ -1,4 +1,5 @@
 pub mod Forward
+pub mod Few
 pub mod Along
 pub mod Numbering
 pub mod Options

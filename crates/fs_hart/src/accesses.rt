@@ -1,10 +1,12 @@
 //! The memory operations of runs.
 
-ghost use Rattle.std.specs.Prelude.{◌≡◌, ◌≤◌, ◌++◌, All, length, map, IfOk, OnOk, IsOkUnless};
+ghost use Rattle.std.specs.Prelude.{◌≡◌, ◌<◌, ◌≤◌, ◌++◌, ℕ, List, All, length, map, IfOk, OnOk, IsOkUnless};
 ghost use Rattle.fs_kinds.specs.declared.fault.Fault.TheVariants.{Memory};
+ghost use Rattle.fs_syntax.specs.declared.test.Test.{Test};
 ghost use Rattle.fs_syntax.specs.Test.{IsBounded};
-ghost use Rattle.fs_model.specs.Operations.{access_of, accesses_of, initial_store, operations};
-ghost use Rattle.fs_model.specs.Execution.{pre_execution};
+ghost use Rattle.fs_model.specs.declared.step.Step.{Step};
+ghost use Rattle.fs_model.specs.Operations.{access_of, accesses_of, initial_store, operations, steps_of};
+ghost use Rattle.fs_model.specs.Execution.{IsTrace, pre_execution};
 
 use crate::lists::Operations;
 use crate::trace::Trace;
@@ -78,3 +80,11 @@ pub fn operations(alloc: Global, test: &Test, traces: &[Trace]) -> Result<Operat
     }
     Ok(Operations::new(operations))
 }
+
+/// Runs of the harts of a bounded test have at most 56 operations: 48 of the harts, and 8 initial stores.
+#[tactic(auto, using(crate::proofs::Few::few_operations))]
+pub fn operations_are_few()
+    ensures { (t : Test) (traces : List (List Step)) → IsBounded t → length traces ≡ length t.codes
+        → ((hart : ℕ) → hart < length t.codes → IsTrace t hart (steps_of traces hart))
+        → length (operations (pre_execution t traces)) ≤ 56 }
+{}

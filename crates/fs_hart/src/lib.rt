@@ -9,7 +9,7 @@ mod run;
 mod trace;
 mod walk;
 
-pub use accesses::operations;
+pub use accesses::{operations, operations_are_few};
 pub use fs_model::{Choice, Operation, Step};
 pub use listing::traces_over;
 pub use lists::{Operations, Steps, Words};

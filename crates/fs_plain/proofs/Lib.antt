@@ -4,3 +4,7 @@ pub mod Counted
 pub mod Cases
 pub mod SameSteps
 pub mod Stepwise
+pub mod Arranging
+pub mod Agreeing
+pub mod Deciding
+pub mod Showing

@@ -1,3 +1,4 @@
 pub mod Dependencies
 pub mod Among
 pub mod Decisions
+pub mod Arranged

@@ -4,6 +4,7 @@ use Rattle.std.specs.Prelude.{slice_get, filter}
 use Rattle.std.specs.List.{count_by, sum_by, enumerate_from, flat_map, slice_index_or}
 use Rattle.std.proofs.Math.ListN.{drop}
 use Rattle.std.proofs.lemmas.List.{length-append, length-map}
+use Rattle.std.proofs.lemmas.Option.{slice_get_within}
 use Rattle.std.proofs.lemmas.List.FromFn.{length-enumerate_from}
 use Rattle.std.proofs.lemmas.List.Sums.{sum_by-cons}
 use Rattle.std.proofs.lemmas.List.Concat.{flat_map-cons}
@@ -18,7 +19,7 @@ use Rattle.fs_model.specs.Execute.{next_after}
 use Rattle.fs_model.specs.Trace.{Accesses, AreSteps, after_step, start_with}
 use Rattle.fs_model.specs.Operations.{access_of, accesses_of, accesses, initial_store, operations, steps_of}
 use Rattle.fs_model.specs.Execution.{IsTrace, code_of, initial_words, pre_execution, registers_of}
-use Rattle.fs_check.proofs.Distinct.{step_forward}
+use Rattle.fs_hart.proofs.Forward.{goes_on}
 
 -- ---- memory instructions from a position on
 
@@ -123,7 +124,8 @@ few_from n code h k [] f r = let none = accessing-nil k in omega (arith, none)
 few_from n code h k (s ∷ steps) f r =
     let parts = accessing-cons k s steps in
     let one = access_weight n h s s.instr r.0.2 in
-    let next = step_forward h.registers code h.at s.instr f r.0.1 in
+    let here = slice_get_within code h.at s.instr r.0.1 in
+    let next = (goes_on code h.at h.registers s.instr f here r.0.1).0 in
     let later = fewer_after code h.at (next_after h.registers h.at s.instr) s.instr r.0.1 next in
     let rest = few_from n code (after_step h s) (k + 1) steps f r.1 in
     omega (arith, parts, one, later, rest)

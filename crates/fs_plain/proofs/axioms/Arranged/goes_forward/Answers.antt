@@ -1,0 +1,30 @@
+use Rattle.std.proofs.Common.{◌≡◌, ◌∙◌, Bool, true, false, not, ◌||◌, ap, refl, sym}
+use Rattle.std.proofs.lemmas.Bool.{false≢true}
+use Rattle.fs_model.specs.Preserved.{ppo}
+use Rattle.fs_plain.specs.Among.{source_at}
+use Rattle.fs_plain.specs.Arranged.{execution_of}
+use Rattle.fs_plain.proofs.axioms.Arranged.goes_forward.Goals as goal
+
+apart : (b q s : Bool) → b ≡ q → b ≡ false → not b ≡ (not q || s)
+apart b true s e f = absurd (false≢true (sym f ∙ e))
+apart b false s e f = ap not f
+
+ordered : (b q s r : Bool) → b ≡ q → b ≡ true → r ≡ s → r ≡ (not q || s)
+ordered b true s r e f k = k
+ordered b false s r e f k = absurd (false≢true (sym e ∙ f))
+
+pub returns-then-not-ppo : goal.returns-then-not-ppo
+returns-then-not-ppo c =
+    let x = execution_of c.args.test.now c.args.traces.now in
+    let before : c.ppo.result ≡ ppo x c.args.placement.now (source_at c.args.self.now.sources.items) c.args.a c.args.b =
+    c.ppo.ensures x (c.as_slice-operations.ensures ∙ c.requires.runs.operations) refl
+    ∙ ap (λ sources. ppo x c.args.placement.now (source_at sources) c.args.a c.args.b) c.deref.ensures.value in
+    apart c.ppo.result _ _ before c.if-not-ppo.true
+
+pub returns-else-not-ppo : goal.returns-else-not-ppo
+returns-else-not-ppo c =
+    let x = execution_of c.args.test.now c.args.traces.now in
+    let before : c.ppo.result ≡ ppo x c.args.placement.now (source_at c.args.self.now.sources.items) c.args.a c.args.b =
+    c.ppo.ensures x (c.as_slice-operations.ensures ∙ c.requires.runs.operations) refl
+    ∙ ap (λ sources. ppo x c.args.placement.now (source_at sources) c.args.a c.args.b) c.deref.ensures.value in
+    ordered c.ppo.result _ _ _ before c.if-not-ppo.false c.stands_before.ensures
