@@ -8,3 +8,8 @@ pub mod Arranging
 pub mod Agreeing
 pub mod Deciding
 pub mod Showing
+pub mod Permuted
+pub mod Extending
+pub mod Choosing
+pub mod Counting
+pub mod Listed

@@ -2,3 +2,4 @@ pub mod Dependencies
 pub mod Among
 pub mod Decisions
 pub mod Arranged
+pub mod Allowing

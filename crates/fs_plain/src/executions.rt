@@ -16,9 +16,9 @@ use fs_order::{GlobalOrder, has_outcome};
 use fs_syntax::Test;
 use std::alloc::Global;
 
-/// Are these runs of the test's harts, with this order of their operations, an execution of the test with the placement's fences,
-/// and does it show the outcome? It is as slow as `obeys_axioms`. The error is F19.
-pub fn shows(
+// Are these whole runs of the test's harts, with this order of their operations, an execution of the test with the placement's
+// fences, and does it show the outcome? It is as slow as `obeys_axioms`.
+pub(crate) fn traces_show(
     alloc: Global,
     test: &Test,
     traces: &[Trace],

@@ -2,7 +2,7 @@ use Rattle.std.proofs.Common.{◌∙◌, length, ap, arith}
 use Rattle.fs_model.specs.Execution.{ObeysAxioms}
 use Rattle.fs_plain.specs.Arranged.{execution_of}
 use Rattle.fs_plain.proofs.Showing.{is_so, all_short, few, shown}
-use Rattle.fs_plain.proofs.executions.shows.Goals as goal
+use Rattle.fs_plain.proofs.executions.traces_show.Goals as goal
 
 pub obeys_axioms-requires-clause-steps : goal.obeys_axioms-requires-clause-steps
 obeys_axioms-requires-clause-steps c = all_short c.args.test.now c.args.traces.now c.requires.test c.requires.last c.requires.runs
