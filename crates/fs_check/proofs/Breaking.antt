@@ -126,15 +126,15 @@ found_has n a f h none = false≢true (sym (ap is_some none) ∙ (least_found (�
 
 -- ---- load value
 
-pub wrong_load : (x : PreExecution) (p : List Entry) (order : List ℕ) (a : ℕ)
-    → find (is_wrong_load x p order) (numbers_below (length (accesses x))) ≡ Some a
-    → (a < length (accesses x)) × IsLeast (is_wrong_load x p order) a
-wrong_load x p order a h = least_found (is_wrong_load x p order) (length (accesses x)) a h
+pub wrong_load : (x : PreExecution) (order : List ℕ) (a : ℕ)
+    → find (is_wrong_load x order) (numbers_below (length (accesses x))) ≡ Some a
+    → (a < length (accesses x)) × IsLeast (is_wrong_load x order) a
+wrong_load x order a h = least_found (is_wrong_load x order) (length (accesses x)) a h
 
-pub no_wrong_load : (x : PreExecution) (p : List Entry) (order : List ℕ)
-    → find (is_wrong_load x p order) (numbers_below (length (accesses x))) ≡ None → LoadsRightly x p order
-no_wrong_load x p order h = returning_all x (source_in x order) (λ a low.
-    not-false _ (none_found (is_wrong_load x p order) (length (accesses x)) h a low))
+pub no_wrong_load : (x : PreExecution) (order : List ℕ)
+    → find (is_wrong_load x order) (numbers_below (length (accesses x))) ≡ None → LoadsRightly x order
+no_wrong_load x order h = returning_all x (source_in x order) (λ a low.
+    not-false _ (none_found (is_wrong_load x order) (length (accesses x)) h a low))
 
 -- ---- preserved program order
 
@@ -210,16 +210,16 @@ broken_in_order false k h = absurd (false≢true h)
 
 -- operations against atomicity are the harts' own
 against_atomicity_below : (x : PreExecution) (order : List ℕ)
-    → ArePairsBelow (length (accesses x)) (is_against_atomicity x [] order)
+    → ArePairsBelow (length (accesses x)) (is_against_atomicity x order)
 against_atomicity_below x order r w h = po_of_harts x r w (and_parts _ _ (broken_in_order (po x r w && paired x r w)
     (follows_closely x (gmo x order) (source_in x order r) w) h)).0
 
-pub broken_pair : (x : PreExecution) (p : List Entry) (order : List ℕ) (r w : ℕ)
+pub broken_pair : (x : PreExecution) (order : List ℕ) (r w : ℕ)
     → find (λ r. is_some (atomicity_broken_by x order r)) (numbers_below (length (accesses x))) ≡ Some r
     → atomicity_broken_by x order r ≡ Some w
-    → (r < length (accesses x)) × (w < length (accesses x)) × IsLeastPair (is_against_atomicity x p order) r w
-broken_pair x p order =
-    first_pair (length (accesses x)) (is_against_atomicity x [] order) (against_atomicity_below x order)
+    → (r < length (accesses x)) × (w < length (accesses x)) × IsLeastPair (is_against_atomicity x order) r w
+broken_pair x order =
+    first_pair (length (accesses x)) (is_against_atomicity x order) (against_atomicity_below x order)
 
 -- a load that is found has a store
 pub pair_has_store : (x : PreExecution) (order : List ℕ) (r : ℕ)
@@ -231,4 +231,4 @@ pub no_broken_pair : (x : PreExecution) (order : List ℕ)
     → find (λ r. is_some (atomicity_broken_by x order r)) (numbers_below (length (accesses x))) ≡ None
     → IsAtomic x (source_in x order) (gmo x order)
 no_broken_pair x order h = atomic_by_pairs x (source_in x order) (gmo x order) (λ r w low high. not-false _
-    (no_pair (length (accesses x)) (is_against_atomicity x [] order) (against_atomicity_below x order) h r w))
+    (no_pair (length (accesses x)) (is_against_atomicity x order) (against_atomicity_below x order) h r w))

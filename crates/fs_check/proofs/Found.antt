@@ -30,7 +30,7 @@ use Rattle.fs_check.specs.declared.witness.WitnessFile.{WitnessFile}
 use Rattle.fs_check.specs.NamedOrder.{name_in, numbers_of}
 use Rattle.fs_check.specs.Ordered.{IsOrdered, runs_in}
 use Rattle.fs_check.specs.Verdicts.{IsWholeFile, IsFoundOrder, IsArranged, IsJudgement, IsLoadReason, IsRuleReason, IsAtomicReason}
-use Rattle.fs_check.specs.WitnessFile.{Stands, in_range}
+use Rattle.fs_check.specs.WitnessFile.{KeepsWitness, in_range}
 use Rattle.fs_check.proofs.Distinct.{has_name}
 use Rattle.fs_hart.proofs.Few.{few_operations}
 use Rattle.fs_check.proofs.FirstStops.{all_whole}
@@ -80,7 +80,7 @@ of_load t p o reason.Tree h = absurd h
 of_load t p o (reason.Node k) h = absurd h
 of_load t p o (reason.Witness k) h = absurd h
 
-pub of_rule : (t : Test) (p : List Entry) (o : Ordered) (why : Reason) → LoadsRightly (runs_in t o) p o.listed.items → IsRuleReason (runs_in t o) p o.listed.items why → IsJudgement t p o (No why)
+pub of_rule : (t : Test) (p : List Entry) (o : Ordered) (why : Reason) → LoadsRightly (runs_in t o) o.listed.items → IsRuleReason (runs_in t o) p o.listed.items why → IsJudgement t p o (No why)
 of_rule t p o (reason.Rule n first second) loads h = (loads, h)
 of_rule t p o (reason.Load name) loads h = absurd h
 of_rule t p o (reason.Choices hart) loads h = absurd h
@@ -95,7 +95,7 @@ of_rule t p o reason.Tree loads h = absurd h
 of_rule t p o (reason.Node k) loads h = absurd h
 of_rule t p o (reason.Witness k) loads h = absurd h
 
-pub of_atomic : (t : Test) (p : List Entry) (o : Ordered) (why : Reason) → LoadsRightly (runs_in t o) p o.listed.items → KeepsRules (runs_in t o) p o.listed.items
+pub of_atomic : (t : Test) (p : List Entry) (o : Ordered) (why : Reason) → LoadsRightly (runs_in t o) o.listed.items → KeepsRules (runs_in t o) p o.listed.items
     → IsAtomicReason (runs_in t o) o.listed.items why → IsJudgement t p o (No why)
 of_atomic t p o (reason.Atomic load store) loads rules h = (loads, rules, h)
 of_atomic t p o (reason.Load name) loads rules h = absurd h
@@ -121,9 +121,9 @@ module _ (t : Test) (file : WitnessFile) (c : Candidate) (bounded : IsBounded t)
   names_are : names ≡ map (name_in x.traces) (operations x)
   names_are = named ∙ ap (λ ts. map (name_in ts) all) runs ∙ ap (map (name_in x.traces)) (ops ∙ made.operations)
 
-  module _ (w : Witness) (stands : Stands file w) where
+  module _ (w : Witness) (keeps : KeepsWitness file w) where
     same : (found : Option (List ℕ)) → found ≡ numbers_of names wanted → numbers_of (map (name_in x.traces) (operations x)) (map in_range w.order) ≡ found
-    same found e = ap (λ ns. numbers_of ns (map in_range w.order)) (sym names_are) ∙ ap (numbers_of names) (sym (file_order ∙ stands.order)) ∙ sym e
+    same found e = ap (λ ns. numbers_of ns (map in_range w.order)) (sym names_are) ∙ ap (numbers_of names) (sym (file_order ∙ keeps.order)) ∙ sym e
 
     pub order_found : (order : List ℕ) → Some order ≡ numbers_of names wanted → HaveNames x order w.order
     order_found order e = found_names x w.order order (same (Some order) e)
@@ -131,14 +131,14 @@ module _ (t : Test) (file : WitnessFile) (c : Candidate) (bounded : IsBounded t)
     -- a name that no operation has
     pub no_name : None ≡ numbers_of names wanted → IsFoundOrder t c w None
     no_name e order have once =
-        let found = found_all x w.order order (ranged t w (steps_in c.traces) (of_file t file w c.traces whole stands) bounded) have in
+        let found = found_all x w.order order (ranged t w (steps_in c.traces) (of_file t file w c.traces whole keeps) bounded) have in
         let both : None ≡ Some found.0 = sym (same None e) ∙ found.1 in
         cc
 
     -- names that don't list each operation once
     pub not_once : (listed : List ℕ) → Some listed ≡ numbers_of names wanted → lists_each_once x listed ≡ false → IsFoundOrder t c w None
     not_once listed e fails order have once =
-        let one : order ≡ listed = names_say x w.order order listed (known t w (steps_in c.traces) (of_file t file w c.traces whole stands) bounded.forward) have (order_found listed e) in
+        let one : order ≡ listed = names_say x w.order order listed (known t w (steps_in c.traces) (of_file t file w c.traces whole keeps) bounded.forward) have (order_found listed e) in
         both_ways _ fails (subst (λ o. lists_each_once x o ≡ true) one once)
 
 -- ---- the outcome

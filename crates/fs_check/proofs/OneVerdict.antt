@@ -20,7 +20,7 @@ use Rattle.fs_model.specs.Preserved.{Rule, all_rules, rule}
 use Rattle.fs_model.specs.Execution.{Execution, pre_execution, code_of, registers_of, IsExecution}
 use Rattle.fs_model.specs.Shows.{has_outcome}
 use Rattle.fs_model.specs.Witness.{Witness, name_of, Chooses, IsOfWitness}
-use Rattle.fs_model.specs.Reasons.{IsYes, IsReason, IsOrder, AreRuns, IsFirstStop, IsLeast, IsLeastPair, HaveNames, is_astray, is_earlier, choices_for, is_wrong_load, is_against_rule, is_against_atomicity, LoadsRightly, KeepsRules}
+use Rattle.fs_model.specs.Reasons.{IsYes, IsReason, IsOrder, AreRuns, IsFirstStop, IsLeast, IsLeastPair, HaveNames, IsFirstWrongLoad, IsFirstBrokenRule, IsFirstBrokenPair, is_astray, is_earlier, choices_for, is_wrong_load, is_against_rule, is_against_atomicity, LoadsRightly, KeepsRules}
 use Rattle.fs_model.proofs.Runs.{run_once}
 use Rattle.fs_model.proofs.Stops.{whole_never_stops}
 use Rattle.fs_model.proofs.OneStop.{stops_once}
@@ -107,31 +107,20 @@ module _ (t : Test) (p : List Entry) (e : Execution) where
   record IsWrongLoad (v : OrderVerdict) : Type 0 where
     load : Name
     is : v ≡ No (reason.Load load)
-    a : ℕ
-    named : name_of x a ≡ Some load
-    least : IsLeast (is_wrong_load x p e.order) a
+    wrong : IsFirstWrongLoad x e.order load
 
   record IsRuleBroken (v : OrderVerdict) : Type 0 where
     n : ℕ
     first : Name
     second : Name
     is : v ≡ No (reason.Rule n first second)
-    kept : (m : ℕ) → m < n → (a b : ℕ) → is_against_rule x p e.order m a b ≡ false
-    a : ℕ
-    b : ℕ
-    first_named : name_of x a ≡ Some first
-    second_named : name_of x b ≡ Some second
-    least : IsLeastPair (is_against_rule x p e.order n) a b
+    broken : IsFirstBrokenRule x p e.order n first second
 
   record IsAtomicityBroken (v : OrderVerdict) : Type 0 where
     load : Name
     store : Name
     is : v ≡ No (reason.Atomic load store)
-    r : ℕ
-    w : ℕ
-    load_named : name_of x r ≡ Some load
-    store_named : name_of x w ≡ Some store
-    least : IsLeastPair (is_against_atomicity x p e.order) r w
+    broken : IsFirstBrokenPair x e.order load store
 
   -- what the outcome says where all axioms hold
   abbrev IsOutcome : OrderVerdict → Type 0
@@ -144,33 +133,36 @@ module _ (t : Test) (p : List Entry) (e : Execution) where
   IsRuleOr = FirstOr IsRuleBroken (KeepsRules x p e.order) IsAtomicOr
 
   abbrev IsJudged : OrderVerdict → Type 0
-  IsJudged = FirstOr IsWrongLoad (LoadsRightly x p e.order) IsRuleOr
+  IsJudged = FirstOr IsWrongLoad (LoadsRightly x e.order) IsRuleOr
 
   one_wrong_load : IsOfOne IsWrongLoad
   one_wrong_load v u h k =
-      let same = one_least (is_wrong_load x p e.order) h.a k.a h.least k.least in
-      let load = same_name x h.a k.a h.load k.load same h.named k.named in
+      let same = one_least (is_wrong_load x e.order) h.wrong.a k.wrong.a h.wrong.least k.wrong.least in
+      let load = same_name x h.wrong.a k.wrong.a h.load k.load same h.wrong.named k.wrong.named in
       h.is ∙ ap (λ load. No (reason.Load load)) load ∙ sym k.is
 
-  wrong_load_apart : (v : OrderVerdict) → IsWrongLoad v → LoadsRightly x p e.order → ⊥
-  wrong_load_apart v h loads = both_ways _ (not-true _ h.least.0) (all_returning x (source_in x e.order) loads h.a)
+  wrong_load_apart : (v : OrderVerdict) → IsWrongLoad v → LoadsRightly x e.order → ⊥
+  wrong_load_apart v h loads =
+      both_ways _ (not-true _ h.wrong.least.0) (all_returning x (source_in x e.order) loads h.wrong.a)
 
   same_rule : (v u : OrderVerdict) (h : IsRuleBroken v) (k : IsRuleBroken u) → h.n ≡ k.n
   same_rule v u h k = elim (cases_order h.n k.n) [
     | inl same ↦ same
     | inr apart ↦ absurd (elim apart [
-      | inl low ↦ both_ways _ (k.kept h.n low h.a h.b) h.least.0
-      | inr high ↦ both_ways _ (h.kept k.n high k.a k.b) k.least.0
+      | inl low ↦ both_ways _ (k.broken.kept h.n low h.broken.a h.broken.b) h.broken.least.0
+      | inr high ↦ both_ways _ (h.broken.kept k.n high k.broken.a k.broken.b) k.broken.least.0
     ])
   ]
 
   one_rule_broken : IsOfOne IsRuleBroken
   one_rule_broken v u h k =
       let n = same_rule v u h k in
-      let least = subst (λ n. IsLeastPair (is_against_rule x p e.order n) h.a h.b) n h.least in
-      let same = one_least_pair (is_against_rule x p e.order k.n) h.a h.b k.a k.b least k.least in
-      let first = same_name x h.a k.a h.first k.first same.0 h.first_named k.first_named in
-      let second = same_name x h.b k.b h.second k.second same.1 h.second_named k.second_named in
+      let former = h.broken in
+      let latter = k.broken in
+      let least = subst (λ n. IsLeastPair (is_against_rule x p e.order n) former.a former.b) n former.least in
+      let same = one_least_pair (is_against_rule x p e.order k.n) former.a former.b latter.a latter.b least latter.least in
+      let first = same_name x former.a latter.a h.first k.first same.0 former.first_named latter.first_named in
+      let second = same_name x former.b latter.b h.second k.second same.1 former.second_named latter.second_named in
       h.is ∙ ap (λ n. No (reason.Rule n h.first h.second)) n ∙ ap (λ first. No (reason.Rule k.n first h.second)) first
       ∙ ap (λ second. No (reason.Rule k.n k.first second)) second ∙ sym k.is
 
@@ -181,22 +173,24 @@ module _ (t : Test) (p : List Entry) (e : Execution) where
       both_ways _ (not-true _ parts.1) (kept a b (rule_of_all (rule x p (source_in x e.order) a b) all_rules n parts.0))
 
   rule_broken_apart : (v : OrderVerdict) → IsRuleBroken v → KeepsRules x p e.order → ⊥
-  rule_broken_apart v h kept = rule_not_kept h.n h.a h.b h.least.0 kept
+  rule_broken_apart v h kept = rule_not_kept h.n h.broken.a h.broken.b h.broken.least.0 kept
 
   one_atomicity_broken : IsOfOne IsAtomicityBroken
   one_atomicity_broken v u h k =
-      let same = one_least_pair (is_against_atomicity x p e.order) h.r h.w k.r k.w h.least k.least in
-      let load = same_name x h.r k.r h.load k.load same.0 h.load_named k.load_named in
-      let store = same_name x h.w k.w h.store k.store same.1 h.store_named k.store_named in
+      let former = h.broken in
+      let latter = k.broken in
+      let same = one_least_pair (is_against_atomicity x e.order) former.r former.w latter.r latter.w former.least latter.least in
+      let load = same_name x former.r latter.r h.load k.load same.0 former.load_named latter.load_named in
+      let store = same_name x former.w latter.w h.store k.store same.1 former.store_named latter.store_named in
       h.is ∙ ap (λ load. No (reason.Atomic load h.store)) load ∙ ap (λ store. No (reason.Atomic k.load store)) store ∙ sym k.is
 
   atomicity_broken_apart : (v : OrderVerdict) → IsAtomicityBroken v → KeepsAtomicity x e.order → ⊥
   atomicity_broken_apart v h kept =
-      both_ways _ (not-true _ h.least.0) (pairs_atomic x (source_in x e.order) (gmo x e.order) kept h.r h.w)
+      both_ways _ (not-true _ h.broken.least.0) (pairs_atomic x (source_in x e.order) (gmo x e.order) kept h.broken.r h.broken.w)
 
   one_judgement : IsOfOne IsJudged
   one_judgement =
-      first_or_of_one IsWrongLoad (LoadsRightly x p e.order) IsRuleOr one_wrong_load wrong_load_apart
+      first_or_of_one IsWrongLoad (LoadsRightly x e.order) IsRuleOr one_wrong_load wrong_load_apart
       (first_or_of_one IsRuleBroken (KeepsRules x p e.order) IsAtomicOr one_rule_broken rule_broken_apart
       (first_or_of_one IsAtomicityBroken (KeepsAtomicity x e.order) IsOutcome one_atomicity_broken atomicity_broken_apart
       (λ v u h k. h ∙ sym k)))
@@ -331,40 +325,17 @@ module _ (t : Test) (p : List Entry) (w : Witness) where
   said (No (reason.Astray hart at)) first = inl (record { hart = hart; stop = Astray at; is = refl; first = first })
   said (No reason.Order) (traces, runs, none) =
       inr ((traces, runs), inl (record { is = refl; traces = traces; runs = runs; none = none }))
-  said (No (reason.Load load)) (e, order, (a, named, least)) =
-      of_order (No (reason.Load load)) e order (inl (record { load = load; is = refl; a = a; named = named; least = least }))
-  said (No (reason.Rule n first second)) (e, order, (loads, kept, (a, b, first_named, second_named, least))) =
+  said (No (reason.Load load)) (e, order, wrong) =
+      of_order (No (reason.Load load)) e order (inl (record { load = load; is = refl; wrong = wrong }))
+  said (No (reason.Rule n first second)) (e, order, (loads, broken)) =
       of_order (No (reason.Rule n first second)) e order (inr (
         loads,
-        inl (record {
-          n = n;
-          first = first;
-          second = second;
-          is = refl;
-          kept = kept;
-          a = a;
-          b = b;
-          first_named = first_named;
-          second_named = second_named;
-          least = least;
-        }),
+        inl (record { n = n; first = first; second = second; is = refl; broken = broken }),
       ))
-  said (No (reason.Atomic load store)) (e, order, (loads, kept, (r, s, load_named, store_named, least))) =
+  said (No (reason.Atomic load store)) (e, order, (loads, kept, broken)) =
       of_order (No (reason.Atomic load store)) e order (inr (
         loads,
-        inr (
-          kept,
-          inl (record {
-            load = load;
-            store = store;
-            is = refl;
-            r = r;
-            w = s;
-            load_named = load_named;
-            store_named = store_named;
-            least = least;
-          }),
-        ),
+        inr (kept, inl (record { load = load; store = store; is = refl; broken = broken })),
       ))
   said (No reason.Outcome) (e, order, execution, hidden) = of_execution (No reason.Outcome) e order execution (rw hidden refl)
   said (No reason.Answer) h = absurd h.2

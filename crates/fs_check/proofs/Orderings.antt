@@ -1,5 +1,5 @@
 -- What is so of runs with an order of their operations.
-use Rattle.std.proofs.Common.{◌≡◌, ℕ, ◌<◌, ◌≤◌, ◌⊎◌, ◌&&◌, Bool, true, false, not, nat_lt, Option, None, List, [], length, map, refl, sym, ◌∙◌, ap, arith, inl, inr}
+use Rattle.std.proofs.Common.{◌≡◌, ℕ, ◌<◌, ◌≤◌, ◌⊎◌, ◌&&◌, Bool, true, false, not, nat_lt, Option, None, List, length, map, refl, sym, ◌∙◌, ap, arith, inl, inr}
 use Rattle.std.specs.List.{slice_index_or, enumerate_from}
 use Rattle.std.proofs.lemmas.Bool.{false_from_ne_true, ltb-true}
 use Rattle.std.proofs.lemmas.List.{length-append}
@@ -41,13 +41,13 @@ module _ (t : Test) (o : Ordered) (h : IsOrdered t o) where
       → (rf o.candidate a ≡ source_in (runs_in t o) o.listed.items a) × (rf o.candidate b ≡ source_in (runs_in t o) o.listed.items b)
   sources_agree a b e = let both = po_of_harts (runs_in t o) a b e in (source_at a (in_operations a both.0), source_at b (in_operations b both.1))
 
-  pub wrong_past : (a n : ℕ) → n ≡ length (accesses (runs_in t o)) → n ≤ a → is_wrong_load (runs_in t o) [] o.listed.items a ≡ false
+  pub wrong_past : (a n : ℕ) → n ≡ length (accesses (runs_in t o)) → n ≤ a → is_wrong_load (runs_in t o) o.listed.items a ≡ false
   wrong_past a n count past = ap not (past_load (runs_in t o) (source_in (runs_in t o) o.listed.items) a (omega (arith, count, past)))
 
-  pub wrong_else : (a n : ℕ) → n ≡ length (accesses (runs_in t o)) → n ≤ a → nat_lt a n ≡ is_wrong_load (runs_in t o) [] o.listed.items a
+  pub wrong_else : (a n : ℕ) → n ≡ length (accesses (runs_in t o)) → n ≤ a → nat_lt a n ≡ is_wrong_load (runs_in t o) o.listed.items a
   wrong_else a n count past = false_from_ne_true _ (λ e. omega (arith, past, ltb-true a n e)) ∙ sym (wrong_past a n count past)
 
-  pub atomic_past : (r w n : ℕ) → n ≡ length (accesses (runs_in t o)) → (n ≤ r) ⊎ (n ≤ w) → is_against_atomicity (runs_in t o) [] o.listed.items r w ≡ false
+  pub atomic_past : (r w n : ℕ) → n ≡ length (accesses (runs_in t o)) → (n ≤ r) ⊎ (n ≤ w) → is_against_atomicity (runs_in t o) o.listed.items r w ≡ false
   atomic_past r w n count past =
       ap not (past_pair (runs_in t o) (source_in (runs_in t o) o.listed.items) (gmo (runs_in t o) o.listed.items) r w (false_from_ne_true _ (λ e.
       let both = po_of_harts (runs_in t o) r w e in

@@ -24,7 +24,7 @@ use Rattle.fs_check.specs.declared.order.OrderVerdict.TheVariants.{Yes, No}
 use Rattle.fs_check.specs.declared.ordered.Ordered.{Ordered}
 use Rattle.fs_check.specs.declared.witness.WitnessFile.{WitnessFile}
 use Rattle.fs_check.specs.Verdicts.{IsVerdict, IsWholeFile, IsFoundOrder, IsJudgement, KeepsAtomicity}
-use Rattle.fs_check.specs.WitnessFile.{Stands}
+use Rattle.fs_check.specs.WitnessFile.{KeepsWitness}
 use Rattle.fs_check.specs.declared.runs.Runs.{Runs}
 use Rattle.fs_check.specs.declared.runs.Runs.TheVariants.{Whole, Stopped}
 use Rattle.fs_check.specs.WitnessRuns.{AreWholeRuns, AreRunsOf}
@@ -36,9 +36,9 @@ steps_at traces hart trace e =
     get_or_from_slice_get (map (λ trace. trace.steps) traces) hart trace.steps [] (slice_get-map (λ trace. trace.steps) traces hart ∙ ap (option_map (λ trace. trace.steps)) e)
 
 -- runs that a file makes
-pub of_file : (t : Test) (file : WitnessFile) (w : Witness) (traces : List Trace) → IsWholeFile t file traces → Stands file w → AreRuns t w (steps_in traces)
-of_file t file w traces whole stands =
-    subst (λ choices. AreRuns t (record { choices = choices; order = w.order }) (steps_in traces)) stands.choices (all_whole t file.choices traces w.order whole.1 whole.2)
+pub of_file : (t : Test) (file : WitnessFile) (w : Witness) (traces : List Trace) → IsWholeFile t file traces → KeepsWitness file w → AreRuns t w (steps_in traces)
+of_file t file w traces whole keeps =
+    subst (λ choices. AreRuns t (record { choices = choices; order = w.order }) (steps_in traces)) keeps.choices (all_whole t file.choices traces w.order whole.1 whole.2)
 
 pub short : (t : Test) (file : WitnessFile) (traces : List Trace) → IsBounded t → IsWholeFile t file traces → AreShort traces
 short t file traces bounded whole = All-from_slice traces (λ hart trace e.
@@ -65,19 +65,19 @@ final t file traces starts whole = record {
 abbrev pub execution_of : List Trace → List ℕ → Execution
 execution_of traces order = record { traces = steps_in traces; order = order }
 
-module _ (t : Test) (p : List Entry) (file : WitnessFile) (w : Witness) (stands : Stands file w) where
+module _ (t : Test) (p : List Entry) (file : WitnessFile) (w : Witness) (keeps : KeepsWitness file w) where
   module _ (traces : List Trace) (order : List ℕ) (whole : IsWholeFile t file traces) (named : HaveNames (pre_execution t (steps_in traces)) order w.order)
       (once : lists_each_once (pre_execution t (steps_in traces)) order ≡ true) where
     runs : AreRuns t w (steps_in traces)
-    runs = of_file t file w traces whole stands
+    runs = of_file t file w traces whole keeps
 
     is_order : IsOrder t w (execution_of traces order)
     is_order = record { runs = runs; names = named; once = once }
 
     of_witness : IsOfWitness t w (execution_of traces order)
-    of_witness = record { lists = ap length (sym stands.choices) ∙ whole.0; harts = runs.harts; runs = runs.whole; order = named }
+    of_witness = record { lists = ap length (sym keeps.choices) ∙ whole.0; harts = runs.harts; runs = runs.whole; order = named }
 
-    module _ (loads : LoadsRightly (pre_execution t (steps_in traces)) p order) (rules : KeepsRules (pre_execution t (steps_in traces)) p order)
+    module _ (loads : LoadsRightly (pre_execution t (steps_in traces)) order) (rules : KeepsRules (pre_execution t (steps_in traces)) p order)
         (atomic : KeepsAtomicity (pre_execution t (steps_in traces)) order) where
       is_execution : IsExecution t p (execution_of traces order)
       is_execution = record {
@@ -92,18 +92,18 @@ module _ (t : Test) (p : List Entry) (file : WitnessFile) (w : Witness) (stands 
   decided o Yes whole found j = (
     execution_of o.candidate.traces o.listed.items,
     of_witness o.candidate.traces o.listed.items whole found.0 found.1,
-    is_execution o.candidate.traces o.listed.items whole found.0 found.1 j.0 j.1 j.2,
-    j.3,
+    is_execution o.candidate.traces o.listed.items whole found.0 found.1 j.0.0 j.0.1 j.0.2,
+    j.1,
   )
   decided o (No reason.Outcome) whole found j = (
     execution_of o.candidate.traces o.listed.items,
     is_order o.candidate.traces o.listed.items whole found.0 found.1,
-    is_execution o.candidate.traces o.listed.items whole found.0 found.1 j.0 j.1 j.2,
-    j.3,
+    is_execution o.candidate.traces o.listed.items whole found.0 found.1 j.0.0 j.0.1 j.0.2,
+    j.1,
   )
   decided o (No (reason.Load name)) whole found j = (execution_of o.candidate.traces o.listed.items, is_order o.candidate.traces o.listed.items whole found.0 found.1, j)
-  decided o (No (reason.Rule n first second)) whole found j = (execution_of o.candidate.traces o.listed.items, is_order o.candidate.traces o.listed.items whole found.0 found.1, (j.0, j.1.0, j.1.1))
-  decided o (No (reason.Atomic load store)) whole found j = (execution_of o.candidate.traces o.listed.items, is_order o.candidate.traces o.listed.items whole found.0 found.1, (j.0, j.1, j.2))
+  decided o (No (reason.Rule n first second)) whole found j = (execution_of o.candidate.traces o.listed.items, is_order o.candidate.traces o.listed.items whole found.0 found.1, j)
+  decided o (No (reason.Atomic load store)) whole found j = (execution_of o.candidate.traces o.listed.items, is_order o.candidate.traces o.listed.items whole found.0 found.1, j)
   decided o (No (reason.Choices hart)) whole found j = absurd j
   decided o (No (reason.Astray hart at)) whole found j = absurd j
   decided o (No reason.Order) whole found j = absurd j
@@ -116,18 +116,18 @@ module _ (t : Test) (p : List Entry) (file : WitnessFile) (w : Witness) (stands 
 
   -- without an order that has all operations once
   pub unordered : (c : Candidate) → IsWholeFile t file c.traces → IsFoundOrder t c w None → IsVerdict t p w (No reason.Order)
-  unordered c whole none = (steps_in c.traces, of_file t file w c.traces whole stands, λ order o. none order o.names o.once)
+  unordered c whole none = (steps_in c.traces, of_file t file w c.traces whole keeps, λ order o. none order o.names o.once)
 
 -- ---- from the file's choices
 
 pub whole_of : (t : Test) (file : WitnessFile) (w : Witness) (choices : List (List Choice)) (made : Runs) (traces : List Trace) (harts : ℕ) → choices ≡ file.choices → AreRunsOf t choices made
-    → made ≡ Whole traces → Stands file w → length w.choices ≡ harts → harts ≡ length t.codes → IsWholeFile t file traces
-whole_of t file w choices made traces harts e of is stands count all =
+    → made ≡ Whole traces → KeepsWitness file w → length w.choices ≡ harts → harts ≡ length t.codes → IsWholeFile t file traces
+whole_of t file w choices made traces harts e of is keeps count all =
     let runs = subst (AreRunsOf t choices) is of in
-    (ap length stands.choices ∙ count ∙ all, runs.0, subst (λ cs. AreWholeRuns t cs traces) e runs.1)
+    (ap length keeps.choices ∙ count ∙ all, runs.0, subst (λ cs. AreWholeRuns t cs traces) e runs.1)
 
 pub stopped_of : (t : Test) (p : List Entry) (file : WitnessFile) (w : Witness) (choices : List (List Choice)) (made : Runs) (why : Reason) → choices ≡ file.choices → AreRunsOf t choices made
-    → made ≡ Stopped why → Stands file w → IsReason t p w why
-stopped_of t p file w choices made why e of is stands =
+    → made ≡ Stopped why → KeepsWitness file w → IsReason t p w why
+stopped_of t p file w choices made why e of is keeps =
     let reasons = subst (AreRunsOf t choices) is of in
-    subst (λ cs. IsReason t p (record { choices = cs; order = w.order }) why) (e ∙ stands.choices) (reasons p w.order)
+    subst (λ cs. IsReason t p (record { choices = cs; order = w.order }) why) (e ∙ keeps.choices) (reasons p w.order)

@@ -1,5 +1,5 @@
 -- Where an order breaks an axiom first.
-use Rattle.std.specs.Prelude.{ℕ, zero, suc, Bool, false, Option, option_map, unwrap_or, is_some, List, [], length, slice_get}
+use Rattle.std.specs.Prelude.{ℕ, zero, suc, Bool, false, Option, option_map, unwrap_or, is_some, List, length, slice_get}
 use Rattle.std.specs.List.{find}
 use Rattle.fs_kinds.specs.declared.placement.Entry.{Entry}
 use Rattle.fs_model.specs.Numbers.{numbers_below}
@@ -23,4 +23,4 @@ module _ (x : PreExecution) (p : List Entry) (order : List ℕ) where
 
 -- the least w that is paired with r against atomicity
 abbrev pub atomicity_broken_by : PreExecution → List ℕ → ℕ → Option ℕ
-atomicity_broken_by x order r = find (is_against_atomicity x [] order r) (numbers_below (length (accesses x)))
+atomicity_broken_by x order r = find (is_against_atomicity x order r) (numbers_below (length (accesses x)))

@@ -1,5 +1,5 @@
 -- What is said of a witness.
-use Rattle.std.specs.Prelude.{◌≡◌, ℕ, ◌<◌, Option, None, Some, List, [], length, true, false}
+use Rattle.std.specs.Prelude.{◌≡◌, ℕ, Bool, Option, None, Some, List, length, true, false}
 use Rattle.fs_kinds.specs.declared.placement.Entry.{Entry}
 use Rattle.fs_kinds.specs.declared.reason.Reason.{Reason}
 use Rattle.fs_kinds.specs.declared.reason.Reason.TheVariants as reason
@@ -8,8 +8,8 @@ use Rattle.fs_model.specs.Operations.{PreExecution}
 use Rattle.fs_model.specs.Source.{gmo, source_in, lists_each_once}
 use Rattle.fs_model.specs.Execution.{IsAtomic, initial_words}
 use Rattle.fs_model.specs.Shows.{has_outcome}
-use Rattle.fs_model.specs.Witness.{Witness, name_of}
-use Rattle.fs_model.specs.Reasons.{IsYes, IsReason, IsLeast, IsLeastPair, HaveNames, is_wrong_load, is_against_rule, is_against_atomicity, LoadsRightly, KeepsRules}
+use Rattle.fs_model.specs.Witness.{Witness}
+use Rattle.fs_model.specs.Reasons.{IsYes, IsReason, HaveNames, LoadsRightly, IsFirstWrongLoad, IsFirstBrokenPair, KeepsRules, IsFirstBrokenRule, Breaks}
 use Rattle.fs_hart.specs.declared.trace.Trace.{Trace}
 use Rattle.fs_cand.specs.declared.candidate.Candidate.{Candidate}
 use Rattle.fs_cand.specs.Candidates.{runs_of, steps_in}
@@ -41,44 +41,33 @@ pub record IsArranged (c : Candidate) (listed : List ℕ) (o : Ordered) : Type 0
   pub traces : o.candidate.traces ≡ c.traces
   pub order : o.listed.items ≡ listed
 
-module _ (x : PreExecution) (p : List Entry) (order : List ℕ) where
-  abbrev pub IsLoadReasonIn : Reason → Type 0
-  IsLoadReasonIn (reason.Load name) = (a : ℕ) × (name_of x a ≡ Some name) × IsLeast (is_wrong_load x p order) a
-  IsLoadReasonIn _ = ⊥
-
-  abbrev pub IsRuleReason : Reason → Type 0
-  IsRuleReason (reason.Rule n first second) =
-      ((m : ℕ) → m < n → (a b : ℕ) → is_against_rule x p order m a b ≡ false)
-      × ((a b : ℕ) × (name_of x a ≡ Some first) × (name_of x b ≡ Some second) × IsLeastPair (is_against_rule x p order n) a b)
-  IsRuleReason _ = ⊥
-
-  abbrev pub IsAtomicReasonIn : Reason → Type 0
-  IsAtomicReasonIn (reason.Atomic load store) =
-      (r w : ℕ) × (name_of x r ≡ Some load) × (name_of x w ≡ Some store) × IsLeastPair (is_against_atomicity x p order) r w
-  IsAtomicReasonIn _ = ⊥
-
--- the least wrong load, and the least pair against atomicity: neither speaks of fences
+-- the reason is the first wrong load
 abbrev pub IsLoadReason : PreExecution → List ℕ → Reason → Type 0
-IsLoadReason x order = IsLoadReasonIn x [] order
+IsLoadReason x order (reason.Load name) = IsFirstWrongLoad x order name
+IsLoadReason x order _ = ⊥
 
+-- the reason is the first broken rule, at its first pair
+abbrev pub IsRuleReason : PreExecution → List Entry → List ℕ → Reason → Type 0
+IsRuleReason x p order (reason.Rule n first second) = IsFirstBrokenRule x p order n first second
+IsRuleReason x p order _ = ⊥
+
+-- the reason is the first pair against atomicity
 abbrev pub IsAtomicReason : PreExecution → List ℕ → Reason → Type 0
-IsAtomicReason x order = IsAtomicReasonIn x [] order
+IsAtomicReason x order (reason.Atomic load store) = IsFirstBrokenPair x order load store
+IsAtomicReason x order _ = ⊥
 
 abbrev pub KeepsAtomicity : PreExecution → List ℕ → Type 0
 KeepsAtomicity x order = IsAtomic x (source_in x order) (gmo x order)
 
+abbrev pub KeepsAxioms : PreExecution → List Entry → List ℕ → Type 0
+KeepsAxioms x p order = LoadsRightly x order × KeepsRules x p order × KeepsAtomicity x order
+
+-- is the outcome true at the end?
+abbrev pub is_shown : Test → Ordered → Bool
+is_shown t o = has_outcome t (record { traces = steps_in o.candidate.traces; order = o.listed.items })
+
 -- what is said of runs with an order that lists each operation once
 abbrev pub IsJudgement : Test → List Entry → Ordered → OrderVerdict → Type 0
-IsJudgement t p o Yes =
-    LoadsRightly (runs_in t o) p o.listed.items × KeepsRules (runs_in t o) p o.listed.items × KeepsAtomicity (runs_in t o) o.listed.items
-    × (has_outcome t (record { traces = steps_in o.candidate.traces; order = o.listed.items }) ≡ true)
-IsJudgement t p o (No reason.Outcome) =
-    LoadsRightly (runs_in t o) p o.listed.items × KeepsRules (runs_in t o) p o.listed.items × KeepsAtomicity (runs_in t o) o.listed.items
-    × (has_outcome t (record { traces = steps_in o.candidate.traces; order = o.listed.items }) ≡ false)
-IsJudgement t p o (No (reason.Load name)) = IsLoadReason (runs_in t o) o.listed.items (reason.Load name)
-IsJudgement t p o (No (reason.Rule n first second)) =
-    LoadsRightly (runs_in t o) p o.listed.items × IsRuleReason (runs_in t o) p o.listed.items (reason.Rule n first second)
-IsJudgement t p o (No (reason.Atomic load store)) =
-    LoadsRightly (runs_in t o) p o.listed.items × KeepsRules (runs_in t o) p o.listed.items
-    × IsAtomicReason (runs_in t o) o.listed.items (reason.Atomic load store)
-IsJudgement t p o (No _) = ⊥
+IsJudgement t p o Yes = KeepsAxioms (runs_in t o) p o.listed.items × (is_shown t o ≡ true)
+IsJudgement t p o (No reason.Outcome) = KeepsAxioms (runs_in t o) p o.listed.items × (is_shown t o ≡ false)
+IsJudgement t p o (No why) = Breaks (runs_in t o) p o.listed.items why

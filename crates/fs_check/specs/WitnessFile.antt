@@ -30,7 +30,8 @@ EachItem P (item d ds) (x ∷ xs) = P d x × EachItem P ds xs
 abbrev pub IsArrayOf : {A : Type 0} → (Data → A → Type 0) → Data → List A → Type 0
 IsArrayOf P d xs = (ds : Items) × (as_array d ≡ Some ds) × EachItem P ds xs
 
--- ---- choices: a loaded word is a number, an sc.w's success is true, and its failure is false
+-- ---- choices: a loaded word is a number written as an integer, so 1.0 and 1e2 are none; an sc.w's success is true, and its
+-- failure is false
 
 abbrev pub most_word : ℕ
 most_word = 4294967295
@@ -70,7 +71,7 @@ IsName d name = (text : List ℕ) × (as_str d ≡ Some text) × IsOperationName
 
 -- ---- witnesses
 
--- an object with these values at the two keys, and no further key
+-- an object with these values at the two keys, and no further key; of a doubled key the last value counts
 pub record IsPair (d lists names : Data) : Type 0 where
   pub keys : option_map members_len (as_object d) ≡ Some 2
   pub choices : get (codes "choices") d ≡ Some lists
@@ -102,7 +103,8 @@ byte_of n = if nat_lt n 256 then Some n else None
 abbrev pub in_range : Name → Option Name
 in_range name = if nat_lt name.hart 256 && nat_lt name.at 256 then Some name else None
 
-pub record Stands (file : WitnessFile) (w : Witness) : Type 0 where
+-- the reader's value says this witness, but for names that no operation has
+pub record KeepsWitness (file : WitnessFile) (w : Witness) : Type 0 where
   pub choices : file.choices ≡ w.choices
   pub order : file.order ≡ map in_range w.order
 

@@ -13,7 +13,7 @@ ghost use Rattle.fs_cand.specs.Candidates.{IsMade, runs_of, AreShort};
 ghost use Rattle.fs_order.specs.Final.{AreFinal};
 ghost use Rattle.fs_check.specs.Ordered.{IsOrdered, runs_in};
 ghost use Rattle.fs_check.specs.Verdicts.{IsVerdict, IsWholeFile, IsFoundOrder, IsArranged, IsJudgement, IsLoadReason, IsRuleReason, IsAtomicReason, KeepsAtomicity};
-ghost use Rattle.fs_check.specs.WitnessFile.{IsWitnessFile, IsWitnessFault, Stands};
+ghost use Rattle.fs_check.specs.WitnessFile.{IsWitnessFile, IsWitnessFault, KeepsWitness};
 
 use crate::names::{name, names, numbers};
 use crate::ordered::Ordered;
@@ -36,7 +36,9 @@ pub enum OrderVerdict {
 
 /// Whether a witness gives an execution, under the memory model RVWMO, of the test with the placement's fences, and one that
 /// shows the outcome of its condition; or the first reason why not. The witness is a file's bytes, as `read_witness` reads them.
-/// At most cubic in the operations, 48 at most. F17 where the bytes are no witness for so many harts, F19.
+/// The cost: linear in the bytes and the steps; for each name of the witness and each atom of the condition linear in the
+/// operations; for each two operations linear in the operations and in the steps of a hart, these times the slots for the placed
+/// fences. F17 where the bytes are no witness for so many harts, F19.
 pub fn check_order(
     alloc: Global,
     test: &Test,
@@ -68,7 +70,7 @@ fn judge_runs(
     requires test { IsBounded test.now }
     requires starts { length test.now.starts ≡ length test.now.codes }
     requires whole { IsWholeFile test.now file.now traces }
-    ensures ok { (w : Witness) → Stands file.now w → IfOk result (IsVerdict test.now placement.now w) }
+    ensures ok { (w : Witness) → KeepsWitness file.now w → IfOk result (IsVerdict test.now placement.now w) }
     ensures err { IsOkUnless result Memory }
 {
     let candidate = candidate(alloc, test, traces)?;
@@ -103,7 +105,7 @@ fn listed(
     requires test { IsBounded test.now }
     requires made { IsMade (initial_words test.now) candidate.now }
     requires whole { IsWholeFile test.now file.now candidate.now.traces }
-    ensures ok { (w : Witness) → Stands file.now w → IfOk result (λ found.
+    ensures ok { (w : Witness) → KeepsWitness file.now w → IfOk result (λ found.
         IsFoundOrder test.now candidate.now w (option_map (λ listed. listed.items) found)) }
     ensures err { IsOkUnless result Memory }
 {
@@ -197,7 +199,7 @@ fn operation_name(test: &Test, ordered: &Ordered, a: usize) -> Operation
 fn load_reason(test: &Test, ordered: &Ordered) -> Option<Reason>
     requires { IsOrdered test.now ordered.now }
     ensures some { IfSome result (IsLoadReason (runs_in test.now ordered.now) ordered.now.listed.items) }
-    ensures none { IfNone result (LoadsRightly (runs_in test.now ordered.now) [] ordered.now.listed.items) }
+    ensures none { IfNone result (LoadsRightly (runs_in test.now ordered.now) ordered.now.listed.items) }
 {
     let load = ordered.wrong_load(test)?;
     Some(Reason::Load {

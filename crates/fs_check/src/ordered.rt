@@ -53,7 +53,7 @@ impl Ordered {
     // Is a a load that doesn't return the word of its source?
     fn is_wrong_load(&self, test: &Test, a: usize) -> bool
         requires { IsOrdered test.now self.now }
-        ensures { result ≡ is_wrong_load (runs_in test.now self.now) [] self.now.listed.items a }
+        ensures { result ≡ is_wrong_load (runs_in test.now self.now) self.now.listed.items a }
     {
         a < self.count(test) && !returns_source(self.operations(), self.source(test, a), a as u8)
     }
@@ -81,7 +81,7 @@ impl Ordered {
     // Are r and w paired operations that break atomicity?
     fn is_against_atomicity(&self, test: &Test, r: usize, w: usize) -> bool
         requires { IsOrdered test.now self.now }
-        ensures { result ≡ is_against_atomicity (runs_in test.now self.now) [] self.now.listed.items r w }
+        ensures { result ≡ is_against_atomicity (runs_in test.now self.now) self.now.listed.items r w }
     {
         let count = self.count(test);
         if r >= count || w >= count {
@@ -102,7 +102,7 @@ impl Ordered {
     // The least load that doesn't return the word of its source.
     pub(crate) fn wrong_load(&self, test: &Test) -> Option<usize>
         requires { IsOrdered test.now self.now }
-        ensures { result ≡ find (is_wrong_load (runs_in test.now self.now) [] self.now.listed.items)
+        ensures { result ≡ find (is_wrong_load (runs_in test.now self.now) self.now.listed.items)
             (numbers_below (length (accesses (runs_in test.now self.now)))) }
     {
         (0..self.count(test)).find(|a| self.is_wrong_load(test, *a))

@@ -10,7 +10,7 @@ ghost use Rattle.serde_json.specs.View.{view};
 ghost use Rattle.fs_kinds.specs.declared.reason.Operation.{Operation};
 ghost use Rattle.fs_model.specs.declared.step.Choice.{Choice};
 ghost use Rattle.fs_model.specs.Witness.{Witness};
-ghost use Rattle.fs_check.specs.WitnessFile.{IsWitnessFile, IsWitnessValue, Stands, IsWitnessFault};
+ghost use Rattle.fs_check.specs.WitnessFile.{IsWitnessFile, IsWitnessValue, KeepsWitness, IsWitnessFault};
 ghost use Rattle.fs_check.specs.WitnessFile.{IsArrayOf, IsChoice, IsName, choice_in, in_range, most_word};
 
 use crate::lists::{ChoiceLists, Choices, Names};
@@ -34,7 +34,7 @@ pub struct WitnessFile {
 /// has the operations' names, as `P0:2` for instruction 2 of hart 0. F17 where the bytes aren't such an object, F19. Where a key
 /// comes twice, its last value counts.
 pub fn read_witness(alloc: Global, harts: usize, bytes: &[u8]) -> Result<WitnessFile, Fault>
-    ensures ok { IfOk result (λ file. (w : Witness) × IsWitnessFile harts bytes.now w × Stands file w) }
+    ensures ok { IfOk result (λ file. (w : Witness) × IsWitnessFile harts bytes.now w × KeepsWitness file w) }
     ensures bad { IsErrOf result Fault.BadWitness → (w : Witness) → ¬ IsWitnessFile harts bytes.now w }
     ensures err { IfErr result IsWitnessFault }
 {
@@ -61,7 +61,7 @@ fn read_json(alloc: Global, bytes: &[u8]) -> Result<Value, Fault>
 
 /// The witness that the value says, with choices for any number of harts.
 pub(crate) fn witness_of(alloc: Global, value: &Value) -> Result<WitnessFile, Fault>
-    ensures ok { IfOk result (λ file. (w : Witness) × IsWitnessValue (view value.now) w × Stands file w) }
+    ensures ok { IfOk result (λ file. (w : Witness) × IsWitnessValue (view value.now) w × KeepsWitness file w) }
     ensures bad { IsErrOf result Fault.BadWitness → (w : Witness) → ¬ IsWitnessValue (view value.now) w }
     ensures err { IfErr result IsWitnessFault }
 {

@@ -35,7 +35,8 @@ pub enum Reason {
         first: Operation,
         second: Operation,
     },
-    /// Another hart's store comes between the paired operations' source and store.
+    /// Another hart's store comes between the paired operations' source and store, or the source isn't
+    /// before the store: then a rule is broken too, which is an earlier reason.
     Atomic {
         load: Operation,
         store: Operation,

@@ -14,9 +14,9 @@ use Rattle.fs_model.specs.Operations.{PreExecution, operations, steps_of, po}
 use Rattle.fs_model.specs.Source.{source_in}
 use Rattle.fs_model.specs.Preserved.{Rule as RuleOf, case_of, all_rules}
 use Rattle.fs_model.specs.Witness.{Chooses}
-use Rattle.fs_model.specs.Reasons.{IsYes, IsReason, IsOrder, is_earlier, is_against_rule, choices_for}
+use Rattle.fs_model.specs.Reasons.{IsYes, IsReason, IsOrder, IsFirstBrokenRule, is_earlier, is_against_rule, choices_for}
 use Rattle.fs_model.specs.StoreBuffering.{sb, fences, buffered, steps}
-use Rattle.fs_model.specs.Rows.{loads_first, against_rule_4, one_choice}
+use Rattle.fs_model.specs.Rows.{named, loads_first, against_rule_4, one_choice}
 use Rattle.fs_model.proofs.Ranges.{each_two_below, po_in_range}
 use Rattle.fs_model.proofs.StoreBuffering.{x, order, values, first, second, execution}
 
@@ -78,8 +78,11 @@ module _ (p q : Box (Unit {0}) Global) where
     | inr same ↦ absurd (omega (arith, eqb-true (suc c) 0 (and_parts (suc c == 0) _ same).0))
   ]
 
+  first_broken : IsFirstBrokenRule x (fences (Some WR) None) order 4 (named 0 1) (named 0 2)
+  first_broken = record { kept = below; a = 0; b = 1; first_named = refl; second_named = refl; least = (refl, earlier) }
+
   pub fenced : IsReason (sb p q) (fences (Some WR) None) loads_first against_rule_4
-  fenced = (buffered, in_order, (values, below, (0, 1, refl, refl, (refl, earlier))))
+  fenced = (buffered, in_order, (values, first_broken))
 
   pub short : IsReason (sb p q) (fences None None) one_choice (Choices 1)
   short = (

@@ -11,8 +11,8 @@ use Rattle.fs_model.specs.Operations.{PreExecution, place, trace_of, instr_at}
 abbrev pub writes : List Step → ℕ → Option ℕ → Bool
 writes steps i register = is_same (dest_of (instr_at steps i)) register
 
--- Step j depends on step i through its source `register`, where they are at most so far apart: i writes the register and no step
--- between does, or a step m between depends on i through a source from which it carries, and j depends on m.
+-- For i before j: step j depends on step i through its source `register`, where they are at most so far apart. i writes the
+-- register and no step between does, or a step m between depends on i through a source from which it carries, and j depends on m.
 abbrev pub depends_within : ℕ → List Step → ℕ → ℕ → Option ℕ → Bool
 depends_within zero steps i j register = false
 depends_within (suc d) steps i j register =

@@ -1,5 +1,7 @@
--- What is said of a witness with a list of choices for each hart: yes, or the first reason against it. The reasons are met in
--- the order in which they stand here; one that names an operation names it by its hart and instruction.
+-- What is said of a witness with a list of choices for each hart: yes, or the first reason against it. Their order is: choices or
+-- astray, of the first hart that makes no run; order; load; rule; atomic; outcome. One that names an operation names it by its
+-- hart and instruction. Nothing is meant to be said of a witness with another number of lists than harts: it is never a yes, and
+-- a file with such a witness is refused before, by the fault F17.
 use Rattle.std.specs.Prelude.{◌≡◌, ℕ, zero, suc, ◌<◌, ◌==◌, nat_lt, Bool, true, false, ◌&&◌, ◌||◌, not, Some, option_map, unwrap_or, List, [], map, length, slice_get}
 use Rattle.std.specs.List.{slice_index_or}
 use Rattle.fs_kinds.specs.declared.placement.Entry.{Entry}
@@ -69,37 +71,58 @@ pub record IsOrder (t : Test) (w : Witness) (e : Execution) : Type 0 where
   pub names : HaveNames (pre_execution t e.traces) e.order w.order
   pub once : lists_each_once (pre_execution t e.traces) e.order ≡ true
 
--- ---- an order against the axioms
-module _ (x : PreExecution) (p : List Entry) (order : List ℕ) where
+-- ---- an order against the axioms that know no fences: load value and atomicity
+module _ (x : PreExecution) (order : List ℕ) where
   -- a load whose word isn't its source's
   abbrev pub is_wrong_load : ℕ → Bool
   is_wrong_load a = not (returns_source x (source_in x order) a)
 
+  abbrev pub LoadsRightly : Type 0
+  LoadsRightly = ReturnsSources x (source_in x order)
+
+  -- the least wrong load has this name
+  pub record IsFirstWrongLoad (name : Name) : Type 0 where
+    pub a : ℕ
+    pub named : name_of x a ≡ Some name
+    pub least : IsLeast is_wrong_load a
+
+  -- paired r and w that break atomicity
+  abbrev pub is_against_atomicity : ℕ → ℕ → Bool
+  is_against_atomicity r w = not (keeps_atomicity x (source_in x order) (gmo x order) r w)
+
+  -- the least pair against atomicity has these names
+  pub record IsFirstBrokenPair (load store : Name) : Type 0 where
+    pub r : ℕ
+    pub w : ℕ
+    pub load_named : name_of x r ≡ Some load
+    pub store_named : name_of x w ≡ Some store
+    pub least : IsLeastPair is_against_atomicity r w
+
+-- ---- and against the rules of preserved program order, with these fences
+module _ (x : PreExecution) (p : List Entry) (order : List ℕ) where
   -- a comes before b by the rule of this number, but not in the order
   abbrev pub is_against_rule : ℕ → ℕ → ℕ → Bool
   is_against_rule zero a b = false
   is_against_rule (suc n) a b =
       unwrap_or (option_map (rule x p (source_in x order) a b) (slice_get all_rules n)) false && not (stands_before (gmo x order) a b)
 
-  -- paired r and w that break atomicity
-  abbrev pub is_against_atomicity : ℕ → ℕ → Bool
-  is_against_atomicity r w = not (keeps_atomicity x (source_in x order) (gmo x order) r w)
-
-  abbrev pub LoadsRightly : Type 0
-  LoadsRightly = ReturnsSources x (source_in x order)
-
   abbrev pub KeepsRules : Type 0
   KeepsRules = Respects (gmo x order) (λ a b. ppo x p (source_in x order) a b ≡ true)
 
+  -- this is the least rule that the order goes against, and the least pair of operations at which it does has these names
+  pub record IsFirstBrokenRule (n : ℕ) (first second : Name) : Type 0 where
+    pub kept : (m : ℕ) → m < n → (a b : ℕ) → is_against_rule m a b ≡ false
+    pub a : ℕ
+    pub b : ℕ
+    pub first_named : name_of x a ≡ Some first
+    pub second_named : name_of x b ≡ Some second
+    pub least : IsLeastPair (is_against_rule n) a b
+
   -- the axiom that the order breaks, and the first place where it does
   abbrev pub Breaks : Reason → Type 0
-  Breaks (reason.Load name) = (a : ℕ) × (name_of x a ≡ Some name) × IsLeast is_wrong_load a
-  Breaks (reason.Rule n first second) =
-      LoadsRightly × ((m : ℕ) → m < n → (a b : ℕ) → is_against_rule m a b ≡ false)
-      × ((a b : ℕ) × (name_of x a ≡ Some first) × (name_of x b ≡ Some second) × IsLeastPair (is_against_rule n) a b)
-  Breaks (reason.Atomic load store) =
-      LoadsRightly × KeepsRules
-      × ((r w : ℕ) × (name_of x r ≡ Some load) × (name_of x w ≡ Some store) × IsLeastPair is_against_atomicity r w)
+  Breaks (reason.Load name) = IsFirstWrongLoad x order name
+  Breaks (reason.Rule n first second) = LoadsRightly x order × IsFirstBrokenRule n first second
+  Breaks (reason.Atomic load store) = LoadsRightly x order × KeepsRules × IsFirstBrokenPair x order load store
   Breaks _ = ⊥
 
 -- ---- the reason against a witness; those against certificates are none

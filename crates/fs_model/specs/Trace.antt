@@ -39,6 +39,7 @@ Accesses n h s (Amo op ann rd value base) = IsAtLocation n h s × IsWord s.loade
 Accesses n h s (Sc ann rd value base) = Succeeds h s ⊎ AccessesNothing s
 Accesses n h s _ = AccessesNothing s
 
+-- the address of the lr.w that an sc.w after this step would be paired with
 abbrev pub paired_after : Hart → Step → Instr → Option ℕ
 paired_after h s (Lr ann rd base) = s.address
 paired_after h s (Sc ann rd value base) = None

@@ -31,7 +31,7 @@ pub struct Hart {
     /// The words of its registers. A test starts x0 with 0, and no step writes it; of a hart that starts otherwise x0 keeps the
     /// word that it was given.
     pub registers: [u32; 32],
-    /// The address of the lr.w with which an sc.w here is paired: the lr.w before it with no other lr.w or sc.w between.
+    /// The address of the lr.w that an sc.w here would be paired with: the lr.w before it with no other lr.w or sc.w between.
     pub paired: Option<u32>,
 }
 

@@ -12,11 +12,11 @@ pub listed-requires-clause-whole : goal.listed-requires-clause-whole
 listed-requires-clause-whole c = subst (IsWholeFile c.args.test.now c.args.file.now) (sym c.in_ok-candidate.ensures.traces) c.requires.whole
 
 pub returns-in_default-clause-ok : goal.returns-in_default-clause-ok
-returns-in_default-clause-ok c w stands =
+returns-in_default-clause-ok c w keeps =
     let candidate = c.in_ok-candidate.candidate in
-    unordered c.args.test.now c.args.placement.now c.args.file.now w stands candidate
+    unordered c.args.test.now c.args.placement.now c.args.file.now w keeps candidate
     (subst (IsWholeFile c.args.test.now c.args.file.now) (sym c.in_ok-candidate.ensures.traces) c.requires.whole)
-    (subst (λ found. IsFoundOrder c.args.test.now candidate w (option_map (λ listed. listed.items) found)) c.in_default.is (c.in_ok-listed.ensures.ok w stands))
+    (subst (λ found. IsFoundOrder c.args.test.now candidate w (option_map (λ listed. listed.items) found)) c.in_default.is (c.in_ok-listed.ensures.ok w keeps))
 
 pub arrange-requires-clause-few : goal.arrange-requires-clause-few
 arrange-requires-clause-few c =
@@ -29,11 +29,11 @@ judge-requires-clause-last c =
     (final c.args.test.now c.args.file.now c.args.traces c.requires.starts c.requires.whole)
 
 pub returns-clause-ok : goal.returns-clause-ok
-returns-clause-ok c w stands =
+returns-clause-ok c w keeps =
     let candidate = c.in_ok-candidate.candidate in
     let ordered = c.in_ok-ordered.ordered in
-    decided c.args.test.now c.args.placement.now c.args.file.now w stands ordered c.judge.result
+    decided c.args.test.now c.args.placement.now c.args.file.now w keeps ordered c.judge.result
     (subst (IsWholeFile c.args.test.now c.args.file.now) (sym (c.in_ok-ordered.ensures.same.traces ∙ c.in_ok-candidate.ensures.traces)) c.requires.whole)
     (found_moved c.args.test.now candidate ordered w c.in-Some.listed.items c.in_ok-ordered.ensures.same
-    (subst (λ found. IsFoundOrder c.args.test.now candidate w (option_map (λ listed. listed.items) found)) c.in-Some.is (c.in_ok-listed.ensures.ok w stands)))
+    (subst (λ found. IsFoundOrder c.args.test.now candidate w (option_map (λ listed. listed.items) found)) c.in-Some.is (c.in_ok-listed.ensures.ok w keeps)))
     c.judge.ensures

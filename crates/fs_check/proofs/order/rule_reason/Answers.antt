@@ -32,4 +32,11 @@ pub returns-clause-some : goal.returns-clause-some
 returns-clause-some c =
     let all = broken_rule (runs_in c.args.test.now c.args.ordered.now) c.args.placement.now c.args.ordered.now.listed.items c.in_ok-rule.rule c.in_ok-first.first c.in_ok-second.second
     (sym c.in_ok-rule.ensures) (sym c.in_ok-first.ensures) (sym c.in_ok-second.ensures) in
-    (all.2, (c.in_ok-first.first, c.in_ok-second.second, c.operation_name.ensures, c.operation_name-2.ensures, all.3))
+    record {
+      kept = all.2;
+      a = c.in_ok-first.first;
+      b = c.in_ok-second.second;
+      first_named = c.operation_name.ensures;
+      second_named = c.operation_name-2.ensures;
+      least = all.3;
+    }
