@@ -1,13 +1,20 @@
 //! What the steps of a run so far leave to the next one.
 
-ghost use Rattle.std.specs.Prelude.{◌≡◌, ◌<◌, ◌+◌, ℕ, List};
-ghost use Rattle.fs_instr.specs.Instructions.{sources_of};
+ghost use Rattle.std.specs.Prelude.{◌≡◌, ◌<◌, ◌+◌, ℕ, List, if◌then◌else◌};
+ghost use Rattle.fs_instr.specs.Instructions.{sources_of, carries_of};
 ghost use Rattle.fs_model.specs.declared.step.Step.{Step};
 ghost use Rattle.fs_model.specs.Operations.{instr_at};
 ghost use Rattle.fs_deps.specs.Tracker.{read_mask, IsAnyOf, IsTracked, AreMasks};
 
 use crate::deps::Masks;
 use fs_instr::{Instr, Reg};
+
+// What the instruction passes on of its sources' steps to its destination.
+fn carried(instr: &Instr, sources: u32) -> u32
+    ensures { result ≡ (if carries_of instr.now then sources else 0) }
+{
+    if instr.carries() { sources } else { 0 }
+}
 
 /// The steps of a run so far on which the next step would depend. Bit k stands for step k.
 #[derive(Drop)]
@@ -68,8 +75,7 @@ impl Tracker {
             self.branches |= sources;
         }
         if let Some(register) = instr.dest() {
-            let carried = if instr.carries() { sources } else { 0 };
-            self.registers[register.number() as usize] = carried | 1 << j;
+            self.registers[register.number() as usize] = carried(instr, sources) | 1 << j;
         }
     }
 }

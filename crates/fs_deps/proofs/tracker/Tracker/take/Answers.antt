@@ -2,8 +2,8 @@ use Rattle.std.proofs.Common.{rules, arith}
 use Rattle.fs_deps.proofs.Tracked.{tracked_after}
 use Rattle.fs_deps.proofs.tracker.Tracker.take.Goals as goal
 
-pub returns-after-carries : goal.returns-after-carries
-returns-after-carries c steps =
+pub returns-in-Some : goal.returns-in-Some
+returns-in-Some c steps =
     let sources = c.sources_mask-sources in
     tracked_after steps c.args.j c.args.self.now c.args.instr.now sources.result _ (omega (arith, c.requires))
     (search rules) sources.ensures (search rules)
