@@ -11,12 +11,12 @@ use Rattle.fs_model.specs.declared.step.Step.{Step}
 use Rattle.fs_model.specs.declared.step.Choice.{Choice}
 use Rattle.fs_model.specs.declared.step.Stop.TheVariants.{Astray}
 use Rattle.fs_model.specs.Trace.{AreSteps, IsStep, after_step, hart_after}
-use Rattle.fs_model.specs.Choices.{Makes, GoesAstray, choice_by, choices_of}
+use Rattle.fs_model.specs.Choices.{ComesBefore, Makes, GoesAstray, choice_by, choices_of}
 use Rattle.fs_model.specs.Values.{LoadsOne}
 use Rattle.fs_model.proofs.Runs.{made, no_step, same_instr}
 use Rattle.fs_model.proofs.Stepping.{made_once}
 use Rattle.fs_model.proofs.Stops.{at_step}
-use Rattle.fs_hart.specs.Listing.{End, ComesBefore, IsEarlier, IsOffered}
+use Rattle.fs_hart.specs.Listing.{End, IsEarlier, IsOffered}
 use Rattle.fs_hart.specs.Walking.{IsEndFrom, EndsAt, Rises, IsOf, AreEndsFrom, ListsFrom, after, options}
 use Rattle.fs_hart.proofs.Options.{OptionBefore, in_one, step_offered}
 

@@ -6,4 +6,5 @@ pub mod Options
 pub mod Ends
 pub mod Adding
 pub mod Exploring
+pub mod HartFaults
 pub mod Listings

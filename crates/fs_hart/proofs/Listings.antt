@@ -13,10 +13,12 @@ use Rattle.fs_model.specs.declared.step.Step.{Step}
 use Rattle.fs_model.specs.Trace.{AreSteps, start_with, hart_after}
 use Rattle.fs_model.specs.Choices.{choices_of}
 use Rattle.fs_model.specs.Execution.{code_of, registers_of}
+use Rattle.fs_model.specs.TooMany.{IsFirstAstray, IsHartFault, most_choice_lists}
 use Rattle.fs_hart.specs.declared.walk.Walk.{Walk}
-use Rattle.fs_hart.specs.Listing.{End, EndsSo, IsEnd, IsEarlier, AreEnds, IsListing, AreTraces, IsTraceFault, TooMany, FirstAstray, trace_at, most_ends}
+use Rattle.fs_hart.specs.Listing.{End, EndsSo, IsEnd, IsEarlier, AreEnds, IsOffered, IsListing, AreTraces, IsTraceFault, trace_at}
 use Rattle.fs_hart.specs.Walking.{EndsAt, Explores, IsCut, Overflows, IsEndFrom, AreEndsFrom, ListsFrom, Rises, IsOf, after, first_astray, is_whole, whole_traces}
-use Rattle.fs_hart.proofs.Ends.{all_of, of_all}
+use Rattle.fs_hart.proofs.Ends.{all_of, of_all, of_append_right}
+use Rattle.fs_hart.proofs.HartFaults.{more_lists, no_more_lists, none_sooner, astray_by}
 
 module _ (t : Test) (hart : ℕ) (sets : List (List ℕ)) where
   abbrev start : Hart
@@ -108,24 +110,26 @@ module _ (t : Test) (hart : ℕ) (sets : List (List ℕ)) where
         runs = x.adds.runs ∙ ap (λ ts. ts ++ whole_traces t hart (map (after old.path.items) x.ends)) r ∙ ap (λ path. whole_traces t hart (map (after path) x.ends)) p ∙ ap (whole_traces t hart) (after_none x.ends) ∙ all_traces x.ends first;
       }
 
-  pub astray_found : (old new : Walk) (at : ℕ) (h : Hart) → h ≡ start → Explores t hart sets h old new → old.ends ≡ 0 → old.astray ≡ None → new.ends ≤ 100000 → new.astray ≡ Some at → FirstAstray t hart sets at
+  first_found : (at : ℕ) (ends : List End) → ListsFrom (length t.locations) (code_of t hart) sets start ends → Split at ends → IsFirstAstray t (IsOffered sets) hart at
+  first_found at ends lists parts =
+      let found = subst (ListsFrom (length t.locations) (code_of t hart) sets start) parts.ends_are lists in
+      let ends_are = are_ends (parts.before ++ parts.here ∷ parts.later) found.different in
+      let here = of_all (IsEnd t hart sets) (parts.before ++ parts.here ∷ parts.later) parts.here ends_are.each (of_append_right parts.before (parts.here ∷ parts.later) parts.here (inl refl)) in (
+        choices_of parts.here.steps,
+        astray_by t hart sets parts.here at here parts.place,
+        none_sooner t hart sets parts.before parts.here parts.later found.different.rising parts.whole (λ e f. found.all e (end_from e f)),
+      )
+
+  pub astray_found : (old new : Walk) (at : ℕ) (h : Hart) → h ≡ start → Explores t hart sets h old new → old.ends ≡ 0 → old.astray ≡ None → new.ends ≤ 100000 → new.astray ≡ Some at
+      → IsHartFault t (IsOffered sets) hart (Astray hart at)
   astray_found old new at h at_start found n a few some =
       let x = subst (λ g. Explores t hart sets g old new) at_start found in
       let first : Some at ≡ first_astray x.ends = sym some ∙ x.adds.first ∙ ap (λ o. option_or o (first_astray x.ends)) a in
-      let parts = split at x.ends first in
-      let size : length x.ends ≤ most_ends = (let m = x.adds.number in omega arith) in
-      record {
-        before = parts.before;
-        here = parts.here;
-        after = parts.later;
-        listing = subst (IsListing t hart sets) parts.ends_are (listing x.ends x.lists);
-        few = subst (λ es. length es ≤ most_ends) parts.ends_are size;
-        whole = parts.whole;
-        astray = parts.place;
-      }
+      let size : length x.ends ≤ most_choice_lists = (let m = x.adds.number in omega arith) in
+      (refl, no_more_lists t hart sets x.ends (λ e f. x.lists.all e (end_from e f)) size, first_found at x.ends x.lists (split at x.ends first))
 
-  pub too_many : (before : ℕ) → before ≡ 0 → Overflows (length t.locations) (code_of t hart) sets start before → TooMany t hart sets
-  too_many before n x = record { ends = x.ends; different = are_ends x.ends x.different; many = (let m = x.many in omega arith) }
+  pub too_many : (before : ℕ) → before ≡ 0 → Overflows (length t.locations) (code_of t hart) sets start before → IsHartFault t (IsOffered sets) hart TooManyTraces
+  too_many before n x = more_lists t hart sets x.ends x.different.rising (are_ends x.ends x.different).each (let m = x.many in omega arith)
 
 pub why_none : (t : Test) (hart : ℕ) (sets : List (List ℕ)) (before : ℕ) (fault : Fault) → before ≡ 0 → IsCut t hart sets (start_with (registers_of t hart)) before fault → IsTraceFault t hart sets fault
 why_none t hart sets before TooManyTraces n x = too_many t hart sets before n x

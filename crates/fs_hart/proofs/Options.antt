@@ -17,11 +17,11 @@ use Rattle.fs_model.specs.declared.step.Choice.TheVariants.{Word, Success, Failu
 use Rattle.fs_model.specs.declared.step.Stop.{Stop}
 use Rattle.fs_model.specs.Execute.{address_in}
 use Rattle.fs_model.specs.Trace.{IsAtLocation, Accesses, IsStep, IsWord}
-use Rattle.fs_model.specs.Choices.{Makes, StopsAt, is_choosing, choice_by}
+use Rattle.fs_model.specs.Choices.{IsBefore, Makes, StopsAt, is_choosing, choice_by}
 use Rattle.fs_model.specs.Values.{LoadsOne}
 use Rattle.fs_model.proofs.Runs.{same_instr}
 use Rattle.fs_model.proofs.Stops.{at_step}
-use Rattle.fs_hart.specs.Listing.{IsBefore, IsOffered}
+use Rattle.fs_hart.specs.Listing.{IsOffered}
 use Rattle.fs_hart.specs.Walking.{options, set_at, word_choice}
 use Rattle.fs_hart.proofs.Along.{stops_in}
 

@@ -1,33 +1,20 @@
 -- The choice lists of a hart in which each load takes a word of its location's set, as far as they end: in a whole run, or at an
 -- instruction that accesses no location. They are in choice order.
-use Rattle.std.specs.Prelude.{◌≡◌, ℕ, ◌<◌, ◌≤◌, ◌⊎◌, Option, None, Some, List, [], ◌∷◌, ◌++◌, map, length, All}
+use Rattle.std.specs.Prelude.{◌≡◌, ℕ, ◌≤◌, Option, None, Some, List, [], map, length, All}
 use Rattle.std.specs.List.{AllPairs, Contains, slice_index_or}
 use Rattle.fs_kinds.specs.declared.fault.Fault.{Fault}
 use Rattle.fs_kinds.specs.declared.fault.Fault.TheVariants as fault
 use Rattle.fs_syntax.specs.declared.test.Test.{Test}
 use Rattle.fs_model.specs.declared.step.Step.{Step}
 use Rattle.fs_model.specs.declared.step.Choice.{Choice}
-use Rattle.fs_model.specs.declared.step.Choice.TheVariants.{Word, Success, Failure}
 use Rattle.fs_model.specs.declared.step.Stop.TheVariants.{Astray}
-use Rattle.fs_model.specs.Choices.{choices_of, IsStopped}
+use Rattle.fs_model.specs.Choices.{choices_of, ComesBefore, IsStopped}
 use Rattle.fs_model.specs.Execution.{code_of, registers_of}
 use Rattle.fs_model.specs.Values.{LoadsFrom}
 use Rattle.fs_model.specs.Witness.{Chooses}
+use Rattle.fs_model.specs.TooMany.{IsHartFault, most_choice_lists}
 use Rattle.fs_hart.specs.declared.trace.Trace.{Trace}
 use Rattle.fs_hart.specs.Runs.{registers_after}
-
--- ---- choice order: words rise, success comes before failure, and lists are compared from their first choice on
-
-abbrev pub IsBefore : Choice → Choice → Type 0
-IsBefore (Word a) (Word b) = a < b
-IsBefore Success Failure = Unit {0}
-IsBefore _ _ = ⊥
-
-abbrev pub ComesBefore : List Choice → List Choice → Type 0
-ComesBefore [] [] = ⊥
-ComesBefore [] (y ∷ ys) = Unit {0}
-ComesBefore (x ∷ xs) [] = ⊥
-ComesBefore (x ∷ xs) (y ∷ ys) = IsBefore x y ⊎ ((x ≡ y) × ComesBefore xs ys)
 
 -- ---- ends
 
@@ -66,9 +53,6 @@ pub record IsListing (t : Test) (hart : ℕ) (sets : List (List ℕ)) (ends : Li
 
 -- ---- what the walk over all choice lists gives
 
-abbrev pub most_ends : ℕ
-most_ends = 100000
-
 abbrev pub trace_at : Test → ℕ → End → Trace
 trace_at t hart e = record { steps = e.steps; registers = registers_after t hart e.steps }
 
@@ -76,29 +60,11 @@ trace_at t hart e = record { steps = e.steps; registers = registers_after t hart
 pub record AreTraces (t : Test) (hart : ℕ) (sets : List (List ℕ)) (traces : List Trace) : Type 0 where
   pub ends : List End
   pub listing : IsListing t hart sets ends
-  pub few : length ends ≤ most_ends
+  pub few : length ends ≤ most_choice_lists
   pub whole : All (λ e. e.astray ≡ None) ends
   pub runs : traces ≡ map (trace_at t hart) ends
 
--- more choice lists end than may
-pub record TooMany (t : Test) (hart : ℕ) (sets : List (List ℕ)) : Type 0 where
-  pub ends : List End
-  pub different : AreEnds t hart sets ends
-  pub many : most_ends < length ends
-
--- the first choice list that goes astray does so at this instruction, where no more choice lists end than may
-pub record FirstAstray (t : Test) (hart : ℕ) (sets : List (List ℕ)) (at : ℕ) : Type 0 where
-  pub before : List End
-  pub here : End
-  pub after : List End
-  pub listing : IsListing t hart sets (before ++ here ∷ after)
-  pub few : length (before ++ here ∷ after) ≤ most_ends
-  pub whole : All (λ e. e.astray ≡ None) before
-  pub astray : here.astray ≡ Some at
-
--- why there are no traces
+-- why there are no traces: a fault of the hart over the sets, or want of memory
 abbrev pub IsTraceFault : Test → ℕ → List (List ℕ) → Fault → Type 0
-IsTraceFault t hart sets fault.TooManyTraces = TooMany t hart sets
-IsTraceFault t hart sets (fault.Astray at_hart at) = (at_hart ≡ hart) × FirstAstray t hart sets at
 IsTraceFault t hart sets fault.Memory = Unit {0}
-IsTraceFault t hart sets _ = ⊥
+IsTraceFault t hart sets other = IsHartFault t (IsOffered sets) hart other

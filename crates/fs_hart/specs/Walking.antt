@@ -17,9 +17,10 @@ use Rattle.fs_model.specs.Trace.{AreSteps, hart_after}
 use Rattle.fs_model.specs.Choices.{GoesAstray}
 use Rattle.fs_model.specs.Execution.{code_of}
 use Rattle.fs_model.specs.Values.{LoadsFrom}
+use Rattle.fs_model.specs.TooMany.{most_choice_lists}
 use Rattle.fs_hart.specs.declared.trace.Trace.{Trace}
 use Rattle.fs_hart.specs.declared.walk.Walk.{Walk}
-use Rattle.fs_hart.specs.Listing.{End, IsOffered, IsEarlier, most_ends, trace_at}
+use Rattle.fs_hart.specs.Listing.{End, IsOffered, IsEarlier, trace_at}
 
 -- ---- the choices that a hart has at an instruction
 
@@ -99,7 +100,7 @@ pub record Explores (t : Test) (hart : ℕ) (sets : List (List ℕ)) (h : Hart) 
 pub record Overflows (n : ℕ) (code : List Instr) (sets : List (List ℕ)) (h : Hart) (before : ℕ) : Type 0 where
   pub ends : List End
   pub different : AreEndsFrom n code sets h ends
-  pub many : most_ends < before + length ends
+  pub many : most_choice_lists < before + length ends
 
 -- why it stops
 abbrev pub IsCut : Test → ℕ → List (List ℕ) → Hart → ℕ → Fault → Type 0

@@ -107,7 +107,7 @@ module _ (p q : Box (Unit {0}) Global) where
   raw : IsRaw t stale
   raw = record {
     runs = record { harts = refl; runs = runs; values = values };
-    operations = refl;
+    sources_for_each = refl;
     sources = sources;
     locations = refl;
     orders = orders;

@@ -81,9 +81,9 @@ abbrev pub with_open : List Part → Board → Board
 with_open parts b = record b { nodes = b.nodes ++ map (λ part. record { part = part; status = Open }) parts }
 
 -- the better one of the bound and a posted placement
-abbrev pub lowered : PriceTable → Option (List Entry) → List Entry → Option (List Entry)
-lowered prices None p = Some p
-lowered prices (Some q) p = if is_better prices p q then Some p else Some q
+abbrev pub better_of : PriceTable → Option (List Entry) → List Entry → Option (List Entry)
+better_of prices None p = Some p
+better_of prices (Some q) p = if is_better prices p q then Some p else Some q
 
 -- even the least placement under the node is no better than the bound
 abbrev pub is_costly : PriceTable → Option (List Entry) → Part → Bool

@@ -30,7 +30,7 @@ rf c a = slice_index_or c.source a None
 abbrev pub stores_to : Candidate → ℕ → List ℕ
 stores_to c location = slice_index_or c.store_order location []
 
--- coherence order: a and b are stores to one location, and a is the earlier one
+-- coherence order: a stands before b in a store order. Of raw candidates both are stores to one location.
 abbrev pub co : Candidate → ℕ → ℕ → Bool
 co c a b = list_any (λ stores. stands_before stores a b) c.store_order
 
@@ -62,7 +62,7 @@ is_store_order x location order =
 
 pub record IsRaw (t : Test) (c : Candidate) : Type 0 where
   pub runs : AreRunsOverValues t c.traces
-  pub operations : length c.source ≡ length (operations (runs_of t c))
+  pub sources_for_each : length c.source ≡ length (operations (runs_of t c))
   pub sources : (a : ℕ) → a < length c.source → is_sourced (runs_of t c) a (rf c a) ≡ true
   pub locations : length c.store_order ≡ length t.locations
   pub orders :

@@ -1,6 +1,6 @@
 -- The choices of a run: which word each load returns, and whether an sc.w succeeds (RISC-V Unprivileged ISA 20191213, chapter
 -- "“A” Standard Extension for Atomic Instructions", section "Load-Reserved/Store-Conditional Instructions").
-use Rattle.std.specs.Prelude.{Option, None, option_map, is_some, if◌then◌else◌, ◌≡◌, ◌≢◌, ℕ, ◌≤◌, Bool, true, false, ◌||◌, not, ◌&&◌, Some, List, [], ◌++◌, length, slice_get}
+use Rattle.std.specs.Prelude.{Option, None, option_map, is_some, if◌then◌else◌, ◌≡◌, ◌≢◌, ℕ, ◌<◌, ◌≤◌, ◌⊎◌, Bool, true, false, ◌||◌, not, ◌&&◌, Some, List, [], ◌∷◌, ◌++◌, length, slice_get}
 use Rattle.std.specs.Option.{option_to_list}
 use Rattle.std.specs.List.{flat_map}
 use Rattle.fs_instr.specs.declared.instr.Instr.{Instr}
@@ -30,6 +30,21 @@ choice_by _ s = None
 
 abbrev pub choices_of : List Step → List Choice
 choices_of steps = flat_map (λ s. option_to_list (choice_by s.instr s)) steps
+
+-- ---- choice order: words rise, success comes before failure, and lists are compared from their first choice on
+
+abbrev pub IsBefore : Choice → Choice → Type 0
+IsBefore (Word a) (Word b) = a < b
+IsBefore Success Failure = Unit {0}
+IsBefore _ _ = ⊥
+
+abbrev pub ComesBefore : List Choice → List Choice → Type 0
+ComesBefore [] [] = ⊥
+ComesBefore [] (y ∷ ys) = Unit {0}
+ComesBefore (x ∷ xs) [] = ⊥
+ComesBefore (x ∷ xs) (y ∷ ys) = IsBefore x y ⊎ ((x ≡ y) × ComesBefore xs ys)
+
+-- ---- what choices make
 
 -- the step that the hart in this state makes of the instruction, with the choice where it takes one
 pub record Makes (n : ℕ) (h : Hart) (i : Instr) (choice : Option Choice) (s : Step) : Type 0 where

@@ -52,7 +52,7 @@ stale = record {
   store_order = (3 ∷ 0 ∷ []) ∷ [];
 }
 
--- the store before the first load, it before the second, and that before the store
+-- the store before the first load, that load before the second, and the second before the store
 abbrev pub circle : List Link
 circle =
     record { operation = named 0 1; cause = ReadsFrom }

@@ -16,8 +16,8 @@ fr c a b = not (a == b) && is_later (rf c a)
     is_later None = false
     is_later (Some s) = co c s b
 
--- why a must come before b: by a rule of preserved program order, since b returns what a of another hart or a as an initial store
--- wrote, since b is a later store to the location, or since b is a store later than what a returns
+-- why a must come before b: by a rule of preserved program order; b returns what a wrote, and a is of another hart or an initial
+-- store; both store to one location, a earlier in coherence order; or a loads, and b stores later than what a returns
 pub data Cause : Type 0 where
   Preserved : Rule → Cause
   ReadsFrom : Cause

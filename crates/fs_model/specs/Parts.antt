@@ -43,5 +43,5 @@ abbrev pub options : PriceTable → List (Option Kind)
 options prices = None ∷ filter (is_offered prices) (map (λ kind. Some kind) all_kinds)
 
 -- the slot decided in each of these ways
-abbrev pub children : PriceTable → Slot → Part → List Part
-children prices slot part = map (decide slot part) (options prices)
+abbrev pub child_parts : PriceTable → Slot → Part → List Part
+child_parts prices slot part = map (decide slot part) (options prices)

@@ -13,14 +13,17 @@ use Rattle.fs_syntax.specs.declared.test.Test.{Test}
 use Rattle.fs_syntax.specs.Slots.{slots}
 use Rattle.fs_model.specs.Candidates.{Candidate}
 use Rattle.fs_model.specs.Listings.{IsListing}
-use Rattle.fs_model.specs.Parts.{Part, undecided, is_undecided, filled, children}
+use Rattle.fs_model.specs.Parts.{Part, undecided, is_undecided, filled, child_parts}
 use Rattle.fs_model.specs.Certificate.{Certificate, Answer, Fenced, NoneForbids, Item, SplitAt, Costly, Refuted, Link, IsAnswered}
 use Rattle.fs_model.specs.Valid.{IsCycle, Refutes, is_costly}
 
 -- the answer isn't one of the test and the prices, or an answer of none has more or less than its witness
-abbrev pub IsBadAnswer : Test → PriceTable → Certificate → Answer → Type 0
-IsBadAnswer t prices c (Fenced cost fences) = (p : List Entry) → IsAnswered t prices c.answer p → ⊥
-IsBadAnswer t prices c NoneForbids = (c.cycles ≢ []) ⊎ ((c.tree ≢ []) ⊎ (length c.witnesses ≢ 1))
+abbrev pub IsBadAnswer : Test → PriceTable → Certificate → Type 0
+IsBadAnswer t prices c = IsBad c.answer
+  where
+    IsBad : Answer → Type 0
+    IsBad (Fenced cost fences) = (p : List Entry) → IsAnswered t prices (Fenced cost fences) p → ⊥
+    IsBad NoneForbids = (c.cycles ≢ []) ⊎ ((c.tree ≢ []) ⊎ (length c.witnesses ≢ 1))
 
 -- the cycle of this number isn't one of its candidate, and each earlier one is
 pub record IsFirstBad (t : Test) (p : List Entry) (cs : List Candidate) (cycles : List (List Link)) (index : ℕ) : Type 0 where
@@ -46,7 +49,7 @@ module _ (t : Test) (prices : PriceTable) (c : Certificate) (p : List Entry) whe
   Fails (part ∷ parts) (SplitAt j ∷ items) k r =
       ((is_free t j part ≡ false) × (r ≡ reason.Tree))
       ⊎ ((slot : Slot) × (slice_get (slots t) j ≡ Some slot) × (is_undecided slot part ≡ true)
-      × Fails (children prices slot part ++ parts) items (k + 1) r)
+      × Fails (child_parts prices slot part ++ parts) items (k + 1) r)
   -- a leaf that is better than the answer
   Fails (part ∷ parts) (Costly ∷ items) k r =
       ((is_costly c.version prices p part ≡ false) × (r ≡ reason.Node k))
@@ -64,13 +67,13 @@ IsPlacedRefusal t prices c p cs other =
     AllZip (IsCycle t p) cs c.cycles × Fails t prices c p (undecided t ∷ []) c.tree 0 other
 
 abbrev pub IsRefusal : Test → PriceTable → Certificate → Reason → Type 0
-IsRefusal t prices c reason.Answer = IsBadAnswer t prices c c.answer
+IsRefusal t prices c reason.Answer = IsBadAnswer t prices c
 IsRefusal t prices c other = RefusedAfter c.answer
   where
     RefusedAfter : Answer → Type 0
     RefusedAfter (Fenced cost fences) =
-        (p : List Entry) × IsAnswered t prices c.answer p
+        (p : List Entry) × IsAnswered t prices (Fenced cost fences) p
         × ((cs : List Candidate) × IsListing t cs × IsPlacedRefusal t prices c p cs other)
     RefusedAfter NoneForbids =
-        (IsBadAnswer t prices c NoneForbids → ⊥) × (Refutes t c.witnesses 0 (all_with (Some RwRw) (slots t)) → ⊥)
+        (IsBadAnswer t prices c → ⊥) × (Refutes t c.witnesses 0 (all_with (Some RwRw) (slots t)) → ⊥)
         × (other ≡ reason.Witness 0)

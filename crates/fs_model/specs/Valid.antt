@@ -13,7 +13,7 @@ use Rattle.fs_model.specs.Witness.{Witness, IsOfWitness, name_of}
 use Rattle.fs_model.specs.Candidates.{Candidate, runs_of}
 use Rattle.fs_model.specs.Listings.{IsListing}
 use Rattle.fs_model.specs.Judged.{Cause, is_edge}
-use Rattle.fs_model.specs.Parts.{Part, undecided, is_undecided, floor, filled, children}
+use Rattle.fs_model.specs.Parts.{Part, undecided, is_undecided, floor, filled, child_parts}
 use Rattle.fs_model.specs.Certificate.{Certificate, Version, First, Second, NoneForbids, Item, SplitAt, Costly, Refuted, Link, IsAnswered}
 
 -- ---- cycles
@@ -37,9 +37,13 @@ pub record IsCycle (t : Test) (p : List Entry) (c : Candidate) (links : List Lin
   pub names : map (name_of (runs_of t c)) operations ≡ map (λ link. Some link.operation) links
   pub edges : are_edges t p c (around operations) (map (λ link. link.cause) links) ≡ true
 
+-- one cycle for each showing candidate, in their order
+abbrev pub HasCycles : Test → List Entry → List (List Link) → Type 0
+HasCycles t p cycles = (cs : List Candidate) × IsListing t cs × AllZip (IsCycle t p) cs cycles
+
 -- ---- the tree
 
--- no placement under the part is better than the answer p: by cost alone, or by cost and order
+-- even the least placement under the part is no better than the answer p: by cost alone, or by cost and order
 abbrev pub is_costly : Version → PriceTable → List Entry → Part → Bool
 is_costly First prices p part = nat_le (cost prices p) (cost prices (floor part))
 is_costly Second prices p part = not (is_better prices (floor part) p)
@@ -56,7 +60,7 @@ module _ (t : Test) (prices : PriceTable) (c : Certificate) (p : List Entry) whe
   Covers (part ∷ parts) [] = ⊥
   Covers (part ∷ parts) (SplitAt k ∷ items) =
       (slot : Slot) × (slice_get (slots t) k ≡ Some slot) × (is_undecided slot part ≡ true)
-      × Covers (children prices slot part ++ parts) items
+      × Covers (child_parts prices slot part ++ parts) items
   Covers (part ∷ parts) (Costly ∷ items) = (is_costly c.version prices p part ≡ true) × Covers parts items
   Covers (part ∷ parts) (Refuted j ∷ items) = Refutes t c.witnesses j (filled part) × Covers parts items
 
@@ -65,9 +69,7 @@ module _ (t : Test) (prices : PriceTable) (c : Certificate) (p : List Entry) whe
 -- a valid certificate for the placement p
 pub record IsValidFor (t : Test) (prices : PriceTable) (c : Certificate) (p : List Entry) : Type 0 where
   pub answered : IsAnswered t prices c.answer p
-  pub candidates : List Candidate
-  pub listing : IsListing t candidates
-  pub cycles : AllZip (IsCycle t p) candidates c.cycles
+  pub cycles : HasCycles t p c.cycles
   pub tree : Covers t prices c p (undecided t ∷ []) c.tree
 
 -- a valid certificate for none

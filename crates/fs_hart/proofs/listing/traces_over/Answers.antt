@@ -13,11 +13,9 @@ returns-in_err-explore-clause-err c =
     (subst (λ h. IsCut c.args.test.now c.args.hart c.args.sets.now h 0 c.in_err-explore.field-0.0) (c.start-start.ensures ∙ ap start_with c.registers_of.ensures) c.in_err-explore.ensures.err))
 
 pub returns-in-Some-clause-err : goal.returns-in-Some-clause-err
-returns-in-Some-clause-err c = (
-  refl,
-  astray_found c.args.test.now c.args.hart c.args.sets.now _ c.explore.new.self c.in-Some.at c.start-start.result (c.start-start.ensures ∙ ap start_with c.registers_of.ensures)
-      c.in_ok-explore.ensures.ok refl refl (omega (arith, c.explore.new.self.few)) c.in-Some.is,
-)
+returns-in-Some-clause-err c =
+    astray_found c.args.test.now c.args.hart c.args.sets.now _ c.explore.new.self c.in-Some.at c.start-start.result (c.start-start.ensures ∙ ap start_with c.registers_of.ensures)
+    c.in_ok-explore.ensures.ok refl refl (omega (arith, c.explore.new.self.few)) c.in-Some.is
 
 pub returns-in-None-clause-ok : goal.returns-in-None-clause-ok
 returns-in-None-clause-ok c =
