@@ -1,42 +1,23 @@
 //! The rules of preserved program order and the dependencies, compared with a plain program that computes their definitions.
-ghost use Rattle.std.specs.Prelude.{◌≡◌, ◌<◌, ◌≤◌, All, length, IfOk};
+ghost use Rattle.std.specs.Prelude.{◌<◌, ◌≤◌};
 ghost use Rattle.std.specs.List.Sorted.{IsStrictlyIncreasing};
-ghost use Rattle.fs_syntax.specs.Test.{IsBounded, IsStart};
-ghost use Rattle.fs_cand.specs.Candidates.{AreShort};
+ghost use Rattle.fs_syntax.specs.Test.{IsBounded};
 
+use crate::listing::{Digits, MANY, picked, placements_of, runs_of};
 use crate::litmus::{MP, MPB};
 use crate::texts::{
     ADD2, ANNOTATED, CO_RR, FENCED, FORWARDED, LB, LBC, LBD, LRSC, LRSCF, MP11, MPA, POINTER, SB,
     SBF, SBX, SBXA, TWO_WRITES,
 };
-use fs_cand::{Candidate, Sources, StoreOrder, Traces};
+use fs_cand::{Candidate, Sources, StoreOrder};
 use fs_deps::Deps;
-use fs_hart::{Operation, Steps, Trace, Words, operations, traces_over};
-use fs_kinds::{Fault, Kind, Limit, Placement};
-use fs_litmus::{Test, read_fences, read_test, slots};
+use fs_hart::{Operation, Trace, operations};
+use fs_kinds::{Fault, Placement};
+use fs_litmus::{Test, read_test};
 use fs_plain::{address_depends, control_depends, data_depends};
 use fs_ppo::{fence_rule, rule};
 use std::alloc::{AllocError, Global};
 use std::test::Fail;
-
-/// More than a test here has of runs, or its runs have of sources.
-const MANY: usize = 100_000;
-
-/// A number as digits of changing bases, the lowest first.
-#[derive(Drop)]
-struct Digits {
-    rest: usize,
-}
-
-impl Digits {
-    /// The next digit, below the base.
-    fn take(&mut self, base: usize) -> usize {
-        let base = base.max(1);
-        let digit = self.rest % base;
-        self.rest /= base;
-        digit
-    }
-}
 
 /// What comparing has found.
 #[derive(Drop)]
@@ -96,78 +77,6 @@ impl Comparison {
             self.take_rule(4, candidate, placement);
         }
     }
-}
-
-/// For each of so many locations the set of the words, which must rise.
-fn same_sets(alloc: Global, locations: usize, words: &[u32]) -> Result<Vec<Words>, AllocError>
-    requires { IsStrictlyIncreasing words.now }
-    ensures { IfOk result (λ sets. All IsStrictlyIncreasing sets.items) }
-{
-    let mut sets = Vec::new(alloc);
-    for _ in 0..locations {
-        sets.push(Words::new(Vec::from_slice(alloc, words)?))?;
-    }
-    Ok(sets)
-}
-
-/// The runs of each hart in which loads take these words, which must rise.
-fn runs_of(alloc: Global, test: &Test, words: &[u32]) -> Result<Vec<Vec<Trace>>, Fault>
-    requires test { IsBounded test.now }
-    requires starts { All IsStart test.now.starts }
-    requires words { IsStrictlyIncreasing words.now }
-{
-    let sets = same_sets(alloc, test.locations.as_slice().len(), words)?;
-    let mut runs = Vec::new(alloc);
-    for hart in 0..test.codes.as_slice().len() {
-        runs.push(traces_over(alloc, test, hart as u8, &sets)?)?;
-    }
-    Ok(runs)
-}
-
-/// No fence, and then for each kind a placement of it in every slot.
-fn placements_of(alloc: Global, test: &Test) -> Result<Vec<Placement>, Fault>
-    requires { IsBounded test.now }
-{
-    let mut placements = Vec::new(alloc);
-    placements.push(read_fences(alloc, test, None, &[])?)?;
-    for kind in Kind::ALL {
-        let mut placement = read_fences(alloc, test, None, &[])?;
-        for slot in &slots(alloc, test)? {
-            placement.with(*slot, Some(kind))?;
-        }
-        placements.push(placement)?;
-    }
-    Ok(placements)
-}
-
-/// An equal run.
-fn copy(alloc: Global, run: &Trace) -> Result<Trace, AllocError>
-    ensures { IfOk result (λ same. same ≡ run.now) }
-{
-    let steps = Steps::new(Vec::from_slice(alloc, run.steps())?);
-    Ok(Trace {
-        steps,
-        registers: run.registers,
-    })
-}
-
-/// A run of each hart, by a digit for each.
-fn picked(alloc: Global, runs: &[Vec<Trace>], digits: &mut Digits) -> Result<Traces, Fault>
-    ensures harts { IfOk result (λ traces. length traces ≤ 8) }
-    ensures steps { IfOk result AreShort }
-{
-    let mut traces = Vec::new(alloc);
-    for runs_of_hart in runs {
-        if let Some(run) = runs_of_hart.get(digits.take(runs_of_hart.len())) {
-            if traces.len() >= 8 || run.steps().len() > 32 {
-                return Err(Fault::TooBig {
-                    what: Limit::Instructions,
-                });
-            }
-            traces.push(copy(alloc, run)?)?;
-        }
-    }
-    Ok(Traces::new(traces))
 }
 
 /// Can the operation of the second number be what the first one loads?

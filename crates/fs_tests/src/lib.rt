@@ -8,7 +8,11 @@ mod bytes;
 #[cfg(test)]
 mod dependencies;
 #[cfg(test)]
+mod executions;
+#[cfg(test)]
 mod fenced;
+#[cfg(test)]
+mod listing;
 #[cfg(test)]
 mod litmus;
 #[cfg(test)]
