@@ -3,3 +3,4 @@ pub mod Among
 pub mod Decisions
 pub mod Arranged
 pub mod Allowing
+pub mod Whole

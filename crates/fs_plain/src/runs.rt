@@ -1,12 +1,12 @@
 //! Runs of harts, step by step.
 
-ghost use Rattle.std.specs.Prelude.{◌≡◌, ◌<◌, ℕ, All, length, slice_get};
+ghost use Rattle.std.specs.Prelude.{◌≡◌, ◌<◌, All, length, slice_get};
 ghost use Rattle.fs_syntax.specs.Test.{IsBounded, IsStart};
 ghost use Rattle.fs_model.specs.Choices.{choice_by};
 ghost use Rattle.fs_model.specs.Trace.{IsStep};
-ghost use Rattle.fs_model.specs.Operations.{steps_of};
 ghost use Rattle.fs_model.specs.Execution.{IsTrace, code_of, registers_of};
 ghost use Rattle.fs_plain.specs.Decisions.{Decides};
+ghost use Rattle.fs_plain.specs.Whole.{AreRuns, EndsWith};
 
 use fs_hart::Steps;
 use fs_instr::Instr;
@@ -67,6 +67,29 @@ fn is_step(locations: u8, code: &[Instr], state: &Hart, step: &Step) -> bool
     }
 }
 
+/// The hart's registers at the end of these steps; nothing where the steps aren't a run of the hart: each is the one that its
+/// next instruction makes, and the last one ends the code.
+pub(crate) fn registers_after(test: &Test, hart: u8, steps: &[Step]) -> Option<[u32; 32]>
+    requires test { IsBounded test.now }
+    requires starts { All IsStart test.now.starts }
+    requires hart { hart < length test.now.codes }
+    ensures { EndsWith test.now hart steps.now result }
+{
+    let locations = test.locations.as_slice().len() as u8;
+    let code = code_of(test, hart);
+    let mut state = Hart::start(registers_of(test, hart));
+    for step in steps {
+        if !is_step(locations, code, &state, step) {
+            return None;
+        }
+        state.take(step);
+    }
+    if usize::from(state.at) < code.len() {
+        return None;
+    }
+    Some(state.registers)
+}
+
 /// Are these steps a run of the hart: each is the one that its next instruction makes, and the last one ends the code?
 pub fn is_run(test: &Test, hart: u8, steps: &[Step]) -> bool
     requires test { IsBounded test.now }
@@ -74,24 +97,14 @@ pub fn is_run(test: &Test, hart: u8, steps: &[Step]) -> bool
     requires hart { hart < length test.now.codes }
     ensures { Decides result (IsTrace test.now hart steps.now) }
 {
-    let locations = test.locations.as_slice().len() as u8;
-    let code = code_of(test, hart);
-    let mut state = Hart::start(registers_of(test, hart));
-    for step in steps {
-        if !is_step(locations, code, &state, step) {
-            return false;
-        }
-        state.take(step);
-    }
-    usize::from(state.at) >= code.len()
+    registers_after(test, hart, steps).is_some()
 }
 
 /// Are these lists of steps runs of the test's harts, one for each?
 pub fn are_runs(test: &Test, runs: &[Steps]) -> bool
     requires test { IsBounded test.now }
     requires starts { All IsStart test.now.starts }
-    ensures { Decides result ((length runs.now ≡ length test.now.codes)
-        × ((hart : ℕ) → hart < length test.now.codes → IsTrace test.now hart (steps_of runs.now hart))) }
+    ensures { Decides result (AreRuns test.now runs.now) }
 {
     if runs.len() != test.codes.as_slice().len() {
         return false;

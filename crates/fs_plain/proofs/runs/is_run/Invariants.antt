@@ -1,9 +1,0 @@
-use Rattle.std.proofs.Common.{◌↔◌, drop}
-use Rattle.fs_model.specs.Execution.{IsTrace}
-use Rattle.fs_plain.proofs.Stepwise.{Finish}
-use Rattle.fs_plain.proofs.runs.is_run.Given as goal
-
--- the steps are a run exactly where those to come finish it
-abbrev pub invariant-loop-step : goal.invariant-loop-step
-invariant-loop-step l =
-    Finish l.locations l.code l.state (drop l.step-index l.steps) ↔ IsTrace l.test l.hart l.steps
