@@ -291,28 +291,40 @@ fn is_allowed(alloc: Global, text: &str, words: &[u32], fences: &[&str]) -> Resu
 
 #[test]
 fn known_tests_are_allowed_or_not(rt: HostRuntime) -> Result<(), Fail> {
-    let rows: [(&str, &[&str], bool); 22] = [
-        (SB, &[], true),
+    let rows = [
+        (SB, true),
+        (MP, true),
+        (MPA, true),
+        (SBXA, false),
+        (CO_RR, false),
+        (LBD, false),
+        (LRSC, false),
+        (LRSCF, true),
+    ];
+    for (text, wanted) in rows {
+        let found = is_allowed(rt.alloc(), text, &[0, 1, 2], &[])?;
+        assert_eq!(rt; found, wanted, "in {text}");
+    }
+    Ok(())
+}
+
+#[test]
+fn known_fences_forbid_or_do_not(rt: HostRuntime) -> Result<(), Fail> {
+    let rows: [(&str, &[&str], bool); 15] = [
         (SB, &["P0:2=rw,rw"], true),
         (SB, &["P0:2=tso", "P1:2=tso"], true),
         (SB, &["P0:2=w,r", "P1:2=w,r"], false),
-        (MP, &[], true),
         (MP, &["P0:3=w,w"], true),
         (MP, &["P1:1=r,r"], true),
         (MP, &["P0:3=w,w", "P1:1=r,r"], false),
         (MP11, &["P0:3=rw,rw", "P1:1=rw,rw"], true),
         (LB, &["P0:2=r,w"], true),
         (LB, &["P0:2=r,w", "P1:2=r,w"], false),
-        (MPA, &[], true),
         (MPA, &["P0:3=w,w"], false),
         (MPB, &["P0:3=w,w"], true),
         (MPB, &["P0:3=w,w", "P1:2=r,r"], false),
         (TWO_WRITES, &["P0:3=w,w", "P1:3=w,w"], false),
         (SBX, &["P0:2=r,r", "P1:2=r,r"], false),
-        (SBXA, &[], false),
-        (CO_RR, &[], false),
-        (LBD, &[], false),
-        (LRSC, &[], false),
         (LRSCF, &["P0:1=rw,rw"], true),
     ];
     for (text, fences, wanted) in rows {
