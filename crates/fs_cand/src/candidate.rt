@@ -32,7 +32,7 @@ pub struct Candidate {
 
 impl Candidate {
     /// The candidate of these runs of the test's harts, sources and orders: its operations and dependencies are made of the
-    /// runs. A run of a bounded test has at most 32 steps. The error is F19.
+    /// runs, and sources and orders are taken as they are. A run of a bounded test has at most 32 steps. The error is F19.
     pub fn new(
         alloc: Global,
         test: &Test,

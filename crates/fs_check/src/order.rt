@@ -35,10 +35,10 @@ pub enum OrderVerdict {
 }
 
 /// Whether a witness gives an execution, under the memory model RVWMO, of the test with the placement's fences, and one that
-/// shows the outcome of its condition; or the first reason why not. The witness is a file's bytes, as `read_witness` reads them.
-/// The cost: linear in the bytes and the steps; for each name of the witness and each atom of the condition linear in the
-/// operations; for each two operations linear in the operations and in the steps of a hart, these times the slots for the placed
-/// fences. F17 where the bytes are no witness for so many harts, F19.
+/// shows the outcome of its condition; or the first reason why not. By the law `one_verdict` no other verdict holds of it. The
+/// witness is a file's bytes, as `read_witness` reads them. The cost: linear in the bytes and the steps; for each name of the
+/// witness and each atom of the condition linear in the operations; for each two operations linear in the operations and in the
+/// steps of a hart, the latter times the slots for placed fences. F17 where the bytes are no witness for so many harts, F19.
 pub fn check_order(
     alloc: Global,
     test: &Test,

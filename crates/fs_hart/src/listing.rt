@@ -53,8 +53,8 @@ impl Walk {
 
 /// The whole runs of the hart of this number in which each load takes a word of its location's set, in choice order: words rise,
 /// and an sc.w's success comes before its failure. There is a set for each location, with its words rising. F13 where more than
-/// 100,000 choice lists end, in a whole run or astray; else F14 with the instruction at which the first list goes astray that
-/// does; F19.
+/// 100,000 choice lists end, in a whole run or astray; else F14 with the instruction at which the first list that goes astray
+/// does so; F19.
 pub fn traces_over(
     alloc: Global,
     test: &Test,

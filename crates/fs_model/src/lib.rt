@@ -1,4 +1,5 @@
-//! The memory model RVWMO: the definitions of runs, executions and answers, and the steps of a hart.
+//! The memory model RVWMO: the definitions of runs, executions and answers; the steps of a hart, and what is asked of single
+//! operations.
 #![tactic(auto)]
 
 pub mod answers;

@@ -94,7 +94,8 @@ fn shows_among(
 /// Does the test with the placement's fences allow its outcome, by an execution whose loads take words of these sets? There is a
 /// set for each location, with its words rising. It is decided by listing: all runs of each hart, all ways to take one of each,
 /// and all orders of their operations. So the time is the product of the numbers of runs, times the factorial of the number of
-/// operations: for tests of a few instructions. F13 and F14 as `traces_over` of the first hart that has one; F19.
+/// operations, times that of `obeys_axioms`: for tests of a few instructions. F13 and F14 as `traces_over` of the first hart that
+/// has one; F19.
 pub fn allows_over(
     alloc: Global,
     test: &Test,

@@ -175,8 +175,8 @@ fn arrange(alloc: Global, operations: Operations, order: &[u8]) -> Result<Arrang
 }
 
 /// Do these runs of the test's harts, with this order of their operations, obey the axioms of RVWMO with the placement's fences?
-/// The runs are any short ones, with at most 256 operations. Each two operations are tried, by the definitions as they stand, so
-/// it is for small tests. The error is F19.
+/// The runs are any short ones, with at most 256 operations. Each two operations are tried, by the definitions as they stand,
+/// and a dependency may take time exponential in the steps between: so it is for small tests. The error is F19.
 pub fn obeys_axioms(
     alloc: Global,
     test: &Test,

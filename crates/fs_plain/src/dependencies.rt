@@ -85,7 +85,7 @@ fn depends(steps: &[Step], i: usize, j: usize, register: Option<u8>) -> bool
     i < j && depends_within(j - i, steps, i, j, register)
 }
 
-/// Has step j an address dependency on step i? Steps count from 0.
+/// Has step j an address dependency on step i? Steps count from 0. At worst exponential in the steps between.
 pub fn address_depends(steps: &[Step], i: usize, j: usize) -> bool
     requires first { i < 256 }
     requires second { j < 256 }
@@ -94,7 +94,7 @@ pub fn address_depends(steps: &[Step], i: usize, j: usize) -> bool
     depends(steps, i, j, address_source(steps, j))
 }
 
-/// Has step j a data dependency on step i? Steps count from 0.
+/// Has step j a data dependency on step i? Steps count from 0. At worst exponential in the steps between.
 pub fn data_depends(steps: &[Step], i: usize, j: usize) -> bool
     requires first { i < 256 }
     requires second { j < 256 }
@@ -112,7 +112,8 @@ fn depends_through_any(steps: &[Step], i: usize, j: usize) -> bool
     depends(steps, i, j, first_source(steps, j)) || depends(steps, i, j, second_source(steps, j))
 }
 
-/// Has step j a control dependency on step i: does a branch between them depend on i? Steps count from 0.
+/// Has step j a control dependency on step i: does a branch between them depend on i? Steps count from 0. At worst exponential in
+/// the steps between.
 pub fn control_depends(steps: &[Step], i: usize, j: usize) -> bool
     requires first { i < 256 }
     requires second { j < 256 }
