@@ -15,3 +15,4 @@ pub mod PrintedSame
 pub mod PrintedChoices
 pub mod Filled
 pub mod Weakening
+pub mod Ranking

@@ -1,9 +1,13 @@
 //! Theorems over the definitions of the memory model. The functions do nothing: each stands for the laws that it promises.
 #![tactic(auto)]
 
+mod answers;
 mod printed;
 mod strength;
 
+pub use answers::{
+    cost_and_order_decide, cycles_are_short, one_witness_refutes_all, posted_placements_forbid,
+};
 pub use printed::{
     fenced_test_means_placement, fences_keep_runs, no_entries_no_fences, same_tests_show_alike,
 };

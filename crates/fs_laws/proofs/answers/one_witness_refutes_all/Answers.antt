@@ -1,0 +1,18 @@
+use Rattle.std.proofs.Common.{refl}
+use Rattle.fs_laws.proofs.Filled.{unanswered}
+use Rattle.fs_laws.proofs.answers.one_witness_refutes_all.Goals as goal
+
+pub returns-clause-right : goal.returns-clause-right
+returns-clause-right c = λ t certificate valid prices. unanswered t (valid.execution, valid.refutes) prices
+
+pub returns-clause-there : goal.returns-clause-there
+returns-clause-there c = λ t version w e given refutes. record {
+  answered = refl;
+  cycles = refl;
+  tree = refl;
+  witness = w;
+  only = refl;
+  execution = e;
+  given = given;
+  refutes = refutes;
+}
