@@ -9,7 +9,7 @@ use Rattle.fs_syntax.specs.Slots.{slots}
 use Rattle.fs_litmus.specs.Reads.{Reads}
 use Rattle.fs_litmus.specs.Faults.{IsTestFault}
 use Rattle.fs_model.specs.Witness.{Witness}
-use Rattle.fs_check.specs.WitnessFile.{IsWitnessFile, IsWitnessFault}
+use Rattle.fs_answer.specs.WitnessFile.{IsWitnessFile, IsWitnessFault}
 use Rattle.fs_app.specs.Place.{IsBadFences}
 use Rattle.fs_app.specs.Order.{IsFirstOrderFault, of_test, of_fences, of_witness, of_memory}
 use Rattle.fs_app.proofs.Faults.{is_memory}

@@ -13,7 +13,7 @@ use Rattle.fs_model.specs.Witness.{Witness}
 use Rattle.fs_check.specs.declared.order.OrderVerdict.{OrderVerdict}
 use Rattle.fs_check.specs.declared.order.OrderVerdict.TheVariants.{Yes, No}
 use Rattle.fs_check.specs.Verdicts.{IsVerdict}
-use Rattle.fs_check.specs.WitnessFile.{IsWitnessFile}
+use Rattle.fs_answer.specs.WitnessFile.{IsWitnessFile}
 use Rattle.fs_app.specs.declared.status.Status.{Status}
 use Rattle.fs_app.specs.declared.status.Status.TheVariants.{Success, Denied}
 use Rattle.fs_app.specs.Place.{IsBadFences}

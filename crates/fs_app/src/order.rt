@@ -1,11 +1,15 @@
 //! What `order` answers.
-ghost use Rattle.std.specs.Prelude.{◌≡◌, ◌++◌, IfOk, IfErr, IsOkUnless, map, string_bytes};
+ghost use Rattle.std.specs.Prelude.{◌≡◌, ◌++◌, ℕ, List, None, Some, IfOk, IfErr, IsOkUnless, map, string_bytes};
+ghost use Rattle.fs_syntax.specs.Placed.{IsPlaced};
+ghost use Rattle.fs_syntax.specs.Slots.{slots};
+ghost use Rattle.fs_syntax.specs.Test.{IsTest};
+ghost use Rattle.fs_litmus.specs.Reads.{Reads};
 ghost use Rattle.fs_app.specs.Order.{IsAnswered, IsFirstOrderFault, verdict_line, verdict_status};
 
 use crate::status::{Output, Status};
 use fs_check::{OrderVerdict, check_order};
-use fs_kinds::Fault;
-use fs_litmus::{read_fences, read_test};
+use fs_kinds::{Fault, Placement};
+use fs_litmus::{Test, read_fences, read_test};
 use std::alloc::Global;
 
 /// What `order` prints for a test file, a witness and the words of fences to place: `yes` where the witness gives an execution,
@@ -25,8 +29,37 @@ pub fn run_order(
     ensures fault { IfErr result (IsFirstOrderFault test.now witness.now (map string_bytes fences.now)) }
 {
     let test = read_test(alloc, test)?;
-    let placement = read_fences(alloc, &test, None, fences)?;
-    let verdict = check_order(alloc, &test, &placement, witness)?;
+    judge(alloc, &test, witness, fences)
+}
+
+// What `order` prints for a test that was read.
+fn judge(alloc: Global, test: &Test, witness: &[u8], fences: &[String]) -> Result<Output, Fault>
+    requires { IsTest test.now }
+    ensures answer { IfOk result (λ output. (bytes : List ℕ) → Reads bytes test.now
+        → IsAnswered bytes witness.now (map string_bytes fences.now) (string_bytes output.text) output.status) }
+    ensures fault { IfErr result (λ fault. (bytes : List ℕ) → Reads bytes test.now
+        → IsFirstOrderFault bytes witness.now (map string_bytes fences.now) fault) }
+{
+    let placement = read_fences(alloc, test, None, fences)?;
+    judge_placed(alloc, test, &placement, witness)
+}
+
+// What `order` prints for a test with this placement.
+fn judge_placed(
+    alloc: Global,
+    test: &Test,
+    placement: &Placement,
+    witness: &[u8],
+) -> Result<Output, Fault>
+    requires { IsTest test.now }
+    ensures answer { IfOk result (λ output. (bytes : List ℕ) (words : List (List ℕ)) → Reads bytes test.now
+        → IsPlaced None (slots test.now) words (Some placement.now)
+        → IsAnswered bytes witness.now words (string_bytes output.text) output.status) }
+    ensures fault { IfErr result (λ fault. (bytes : List ℕ) (words : List (List ℕ)) → Reads bytes test.now
+        → IsPlaced None (slots test.now) words (Some placement.now)
+        → IsFirstOrderFault bytes witness.now words fault) }
+{
+    let verdict = check_order(alloc, test, placement, witness)?;
     Ok(Output {
         text: verdict_text(alloc, verdict)?,
         status: status_of(verdict),

@@ -1,12 +1,13 @@
 //! What `place` answers.
-ghost use Rattle.std.specs.Prelude.{◌≡◌, ◌++◌, ◌≢◌, IfOk, IfErr, IfSome, IsOkUnless, IsTrue, map, string_bytes};
+ghost use Rattle.std.specs.Prelude.{◌≡◌, ◌++◌, ◌≢◌, ℕ, List, Option, IfOk, IfErr, IfSome, IsOkUnless, IsTrue, map, string_bytes};
 ghost use Rattle.std.specs.Option.{option_copied};
 ghost use Rattle.fs_kinds.specs.Placement.{slots_of};
 ghost use Rattle.fs_kinds.specs.PriceTable.{are_offered};
 ghost use Rattle.fs_syntax.specs.Fenced.{fenced};
 ghost use Rattle.fs_syntax.specs.Printed.{printed};
 ghost use Rattle.fs_syntax.specs.Slots.{slots};
-ghost use Rattle.fs_syntax.specs.Test.{IsBounded};
+ghost use Rattle.fs_syntax.specs.Test.{IsBounded, IsTest};
+ghost use Rattle.fs_litmus.specs.Reads.{Reads};
 ghost use Rattle.fs_app.specs.Place.{ArePriced, IsFencedText, IsPricesFault, IsFirstFault, cost_line};
 
 use crate::status::{Output, Status};
@@ -32,9 +33,44 @@ pub fn run_place(
         (IsFirstFault test.now (option_copied prices.entry) (map string_bytes fences.now)) }
 {
     let prices = given_prices(alloc, prices)?;
+    place_priced(alloc, test, prices.as_ref(), fences)
+}
+
+/// What `place` prints with these prices.
+fn place_priced(
+    alloc: Global,
+    test: &[u8],
+    prices: Option<&Prices>,
+    fences: &[String],
+) -> Result<Output, Fault>
+    ensures text { IfOk result (λ output. (given : Option (List ℕ)) → ArePriced given (option_copied prices.entry)
+        → IsFencedText test.now given (map string_bytes fences.now) (string_bytes output.text)) }
+    ensures status { IfOk result (λ output. output.status ≡ Status.Success) }
+    ensures fault { IfErr result (λ fault. (given : Option (List ℕ)) → ArePriced given (option_copied prices.entry)
+        → IsFirstFault test.now given (map string_bytes fences.now) fault) }
+{
     let test = read_test(alloc, test)?;
-    let placement = read_fences(alloc, &test, prices.as_ref(), fences)?;
-    let text = fenced_text(alloc, &test, &placement, prices.as_ref())?;
+    place_fences(alloc, &test, prices, fences)
+}
+
+/// What `place` prints for a test that was read.
+fn place_fences(
+    alloc: Global,
+    test: &Test,
+    prices: Option<&Prices>,
+    fences: &[String],
+) -> Result<Output, Fault>
+    requires { IsTest test.now }
+    ensures text { IfOk result (λ output. (given : Option (List ℕ)) (bytes : List ℕ)
+        → ArePriced given (option_copied prices.entry) → Reads bytes test.now
+        → IsFencedText bytes given (map string_bytes fences.now) (string_bytes output.text)) }
+    ensures status { IfOk result (λ output. output.status ≡ Status.Success) }
+    ensures fault { IfErr result (λ fault. (given : Option (List ℕ)) (bytes : List ℕ)
+        → ArePriced given (option_copied prices.entry) → Reads bytes test.now
+        → IsFirstFault bytes given (map string_bytes fences.now) fault) }
+{
+    let placement = read_fences(alloc, test, prices, fences)?;
+    let text = fenced_text(alloc, test, &placement, prices)?;
     Ok(Output {
         text,
         status: Status::Success,

@@ -10,7 +10,7 @@ use Rattle.fs_model.specs.Operations.{steps_of}
 use Rattle.fs_hart.specs.declared.trace.Trace.{Trace}
 use Rattle.fs_deps.specs.declared.deps.Masks.{Masks}
 use Rattle.fs_deps.specs.Masks.{IsDepsOf}
-use Rattle.fs_cand.specs.Candidates.{steps_in}
+use Rattle.fs_hart.specs.Steps.{steps_in}
 
 -- these are the dependencies of the first so many runs
 pub record AreDepsBelow (traces : List Trace) (deps : List (List Masks)) (n : ℕ) : Type 0 where

@@ -1,24 +1,25 @@
 -- What a candidate execution is made of.
-use Rattle.std.specs.Prelude.{◌≡◌, ℕ, ◌<◌, ◌≤◌, Option, None, List, [], All, length, map}
+use Rattle.std.specs.Prelude.{◌≡◌, ℕ, ◌<◌, ◌≤◌, Option, List, [], All, length}
 use Rattle.std.specs.List.{slice_index_or}
-use Rattle.fs_model.specs.declared.step.Step.{Step}
 use Rattle.fs_model.specs.Operations.{PreExecution, steps_of, operations}
 use Rattle.fs_hart.specs.declared.trace.Trace.{Trace}
+use Rattle.fs_hart.specs.Steps.{steps_in}
 use Rattle.fs_deps.specs.declared.deps.Masks.{Masks}
 use Rattle.fs_deps.specs.Masks.{IsDepsOf}
+use Rattle.fs_answer.specs.Candidates as defined
 use Rattle.fs_cand.specs.declared.candidate.Candidate.{Candidate}
 
--- the steps of each hart
-abbrev pub steps_in : List Trace → List (List Step)
-steps_in traces = map (λ trace. trace.steps) traces
+-- the candidate of the definitions: its steps, sources and store orders
+abbrev pub candidate_of : Candidate → defined.Candidate
+candidate_of c = record { traces = steps_in c.traces; source = c.source; store_order = c.store_order }
 
 -- the candidate's runs, in a test whose locations begin with these words
 abbrev pub runs_of : Candidate → (words : List ℕ) → PreExecution
-runs_of c words = record { traces = steps_in c.traces; words = words }
+runs_of c words = record { traces = (candidate_of c).traces; words = words }
 
 -- the operation that wrote what operation a loads
 abbrev pub rf : Candidate → ℕ → Option ℕ
-rf c a = slice_index_or c.source a None
+rf c a = defined.rf (candidate_of c) a
 
 -- its operations and dependencies are those of its runs, in a test whose locations begin with these words
 pub record IsMade (words : List ℕ) (c : Candidate) : Type 0 where

@@ -7,39 +7,12 @@ ghost use Rattle.fs_cand.specs.Candidates.{AreShort, AreDepsOf};
 use fs_deps::Deps;
 use fs_hart::Trace;
 use fs_kinds::Fault;
+use fs_list::List;
 use std::alloc::Global;
 use std::marker::Model;
 
 /// A run of each hart.
-#[derive(Drop)]
-pub struct Traces {
-    traces: Vec<Trace>,
-}
-
-impl Model for Traces {
-    ghost use Rattle.std.specs.Prelude.{List};
-    ghost use Rattle.fs_hart.specs.declared.trace.Trace.{Trace};
-
-    ghost Value = { List Trace };
-
-    ghost view = { λ t. t.traces.items };
-}
-
-impl Traces {
-    /// These runs, from hart 0 on.
-    pub fn new(traces: Vec<Trace>) -> Traces
-        ensures { result ≡ traces.items }
-    {
-        Traces { traces }
-    }
-
-    /// The runs, from hart 0 on.
-    pub fn as_slice(&self) -> &[Trace]
-        ensures { result.now ≡ self.now }
-    {
-        self.traces.as_slice()
-    }
-}
+pub type Traces = List<Trace>;
 
 /// The dependencies in each hart's run.
 #[derive(Drop)]
@@ -86,91 +59,10 @@ impl Dependencies {
 }
 
 /// For each operation the number of the operation that wrote what it loads, where it loads.
-#[derive(Drop)]
-pub struct Sources {
-    sources: Vec<Option<u8>>,
-}
-
-impl Model for Sources {
-    ghost use Rattle.std.specs.Prelude.{ℕ, Option, List};
-
-    ghost Value = { List (Option ℕ) };
-
-    ghost view = { λ s. s.sources.items };
-}
-
-impl Sources {
-    /// These sources, by the operations' numbers.
-    pub fn new(sources: Vec<Option<u8>>) -> Sources
-        ensures { result ≡ sources.items }
-    {
-        Sources { sources }
-    }
-
-    /// The sources, by the operations' numbers.
-    pub fn as_slice(&self) -> &[Option<u8>]
-        ensures { result.now ≡ self.now }
-    {
-        self.sources.as_slice()
-    }
-}
+pub type Sources = List<Option<u8>>;
 
 /// The stores of one location in their order, the initial one first, by their numbers.
-#[derive(Drop)]
-pub struct Stores {
-    stores: Vec<u8>,
-}
-
-impl Model for Stores {
-    ghost use Rattle.std.specs.Prelude.{ℕ, List};
-
-    ghost Value = { List ℕ };
-
-    ghost view = { λ s. s.stores.items };
-}
-
-impl Stores {
-    /// These stores, the first one first.
-    pub fn new(stores: Vec<u8>) -> Stores
-        ensures { result ≡ stores.items }
-    {
-        Stores { stores }
-    }
-
-    /// The stores, the first one first.
-    pub fn as_slice(&self) -> &[u8]
-        ensures { result.now ≡ self.now }
-    {
-        self.stores.as_slice()
-    }
-}
+pub type Stores = List<u8>;
 
 /// The order of each location's stores.
-#[derive(Drop)]
-pub struct StoreOrder {
-    locations: Vec<Stores>,
-}
-
-impl Model for StoreOrder {
-    ghost use Rattle.std.specs.Prelude.{ℕ, List};
-
-    ghost Value = { List (List ℕ) };
-
-    ghost view = { λ o. o.locations.items };
-}
-
-impl StoreOrder {
-    /// These orders, from location 0 on.
-    pub fn new(locations: Vec<Stores>) -> StoreOrder
-        ensures { result ≡ locations.items }
-    {
-        StoreOrder { locations }
-    }
-
-    /// The orders, from location 0 on.
-    pub fn as_slice(&self) -> &[Stores]
-        ensures { result.now ≡ self.now }
-    {
-        self.locations.as_slice()
-    }
-}
+pub type StoreOrder = List<Stores>;

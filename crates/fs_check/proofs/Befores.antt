@@ -9,7 +9,7 @@ use Rattle.fs_model.specs.Source.{gmo, source_in}
 use Rattle.fs_model.specs.Preserved.{Rule, Rule1, Rule2, Rule3, Rule4, Rule5, Rule6, Rule7, Rule8, Rule9, Rule10, Rule11, Rule12, Rule13, all_rules, rule, case_of}
 use Rattle.fs_model.specs.Reasons.{is_against_rule}
 use Rattle.fs_ppo.specs.Rules.{rule_of, numbered_rule}
-use Rattle.fs_check.specs.Breaking.{is_before}
+use Rattle.fs_check.specs.inner.Breaking.{is_before}
 
 -- rule 4 is that of fences
 pub fences : (x : PreExecution) (p : List Entry) (rf : ℕ → Option ℕ) (a b : ℕ) → is_before x p rf 4 a b ≡ rule x p rf a b Rule4

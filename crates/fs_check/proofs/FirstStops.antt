@@ -5,7 +5,7 @@ use Rattle.std.specs.List.{slice_index_or}
 use Rattle.std.proofs.lemmas.Option.{slice_get_cases, slice_get-map, get_or_from_slice_get}
 use Rattle.std.proofs.lemmas.List.{length-map, length-append}
 use Rattle.fs_kinds.specs.declared.placement.Entry.{Entry}
-use Rattle.fs_kinds.specs.declared.reason.Operation.{Operation as Name}
+use Rattle.fs_kinds.specs.declared.reason.OperationName.{OperationName as Name}
 use Rattle.fs_kinds.specs.declared.reason.Reason.{Reason}
 use Rattle.fs_syntax.specs.declared.test.Test.{Test}
 use Rattle.fs_model.specs.declared.step.Step.{Step}
@@ -18,7 +18,7 @@ use Rattle.fs_hart.specs.declared.trace.Trace.{Trace}
 use Rattle.fs_hart.specs.declared.trace.Run.{Run}
 use Rattle.fs_hart.specs.declared.trace.Run.TheVariants as run
 use Rattle.fs_hart.specs.Runs.{Stops, IsRunOf}
-use Rattle.fs_check.specs.WitnessRuns.{AreWholeRuns, reason_of}
+use Rattle.fs_check.specs.inner.WitnessRuns.{AreWholeRuns, reason_of}
 
 just : {A : Type 0} {a b : A} → Some a ≡ Some b → a ≡ b
 just e = cc

@@ -1,13 +1,12 @@
 -- What is found in runs with an order.
-use Rattle.std.proofs.Common.{◌≡◌, ℕ, ◌+◌, ◌<◌, ◌≤◌, Bool, true, false, Option, None, Some, is_some, List, [], ◌∷◌, ◌++◌, length, map, refl, sym, ◌∙◌, ap, subst, arith}
+use Rattle.std.proofs.Common.{◌≡◌, ℕ, ◌<◌, ◌≤◌, Bool, true, false, Option, None, Some, is_some, List, [], length, map, refl, sym, ◌∙◌, ap, subst, arith}
 use Rattle.std.specs.Prelude.{IfNone, ◌==◌, ◌&&◌}
-use Rattle.std.specs.List.{list_all, range_with_len}
+use Rattle.std.specs.List.{list_all}
 use Rattle.std.proofs.Math.ListN.{get_or}
 use Rattle.std.proofs.lemmas.Bool.{both_ways}
 use Rattle.std.proofs.lemmas.List.{get_or_default, length-map}
-use Rattle.std.proofs.lemmas.List.FromFn.{map-range_with_len_more}
 use Rattle.fs_kinds.specs.declared.placement.Entry.{Entry}
-use Rattle.fs_kinds.specs.declared.reason.Operation.{Operation as Name}
+use Rattle.fs_kinds.specs.declared.reason.OperationName.{OperationName as Name}
 use Rattle.fs_kinds.specs.declared.reason.Reason.{Reason}
 use Rattle.fs_kinds.specs.declared.reason.Reason.TheVariants as reason
 use Rattle.fs_syntax.specs.declared.test.Test.{Test}
@@ -23,19 +22,20 @@ use Rattle.fs_model.specs.Execution.{initial_words, pre_execution}
 use Rattle.fs_model.specs.Witness.{Witness, name_of}
 use Rattle.fs_model.specs.Reasons.{LoadsRightly, KeepsRules, HaveNames}
 use Rattle.fs_cand.specs.declared.candidate.Candidate.{Candidate}
-use Rattle.fs_cand.specs.Candidates.{runs_of, steps_in, IsMade}
+use Rattle.fs_hart.specs.Steps.{steps_in}
+use Rattle.fs_cand.specs.Candidates.{runs_of, IsMade}
 use Rattle.fs_check.specs.declared.order.OrderVerdict.TheVariants.{No}
-use Rattle.fs_check.specs.declared.ordered.Ordered.{Ordered}
-use Rattle.fs_check.specs.declared.witness.WitnessFile.{WitnessFile}
-use Rattle.fs_check.specs.NamedOrder.{name_in, numbers_of}
-use Rattle.fs_check.specs.Ordered.{IsOrdered, runs_in}
+use Rattle.fs_check.specs.declared.ordered.OrderedCandidate.{OrderedCandidate}
+use Rattle.fs_answer.specs.declared.witness.WitnessFile.{WitnessFile}
+use Rattle.fs_check.specs.inner.NamedOrder.{name_in, numbers_of}
+use Rattle.fs_check.specs.inner.Ordered.{IsOrdered, runs_in}
 use Rattle.fs_check.specs.Verdicts.{IsWholeFile, IsFoundOrder, IsArranged, IsJudgement, IsLoadReason, IsRuleReason, IsAtomicReason}
-use Rattle.fs_check.specs.WitnessFile.{KeepsWitness, in_range}
+use Rattle.fs_answer.specs.WitnessFile.{KeepsWitness, in_range}
 use Rattle.fs_check.proofs.Distinct.{has_name}
 use Rattle.fs_hart.proofs.Few.{few_operations}
 use Rattle.fs_check.proofs.FirstStops.{all_whole}
 use Rattle.fs_check.proofs.NamedOrder.{name_is, found_names, found_all, names_say}
-use Rattle.fs_check.proofs.Orderings.{in_operations}
+use Rattle.fs_check.proofs.Orderings.{in_operations, of_runs}
 use Rattle.fs_check.proofs.RunNames.{known, ranged}
 use Rattle.fs_check.proofs.Verdicts.{of_file}
 
@@ -44,7 +44,7 @@ if_none None P h = h
 if_none (Some a) P h = tt
 
 -- an operation of the harts has a name
-pub named_there : (t : Test) (o : Ordered) (h : IsOrdered t o) (a : ℕ) → a < length (accesses (runs_in t o)) → (slice : List Operation) (op : Operation) (traces : List (List Step)) (name : Option Name)
+pub named_there : (t : Test) (o : OrderedCandidate) (h : IsOrdered t o) (a : ℕ) → a < length (accesses (runs_in t o)) → (slice : List Operation) (op : Operation) (traces : List (List Step)) (name : Option Name)
     → slice ≡ o.candidate.operations → get_or slice a op ≡ op → traces ≡ steps_in o.candidate.traces → name ≡ name_in traces op → (is_some name ≡ true) × (name_of (runs_in t o) a ≡ name)
 named_there t o h a low slice op traces name e k r n =
     let there = has_name (runs_in t o) a low in
@@ -55,17 +55,9 @@ named_there t o h a low slice op traces name e k r n =
     name_is (runs_in t o) a ∙ ap (name_in (steps_in o.candidate.traces)) same ∙ ap (λ ts. name_in ts op) (sym r) ∙ sym n in
     (ap is_some (sym whole ∙ there.1), whole)
 
--- one source more, and all of them
-pub source_more : (f : ℕ → Option ℕ) (items pushed : List (Option ℕ)) (source : Option ℕ) (n : ℕ) → items ≡ map f (range_with_len 0 n) → source ≡ f n → pushed ≡ items ++ source ∷ []
-    → pushed ≡ map f (range_with_len 0 (n + 1))
-source_more f items pushed source n e k l = l ∙ rw (e, k) (sym (map-range_with_len_more f 0 n n (omega arith)))
-
-pub all_sources : (f : ℕ → Option ℕ) (items made : List (Option ℕ)) (n m : ℕ) → items ≡ map f (range_with_len 0 n) → n ≡ m → made ≡ items → made ≡ map f (numbers_below m)
-all_sources f items made n m e k l = l ∙ e ∙ ap (λ i. map f (range_with_len 0 i)) k
-
 -- ---- from reasons to what is said
 
-pub of_load : (t : Test) (p : List Entry) (o : Ordered) (why : Reason) → IsLoadReason (runs_in t o) o.listed.items why → IsJudgement t p o (No why)
+pub of_load : (t : Test) (p : List Entry) (o : OrderedCandidate) (why : Reason) → IsLoadReason (runs_in t o) o.order.listed why → IsJudgement t p o (No why)
 of_load t p o (reason.Load name) h = h
 of_load t p o (reason.Choices hart) h = absurd h
 of_load t p o (reason.Astray hart at) h = absurd h
@@ -80,7 +72,7 @@ of_load t p o reason.Tree h = absurd h
 of_load t p o (reason.Node k) h = absurd h
 of_load t p o (reason.Witness k) h = absurd h
 
-pub of_rule : (t : Test) (p : List Entry) (o : Ordered) (why : Reason) → LoadsRightly (runs_in t o) o.listed.items → IsRuleReason (runs_in t o) p o.listed.items why → IsJudgement t p o (No why)
+pub of_rule : (t : Test) (p : List Entry) (o : OrderedCandidate) (why : Reason) → LoadsRightly (runs_in t o) o.order.listed → IsRuleReason (runs_in t o) p o.order.listed why → IsJudgement t p o (No why)
 of_rule t p o (reason.Rule n first second) loads h = (loads, h)
 of_rule t p o (reason.Load name) loads h = absurd h
 of_rule t p o (reason.Choices hart) loads h = absurd h
@@ -95,8 +87,8 @@ of_rule t p o reason.Tree loads h = absurd h
 of_rule t p o (reason.Node k) loads h = absurd h
 of_rule t p o (reason.Witness k) loads h = absurd h
 
-pub of_atomic : (t : Test) (p : List Entry) (o : Ordered) (why : Reason) → LoadsRightly (runs_in t o) o.listed.items → KeepsRules (runs_in t o) p o.listed.items
-    → IsAtomicReason (runs_in t o) o.listed.items why → IsJudgement t p o (No why)
+pub of_atomic : (t : Test) (p : List Entry) (o : OrderedCandidate) (why : Reason) → LoadsRightly (runs_in t o) o.order.listed → KeepsRules (runs_in t o) p o.order.listed
+    → IsAtomicReason (runs_in t o) o.order.listed why → IsJudgement t p o (No why)
 of_atomic t p o (reason.Atomic load store) loads rules h = (loads, rules, h)
 of_atomic t p o (reason.Load name) loads rules h = absurd h
 of_atomic t p o (reason.Rule n first second) loads rules h = absurd h
@@ -142,16 +134,17 @@ module _ (t : Test) (file : WitnessFile) (c : Candidate) (bounded : IsBounded t)
         both_ways _ fails (subst (λ o. lists_each_once x o ≡ true) one once)
 
 -- ---- the outcome
-module _ (t : Test) (o : Ordered) (h : IsOrdered t o) where
-  pub outcome_is : (traces : List Trace) (ops : List Operation) (result : Bool) → traces ≡ o.candidate.traces → ops ≡ o.candidate.operations
-      → ((listed : List ℕ) → ops ≡ operations (pre_execution t (steps_in traces)) → o.order ≡ gmo (pre_execution t (steps_in traces)) listed
+module _ (t : Test) (o : OrderedCandidate) (h : IsOrdered t o) where
+  pub outcome_is : (traces : List Trace) (ops : List Operation) (order : List ℕ) (result : Bool) → traces ≡ o.candidate.traces → ops ≡ o.candidate.operations
+      → ((x : PreExecution) → o.order.operations ≡ operations x → order ≡ gmo x o.order.listed)
+      → ((listed : List ℕ) → ops ≡ operations (pre_execution t (steps_in traces)) → order ≡ gmo (pre_execution t (steps_in traces)) listed
       → result ≡ has_outcome t (record { traces = steps_in traces; order = listed }))
-      → result ≡ has_outcome t (record { traces = steps_in o.candidate.traces; order = o.listed.items })
-  outcome_is traces ops result e k f =
-      f o.listed.items
+      → result ≡ has_outcome t (record { traces = steps_in o.candidate.traces; order = o.order.listed })
+  outcome_is traces ops order result e k g f =
+      f o.order.listed
       (k ∙ h.made.operations ∙ ap (λ ts. operations (pre_execution t (steps_in ts))) (sym e))
-      (h.order ∙ ap (λ ts. gmo (pre_execution t (steps_in ts)) o.listed.items) (sym e))
-      ∙ ap (λ ts. has_outcome t (record { traces = steps_in ts; order = o.listed.items })) e
+      (g (runs_in t o) (of_runs t o h) ∙ ap (λ ts. gmo (pre_execution t (steps_in ts)) o.order.listed) (sym e))
+      ∙ ap (λ ts. has_outcome t (record { traces = steps_in ts; order = o.order.listed })) e
 
 -- ---- few operations, each listed once
 
@@ -169,7 +162,7 @@ pub once_is : (x : PreExecution) (listed order : List ℕ) (count : ℕ) (result
 once_is x listed order count result e k l = sym (e ∙ rw (k, l) refl)
 
 -- the order found is that of the runs as arranged
-pub found_moved : (t : Test) (c : Candidate) (o : Ordered) (w : Witness) (listed : List ℕ) → IsArranged c listed o → IsFoundOrder t c w (Some listed) → IsFoundOrder t o.candidate w (Some o.listed.items)
+pub found_moved : (t : Test) (c : Candidate) (o : OrderedCandidate) (w : Witness) (listed : List ℕ) → IsArranged c listed o → IsFoundOrder t c w (Some listed) → IsFoundOrder t o.candidate w (Some o.order.listed)
 found_moved t c o w listed same h =
-    subst (λ ts. HaveNames (pre_execution t (steps_in ts)) o.listed.items w.order × (lists_each_once (pre_execution t (steps_in ts)) o.listed.items ≡ true)) (sym same.traces)
+    subst (λ ts. HaveNames (pre_execution t (steps_in ts)) o.order.listed w.order × (lists_each_once (pre_execution t (steps_in ts)) o.order.listed ≡ true)) (sym same.traces)
     (subst (λ l. HaveNames (pre_execution t (steps_in c.traces)) l w.order × (lists_each_once (pre_execution t (steps_in c.traces)) l ≡ true)) (sym same.order) h)

@@ -3,12 +3,8 @@ pub mod Breaking
 pub mod Distinct
 pub mod FirstStops
 pub mod Found
-pub mod Handed
-pub mod Items
 pub mod NamedOrder
-pub mod Once
 pub mod OneVerdict
 pub mod Orderings
 pub mod RunNames
-pub mod Spelling
 pub mod Verdicts

@@ -7,14 +7,14 @@ use Rattle.std.proofs.Math.ListN.{get_or}
 use Rattle.std.proofs.lemmas.List.{get_or-map, length-map}
 use Rattle.std.specs.List.{list_any}
 use Rattle.fs_kinds.proofs.Entries.{list_any-none}
-use Rattle.fs_kinds.specs.declared.reason.Operation.{Operation as Name}
+use Rattle.fs_kinds.specs.declared.reason.OperationName.{OperationName as Name}
 use Rattle.fs_model.specs.declared.step.Step.{Step}
 use Rattle.fs_model.specs.Operations.{PreExecution, steps_of, operation, operations, nothing, place}
 use Rattle.fs_model.specs.Witness.{name_of}
 use Rattle.fs_model.specs.Reasons.{HaveNames}
 use Rattle.fs_model.proofs.Ranges.{past_last}
-use Rattle.fs_check.specs.WitnessFile.{in_range}
-use Rattle.fs_check.specs.NamedOrder.{step_name, name_in, is_same_name, number_of, numbers_of}
+use Rattle.fs_answer.specs.WitnessFile.{in_range}
+use Rattle.fs_check.specs.inner.NamedOrder.{step_name, name_in, is_same_name, number_of, numbers_of}
 
 -- one name more
 pub one_more : (names : List (Option Name)) (wanted rest : List (Option Name)) (order : List ℕ) (name : Option Name) (a : ℕ) → wanted ≡ name ∷ rest → number_of names name ≡ Some a

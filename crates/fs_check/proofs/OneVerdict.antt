@@ -5,7 +5,7 @@ use Rattle.std.specs.List.{list_any}
 use Rattle.std.proofs.lemmas.Bool.{and_from, and_parts, both_ways, cases_order, eq-eqb, false≢true, lt-ltb, not-true, or_left, or_right}
 use Rattle.std.proofs.lemmas.List.{ext_get_or}
 use Rattle.fs_kinds.specs.declared.placement.Entry.{Entry}
-use Rattle.fs_kinds.specs.declared.reason.Operation.{Operation as Name}
+use Rattle.fs_kinds.specs.declared.reason.OperationName.{OperationName as Name}
 use Rattle.fs_kinds.specs.declared.reason.Reason.{Reason}
 use Rattle.fs_kinds.specs.declared.reason.Reason.TheVariants as reason
 use Rattle.fs_syntax.specs.declared.test.Test.{Test}
@@ -24,7 +24,7 @@ use Rattle.fs_model.specs.Reasons.{IsYes, IsReason, IsOrder, AreRuns, IsFirstSto
 use Rattle.fs_model.proofs.Runs.{run_once}
 use Rattle.fs_model.proofs.Stops.{whole_never_stops}
 use Rattle.fs_model.proofs.OneStop.{stops_once}
-use Rattle.fs_order.proofs.Axioms.{all_returning, pairs_atomic}
+use Rattle.fs_axioms.proofs.Axioms.{all_returning, pairs_atomic}
 use Rattle.fs_check.specs.declared.order.OrderVerdict.{OrderVerdict}
 use Rattle.fs_check.specs.declared.order.OrderVerdict.TheVariants.{Yes, No}
 use Rattle.fs_check.specs.Verdicts.{IsVerdict, KeepsAtomicity}

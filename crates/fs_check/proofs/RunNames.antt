@@ -5,7 +5,7 @@ use Rattle.std.proofs.lemmas.Bool.{and_from, lt-ltb}
 use Rattle.std.proofs.lemmas.List.Elements.{All-get_or}
 use Rattle.std.proofs.lemmas.Option.{slice_get_within}
 use Rattle.fs_instr.specs.declared.instr.Instr.{Instr}
-use Rattle.fs_kinds.specs.declared.reason.Operation.{Operation as Name}
+use Rattle.fs_kinds.specs.declared.reason.OperationName.{OperationName as Name}
 use Rattle.fs_syntax.specs.declared.test.Test.{Test}
 use Rattle.fs_syntax.specs.Test.{GoesForward, IsBounded}
 use Rattle.fs_model.specs.declared.hart.Hart.{Hart}
@@ -15,8 +15,9 @@ use Rattle.fs_model.specs.Operations.{steps_of}
 use Rattle.fs_model.specs.Execution.{pre_execution, code_of, registers_of}
 use Rattle.fs_model.specs.Witness.{Witness, name_of}
 use Rattle.fs_model.specs.Reasons.{AreRuns}
-use Rattle.fs_check.specs.WitnessFile.{in_range}
-use Rattle.fs_check.proofs.Distinct.{one_named, in_list, named}
+use Rattle.fs_answer.specs.WitnessFile.{in_range}
+use Rattle.fs_model.proofs.HartOperations.{in_list}
+use Rattle.fs_check.proofs.Distinct.{one_named, named}
 use Rattle.fs_check.proofs.Distinct as distinct
 use Rattle.fs_check.proofs.NamedOrder.{NamesInRange}
 

@@ -17,17 +17,18 @@ use Rattle.fs_hart.specs.declared.trace.Trace.{Trace}
 use Rattle.fs_hart.proofs.Forward.{traces_short}
 use Rattle.fs_hart.specs.Runs.{registers_after}
 use Rattle.fs_cand.specs.declared.candidate.Candidate.{Candidate}
-use Rattle.fs_cand.specs.Candidates.{steps_in, AreShort}
-use Rattle.fs_order.specs.Final.{AreFinal}
+use Rattle.fs_hart.specs.Steps.{steps_in}
+use Rattle.fs_cand.specs.Candidates.{AreShort}
+use Rattle.fs_axioms.specs.Final.{AreFinal}
 use Rattle.fs_check.specs.declared.order.OrderVerdict.{OrderVerdict}
 use Rattle.fs_check.specs.declared.order.OrderVerdict.TheVariants.{Yes, No}
-use Rattle.fs_check.specs.declared.ordered.Ordered.{Ordered}
-use Rattle.fs_check.specs.declared.witness.WitnessFile.{WitnessFile}
+use Rattle.fs_check.specs.declared.ordered.OrderedCandidate.{OrderedCandidate}
+use Rattle.fs_answer.specs.declared.witness.WitnessFile.{WitnessFile}
 use Rattle.fs_check.specs.Verdicts.{IsVerdict, IsWholeFile, IsFoundOrder, IsJudgement, KeepsAtomicity}
-use Rattle.fs_check.specs.WitnessFile.{KeepsWitness}
+use Rattle.fs_answer.specs.WitnessFile.{KeepsWitness}
 use Rattle.fs_check.specs.declared.runs.Runs.{Runs}
 use Rattle.fs_check.specs.declared.runs.Runs.TheVariants.{Whole, Stopped}
-use Rattle.fs_check.specs.WitnessRuns.{AreWholeRuns, AreRunsOf}
+use Rattle.fs_check.specs.inner.WitnessRuns.{AreWholeRuns, AreRunsOf}
 use Rattle.fs_check.proofs.FirstStops.{all_whole}
 
 -- the steps of a hart, in a list of runs
@@ -87,23 +88,23 @@ module _ (t : Test) (p : List Entry) (file : WitnessFile) (w : Witness) (keeps :
       }
 
   -- the verdict on runs with an order is the verdict on the witness
-  pub decided : (o : Ordered) (verdict : OrderVerdict) → IsWholeFile t file o.candidate.traces → IsFoundOrder t o.candidate w (Some o.listed.items)
+  pub decided : (o : OrderedCandidate) (verdict : OrderVerdict) → IsWholeFile t file o.candidate.traces → IsFoundOrder t o.candidate w (Some o.order.listed)
       → IsJudgement t p o verdict → IsVerdict t p w verdict
   decided o Yes whole found j = (
-    execution_of o.candidate.traces o.listed.items,
-    of_witness o.candidate.traces o.listed.items whole found.0 found.1,
-    is_execution o.candidate.traces o.listed.items whole found.0 found.1 j.0.0 j.0.1 j.0.2,
+    execution_of o.candidate.traces o.order.listed,
+    of_witness o.candidate.traces o.order.listed whole found.0 found.1,
+    is_execution o.candidate.traces o.order.listed whole found.0 found.1 j.0.0 j.0.1 j.0.2,
     j.1,
   )
   decided o (No reason.Outcome) whole found j = (
-    execution_of o.candidate.traces o.listed.items,
-    is_order o.candidate.traces o.listed.items whole found.0 found.1,
-    is_execution o.candidate.traces o.listed.items whole found.0 found.1 j.0.0 j.0.1 j.0.2,
+    execution_of o.candidate.traces o.order.listed,
+    is_order o.candidate.traces o.order.listed whole found.0 found.1,
+    is_execution o.candidate.traces o.order.listed whole found.0 found.1 j.0.0 j.0.1 j.0.2,
     j.1,
   )
-  decided o (No (reason.Load name)) whole found j = (execution_of o.candidate.traces o.listed.items, is_order o.candidate.traces o.listed.items whole found.0 found.1, j)
-  decided o (No (reason.Rule n first second)) whole found j = (execution_of o.candidate.traces o.listed.items, is_order o.candidate.traces o.listed.items whole found.0 found.1, j)
-  decided o (No (reason.Atomic load store)) whole found j = (execution_of o.candidate.traces o.listed.items, is_order o.candidate.traces o.listed.items whole found.0 found.1, j)
+  decided o (No (reason.Load name)) whole found j = (execution_of o.candidate.traces o.order.listed, is_order o.candidate.traces o.order.listed whole found.0 found.1, j)
+  decided o (No (reason.Rule n first second)) whole found j = (execution_of o.candidate.traces o.order.listed, is_order o.candidate.traces o.order.listed whole found.0 found.1, j)
+  decided o (No (reason.Atomic load store)) whole found j = (execution_of o.candidate.traces o.order.listed, is_order o.candidate.traces o.order.listed whole found.0 found.1, j)
   decided o (No (reason.Choices hart)) whole found j = absurd j
   decided o (No (reason.Astray hart at)) whole found j = absurd j
   decided o (No reason.Order) whole found j = absurd j

@@ -12,13 +12,14 @@ use Rattle.fs_model.specs.Witness.{Witness}
 use Rattle.fs_model.specs.Reasons.{IsYes, IsReason, HaveNames, LoadsRightly, IsFirstWrongLoad, IsFirstBrokenPair, KeepsRules, IsFirstBrokenRule, Breaks}
 use Rattle.fs_hart.specs.declared.trace.Trace.{Trace}
 use Rattle.fs_cand.specs.declared.candidate.Candidate.{Candidate}
-use Rattle.fs_cand.specs.Candidates.{runs_of, steps_in}
+use Rattle.fs_hart.specs.Steps.{steps_in}
+use Rattle.fs_cand.specs.Candidates.{runs_of}
 use Rattle.fs_check.specs.declared.order.OrderVerdict.{OrderVerdict}
 use Rattle.fs_check.specs.declared.order.OrderVerdict.TheVariants.{Yes, No}
-use Rattle.fs_check.specs.declared.ordered.Ordered.{Ordered}
-use Rattle.fs_check.specs.declared.witness.WitnessFile.{WitnessFile}
-use Rattle.fs_check.specs.Ordered.{runs_in}
-use Rattle.fs_check.specs.WitnessRuns.{AreWholeRuns}
+use Rattle.fs_check.specs.declared.ordered.OrderedCandidate.{OrderedCandidate}
+use Rattle.fs_answer.specs.declared.witness.WitnessFile.{WitnessFile}
+use Rattle.fs_check.specs.inner.Ordered.{runs_in}
+use Rattle.fs_check.specs.inner.WitnessRuns.{AreWholeRuns}
 
 -- yes where the witness gives an execution with these fences that shows the outcome; else no, for the first reason
 abbrev pub IsVerdict : Test → List Entry → Witness → OrderVerdict → Type 0
@@ -37,9 +38,9 @@ IsFoundOrder t c w (Some order) = HaveNames (runs_of c (initial_words t)) order 
 IsFoundOrder t c w None = (order : List ℕ) → HaveNames (runs_of c (initial_words t)) order w.order → lists_each_once (runs_of c (initial_words t)) order ≡ true → ⊥
 
 -- the runs are the candidate's, and the order is the one given
-pub record IsArranged (c : Candidate) (listed : List ℕ) (o : Ordered) : Type 0 where
+pub record IsArranged (c : Candidate) (listed : List ℕ) (o : OrderedCandidate) : Type 0 where
   pub traces : o.candidate.traces ≡ c.traces
-  pub order : o.listed.items ≡ listed
+  pub order : o.order.listed ≡ listed
 
 -- the reason is the first wrong load
 abbrev pub IsLoadReason : PreExecution → List ℕ → Reason → Type 0
@@ -63,11 +64,11 @@ abbrev pub KeepsAxioms : PreExecution → List Entry → List ℕ → Type 0
 KeepsAxioms x p order = LoadsRightly x order × KeepsRules x p order × KeepsAtomicity x order
 
 -- is the outcome true at the end?
-abbrev pub is_shown : Test → Ordered → Bool
-is_shown t o = has_outcome t (record { traces = steps_in o.candidate.traces; order = o.listed.items })
+abbrev pub is_shown : Test → OrderedCandidate → Bool
+is_shown t o = has_outcome t (record { traces = steps_in o.candidate.traces; order = o.order.listed })
 
 -- what is said of runs with an order that lists each operation once
-abbrev pub IsJudgement : Test → List Entry → Ordered → OrderVerdict → Type 0
-IsJudgement t p o Yes = KeepsAxioms (runs_in t o) p o.listed.items × (is_shown t o ≡ true)
-IsJudgement t p o (No reason.Outcome) = KeepsAxioms (runs_in t o) p o.listed.items × (is_shown t o ≡ false)
-IsJudgement t p o (No why) = Breaks (runs_in t o) p o.listed.items why
+abbrev pub IsJudgement : Test → List Entry → OrderedCandidate → OrderVerdict → Type 0
+IsJudgement t p o Yes = KeepsAxioms (runs_in t o) p o.order.listed × (is_shown t o ≡ true)
+IsJudgement t p o (No reason.Outcome) = KeepsAxioms (runs_in t o) p o.order.listed × (is_shown t o ≡ false)
+IsJudgement t p o (No why) = Breaks (runs_in t o) p o.order.listed why

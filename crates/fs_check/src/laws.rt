@@ -1,26 +1,12 @@
-//! Laws of the definitions.
+//! That a witness has one verdict.
 
-ghost use Rattle.std.specs.Prelude.{◌≡◌, ◌<◌, ℕ, All, List};
+ghost use Rattle.std.specs.Prelude.{◌≡◌, All, List};
 ghost use Rattle.fs_kinds.specs.declared.placement.Entry.{Entry};
-ghost use Rattle.fs_kinds.specs.declared.reason.Operation.{Operation};
 ghost use Rattle.fs_kinds.specs.declared.reason.Reason.{Reason};
-ghost use Rattle.fs_kinds.specs.ReasonText.{operation_name};
 ghost use Rattle.fs_syntax.specs.declared.test.Test.{Test};
 ghost use Rattle.fs_syntax.specs.Test.{GoesForward};
 ghost use Rattle.fs_model.specs.Witness.{Witness};
 ghost use Rattle.fs_model.specs.Reasons.{IsYes, IsReason};
-ghost use Rattle.fs_check.specs.WitnessFile.{IsWitnessFile, IsOperationName};
-
-/// A law: a witness file says one witness at most.
-pub fn file_says_one_witness()
-    ensures { (harts : ℕ) (bytes : List ℕ) (w v : Witness) → IsWitnessFile harts bytes w → IsWitnessFile harts bytes v → w ≡ v }
-{}
-
-/// A law: what is printed for an operation is its name.
-pub fn operations_print_as_named()
-    ensures { (operation : Operation) → operation.hart < 256 → operation.at < 256
-        → IsOperationName (operation_name operation) operation }
-{}
 
 /// A law: a witness has one verdict at most, in a test whose branches go forward. Where there is a reason against it, it gives
 /// no execution that shows the outcome, and there is no other reason. With a branch that goes back, a run may have an

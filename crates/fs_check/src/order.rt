@@ -1,27 +1,26 @@
 //! Is a witness an execution that the memory model allows?
 
-ghost use Rattle.std.specs.Prelude.{◌≡◌, ◌<◌, ◌≤◌, ℕ, List, [], All, IfOk, IfErr, IsErrOf, IfSome, IfNone, IsOkUnless, Some, length, map, option_map};
+ghost use Rattle.std.specs.Prelude.{◌≡◌, ◌<◌, ◌≤◌, [], All, IfOk, IfErr, IsErrOf, IfSome, IfNone, IsOkUnless, Some, length, option_map};
 ghost use Rattle.fs_kinds.specs.declared.fault.Fault.TheVariants.{Memory};
 ghost use Rattle.fs_syntax.specs.Test.{IsBounded, IsStart};
-ghost use Rattle.fs_model.specs.Numbers.{numbers_below};
 ghost use Rattle.fs_model.specs.Operations.{accesses};
-ghost use Rattle.fs_model.specs.Source.{gmo, source_in};
 ghost use Rattle.fs_model.specs.Execution.{initial_words};
 ghost use Rattle.fs_model.specs.Reasons.{LoadsRightly, KeepsRules};
 ghost use Rattle.fs_model.specs.Witness.{Witness, name_of};
-ghost use Rattle.fs_cand.specs.Candidates.{IsMade, runs_of, AreShort};
-ghost use Rattle.fs_order.specs.Final.{AreFinal};
-ghost use Rattle.fs_check.specs.Ordered.{IsOrdered, runs_in};
+ghost use Rattle.fs_cand.specs.Candidates.{IsMade, AreShort};
+ghost use Rattle.fs_axioms.specs.Final.{AreFinal};
+ghost use Rattle.fs_check.specs.inner.Ordered.{IsOrdered, runs_in};
 ghost use Rattle.fs_check.specs.Verdicts.{IsVerdict, IsWholeFile, IsFoundOrder, IsArranged, IsJudgement, IsLoadReason, IsRuleReason, IsAtomicReason, KeepsAtomicity};
-ghost use Rattle.fs_check.specs.WitnessFile.{IsWitnessFile, IsWitnessFault, KeepsWitness};
+ghost use Rattle.fs_answer.specs.WitnessFile.{IsWitnessFile, IsWitnessFault, KeepsWitness};
 
 use crate::names::{name, names, numbers};
-use crate::ordered::Ordered;
+use crate::ordered::OrderedCandidate;
 use crate::runs::{Runs, make_runs};
-use crate::witness::{WitnessFile, read_witness};
+use fs_answer::{WitnessFile, read_witness};
+use fs_axioms::{Ordered, count_accesses, has_outcome, lists_each_once};
 use fs_cand::{Candidate, Sources, StoreOrder, Traces};
-use fs_kinds::{Fault, Operation, Placement, Reason};
-use fs_order::{GlobalOrder, count_accesses, has_outcome, lists_each_once, source_in};
+use fs_hart::Operations;
+use fs_kinds::{Fault, OperationName, Placement, Reason};
 use fs_syntax::Test;
 use std::alloc::Global;
 
@@ -127,7 +126,7 @@ fn arrange(
     test: &Test,
     candidate: Candidate,
     listed: Vec<u8>,
-) -> Result<Ordered, Fault>
+) -> Result<OrderedCandidate, Fault>
     requires made { IsMade (initial_words test.now) candidate }
     requires few { length candidate.operations ≤ 256 }
     ensures ordered { IfOk result (IsOrdered test.now) }
@@ -135,32 +134,14 @@ fn arrange(
     ensures err { IsOkUnless result Memory }
 {
     let mut candidate = candidate;
-    let order = GlobalOrder::new(alloc, candidate.operations.as_slice(), &listed)?;
-    candidate.source = sources(alloc, &candidate, &order)?;
-    Ok(Ordered {
-        candidate,
-        order,
-        listed,
-    })
-}
-
-// The source of each operation in this order.
-fn sources(alloc: Global, candidate: &Candidate, order: &GlobalOrder) -> Result<Sources, Fault>
-    requires { length candidate.now.operations ≤ 256 }
-    ensures ok { (words : List ℕ) (listed : List ℕ) → IsMade words candidate.now → order.now ≡ gmo (runs_of candidate.now words) listed
-        → IfOk result (λ sources. sources ≡ map (source_in (runs_of candidate.now words) listed) (numbers_below (length candidate.now.operations))) }
-    ensures err { IsOkUnless result Memory }
-{
-    let operations = candidate.operations.as_slice();
-    let mut sources = Vec::new(alloc);
-    for a in 0..operations.len() {
-        sources.push(source_in(operations, order, a as u8))?;
-    }
-    Ok(Sources::new(sources))
+    let operations = Operations::new(Vec::from_slice(alloc, candidate.operations.as_slice())?);
+    let order = Ordered::new(alloc, operations, &listed)?;
+    candidate.source = Sources::new(Vec::from_slice(alloc, order.sources())?);
+    Ok(OrderedCandidate { candidate, order })
 }
 
 // What is said of runs with an order that has each operation once.
-fn judge(test: &Test, placement: &Placement, ordered: &Ordered) -> OrderVerdict
+fn judge(test: &Test, placement: &Placement, ordered: &OrderedCandidate) -> OrderVerdict
     requires ordered { IsOrdered test.now ordered.now }
     requires last { AreFinal test.now ordered.now.candidate.traces }
     ensures { IsJudgement test.now placement.now ordered.now result }
@@ -177,7 +158,7 @@ fn judge(test: &Test, placement: &Placement, ordered: &Ordered) -> OrderVerdict
     let candidate = &ordered.candidate;
     let traces = candidate.traces.as_slice();
     let operations = candidate.operations.as_slice();
-    if has_outcome(test, traces, operations, &ordered.order) {
+    if has_outcome(test, traces, operations, ordered.order.order()) {
         OrderVerdict::Yes
     } else {
         OrderVerdict::No(Reason::Outcome)
@@ -185,7 +166,7 @@ fn judge(test: &Test, placement: &Placement, ordered: &Ordered) -> OrderVerdict
 }
 
 // The name of an operation of the harts.
-fn operation_name(test: &Test, ordered: &Ordered, a: usize) -> Operation
+fn operation_name(test: &Test, ordered: &OrderedCandidate, a: usize) -> OperationName
     requires ordered { IsOrdered test.now ordered.now }
     requires there { a < length (accesses (runs_in test.now ordered.now)) }
     ensures { name_of (runs_in test.now ordered.now) a ≡ Some result }
@@ -196,10 +177,10 @@ fn operation_name(test: &Test, ordered: &Ordered, a: usize) -> Operation
 }
 
 // The reason that a load is wrong, where one is.
-fn load_reason(test: &Test, ordered: &Ordered) -> Option<Reason>
+fn load_reason(test: &Test, ordered: &OrderedCandidate) -> Option<Reason>
     requires { IsOrdered test.now ordered.now }
-    ensures some { IfSome result (IsLoadReason (runs_in test.now ordered.now) ordered.now.listed.items) }
-    ensures none { IfNone result (LoadsRightly (runs_in test.now ordered.now) ordered.now.listed.items) }
+    ensures some { IfSome result (IsLoadReason (runs_in test.now ordered.now) ordered.now.order.listed) }
+    ensures none { IfNone result (LoadsRightly (runs_in test.now ordered.now) ordered.now.order.listed) }
 {
     let load = ordered.wrong_load(test)?;
     Some(Reason::Load {
@@ -208,10 +189,10 @@ fn load_reason(test: &Test, ordered: &Ordered) -> Option<Reason>
 }
 
 // The reason that a rule is broken, where one is.
-fn rule_reason(test: &Test, placement: &Placement, ordered: &Ordered) -> Option<Reason>
+fn rule_reason(test: &Test, placement: &Placement, ordered: &OrderedCandidate) -> Option<Reason>
     requires { IsOrdered test.now ordered.now }
-    ensures some { IfSome result (IsRuleReason (runs_in test.now ordered.now) placement.now ordered.now.listed.items) }
-    ensures none { IfNone result (KeepsRules (runs_in test.now ordered.now) placement.now ordered.now.listed.items) }
+    ensures some { IfSome result (IsRuleReason (runs_in test.now ordered.now) placement.now ordered.now.order.listed) }
+    ensures none { IfNone result (KeepsRules (runs_in test.now ordered.now) placement.now ordered.now.order.listed) }
 {
     let rule = ordered.broken_rule(test, placement)?;
     let first = ordered.rule_broken_after(test, placement, rule)?;
@@ -224,10 +205,10 @@ fn rule_reason(test: &Test, placement: &Placement, ordered: &Ordered) -> Option<
 }
 
 // The reason that atomicity is broken, where it is.
-fn atomic_reason(test: &Test, ordered: &Ordered) -> Option<Reason>
+fn atomic_reason(test: &Test, ordered: &OrderedCandidate) -> Option<Reason>
     requires { IsOrdered test.now ordered.now }
-    ensures some { IfSome result (IsAtomicReason (runs_in test.now ordered.now) ordered.now.listed.items) }
-    ensures none { IfNone result (KeepsAtomicity (runs_in test.now ordered.now) ordered.now.listed.items) }
+    ensures some { IfSome result (IsAtomicReason (runs_in test.now ordered.now) ordered.now.order.listed) }
+    ensures none { IfNone result (KeepsAtomicity (runs_in test.now ordered.now) ordered.now.order.listed) }
 {
     let load = ordered.broken_pair(test)?;
     let store = ordered.atomicity_broken_by(test, load)?;

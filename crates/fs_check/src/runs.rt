@@ -3,9 +3,9 @@
 ghost use Rattle.std.specs.Prelude.{◌≡◌, All, length, Some, IfOk, IfErr, IsOkUnless};
 ghost use Rattle.fs_kinds.specs.declared.fault.Fault.TheVariants.{Memory};
 ghost use Rattle.fs_syntax.specs.Test.{IsBounded, IsStart};
-ghost use Rattle.fs_check.specs.WitnessRuns.{reason_of, AreRunsOf};
+ghost use Rattle.fs_check.specs.inner.WitnessRuns.{reason_of, AreRunsOf};
 
-use crate::lists::Choices;
+use fs_answer::Choices;
 use fs_cand::Traces;
 use fs_hart::{Run, Trace, trace_of};
 use fs_kinds::{Fault, Reason};

@@ -6,8 +6,8 @@ use Rattle.fs_instr.specs.declared.instr.Instr.{Instr}
 use Rattle.fs_kinds.specs.declared.fault.Fault.{Fault}
 use Rattle.fs_code.specs.Cells.{Item, Label, Instruction}
 use Rattle.fs_code.specs.Labels.{StandsAt, here, past_label, past_instruction, IsBranch, this, after_label, after_instruction, IsTwice, again, later, IsStray, IsLabelFault, twice, stray, AreResolved, none, label, plain, branch, IsCode, instruction_count, position, with_position, resolved}
-use Rattle.fs_code.specs.Order.{IsFirstOf, earliest}
-use Rattle.fs_code.proofs.FirstFault.{first_join}
+use Rattle.fs_kinds.specs.FaultOrder.{IsFirstOf, earliest}
+use Rattle.fs_kinds.proofs.FirstFault.{first_join}
 use Rattle.fs_code.proofs.LabelLemmas.{IsPosition, StandsFirst, position_is, GoesWrong, stray_if, wrong_of}
 
 -- ---- a hart without a fault has a code

@@ -6,8 +6,8 @@ use Rattle.fs_tokens.specs.Tokens.{Lined, views}
 use Rattle.fs_tokens.specs.declared.token.Token.{Token}
 use Rattle.fs_kinds.specs.declared.fault.Fault.{Fault}
 use Rattle.fs_code.specs.Cells.{Item, IsCell, IsCellFault, AreCells, empty, next, AreFaulty, here, later, AddsCell, IsListing}
-use Rattle.fs_code.specs.Order.{IsFirstOf, earliest}
-use Rattle.fs_code.proofs.FirstFault.{first_join, only_first}
+use Rattle.fs_kinds.specs.FaultOrder.{IsFirstOf, earliest}
+use Rattle.fs_kinds.proofs.FirstFault.{first_join, only_first}
 use Rattle.fs_code.specs.Columns.{column, cells_of}
 use Rattle.fs_code.proofs.CellLemmas.{cell_only, cell_clean, fault_only}
 

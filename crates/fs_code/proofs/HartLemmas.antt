@@ -15,9 +15,9 @@ use Rattle.fs_code.specs.Cells.{Item, AreCells, AreFaulty, IsListing, items_of}
 use Rattle.fs_code.specs.Columns.{column, cells_of}
 use Rattle.fs_code.specs.Labels.{IsCode, IsLabelFault, instruction_count, resolved}
 use Rattle.fs_code.specs.Codes.{IsHart, IsHartFault, of_cell, of_label, AreCodes, IsFault, fault, IsKept, AreKept, ReadsHart, ReadsListing, AreHarts}
-use Rattle.fs_code.specs.Order.{IsNoLater, IsFirst, IsFirstOf, earliest}
+use Rattle.fs_kinds.specs.FaultOrder.{IsNoLater, IsFirst, IsFirstOf, earliest}
 use Rattle.fs_code.specs.declared.hart.HartCode.{HartCode}
-use Rattle.fs_code.proofs.FirstFault.{first_join, same_first}
+use Rattle.fs_kinds.proofs.FirstFault.{first_join, same_first}
 use Rattle.fs_code.proofs.ColumnLemmas.{column-drop, cells_only, cells_clean}
 use Rattle.fs_code.proofs.CodeLemmas.{code_only, code_clean, code_is, code_count}
 

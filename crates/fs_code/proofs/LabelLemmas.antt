@@ -8,8 +8,8 @@ use Rattle.std.specs.Str.{bytes_eq}
 use Rattle.fs_instr.specs.declared.instr.Instr.{Instr}
 use Rattle.fs_kinds.specs.declared.fault.Fault.{Fault}
 use Rattle.fs_kinds.specs.declared.fault.Fault.TheVariants.{BadLabel}
-use Rattle.fs_code.specs.Order.{IsFirstOf, earliest}
-use Rattle.fs_code.proofs.FirstFault.{first_join, this_first, same_first}
+use Rattle.fs_kinds.specs.FaultOrder.{IsFirstOf, earliest}
+use Rattle.fs_kinds.proofs.FirstFault.{first_join, this_first, same_first}
 use Rattle.fs_code.specs.declared.cell.Item as items
 use Rattle.fs_code.specs.Cells.{Item, Label, Instruction, item_of, items_of}
 use Rattle.fs_code.specs.Labels.{StandsAt, IsBranch, IsTwice, IsStray, instruction_count, position, is_ahead, with_label, resolved, stray_of, number_after}

@@ -1,4 +1,3 @@
-pub mod FirstFault
 pub mod CellLemmas
 pub mod ColumnLemmas
 pub mod LabelLemmas

@@ -10,7 +10,7 @@ use Rattle.fs_instr.specs.declared.instr.Instr.{Instr}
 use Rattle.fs_instr.specs.declared.instr.Instr.TheVariants as instr
 use Rattle.fs_kinds.specs.declared.fault.Fault.{Fault}
 use Rattle.fs_kinds.specs.declared.fault.Fault.TheVariants.{Syntax, UnknownInstr, BadAnnotation}
-use Rattle.fs_code.specs.Order.{IsFirst}
+use Rattle.fs_kinds.specs.FaultOrder.{IsFirst}
 use Rattle.fs_code.specs.declared.cell.Item as items
 use Rattle.fs_code.specs.declared.cell.Item.TheVariants as item
 

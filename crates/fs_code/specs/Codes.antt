@@ -6,7 +6,8 @@ use Rattle.fs_kinds.specs.declared.fault.Fault.{Fault}
 use Rattle.fs_code.specs.Cells.{Item, AreCells, AreFaulty}
 use Rattle.fs_code.specs.Columns.{column}
 use Rattle.fs_code.specs.Labels.{IsCode, IsLabelFault}
-use Rattle.fs_code.specs.Order.{IsFirst}
+use Rattle.fs_kinds.specs.FaultOrder.{IsFirst}
+use Rattle.fs_kinds.specs.Limits.{most_instructions}
 use Rattle.fs_code.specs.declared.hart.HartCode.{HartCode}
 use Rattle.fs_code.specs.declared.hart.HartCode.TheVariants.{Short, Long}
 
@@ -32,10 +33,10 @@ pub data IsFault (columns : ℕ) (cells : List (List Lined)) : Fault → Type 0 
 
 -- ---- what the reader keeps of codes
 
--- all of a code of at most 32 instructions, and the length of a longer one
+-- all of a code within the limit, and the length of a longer one
 abbrev pub IsKept : List Instr → HartCode → Type 0
-IsKept code (Short kept) = (length code ≤ 32) × (kept.items ≡ code)
-IsKept code (Long count) = (32 < length code) × (count ≡ length code)
+IsKept code (Short kept) = (length code ≤ most_instructions) × (kept.items ≡ code)
+IsKept code (Long count) = (most_instructions < length code) × (count ≡ length code)
 
 abbrev pub AreKept : List (List Instr) → List HartCode → Type 0
 AreKept [] [] = Unit {0}

@@ -1,4 +1,3 @@
-pub mod Order
 pub mod Cells
 pub mod Columns
 pub mod Labels

@@ -3,16 +3,16 @@
 ghost use Rattle.std.specs.Prelude.{◌≡◌, ◌≤◌, ◌<◌, ◌^◌, ◌+◌, ℕ, List, IfOk, option_map};
 ghost use Rattle.std.specs.Str.{bytes_eq};
 ghost use Rattle.indexmap.specs.IndexMap.{get_by};
+ghost use Rattle.fs_kinds.specs.Limits.{most_instructions};
 ghost use Rattle.fs_instr.specs.Operands.{toks};
 ghost use Rattle.fs_instr.specs.Reading.{read_tokens};
 ghost use Rattle.fs_code.specs.Cells.{instr_in, item_of, items_of};
 ghost use Rattle.fs_code.specs.Labels.{position, is_ahead, stray_of, number_after, with_label, resolved, instruction_count, IsStray};
-ghost use Rattle.fs_code.specs.Order.{IsFirstOf};
+ghost use Rattle.fs_kinds.specs.FaultOrder.{IsFirstOf};
 
 use crate::cell::Item;
-use crate::order::earliest;
 use fs_instr::{Instr, read_tokens};
-use fs_kinds::Fault;
+use fs_kinds::{Fault, earliest};
 use fs_tokens::Token;
 use indexmap::IndexMap;
 use std::alloc::{AllocError, Global};
@@ -104,7 +104,7 @@ fn with_label(
     listing: &[Item<'_, '_>],
 ) -> Instr
     requires positions { (w : List ℕ) → get_by (λ k. bytes_eq w k.now) positions.now ≡ position w (items_of listing.now) }
-    requires short { instruction_count (items_of listing.now) ≤ 32 }
+    requires short { instruction_count (items_of listing.now) ≤ most_instructions }
     ensures { result ≡ with_label (items_of listing.now) instr (option_map (λ w. w.now) target.entry) }
 {
     match target {
@@ -123,7 +123,7 @@ pub(crate) fn resolve(
     positions: &IndexMap<&str, usize>,
 ) -> Result<Vec<Instr>, AllocError>
     requires positions { (w : List ℕ) → get_by (λ k. bytes_eq w k.now) positions.now ≡ position w (items_of listing.now) }
-    requires short { instruction_count (items_of listing.now) ≤ 32 }
+    requires short { instruction_count (items_of listing.now) ≤ most_instructions }
     ensures { IfOk result (λ code. code.items ≡ resolved (items_of listing.now) (items_of listing.now)) }
 {
     let mut code = Vec::new(alloc);

@@ -5,12 +5,11 @@ ghost use Rattle.fs_instr.specs.declared.instr.Instr.{Instr};
 ghost use Rattle.fs_kinds.specs.declared.fault.Fault.{Fault};
 ghost use Rattle.fs_code.specs.Columns.{cells_of};
 ghost use Rattle.fs_code.specs.Codes.{AreCodes, AreKept, AreHarts, IsFault};
-ghost use Rattle.fs_code.specs.Order.{IsFirst};
+ghost use Rattle.fs_kinds.specs.FaultOrder.{IsFirst};
 
 use crate::hart::{HartCode, read_hart};
-use crate::order::earliest;
 use crate::slices::skip;
-use fs_kinds::Fault;
+use fs_kinds::{Fault, earliest};
 use fs_tokens::Token;
 use std::alloc::{AllocError, Global};
 

@@ -5,9 +5,8 @@ ghost use Rattle.fs_code.specs.Cells.{items_of, IsListing};
 ghost use Rattle.fs_code.specs.Columns.{column, cells_of};
 
 use crate::cell::{Item, read_cell};
-use crate::order::earliest;
 use crate::slices::skip;
-use fs_kinds::Fault;
+use fs_kinds::{Fault, earliest};
 use fs_tokens::Token;
 use std::alloc::{AllocError, Global};
 

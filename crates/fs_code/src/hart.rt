@@ -9,24 +9,20 @@ use crate::branches::{first_stray, instruction_count, resolve};
 use crate::cell::Item;
 use crate::column::read_column;
 use crate::labels::read_positions;
-use crate::order::earliest;
 use fs_instr::Instr;
-use fs_kinds::Fault;
+use fs_kinds::{Fault, MOST_INSTRUCTIONS, earliest};
 use fs_tokens::Token;
 use std::alloc::{AllocError, Global};
 
-/// The code of a hart: its instructions, or how many they are where they are more than 32.
+/// The code of a hart: its instructions, or how many they are where they are too many.
 #[derive(Debug, Drop)]
 pub enum HartCode {
-    /// At most 32 instructions, each branch with the number of the instruction that it goes to as its target, or how many
+    /// At most `MOST_INSTRUCTIONS`, each branch with the number of the instruction that it goes to as its target, or how many
     /// instructions there are where it goes to the end.
     Short(Vec<Instr>),
-    /// More than 32 instructions: how many.
+    /// More than these: how many.
     Long(usize),
 }
-
-// The most instructions of a code that is kept.
-const MOST: usize = 32;
 
 // The code of a hart from what stands in its cells, or the first fault of its labels and branches.
 fn read_listing(
@@ -41,7 +37,7 @@ fn read_listing(
         return Ok(Err(fault));
     }
     let count = instruction_count(listing);
-    if count > MOST {
+    if count > MOST_INSTRUCTIONS {
         return Ok(Ok(HartCode::Long(count)));
     }
     let code = resolve(alloc, listing, &positions)?;

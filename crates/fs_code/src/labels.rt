@@ -5,11 +5,10 @@ ghost use Rattle.std.specs.Str.{bytes_eq};
 ghost use Rattle.indexmap.specs.IndexMap.{get_by};
 ghost use Rattle.fs_code.specs.Cells.{items_of};
 ghost use Rattle.fs_code.specs.Labels.{position, IsTwice};
-ghost use Rattle.fs_code.specs.Order.{IsFirstOf};
+ghost use Rattle.fs_kinds.specs.FaultOrder.{IsFirstOf};
 
 use crate::cell::Item;
-use crate::order::earliest;
-use fs_kinds::Fault;
+use fs_kinds::{Fault, earliest};
 use indexmap::IndexMap;
 use std::alloc::{AllocError, Global};
 

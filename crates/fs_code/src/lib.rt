@@ -7,11 +7,7 @@ mod codes;
 mod column;
 mod hart;
 mod labels;
-mod order;
 mod slices;
 
 pub use codes::read_codes;
 pub use hart::HartCode;
-
-#[cfg(test)]
-mod tests;

@@ -2,6 +2,7 @@
 use Rattle.std.proofs.Common.{◌≡◌, ℕ, ◌+◌, ◌<◌, List, [], ◌∷◌, ◌++◌, length, drop, get_or, Bool, true, false, Some, None, Result, Ok, Err, IfOk, IfErr, refl, ap, ◌∙◌, subst}
 use Rattle.std.specs.Prelude.{nat_le, if◌then◌else◌}
 use Rattle.std.proofs.lemmas.List.{at_drop_more}
+use Rattle.fs_kinds.specs.Limits.{most_depth}
 use Rattle.fs_tokens.specs.Tokens.{Lined, kind_of, views}
 use Rattle.fs_tokens.specs.Values.{Target, Value}
 use Rattle.fs_tokens.specs.Sections.{StopsText}
@@ -33,7 +34,7 @@ shallow_if false w g c = refl
 means_what : (c : conditions.Condition) (s : Syntax) (found : List (Target × Value)) → HasAtoms (Ok (s, found)) → Is c (bounded s) found → Means c s
 means_what c s found a g = record {
   atoms = g.atoms ∙ a;
-  tree = g.tree ∙ shallow_if (nat_le (depth_of s) 64) (written_depth s) (grouped_depth (condition_of s)) (condition_of s);
+  tree = g.tree ∙ shallow_if (nat_le (depth_of s) most_depth) (written_depth s) (grouped_depth (condition_of s)) (condition_of s);
 }
 
 means_from : (ts : List Lined) (r : Result conditions.Condition Stop) (q : Scan) → Meets IsCondition ts q → HasAtoms q → Gives r (result_bounded q) → IfOk r (λ c. (s : Syntax) × IsCondition ts s × Means c s)

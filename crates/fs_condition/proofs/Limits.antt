@@ -2,6 +2,7 @@
 use Rattle.std.proofs.Common.{◌≡◌, ℕ, zero, suc, ◌+◌, max, List, [], ◌∷◌, ◌++◌, Option, Some, None, Result, Ok, Err, refl, ap, ◌∙◌, arith}
 use Rattle.std.specs.Prelude.{nat_le, if◌then◌else◌, option_map}
 use Rattle.std.proofs.lemmas.Bool.Decides.{nat_tests}
+use Rattle.fs_kinds.specs.Limits.{most_depth}
 use Rattle.fs_tokens.specs.Tokens.{Tok, Lined, Word, Sign}
 use Rattle.fs_tokens.specs.Sections.{Move, Go, Finish, Bad}
 use Rattle.fs_tokens.specs.Values.{Target, Value}
@@ -17,7 +18,7 @@ use Rattle.fs_condition.proofs.Residual.{tree}
 use Rattle.fs_condition.proofs.Reading.{Scan}
 
 abbrev bounded_at : ℕ → ℕ → Condition → Bounded
-bounded_at w g c = if nat_le (max w g) 64 then Fine w g c else Deep
+bounded_at w g c = if nat_le (max w g) most_depth then Fine w g c else Deep
 
 denial_at : (w g : ℕ) (c : Condition) → limits.with_denial (bounded_at w g c) ≡ bounded_at (w + 1) (g + 1) (meaning.Deny c)
 denial_at w g c = grind (arith, nat_tests)

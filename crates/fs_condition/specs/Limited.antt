@@ -1,5 +1,6 @@
 -- Conditions with their depths, where they aren't too deep.
 use Rattle.std.specs.Prelude.{ℕ, ◌+◌, max, nat_le, ◌||◌, if◌then◌else◌}
+use Rattle.fs_kinds.specs.Limits.{most_depth}
 use Rattle.fs_condition.specs.Grammar.{Syntax}
 use Rattle.fs_condition.specs.Meaning.{Condition, Atom, True, False, Deny, Both, Either, condition_of, written_depth, grouped_depth, depth_of}
 use Rattle.fs_condition.specs.Machine.{Maker}
@@ -11,16 +12,16 @@ pub data Bounded : Type 0 where
 
 abbrev pub with_denial : Bounded → Bounded
 with_denial Deep = Deep
-with_denial (Fine w g c) = if nat_le 64 w || nat_le 64 g then Deep else Fine (w + 1) (g + 1) (Deny c)
+with_denial (Fine w g c) = if nat_le most_depth w || nat_le most_depth g then Deep else Fine (w + 1) (g + 1) (Deny c)
 
 abbrev pub in_parentheses : Bounded → Bounded
 in_parentheses Deep = Deep
-in_parentheses (Fine w g c) = if nat_le 64 w then Deep else Fine (w + 1) g c
+in_parentheses (Fine w g c) = if nat_le most_depth w then Deep else Fine (w + 1) g c
 
 abbrev pub connected : (Condition → Condition → Condition) → Bounded → Bounded → Bounded
 connected f Deep y = Deep
 connected f (Fine m g a) Deep = Deep
-connected f (Fine m g a) (Fine n h b) = if nat_le 64 (max g h) then Deep else Fine (max m n) (max g h + 1) (f a b)
+connected f (Fine m g a) (Fine n h b) = if nat_le most_depth (max g h) then Deep else Fine (max m n) (max g h + 1) (f a b)
 
 abbrev pub limited : Maker Bounded
 limited = record {
@@ -34,4 +35,4 @@ limited = record {
 }
 
 abbrev pub bounded : Syntax → Bounded
-bounded s = if nat_le (depth_of s) 64 then Fine (written_depth s) (grouped_depth (condition_of s)) (condition_of s) else Deep
+bounded s = if nat_le (depth_of s) most_depth then Fine (written_depth s) (grouped_depth (condition_of s)) (condition_of s) else Deep

@@ -9,6 +9,3 @@ mod reader;
 
 pub use condition::{Atom, Condition, Tree};
 pub use reader::read_condition;
-
-#[cfg(test)]
-mod tests;

@@ -5,10 +5,8 @@ ghost use Rattle.fs_condition.specs.Limited.{Fine, with_denial, in_parentheses, 
 ghost use Rattle.fs_condition.specs.Views.{connective_of, part_of, tree_of, shallow};
 
 use crate::condition::Tree;
+use fs_kinds::MOST_DEPTH;
 use std::alloc::{AllocError, Global};
-
-/// The greatest depth of a condition whose tree is built.
-const DEPTH: u8 = 64;
 
 /// What joins two parts of a condition.
 #[derive(Clone, Copy, Debug)]
@@ -51,7 +49,7 @@ impl<'a> Part<'a> {
         match self {
             Part::TooDeep => Ok(Part::TooDeep),
             Part::Shallow(written, grouped, tree) => {
-                if written >= DEPTH || grouped >= DEPTH {
+                if written >= MOST_DEPTH || grouped >= MOST_DEPTH {
                     return Ok(Part::TooDeep);
                 }
                 let tree = Box::new(alloc, Tree::Deny(tree))?;
@@ -67,7 +65,7 @@ impl<'a> Part<'a> {
         match self {
             Part::TooDeep => Part::TooDeep,
             Part::Shallow(written, grouped, tree) => {
-                if written >= DEPTH {
+                if written >= MOST_DEPTH {
                     return Part::TooDeep;
                 }
                 Part::Shallow(written + 1, grouped, tree)
@@ -92,7 +90,7 @@ impl<'a> Part<'a> {
                 Part::Shallow(other_written, other_grouped, right) => {
                     let written = written.max(other_written);
                     let grouped = grouped.max(other_grouped);
-                    if grouped >= DEPTH {
+                    if grouped >= MOST_DEPTH {
                         return Ok(Part::TooDeep);
                     }
                     let tree = Box::new(alloc, connective.tree(left, right))?;

@@ -6,8 +6,6 @@ mod form;
 mod header;
 mod init;
 mod rows;
-#[cfg(test)]
-mod tests;
 
 pub use form::{Form, read_form};
 pub use header::read_header;

@@ -10,7 +10,7 @@ use Rattle.fs_model.specs.declared.step.Choice.{Choice}
 use Rattle.fs_model.specs.Execution.{code_of}
 use Rattle.fs_hart.specs.declared.walk.Walk.{Walk}
 use Rattle.fs_hart.specs.Listing.{End, trace_at}
-use Rattle.fs_hart.specs.Walking.{Adds, after, first_astray, is_whole, whole_traces}
+use Rattle.fs_hart.specs.inner.Walking.{Adds, after, first_astray, is_whole, whole_traces}
 use Rattle.fs_hart.proofs.Ends.{Tried}
 
 pub record Tries (t : Test) (hart : ℕ) (sets : List (List ℕ)) (h : Hart) (os : List (Option Choice)) (old new : Walk) : Type 0 where

@@ -17,7 +17,7 @@ use Rattle.fs_model.proofs.Runs.{made, no_step, same_instr}
 use Rattle.fs_model.proofs.Stepping.{made_once}
 use Rattle.fs_model.proofs.Stops.{at_step}
 use Rattle.fs_hart.specs.Listing.{End, IsEarlier, IsOffered}
-use Rattle.fs_hart.specs.Walking.{IsEndFrom, EndsAt, Rises, IsOf, AreEndsFrom, ListsFrom, after, options}
+use Rattle.fs_hart.specs.inner.Walking.{IsEndFrom, EndsAt, Rises, IsOf, AreEndsFrom, ListsFrom, after, options}
 use Rattle.fs_hart.proofs.Options.{OptionBefore, in_one, step_offered}
 
 same_end : (e d : End) → e.steps ≡ d.steps → e.astray ≡ d.astray → e ≡ d

@@ -21,7 +21,7 @@ use Rattle.fs_hart.specs.declared.trace.Trace.{Trace}
 use Rattle.fs_hart.specs.declared.walk.Walk.{Walk}
 use Rattle.fs_hart.specs.Runs.{registers_after}
 use Rattle.fs_hart.specs.Listing.{End, trace_at}
-use Rattle.fs_hart.specs.Walking.{Explores, IsCut, ListsFrom, after, options}
+use Rattle.fs_hart.specs.inner.Walking.{Explores, IsCut, ListsFrom, after, options}
 use Rattle.fs_hart.proofs.Along.{is_step}
 use Rattle.fs_hart.proofs.Options.{OptionBefore, options_rise, before_place, option_loads, option_chosen, no_step_stopped}
 use Rattle.fs_hart.proofs.Ends.{Tried, whole_leaf, astray_leaf, tried_none, tried_more, tried_skipped, tried_all, ends_more}

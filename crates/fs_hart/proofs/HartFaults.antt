@@ -1,91 +1,22 @@
 -- The faults of a hart, by the ends of its choice lists: too many of them, and the first that goes astray.
-use Rattle.std.proofs.Common.{◌≡◌, ◌≢◌, ◌⊎◌, ℕ, suc, ◌<◌, ◌≤◌, Option, None, Some, List, [], ◌∷◌, ◌++◌, map, length, refl, ap, sym, subst, ◌∙◌, arith, inl, inr, All}
-use Rattle.std.specs.List.{AllPairs}
+use Rattle.std.proofs.Common.{◌≡◌, ◌≢◌, ℕ, ◌<◌, ◌≤◌, Option, None, Some, List, [], ◌∷◌, ◌++◌, map, length, refl, ap, sym, subst, ◌∙◌, arith, inl, inr, All}
 use Rattle.std.proofs.lemmas.List.{length-map}
 use Rattle.std.proofs.lemmas.List.Elements.{All-map}
 use Rattle.std.proofs.lemmas.List.Kept.{AllPairs-cons}
 use Rattle.fs_syntax.specs.declared.test.Test.{Test}
 use Rattle.fs_model.specs.declared.step.Step.{Step}
 use Rattle.fs_model.specs.declared.step.Choice.{Choice}
-use Rattle.fs_model.specs.declared.step.Choice.TheVariants.{Word, Success, Failure}
-use Rattle.fs_model.specs.Choices.{IsBefore, ComesBefore, choices_of}
+use Rattle.fs_model.specs.Choices.{ComesBefore, choices_of}
 use Rattle.fs_model.specs.Values.{LoadsFrom}
 use Rattle.fs_model.specs.TooMany.{AreMoreThan, Ends, EndsAstray, most_choice_lists}
+use Rattle.fs_model.proofs.ChoiceOrder.{comes_not_itself, not_both}
+use Rattle.fs_model.proofs.Pigeonhole.{IsAmong, Differ, each_among, no_more}
 use Rattle.fs_hart.specs.Listing.{End, EndsSo, IsEnd, IsEarlier, IsOffered}
-use Rattle.fs_hart.specs.Walking.{Rises, IsOf}
+use Rattle.fs_hart.specs.inner.Walking.{Rises, IsOf}
 use Rattle.fs_hart.proofs.Ends.{all_of, all_head, all_tail, of_all}
-
--- ---- choice order
-
-not_both_choices : (x y : Choice) → IsBefore x y → IsBefore y x → ⊥
-not_both_choices (Word a) (Word b) p q = omega (arith, p, q)
-not_both_choices Success Failure p q = q
-not_both_choices _ _ p q = p
-
-not_both : (xs ys : List Choice) → ComesBefore xs ys → ComesBefore ys xs → ⊥
-not_both [] [] p q = p
-not_both [] (y ∷ ys) p q = q
-not_both (x ∷ xs) [] p q = p
-not_both (x ∷ xs) (y ∷ ys) p q = elim p [
-  | inl before ↦ elim q [
-    | inl behind ↦ not_both_choices x y before behind
-    | inr same ↦ not_both_choices x x (subst (IsBefore x) same.0 before) (subst (IsBefore x) same.0 before)
-  ]
-  | inr same ↦ elim q [
-    | inl behind ↦ not_both_choices x x (subst (λ z. IsBefore z x) (sym same.0) behind) (subst (λ z. IsBefore z x) (sym same.0) behind)
-    | inr there ↦ not_both xs ys same.1 there.1
-  ]
-]
 
 abbrev pub choices_at : End → List Choice
 choices_at e = choices_of e.steps
-
--- ---- different lists among others
-
-abbrev IsAmong : List (List Choice) → List Choice → Type 0
-IsAmong [] x = ⊥
-IsAmong (y ∷ ys) x = (x ≡ y) ⊎ IsAmong ys x
-
-record Apart (ys : List (List Choice)) (x : List Choice) : Type 0 where
-  pub rest : List (List Choice)
-  pub one_less : suc (length rest) ≡ length ys
-  pub others : (z : List Choice) → IsAmong ys z → z ≢ x → IsAmong rest z
-
-apart : (ys : List (List Choice)) (x : List Choice) → IsAmong ys x → Apart ys x
-apart [] x p = absurd p
-apart (y ∷ ys) x p = elim p [
-  | inl same ↦ record { rest = ys; one_less = refl; others = (λ z q other. elim q [ inl e ↦ absurd (other (e ∙ sym same)) | inr there ↦ there ]) }
-  | inr there ↦ (let less = apart ys x there in record {
-    rest = y ∷ less.rest;
-    one_less = ap suc less.one_less;
-    others = (λ z q other. elim q [ inl e ↦ inl e | inr further ↦ inr (less.others z further other) ]);
-  })
-]
-
-head_among : (P : List Choice → Type 0) (xs : List (List Choice)) (z : List Choice) → All P xs → IsAmong xs z → P z
-head_among P [] z all p = absurd p
-head_among P (x ∷ xs) z all p = elim p [
-  | inl same ↦ subst P (sym same) (all 0 x (omega arith))
-  | inr there ↦ head_among P xs z (λ k d l. all (suc k) d (let m : k < length xs = l in omega arith)) there
-]
-
-abbrev Differ : List (List Choice) → Type 0
-Differ xs = AllPairs (λ x y. x ≢ y) xs
-
-tail_differs : (x : List Choice) (xs : List (List Choice)) → Differ (x ∷ xs) → Differ xs
-tail_differs x xs h = λ i j d below within. h (suc i) (suc j) d (omega arith) (let m : j < length xs = within in omega arith)
-
-head_differs : (x : List Choice) (xs : List (List Choice)) → Differ (x ∷ xs) → All (λ y. x ≢ y) xs
-head_differs x xs h = λ j d within. h 0 (suc j) d (omega arith) (let m : j < length xs = within in omega arith)
-
-no_more : (xs ys : List (List Choice)) → Differ xs → ((x : List Choice) → IsAmong xs x → IsAmong ys x) → length xs ≤ length ys
-no_more [] ys h f = omega arith
-no_more (x ∷ xs) ys h f =
-    let less = apart ys x (f x (inl refl)) in
-    let inside : (z : List Choice) → IsAmong xs z → IsAmong less.rest z =
-    (λ z there. less.others z (f z (inr there)) (λ same. head_among (λ y. x ≢ y) xs z (head_differs x xs h) there (sym same))) in
-    let rest = no_more xs less.rest (tail_differs x xs h) inside in
-    omega (arith, rest, less.one_less)
 
 -- ---- ends and choice lists
 
@@ -133,8 +64,7 @@ module _ (t : Test) (hart : ℕ) (sets : List (List ℕ)) where
     where
       behind : (b : End) → IsEarlier e b → choices_at e ≡ choices_at b → ⊥
       behind b before same =
-          let itself : ComesBefore (choices_at e) (choices_at e) = subst (ComesBefore (choices_at e)) (sym same) before in
-          not_both (choices_at e) (choices_at e) itself itself
+          comes_not_itself (choices_at e) (subst (ComesBefore (choices_at e)) (sym same) before)
 
   pub more_lists : (ends : List End) → Rises ends → All (IsEnd t hart sets) ends → most_choice_lists < length ends → AreMoreThan most_choice_lists EndsOver
   more_lists ends r each many = (
@@ -152,7 +82,7 @@ module _ (t : Test) (hart : ℕ) (sets : List (List ℕ)) where
   pub no_more_lists : (ends : List End) → ((e : End) → IsEnd t hart sets e → IsOf ends e) → length ends ≤ most_choice_lists → AreMoreThan most_choice_lists EndsOver → ⊥
   no_more_lists ends all few more =
       let inside : (x : List Choice) → IsAmong more.0 x → IsAmong (map choices_at ends) x =
-      (λ x p. let it = end_of x (head_among EndsOver more.0 x more.2 p) in
+      (λ x p. let it = end_of x (each_among EndsOver more.0 x more.2 p) in
       subst (IsAmong (map choices_at ends)) (sym it.choices_are) (among_ends ends it.end (all it.end it.is_end))) in
       let size : length (map choices_at ends) ≡ length ends = length-map ends choices_at in
       let most = no_more more.0 (map choices_at ends) more.1 inside in
@@ -164,7 +94,7 @@ module _ (t : Test) (hart : ℕ) (sets : List (List ℕ)) where
   first_of : (before : List End) (here : End) (later : List End) (e : End) (k : ℕ) → Rises (before ++ here ∷ later) → All (λ b. b.astray ≡ None) before
       → IsOf (before ++ here ∷ later) e → e.astray ≡ Some k → IsEarlier e here → ⊥
   first_of [] here later e k r whole p astray early = elim p [
-    | inl same ↦ (let itself = subst (λ d. IsEarlier d here) same early in not_both (choices_at here) (choices_at here) itself itself)
+    | inl same ↦ comes_not_itself (choices_at here) (subst (λ d. IsEarlier d here) same early)
     | inr q ↦ not_both (choices_at e) (choices_at here) early (of_all (IsEarlier here) later e r.0 q)
   ]
   first_of (b ∷ bs) here later e k r whole p astray early = elim p [

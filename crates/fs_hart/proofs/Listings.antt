@@ -16,7 +16,7 @@ use Rattle.fs_model.specs.Execution.{code_of, registers_of}
 use Rattle.fs_model.specs.TooMany.{IsFirstAstray, IsHartFault, most_choice_lists}
 use Rattle.fs_hart.specs.declared.walk.Walk.{Walk}
 use Rattle.fs_hart.specs.Listing.{End, EndsSo, IsEnd, IsEarlier, AreEnds, IsOffered, IsListing, AreTraces, IsTraceFault, trace_at}
-use Rattle.fs_hart.specs.Walking.{EndsAt, Explores, IsCut, Overflows, IsEndFrom, AreEndsFrom, ListsFrom, Rises, IsOf, after, first_astray, is_whole, whole_traces}
+use Rattle.fs_hart.specs.inner.Walking.{EndsAt, Explores, IsCut, Overflows, IsEndFrom, AreEndsFrom, ListsFrom, Rises, IsOf, after, first_astray, is_whole, whole_traces}
 use Rattle.fs_hart.proofs.Ends.{all_of, of_all, of_append_right}
 use Rattle.fs_hart.proofs.HartFaults.{more_lists, no_more_lists, none_sooner, astray_by}
 

@@ -1,5 +1,5 @@
 -- The choices that a hart has at an instruction, and the steps that it can make with words of the sets.
-use Rattle.std.proofs.Common.{◌≡◌, ℕ, zero, suc, ◌+◌, ◌-◌, ◌*◌, ◌/◌, ◌<◌, true, if◌then◌else◌, Option, None, Some, is_some, option_map, unwrap_or, List, [], ◌∷◌, ◌++◌, map, length, get_or, take, refl, ap, sym, subst, ◌∙◌, arith, inl, inr, All}
+use Rattle.std.proofs.Common.{◌≡◌, ℕ, zero, suc, ◌+◌, ◌<◌, true, if◌then◌else◌, Option, None, Some, is_some, option_and_then, option_map, List, [], ◌∷◌, ◌++◌, map, length, get_or, take, refl, ap, sym, subst, ◌∙◌, arith, inl, inr, All}
 use Rattle.std.specs.Prelude.{slice_get}
 use Rattle.std.specs.Option.{option_to_list}
 use Rattle.std.specs.List.{AllPairs, Contains, slice_index_or}
@@ -9,7 +9,8 @@ use Rattle.std.proofs.lemmas.List.Elements.{All-nil, All-cons}
 use Rattle.std.proofs.lemmas.List.Kept.{AllPairs-cons, AllPairs-from_increasing}
 use Rattle.fs_instr.specs.declared.instr.Instr.{Instr}
 use Rattle.fs_instr.specs.declared.instr.Instr.TheVariants.{Register, Immediate, Shift, Lui, Li, Lw, Sw, Lr, Sc, Amo, Branch, Jump, Fence, FenceTso}
-use Rattle.fs_syntax.specs.Test.{address_of}
+use Rattle.fs_syntax.specs.Test.{address_of, location_of}
+use Rattle.fs_syntax.proofs.Addresses.{location_of-address}
 use Rattle.fs_model.specs.declared.hart.Hart.{Hart}
 use Rattle.fs_model.specs.declared.step.Step.{Step}
 use Rattle.fs_model.specs.declared.step.Choice.{Choice}
@@ -22,7 +23,7 @@ use Rattle.fs_model.specs.Values.{LoadsOne}
 use Rattle.fs_model.proofs.Runs.{same_instr}
 use Rattle.fs_model.proofs.Stops.{at_step}
 use Rattle.fs_hart.specs.Listing.{IsOffered}
-use Rattle.fs_hart.specs.Walking.{options, set_at, word_choice}
+use Rattle.fs_hart.specs.inner.Walking.{options, set_at, set_of, word_choice}
 use Rattle.fs_hart.proofs.Along.{stops_in}
 
 -- ---- choice order of the options
@@ -53,20 +54,24 @@ set_rises [] (suc k) a = λ k l. absurd (omega arith)
 set_rises (s ∷ sets) zero a = a 0 [] (omega arith)
 set_rises (s ∷ sets) (suc k) a = set_rises sets k (λ i d l. a (suc i) d (let m : i < length sets = l in omega arith))
 
+set_of_rises : (sets : List (List ℕ)) (location : Option ℕ) → All IsStrictlyIncreasing sets → IsStrictlyIncreasing (set_of sets location)
+set_of_rises sets None a = λ k l. absurd (omega arith)
+set_of_rises sets (Some k) a = set_rises sets k a
+
 pub options_rise : (sets : List (List ℕ)) (h : Hart) (i : Instr) → All IsStrictlyIncreasing sets → AllPairs OptionBefore (options sets h i)
 options_rise sets h (Register op rd first second) a = one OptionBefore None
 options_rise sets h (Immediate op rd first immediate) a = one OptionBefore None
 options_rise sets h (Shift op rd first amount) a = one OptionBefore None
 options_rise sets h (Lui rd upper) a = one OptionBefore None
 options_rise sets h (Li rd word) a = one OptionBefore None
-options_rise sets h (Lw rd base offset) a = words_rise _ (AllPairs-from_increasing _ (set_rises sets _ a))
+options_rise sets h (Lw rd base offset) a = words_rise _ (AllPairs-from_increasing _ (set_of_rises sets _ a))
 options_rise sets h (Sw value base offset) a = one OptionBefore None
-options_rise sets h (Lr ann rd base) a = words_rise _ (AllPairs-from_increasing _ (set_rises sets _ a))
+options_rise sets h (Lr ann rd base) a = words_rise _ (AllPairs-from_increasing _ (set_of_rises sets _ a))
 options_rise sets h (Sc ann rd value base) a =
     AllPairs-cons OptionBefore (Some Success) (Some Failure ∷ [])
     (All-cons (OptionBefore (Some Success)) (Some Failure) [] (record { first = Success; second = Failure; a_is = refl; b_is = refl; before = tt }) (All-nil (OptionBefore (Some Success))))
     (one OptionBefore (Some Failure))
-options_rise sets h (Amo op ann rd value base) a = words_rise _ (AllPairs-from_increasing _ (set_rises sets _ a))
+options_rise sets h (Amo op ann rd value base) a = words_rise _ (AllPairs-from_increasing _ (set_of_rises sets _ a))
 options_rise sets h (Branch op first second target) a = one OptionBefore None
 options_rise sets h (Jump target) a = one OptionBefore None
 options_rise sets h (Fence before after) a = one OptionBefore None
@@ -100,11 +105,8 @@ same_some : {a b : ℕ} → Some a ≡ Some b → a ≡ b
 same_some e = cc
 
 -- a location is known by its address
-located : (k : ℕ) (a : Option ℕ) → a ≡ Some (address_of k) → (unwrap_or a 0 - 4096) / 16 ≡ k
-located k a e = rw e (let f : (4096 + 16 * k - 4096) / 16 ≡ k = omega arith in f)
-
-set_of : (sets : List (List ℕ)) (k : ℕ) (a : Option ℕ) → a ≡ Some (address_of k) → set_at sets a ≡ slice_index_or sets k []
-set_of sets k a e = ap (λ j. slice_index_or sets j []) (located k a e)
+set_there : (sets : List (List ℕ)) (k : ℕ) (a : Option ℕ) → a ≡ Some (address_of k) → set_at sets a ≡ slice_index_or sets k []
+set_there sets k a e = ap (λ o. set_of sets (option_and_then location_of o)) e ∙ ap (set_of sets) (location_of-address k)
 
 -- a word of the set that is there
 loads : (sets : List (List ℕ)) (h : Hart) (i : Instr) (c : Option Choice) (s : Step) → s.instr ≡ i → s.address ≡ address_in h.registers s.instr → option_map Word s.loaded ≡ c
@@ -113,7 +115,7 @@ loads sets h i c s same at chosen p k word here loaded =
     let found = in_words _ c p in
     let word_is : found.0 ≡ word = same_word (sym found.2 ∙ sym chosen ∙ ap (option_map Word) loaded) in
     let address : address_in h.registers i ≡ Some (address_of k) = ap (address_in h.registers) (sym same) ∙ sym at ∙ here in
-    subst (Contains (slice_index_or sets k [])) word_is (subst (λ ws. Contains ws found.0) (set_of sets k _ address) found.1)
+    subst (Contains (slice_index_or sets k [])) word_is (subst (λ ws. Contains ws found.0) (set_there sets k _ address) found.1)
 
 loads_none : (sets : List (List ℕ)) (s : Step) → s.loaded ≡ None → LoadsOne (IsOffered sets) s
 loads_none sets s none k word here loaded = absurd (let both : None ≡ Some word = sym none ∙ loaded in cc)
@@ -169,7 +171,7 @@ word_there sets h i s n (Some word) same at e w f =
     let k = at.1.0 in
     let address : address_in h.registers i ≡ Some (address_of k) = ap (address_in h.registers) (sym same) ∙ sym at.0 ∙ at.1.2 in
     let offered = f k word at.1.2 e in
-    rw e (words_in _ word (subst (λ ws. Contains ws word) (sym (set_of sets k _ address)) offered))
+    rw e (words_in _ word (subst (λ ws. Contains ws word) (sym (set_there sets k _ address)) offered))
 
 offers : (n : ℕ) (sets : List (List ℕ)) (h : Hart) (i : Instr) (s : Step) → s.instr ≡ i → Accesses n h s i → LoadsOne (IsOffered sets) s → Contains (options sets h i) (choice_by i s)
 offers n sets h (Register op rd first second) s e a f = first_in None []

@@ -1,16 +1,17 @@
 //! The memory operations of runs.
 
-ghost use Rattle.std.specs.Prelude.{◌≡◌, ◌<◌, ◌≤◌, ◌++◌, ℕ, List, All, length, map, IfOk, OnOk, IsOkUnless};
+ghost use Rattle.std.specs.Prelude.{◌≡◌, ◌<◌, ◌≤◌, ◌++◌, ℕ, List, All, length, IfOk, OnOk, IsOkUnless};
 ghost use Rattle.fs_kinds.specs.declared.fault.Fault.TheVariants.{Memory};
 ghost use Rattle.fs_syntax.specs.declared.test.Test.{Test};
 ghost use Rattle.fs_syntax.specs.Test.{IsBounded};
 ghost use Rattle.fs_model.specs.declared.step.Step.{Step};
 ghost use Rattle.fs_model.specs.Operations.{access_of, accesses_of, initial_store, operations, steps_of};
 ghost use Rattle.fs_model.specs.Execution.{IsTrace, pre_execution};
+ghost use Rattle.fs_hart.specs.Steps.{steps_in};
 
 use crate::lists::Operations;
 use crate::trace::Trace;
-use fs_instr::{ImmOp, Instr, Reg};
+use fs_instr::Instr;
 use fs_kinds::Fault;
 use fs_model::{Operation, Step};
 use fs_syntax::{Location, Test};
@@ -37,12 +38,7 @@ fn initial_store(location: u8, word: u32) -> Operation
     Operation {
         hart: None,
         place: 0,
-        instr: Instr::Immediate {
-            op: ImmOp::Addi,
-            rd: Reg::ZERO,
-            first: Reg::ZERO,
-            imm: 0,
-        },
+        instr: Instr::NOP,
         address: Some(Location::address(location)),
         loaded: None,
         stored: Some(word),
@@ -68,7 +64,7 @@ pub fn operations(alloc: Global, test: &Test, traces: &[Trace]) -> Result<Operat
     requires test { IsBounded test.now }
     requires harts { length traces.now ≤ 8 }
     requires steps { All (λ trace. length trace.steps ≤ 32) traces.now }
-    ensures ok { IfOk result (λ all. all ≡ operations (pre_execution test.now (map (λ trace. trace.steps) traces.now))) }
+    ensures ok { IfOk result (λ all. all ≡ operations (pre_execution test.now (steps_in traces.now))) }
     ensures err { IsOkUnless result Memory }
 {
     let mut operations = Vec::new(alloc);

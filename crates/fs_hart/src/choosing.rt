@@ -2,18 +2,21 @@
 
 ghost use Rattle.std.specs.Prelude.{◌≡◌, ◌↔◌, map, Option, IfSome, IsNone, IfOk};
 ghost use Rattle.fs_model.specs.Choices.{GoesAstray};
-ghost use Rattle.fs_hart.specs.Walking.{set_at, options, word_choice};
+ghost use Rattle.fs_hart.specs.inner.Walking.{set_at, options, word_choice};
 
 use crate::lists::Words;
 use fs_instr::Instr;
 use fs_model::{Choice, Hart};
+use fs_syntax::Location;
 use std::alloc::{AllocError, Global};
 
 // The words that are offered for the location at the address.
 fn set_at(sets: &[Words], address: Option<u32>) -> &[u32]
     ensures { result.now ≡ set_at sets.now address }
 {
-    let location = address.unwrap_or(0).saturating_sub(4096) / 16;
+    let Some(location) = address.and_then(Location::at) else {
+        return &[];
+    };
     match sets.get(location as usize) {
         Some(set) => set.as_slice(),
         None => &[],

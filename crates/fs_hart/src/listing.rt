@@ -6,7 +6,7 @@ ghost use Rattle.fs_syntax.specs.Test.{IsBounded, IsStart};
 ghost use Rattle.fs_model.specs.Execution.{code_of, registers_of};
 ghost use Rattle.fs_model.specs.Trace.{start_with, hart_after};
 ghost use Rattle.fs_hart.specs.Listing.{AreTraces, IsTraceFault};
-ghost use Rattle.fs_hart.specs.Walking.{Explores, IsCut};
+ghost use Rattle.fs_hart.specs.inner.Walking.{Explores, IsCut};
 
 use crate::choosing::options;
 use crate::lists::Words;

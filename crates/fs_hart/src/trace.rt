@@ -1,8 +1,9 @@
 //! Whole runs of a hart.
 
-ghost use Rattle.std.specs.Prelude.{◌≡◌, [], map, option_map, unwrap_or};
+ghost use Rattle.std.specs.Prelude.{◌≡◌, [], option_map, unwrap_or};
 ghost use Rattle.fs_model.specs.Execute.{read};
 ghost use Rattle.fs_model.specs.Operations.{steps_of};
+ghost use Rattle.fs_hart.specs.Steps.{steps_in};
 
 use crate::lists::Steps;
 use fs_instr::Reg;
@@ -35,7 +36,7 @@ impl Trace {
 
 /// The steps of a hart's run; none where it is no hart, or has no run here.
 pub fn steps_of(traces: &[Trace], hart: Option<u8>) -> &[Step]
-    ensures { result.now ≡ unwrap_or (option_map (steps_of (map (λ trace. trace.steps) traces.now)) hart) [] }
+    ensures { result.now ≡ unwrap_or (option_map (steps_of (steps_in traces.now)) hart) [] }
 {
     let Some(hart) = hart else {
         return &[];

@@ -3,6 +3,7 @@
 ghost use Rattle.std.specs.Prelude.{◌≡◌, ◌≤◌, ◌+◌, ◌⊎◌, ◌++◌, [], ◌∷◌, Some, OnOk, IfErr, OnErr};
 ghost use Rattle.std.specs.Option.{option_or};
 ghost use Rattle.fs_kinds.specs.declared.fault.Fault.{Fault};
+ghost use Rattle.fs_model.specs.TooMany.{most_choice_lists};
 
 use crate::lists::Steps;
 use crate::trace::Trace;
@@ -11,7 +12,7 @@ use fs_model::Step;
 use std::alloc::Global;
 
 /// The most choice lists of a hart that may end.
-const MOST_ENDS: u32 = 100_000;
+const MOST_CHOICE_LISTS: u32 = 100_000;
 
 // A walk over the choice lists of a hart, depth first.
 #[derive(Drop)]
@@ -25,7 +26,7 @@ pub(crate) struct Walk {
     pub(crate) ends: u32,
     // The instruction at which the first list went astray that did.
     pub(crate) astray: Option<u8>,
-    ghost few: { ends ≤ 100000 },
+    ghost few: { ends ≤ most_choice_lists },
 }
 
 impl Walk {
@@ -36,9 +37,9 @@ impl Walk {
         ensures astray { self.new.astray ≡ self.old.astray }
         ensures ok { OnOk result (self.new.ends ≡ self.old.ends + 1) }
         ensures err { IfErr result (λ fault. fault ≡ Fault.TooManyTraces) }
-        ensures many { OnErr result (self.old.ends ≡ 100000) }
+        ensures many { OnErr result (self.old.ends ≡ most_choice_lists) }
     {
-        if self.ends == MOST_ENDS {
+        if self.ends == MOST_CHOICE_LISTS {
             return Err(Fault::TooManyTraces);
         }
         self.ends += 1;
@@ -53,7 +54,7 @@ impl Walk {
         ensures traces { OnOk result (self.new.traces.items ≡ self.old.traces.items
             ++ (record { steps = self.old.path.items; registers = registers }) ∷ []) }
         ensures err { IfErr result (λ fault. (fault ≡ Fault.Memory)
-            ⊎ ((fault ≡ Fault.TooManyTraces) × (self.old.ends ≡ 100000))) }
+            ⊎ ((fault ≡ Fault.TooManyTraces) × (self.old.ends ≡ most_choice_lists))) }
     {
         self.count()?;
         let steps = Steps::new(Vec::from_slice(self.alloc, &self.path)?);
@@ -67,7 +68,7 @@ impl Walk {
         ensures traces { self.new.traces.items ≡ self.old.traces.items }
         ensures astray { OnOk result (self.new.astray ≡ option_or self.old.astray (Some at)) }
         ensures ends { OnOk result (self.new.ends ≡ self.old.ends + 1) }
-        ensures err { IfErr result (λ fault. (fault ≡ Fault.TooManyTraces) × (self.old.ends ≡ 100000)) }
+        ensures err { IfErr result (λ fault. (fault ≡ Fault.TooManyTraces) × (self.old.ends ≡ most_choice_lists)) }
     {
         self.count()?;
         self.astray = self.astray.or(Some(at));

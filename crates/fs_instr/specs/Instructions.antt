@@ -41,6 +41,10 @@ parts_of (op.BranchZero o) = First ∷ comma ∷ Label ∷ []
 parts_of op.J = Label ∷ []
 parts_of op.FenceAll = []
 
+-- the instruction that does nothing
+abbrev pub nop : Instr
+nop = instr.Immediate Addi 0 0 (pos 0)
+
 abbrev pub instr_of : Op → Operands → Instr
 instr_of (op.Register o) x = instr.Register o x.rd x.first x.second
 instr_of (op.Immediate o) x = instr.Immediate o x.rd x.first x.imm
@@ -56,7 +60,7 @@ instr_of (op.Branch o) x = instr.Branch o x.first x.second x.target
 instr_of op.Jal x = instr.Jump x.target
 instr_of op.Fence x = instr.Fence x.before x.after
 instr_of op.FenceTso x = instr.FenceTso
-instr_of op.Nop x = instr.Immediate Addi 0 0 (pos 0)
+instr_of op.Nop x = nop
 instr_of op.Mv x = instr.Immediate Addi x.rd x.first (pos 0)
 instr_of (op.BranchZero o) x = instr.Branch o x.first 0 x.target
 instr_of op.J x = instr.Jump x.target

@@ -148,7 +148,7 @@ macro_rules! table {
                     (Instr::FenceTso) { dest: None, sources: [None, None], address: None, data: None, carries: false };
             }
             {
-                (Op::Nop) [] (Instr::Immediate { op: ImmOp::Addi, rd: Reg::ZERO, first: Reg::ZERO, imm: 0 });
+                (Op::Nop) [] (Instr::NOP);
                 (Op::Mv) [Rd, Sign(Comma), First] (Instr::Immediate { op: ImmOp::Addi, rd, first, imm: 0 });
                 (Op::BranchZero(op)) [First, Sign(Comma), Label] (Instr::Branch { op, first, second: Reg::ZERO, target });
                 (Op::J) [Label] (Instr::Jump { target });
@@ -226,6 +226,14 @@ pub fn build(op: Op, operands: Operands) -> Instr
 }
 
 impl Instr {
+    /// `nop`, the instruction that does nothing: `addi x0,x0,0`.
+    pub const NOP: Instr = Instr::Immediate {
+        op: ImmOp::Addi,
+        rd: Reg::ZERO,
+        first: Reg::ZERO,
+        imm: 0,
+    };
+
     /// The same instruction with this target, where it is a branch or a jump; any other as it is. Targets are positions in
     /// the hart's code, counted in instructions from 0.
     pub fn with_target(self, target: u8) -> Instr

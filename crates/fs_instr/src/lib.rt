@@ -18,6 +18,3 @@ pub use reading::{Parsed, Refused, read_tokens};
 pub use reg::Reg;
 pub use text::read_instr;
 pub use writing::{reads_back, write_instr};
-
-#[cfg(test)]
-mod tests;

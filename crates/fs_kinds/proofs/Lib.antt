@@ -2,3 +2,4 @@ pub mod Entries
 pub mod Names
 pub mod Members
 pub mod SlotMap
+pub mod FirstFault

@@ -1,5 +1,7 @@
 pub mod FaultLine
+pub mod FaultOrder
 pub mod Kind
+pub mod Limits
 pub mod Placement
 pub mod PriceObject
 pub mod PriceTable

@@ -2,11 +2,11 @@
 use Rattle.std.specs.Prelude.{ℕ, List, ◌++◌, codes}
 use Rattle.std.specs.Fmt.{decimal}
 use Rattle.fs_kinds.specs.Slot.{place_name}
-use Rattle.fs_kinds.specs.declared.reason.Operation.{Operation}
+use Rattle.fs_kinds.specs.declared.reason.OperationName.{OperationName}
 use Rattle.fs_kinds.specs.declared.reason.Reason.{Reason}
 use Rattle.fs_kinds.specs.declared.reason.Reason.TheVariants.{Choices, Astray, Order, Load, Rule, Atomic, Outcome, Answer, Cycles, Cycle, Tree, Node, Witness}
 
-abbrev pub operation_name : Operation → List ℕ
+abbrev pub operation_name : OperationName → List ℕ
 operation_name o = place_name o.hart o.at
 
 abbrev pub reason_text : Reason → List ℕ

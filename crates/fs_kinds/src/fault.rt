@@ -3,11 +3,11 @@ ghost use Rattle.std.specs.Prelude.{◌≡◌};
 ghost use Rattle.fs_kinds.specs.FaultLine.{number, name};
 
 use std::alloc::{AllocError, AllocFailed};
-use std::error::Error;
 use std::fmt;
+use thiserror::Error;
 
 /// Why a run ends with no answer. The variants stand in the order of their numbers, from F1 on.
-#[derive(Clone, Copy, Debug, PartialEq, Eq)]
+#[derive(Clone, Copy, Debug, PartialEq, Eq, Error)]
 pub enum Fault {
     /// F1: the test file isn't UTF-8.
     BadUtf8,
@@ -200,5 +200,3 @@ impl fmt::Display for Fault {
         }
     }
 }
-
-impl Error for Fault {}

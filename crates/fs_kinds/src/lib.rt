@@ -2,17 +2,19 @@
 #![tactic(auto)]
 
 mod fault;
+mod fault_order;
 mod kind;
+mod limits;
 mod placement;
 mod prices;
 mod reason;
 mod slot;
-#[cfg(test)]
-mod tests;
 
 pub use fault::{Fault, Limit};
+pub use fault_order::earliest;
 pub use kind::{Classes, Kind};
+pub use limits::{MOST_ACCESSES, MOST_DEPTH, MOST_HARTS, MOST_INSTRUCTIONS, MOST_LOCATIONS};
 pub use placement::{Entry, Placement};
 pub use prices::{Prices, read_prices};
-pub use reason::{Operation, Reason};
+pub use reason::{OperationName, Reason};
 pub use slot::{Slot, read_fence};

@@ -4,7 +4,7 @@ use std::fmt;
 /// The operation of instruction number `at` of a hart, with instructions counted from 0 in the test
 /// without placed fences.
 #[derive(Clone, Copy, Debug, PartialEq, Eq, PartialOrd, Ord)]
-pub struct Operation {
+pub struct OperationName {
     pub hart: u8,
     pub at: u8,
 }
@@ -26,20 +26,20 @@ pub enum Reason {
     Order,
     /// The load's word isn't the word of its source.
     Load {
-        load: Operation,
+        load: OperationName,
     },
     /// The order has the operations the other way round than the preserved program order of this
     /// rule, from 1 to 13.
     Rule {
         rule: u8,
-        first: Operation,
-        second: Operation,
+        first: OperationName,
+        second: OperationName,
     },
     /// Another hart's store comes between the paired operations' source and store, or the source isn't
     /// before the store: then a rule is broken too, which is an earlier reason.
     Atomic {
-        load: Operation,
-        store: Operation,
+        load: OperationName,
+        store: OperationName,
     },
     /// The outcome isn't shown.
     Outcome,
@@ -64,7 +64,7 @@ pub enum Reason {
 }
 
 /// The operation's name, as `P0:3`.
-impl fmt::Display for Operation {
+impl fmt::Display for OperationName {
     ghost use Rattle.std.specs.Prelude.{Some};
     ghost use Rattle.fs_kinds.specs.ReasonText.{operation_name};
 

@@ -180,7 +180,6 @@ execution-weaker t p q e weaker execution = record {
 pub shows-weaker : (t : Test) (p q : List Entry) (e : Execution) → KeepsNoMore p q → Shows t q e → Shows t p e
 shows-weaker t p q e weaker shown = record {
   execution = execution-weaker t p q e weaker shown.execution;
-  grounded = shown.grounded;
   outcome = shown.outcome;
 }
 

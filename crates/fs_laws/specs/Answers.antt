@@ -4,7 +4,7 @@ use Rattle.fs_kinds.specs.declared.placement.Entry.{Entry}
 use Rattle.fs_kinds.specs.Placement.{precedes}
 use Rattle.fs_kinds.specs.PriceTable.{PriceTable, cost}
 use Rattle.fs_model.specs.Allows.{is_better}
-use Rattle.fs_model.specs.Certificate.{Certificate, Version, NoneForbids}
+use Rattle.fs_answer.specs.Certificate.{Certificate, Version, NoneForbids}
 use Rattle.fs_model.specs.Witness.{Witness}
 
 -- the certificate for none with this witness

@@ -2,13 +2,15 @@
 #![tactic(auto)]
 
 mod answers;
-mod printed;
+mod fenced;
 mod strength;
 
 pub use answers::{
     cost_and_order_decide, cycles_are_short, one_witness_refutes_all, posted_placements_forbid,
 };
-pub use printed::{
+pub use fenced::{
     fenced_test_means_placement, fences_keep_runs, no_entries_no_fences, same_tests_show_alike,
 };
-pub use strength::{full_fences_decide, kept_pairs_decide, weaker_fences_allow_more};
+pub use strength::{
+    full_fences_decide, kept_pairs_decide, weaker_fences_allow_more, widths_are_exact,
+};

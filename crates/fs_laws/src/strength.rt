@@ -6,8 +6,9 @@ ghost use Rattle.fs_kinds.specs.Placement.{slots_of, is_weaker};
 ghost use Rattle.fs_kinds.specs.PriceTable.{PriceTable, IsPriceTable};
 ghost use Rattle.fs_syntax.specs.declared.test.Test.{Test};
 ghost use Rattle.fs_syntax.specs.Slots.{slots};
-ghost use Rattle.fs_model.specs.Execution.{Execution};
+ghost use Rattle.fs_model.specs.Execution.{Execution, IsExecution};
 ghost use Rattle.fs_model.specs.Allows.{Shows, RefutesAll};
+ghost use Rattle.fs_answer.specs.Widths.{IsExactWidth};
 ghost use Rattle.fs_laws.specs.Strength.{KeepsNoMore, KeepsTheSame, AllowsNoLess, AllAreRefuted, IsAlwaysAllowed, HasNoAnswer};
 
 /// A law: whatever is allowed under stronger fences is allowed under weaker ones, by the same execution. So it is for two
@@ -32,4 +33,10 @@ pub fn full_fences_decide()
 /// good as one that isn't listed. Fences that keep the same pairs have the same executions.
 pub fn kept_pairs_decide()
     ensures { (t : Test) (p q : List Entry) → KeepsTheSame p q → AllowsNoLess t p q × AllowsNoLess t q p }
+{}
+
+/// A law: widths are exact. An execution without placed fences is one with the fences of a placement exactly where each of them
+/// orders only pairs that the execution's order keeps at its slot.
+pub fn widths_are_exact()
+    ensures { (t : Test) (e : Execution) → IsExecution t [] e → IsExactWidth t e }
 {}

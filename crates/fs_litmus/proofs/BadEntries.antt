@@ -17,7 +17,7 @@ use Rattle.fs_litmus.specs.Checks.{IsEntryFault, entry}
 use Rattle.fs_litmus.specs.Rising.{Rising, entry_lines}
 use Rattle.fs_kinds.specs.declared.fault.Fault.{Fault}
 use Rattle.fs_kinds.specs.declared.fault.Fault.TheVariants.{BadInit}
-use Rattle.fs_code.specs.Order.{IsNoLater, IsFirst}
+use Rattle.fs_kinds.specs.FaultOrder.{IsNoLater, IsFirst}
 
 -- ---- steps that may give nothing
 

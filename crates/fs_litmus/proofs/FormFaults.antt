@@ -16,7 +16,7 @@ use Rattle.fs_condition.specs.Meaning.{atoms_of, depth_of}
 use Rattle.fs_instr.specs.Instructions.{is_memory}
 use Rattle.fs_instr.specs.declared.instr.Instr.{Instr}
 use Rattle.fs_code.specs.Codes.{AreCodes, IsFault}
-use Rattle.fs_code.specs.Order.{limit_rank, IsNoLater, IsFirst}
+use Rattle.fs_kinds.specs.FaultOrder.{limit_rank, IsNoLater, IsFirst}
 use Rattle.fs_litmus.specs.Locations.{Names}
 use Rattle.fs_litmus.specs.Settings.{entry_bindings, settings_after, are_there}
 use Rattle.fs_litmus.specs.Reads.{names_in}

@@ -13,7 +13,7 @@ use Rattle.fs_condition.specs.Grammar.{IsCondition}
 use Rattle.fs_code.specs.Cells.{Item, IsCellFault, syntax, unknown, annotation, AreFaulty, here as first_cell, later as later_cell}
 use Rattle.fs_code.specs.Labels.{IsTwice, again, later as later_twice, IsStray, missing, behind, IsLabelFault, twice, stray}
 use Rattle.fs_code.specs.Codes.{IsHartFault, of_cell, of_label, IsFault, fault}
-use Rattle.fs_code.specs.Order.{IsNoLater, IsFirst}
+use Rattle.fs_kinds.specs.FaultOrder.{IsNoLater, IsFirst}
 use Rattle.fs_litmus.specs.Title.{after_line, last_line, HasTitle, IsBody}
 use Rattle.fs_litmus.specs.Reads.{HasTokens, HasForm}
 use Rattle.fs_litmus.specs.Faults.{IsText, line_at, IsBroken, no_block, token, comment, IsFormFault, code, entry, atom, limit, HasFault, encoding, title, form, meaning}

@@ -7,7 +7,7 @@ use Rattle.fs_instr.specs.declared.instr.Instr.{Instr}
 use Rattle.fs_code.specs.declared.hart.HartCode.{HartCode}
 use Rattle.fs_code.specs.declared.hart.HartCode.TheVariants.{Short, Long}
 use Rattle.fs_code.specs.Codes.{AreKept, IsKept}
-use Rattle.fs_litmus.specs.Kept.{instrs_of, is_short}
+use Rattle.fs_litmus.specs.inner.Kept.{instrs_of, is_short}
 
 both : (a b : Bool) → (a && b) ≡ true → (a ≡ true) × (b ≡ true)
 both true b e = (refl, e)

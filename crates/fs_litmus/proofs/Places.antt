@@ -5,7 +5,7 @@ use Rattle.std.proofs.lemmas.List.{map-append, at_drop_more, take_more, take-app
 use Rattle.fs_kinds.specs.declared.fault.Fault.TheVariants.{BadInit}
 use Rattle.fs_form.specs.declared.init.Entry.{Entry}
 use Rattle.fs_form.specs.Init.{entries_of, entry_of}
-use Rattle.fs_code.specs.Order.{IsFirst}
+use Rattle.fs_kinds.specs.FaultOrder.{IsFirst}
 use Rattle.fs_litmus.specs.declared.settings.Setting.{Setting}
 use Rattle.fs_litmus.specs.Locations.{Names}
 use Rattle.fs_litmus.specs.Settings.{entry_bindings, settings_after, places}

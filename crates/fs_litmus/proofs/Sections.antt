@@ -16,11 +16,11 @@ use Rattle.fs_condition.specs.Grammar.{Syntax, IsCondition, True, conjunction, u
 use Rattle.fs_condition.specs.Answer.{Means, StopsAt}
 use Rattle.fs_condition.specs.declared.condition.Condition as conditions
 use Rattle.fs_syntax.specs.declared.test.Test.{Test}
-use Rattle.fs_code.specs.Order.{IsFirst}
+use Rattle.fs_kinds.specs.FaultOrder.{IsFirst}
 use Rattle.fs_litmus.specs.Title.{after_line, last_line, HasTitle, IsBody}
 use Rattle.fs_litmus.specs.Reads.{HasTokens, HasForm}
 use Rattle.fs_litmus.specs.Faults.{IsText, line_at, token, comment, IsFormFault, HasFault}
-use Rattle.fs_litmus.specs.Sections.{AreSections, IsTextStop, fault_of}
+use Rattle.fs_litmus.specs.inner.Sections.{AreSections, IsTextStop, fault_of}
 use Rattle.fs_litmus.proofs.FrontFaults.{tokens_once, first_broken, first_meaning, no_fault}
 
 -- some condition stands after each form

@@ -15,7 +15,7 @@ use Rattle.fs_condition.specs.Meaning as meaning
 use Rattle.fs_syntax.specs.Condition.{Condition, Always, Never, Deny, Both, Either, SpeaksOf}
 use Rattle.fs_syntax.specs.Test.{IsStart}
 use Rattle.fs_litmus.specs.Locations.{Names, Binding, number_of_location}
-use Rattle.fs_litmus.specs.Settings.{signed, address_of, word_of, register_place, place_of, setting_of, IsThere, is_x0, same_place, places, fresh, settings_after}
+use Rattle.fs_litmus.specs.Settings.{signed, address_word, word_of, register_place, place_of, setting_of, IsThere, is_x0, same_place, places, fresh, settings_after}
 use Rattle.fs_litmus.specs.Starts.{word_at, registers_of, starts_of}
 use Rattle.fs_litmus.specs.Atoms.{atom_at, condition_in}
 use Rattle.fs_litmus.specs.declared.settings.Place.{Place}
@@ -72,7 +72,7 @@ word_below names (Number negative digits) w e =
     let n = then_found (signed negative) (number_of digits) w e in
     signed_below negative n.value w (number_below digits n.value n.is) n.holds
 word_below names (Address name) w e =
-    let k = map_found address_of (number_of_location names name) w e in
+    let k = map_found address_word (number_of_location names name) w e in
     subst (λ n. n < 2 ^ 32) k.holds (below_modulus (4096 + 16 * k.value))
 
 -- ---- places

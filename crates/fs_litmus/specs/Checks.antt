@@ -4,6 +4,7 @@ use Rattle.std.specs.List.{Any}
 use Rattle.fs_kinds.specs.declared.fault.Fault.{Fault}
 use Rattle.fs_kinds.specs.declared.fault.Fault.TheVariants.{BadInit, BadCondition, TooBig}
 use Rattle.fs_kinds.specs.declared.fault.Limit.TheVariants.{Instructions, Accesses}
+use Rattle.fs_kinds.specs.Limits.{most_instructions, most_accesses}
 use Rattle.fs_form.specs.Init.{Entry}
 use Rattle.fs_form.specs.Form.{Form}
 use Rattle.fs_condition.specs.Grammar.{Syntax}
@@ -26,5 +27,5 @@ pub data IsBindingFault (form : Form) (s : Syntax) : Fault → Type 0 where
 
 -- a limit that codes pass
 pub data IsCodeLimit (codes : List (List Instr)) : Fault → Type 0 where
-  instructions : Any (λ code. 32 < length code) codes → IsCodeLimit codes (TooBig Instructions)
-  accesses : 48 < sum_by (count_by is_memory) codes → IsCodeLimit codes (TooBig Accesses)
+  instructions : Any (λ code. most_instructions < length code) codes → IsCodeLimit codes (TooBig Instructions)
+  accesses : most_accesses < sum_by (count_by is_memory) codes → IsCodeLimit codes (TooBig Accesses)

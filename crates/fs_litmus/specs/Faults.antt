@@ -6,6 +6,7 @@ use Rattle.fs_kinds.specs.declared.fault.Fault.{Fault}
 use Rattle.fs_kinds.specs.declared.fault.Fault.TheVariants.{BadUtf8, NotRiscv, Syntax, BadInit, BadCondition, TooBig}
 use Rattle.fs_kinds.specs.declared.fault.Limit.{Limit}
 use Rattle.fs_kinds.specs.declared.fault.Limit.TheVariants.{Harts, Instructions, Accesses, Locations, Depth}
+use Rattle.fs_kinds.specs.Limits.{most_harts, most_instructions, most_accesses, most_locations, most_depth}
 use Rattle.fs_tokens.specs.Tokens.{Lined}
 use Rattle.fs_tokens.specs.Sections.{Then, BeginsText, StopsText}
 use Rattle.fs_form.specs.Init.{Entry}
@@ -17,7 +18,7 @@ use Rattle.fs_condition.specs.Meaning.{atoms_of, depth_of}
 use Rattle.fs_instr.specs.Instructions.{is_memory}
 use Rattle.fs_instr.specs.declared.instr.Instr.{Instr}
 use Rattle.fs_code.specs.Codes.{AreCodes, IsFault}
-use Rattle.fs_code.specs.Order.{IsFirst}
+use Rattle.fs_kinds.specs.FaultOrder.{IsFirst}
 use Rattle.fs_litmus.specs.Title.{after_line, last_line, HasTitle, IsBody}
 use Rattle.fs_litmus.specs.Locations.{Names}
 use Rattle.fs_litmus.specs.Settings.{place_of, setting_of, is_x0, are_there}
@@ -55,11 +56,11 @@ pub data IsBadEntry (columns : ℕ) (names : Names) (entries : List Entry) : ℕ
 
 -- a limit that is passed
 pub data IsPassed (form : Form) (s : grammar.Syntax) : Limit → Type 0 where
-  harts : 8 < form.columns → IsPassed form s Harts
-  instructions : {codes : List (List Instr)} → AreCodes form.columns (flatten form.rows) codes → Any (λ code. 32 < length code) codes → IsPassed form s Instructions
-  accesses : {codes : List (List Instr)} → AreCodes form.columns (flatten form.rows) codes → 48 < sum_by (count_by is_memory) codes → IsPassed form s Accesses
-  locations : 8 < length (names_in form s) → IsPassed form s Locations
-  depth : 64 < depth_of s → IsPassed form s Depth
+  harts : most_harts < form.columns → IsPassed form s Harts
+  instructions : {codes : List (List Instr)} → AreCodes form.columns (flatten form.rows) codes → Any (λ code. most_instructions < length code) codes → IsPassed form s Instructions
+  accesses : {codes : List (List Instr)} → AreCodes form.columns (flatten form.rows) codes → most_accesses < sum_by (count_by is_memory) codes → IsPassed form s Accesses
+  locations : most_locations < length (names_in form s) → IsPassed form s Locations
+  depth : most_depth < depth_of s → IsPassed form s Depth
 
 -- a fault of what the form and its condition mean: of a cell, a label or a branch; of an initial value; of an atom, with a hart
 -- or a register that isn't there or a number out of range; or of the limits

@@ -3,9 +3,8 @@ pub mod Locations
 pub mod Settings
 pub mod Atoms
 pub mod Starts
-pub mod Kept
 pub mod Reads
 pub mod Rising
 pub mod Faults
-pub mod Sections
 pub mod Checks
+pub mod inner

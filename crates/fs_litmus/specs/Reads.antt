@@ -1,6 +1,7 @@
 -- Which bytes read as which test (herd7's format of litmus tests).
 use Rattle.std.specs.Prelude.{◌≡◌, ℕ, ◌≤◌, List, [], Bool, Some, true, length, sum_by, count_by, All}
 use Rattle.std.specs.Str.{IsUtf8}
+use Rattle.fs_kinds.specs.Limits.{most_harts, most_instructions, most_accesses, most_locations, most_depth}
 use Rattle.fs_tokens.specs.Tokens.{Lined, AreTokens}
 use Rattle.fs_form.specs.Form.{Form, IsForm}
 use Rattle.fs_form.specs.Body.{flatten}
@@ -63,11 +64,11 @@ pub record MeanTest (form : Form) (s : Syntax) (t : Test) : Type 0 where
 
 -- The limits.
 pub record IsWithinLimits (form : Form) (s : Syntax) (t : Test) : Type 0 where
-  pub harts : form.columns ≤ 8
-  pub instructions : All (λ code. length code ≤ 32) t.codes
-  pub accesses : sum_by (count_by is_memory) t.codes ≤ 48
-  pub locations : length (names_in form s) ≤ 8
-  pub depth : depth_of s ≤ 64
+  pub harts : form.columns ≤ most_harts
+  pub instructions : All (λ code. length code ≤ most_instructions) t.codes
+  pub accesses : sum_by (count_by is_memory) t.codes ≤ most_accesses
+  pub locations : length (names_in form s) ≤ most_locations
+  pub depth : depth_of s ≤ most_depth
 
 -- The bytes read as the test.
 pub record Reads (bytes : List ℕ) (t : Test) : Type 0 where
@@ -83,5 +84,5 @@ pub record Reads (bytes : List ℕ) (t : Test) : Type 0 where
 
 -- the condition isn't too deep, and this is what it means
 pub record IsOutcome (columns : ℕ) (names : Names) (s : Syntax) (o : Outcome) : Type 0 where
-  pub depth : depth_of s ≤ 64
+  pub depth : depth_of s ≤ most_depth
   pub means : condition_in columns names (meaning.condition_of s) ≡ Some (condition_of o)

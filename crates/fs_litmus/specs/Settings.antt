@@ -1,10 +1,11 @@
 -- Registers and locations that have a value, and the words that are written for them (herd7's format of litmus tests).
-use Rattle.std.specs.Prelude.{ℕ, ◌+◌, ◌-◌, ◌*◌, ◌%◌, ◌^◌, ◌<◌, List, [], ◌∷◌, Option, Some, None, Bool, true, false, ◌==◌, ◌&&◌, ◌||◌, ◌++◌, nat_lt, nat_le, is_some, option_map, option_and_then, map, if◌then◌else◌}
+use Rattle.std.specs.Prelude.{ℕ, ◌-◌, ◌%◌, ◌^◌, ◌<◌, List, [], ◌∷◌, Option, Some, None, Bool, true, false, ◌==◌, ◌&&◌, ◌||◌, ◌++◌, nat_lt, nat_le, is_some, option_map, option_and_then, map, if◌then◌else◌}
 use Rattle.std.specs.List.{list_any}
 use Rattle.fs_form.specs.Init.{Entry}
 use Rattle.fs_tokens.specs.Numbers.{number_of}
 use Rattle.fs_tokens.specs.Values.{Target, Register, Location, Value, Number, Address}
 use Rattle.fs_instr.specs.Registers.{register_of}
+use Rattle.fs_syntax.specs.Test.{address_of}
 use Rattle.fs_litmus.specs.Locations.{Names, Binding, number_of_location}
 use Rattle.fs_litmus.specs.declared.settings.Place.{Place}
 use Rattle.fs_litmus.specs.declared.settings.Place.TheVariants as place
@@ -15,14 +16,14 @@ abbrev pub signed : Bool → ℕ → Option ℕ
 signed false n = Some n
 signed true n = if nat_le n 2147483648 then Some ((2 ^ 32 - n) % (2 ^ 32)) else None
 
--- location k, counted from 0, has the address 4096 + 16k, as a word; a test has so few locations that it never wraps
-abbrev pub address_of : ℕ → ℕ
-address_of k = (4096 + 16 * k) % (2 ^ 32)
+-- the address of a location, as a word; a test has so few locations that it never wraps
+abbrev pub address_word : ℕ → ℕ
+address_word k = address_of k % 2 ^ 32
 
 -- the word that a value means; nothing for a number out of range
 abbrev pub word_of : Names → Value → Option ℕ
 word_of names (Number negative digits) = option_and_then (signed negative) (number_of digits)
-word_of names (Address w) = option_map address_of (number_of_location names w)
+word_of names (Address w) = option_map address_word (number_of_location names w)
 
 abbrev pub register_place : ℕ → ℕ → ℕ → Option Place
 register_place columns h r = if nat_lt h columns then Some (place.Register h r) else None

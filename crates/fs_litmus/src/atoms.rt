@@ -1,6 +1,7 @@
 //! The condition, in terms of a test's harts, registers and locations.
 
 ghost use Rattle.std.specs.Prelude.{◌≡◌, ◌≤◌, ◌<◌, length, option_map, IfOk, IfSome, Some};
+ghost use Rattle.fs_kinds.specs.Limits.{most_harts, most_locations};
 ghost use Rattle.fs_condition.specs.Views.{tree_of};
 ghost use Rattle.fs_syntax.specs.Condition.{condition_of, SpeaksOf};
 ghost use Rattle.fs_litmus.specs.Settings.{setting_of, IsThere};
@@ -15,8 +16,8 @@ use std::alloc::{AllocError, Global};
 
 // The register or location has the word at the end.
 fn outcome_at(columns: usize, names: &Names, place: Place, word: u32) -> Outcome
-    requires harts { columns ≤ 8 }
-    requires locations { length names.now ≤ 8 }
+    requires harts { columns ≤ most_harts }
+    requires locations { length names.now ≤ most_locations }
     requires there { IsThere columns (length names.now) place }
     ensures value { condition_of result ≡ atom_at place word }
     ensures there { SpeaksOf columns (length names.now) (condition_of result) }
@@ -30,16 +31,16 @@ fn outcome_at(columns: usize, names: &Names, place: Place, word: u32) -> Outcome
     }
 }
 
-/// The condition that a tree is, in a test of at most 8 harts and 8 locations; nothing where an atom names what isn't there.
-/// Recursion goes as deep as the tree, whose depth is at most 64.
+/// The condition that a tree is, in a test of harts and locations within the limits; nothing where an atom names what isn't
+/// there. Recursion goes as deep as the tree, whose depth is within the limit.
 pub fn outcome_of(
     alloc: Global,
     columns: usize,
     names: &Names,
     tree: &Tree,
 ) -> Result<Option<Outcome>, AllocError>
-    requires harts { columns ≤ 8 }
-    requires locations { length names.now ≤ 8 }
+    requires harts { columns ≤ most_harts }
+    requires locations { length names.now ≤ most_locations }
     ensures value { IfOk result (λ o. option_map condition_of o ≡ condition_in columns names.now (tree_of tree.now)) }
     ensures there { IfOk result (λ o. IfSome o (λ x. SpeaksOf columns (length names.now) (condition_of x))) }
 {

@@ -3,7 +3,7 @@
 ghost use Rattle.std.specs.Prelude.{◌≡◌, ◌≢◌, ◌++◌, ◌∷◌, IfOk, IfErr, IfSome, IsTrue, not, option_and_then, Some, [], List};
 ghost use Rattle.std.specs.List.{list_any};
 ghost use Rattle.fs_form.specs.Init.{entries_of};
-ghost use Rattle.fs_code.specs.Order.{IsFirst};
+ghost use Rattle.fs_kinds.specs.FaultOrder.{IsFirst};
 ghost use Rattle.fs_litmus.specs.Checks.{IsEntryFault};
 ghost use Rattle.fs_litmus.specs.Rising.{Rising, entry_lines};
 ghost use Rattle.fs_litmus.specs.Settings.{entry_bindings, settings_after, is_x0, same_place, fresh};

@@ -1,12 +1,13 @@
 //! What a form and its condition mean, as a test.
 
 ghost use Rattle.std.specs.Prelude.{◌≡◌, ◌≢◌, ◌≤◌, ◌<◌, List, [], Some, true, All, length, map, sum_by, count_by, IfOk, IfErr};
+ghost use Rattle.fs_kinds.specs.Limits.{most_harts, most_instructions, most_accesses, most_locations, most_depth};
 ghost use Rattle.fs_form.specs.Body.{cells_of, flatten};
 ghost use Rattle.fs_form.specs.Form.{form_of};
 ghost use Rattle.fs_instr.specs.Instructions.{is_memory};
 ghost use Rattle.fs_instr.specs.declared.instr.Instr.{Instr};
 ghost use Rattle.fs_code.specs.Codes.{AreCodes, AreKept, IsFault};
-ghost use Rattle.fs_code.specs.Order.{IsFirst};
+ghost use Rattle.fs_kinds.specs.FaultOrder.{IsFirst};
 ghost use Rattle.fs_syntax.specs.Condition.{condition_of, SpeaksOf};
 ghost use Rattle.fs_syntax.specs.Test.{IsBounded};
 ghost use Rattle.fs_condition.specs.Answer.{Means};
@@ -23,14 +24,14 @@ ghost use Rattle.fs_litmus.specs.Rising.{Rising, entry_lines};
 use crate::atoms::outcome_of;
 use crate::declared::declared_names;
 use crate::entries::read_settings;
-use crate::limits::{HARTS, LOCATIONS, has_few_accesses, short_codes};
+use crate::limits::{has_few_accesses, short_codes};
 use crate::names::Names;
 use crate::settings::{Setting, setting_of};
 use crate::starts::{locations_of, starts_of};
 use fs_code::{HartCode, read_codes};
 use fs_condition::{Atom, Condition};
 use fs_form::Form;
-use fs_kinds::{Fault, Limit};
+use fs_kinds::{Fault, Limit, MOST_HARTS, MOST_LOCATIONS};
 use fs_syntax::{Code, Codes, Name, Outcome, Quantifier, Test};
 use std::alloc::{AllocError, Global};
 
@@ -87,8 +88,8 @@ fn build(
 // The codes of a form, where they are within the limits.
 fn read_short_codes(alloc: Global, kept: &[HartCode]) -> Result<Vec<Code>, Fault>
     ensures codes { IfOk result (λ v. (codes : List (List Instr)) → AreKept codes kept.now → v.items ≡ codes) }
-    ensures within { IfOk result (λ v. (codes : List (List Instr)) → AreKept codes kept.now → All (λ code. length code ≤ 32) codes) }
-    ensures accesses { IfOk result (λ v. sum_by (count_by is_memory) v.items ≤ 48) }
+    ensures within { IfOk result (λ v. (codes : List (List Instr)) → AreKept codes kept.now → All (λ code. length code ≤ most_instructions) codes) }
+    ensures accesses { IfOk result (λ v. sum_by (count_by is_memory) v.items ≤ most_accesses) }
     ensures clean { IfOk result (λ v. (codes : List (List Instr)) → AreKept codes kept.now → (f : Fault) → ¬ IsCodeLimit codes f) }
     ensures first { IfErr result (λ f. f ≢ Fault.Memory → (codes : List (List Instr)) → AreKept codes kept.now → IsFirst (IsCodeLimit codes) f) }
 {
@@ -146,12 +147,12 @@ fn read_outcome(
     names: &Names,
     condition: &Condition,
 ) -> Result<Outcome, Fault>
-    requires harts { columns ≤ 8 }
-    requires locations { length names.now ≤ 8 }
+    requires harts { columns ≤ most_harts }
+    requires locations { length names.now ≤ most_locations }
     ensures value { IfOk result (λ o. (s : Syntax) → Means condition.now s → IsOutcome columns names.now s o) }
     ensures there { IfOk result (λ o. SpeaksOf columns (length names.now) (condition_of o)) }
     ensures deep { IfErr result (λ f. f ≢ Fault.Memory → (s : Syntax) → Means condition.now s
-        → are_there columns names.now (atoms_of s) ≡ true → (f ≡ Fault.TooBig Limit.Depth) × (64 < depth_of s)) }
+        → are_there columns names.now (atoms_of s) ≡ true → (f ≡ Fault.TooBig Limit.Depth) × (most_depth < depth_of s)) }
 {
     let Some(tree) = &condition.tree else {
         return Err(Fault::TooBig { what: Limit::Depth });
@@ -195,11 +196,11 @@ pub fn interpret<'a>(
     let kept = read_kept(alloc, form)?;
     let names = read_names(alloc, form, condition)?;
     let settings = read_bindings(alloc, &names, form, condition)?;
-    if form.columns > HARTS {
+    if form.columns > MOST_HARTS {
         return Err(Fault::TooBig { what: Limit::Harts });
     }
     let codes = read_short_codes(alloc, &kept)?;
-    if names.len() > LOCATIONS {
+    if names.len() > MOST_LOCATIONS {
         return Err(Fault::TooBig {
             what: Limit::Locations,
         });

@@ -8,7 +8,7 @@ ghost use Rattle.fs_syntax.specs.declared.test.Test as tests;
 ghost use Rattle.fs_tokens.specs.Tokens.{views};
 ghost use Rattle.fs_kinds.specs.declared.fault.Fault as faults;
 ghost use Rattle.fs_litmus.specs.Faults.{HasFault, IsTestFault};
-ghost use Rattle.fs_litmus.specs.Sections.{AreSections, IsTextStop, fault_of};
+ghost use Rattle.fs_litmus.specs.inner.Sections.{AreSections, IsTextStop, fault_of};
 ghost use Rattle.fs_litmus.specs.Reads.{Reads};
 
 use crate::meaning::interpret;

@@ -2,10 +2,11 @@
 
 ghost use Rattle.std.specs.Prelude.{◌≡◌, ℕ, IfSome, length};
 ghost use Rattle.fs_tokens.specs.Values.{target_of, value_of};
-ghost use Rattle.fs_litmus.specs.Settings.{signed, address_of, word_of, register_place, place_of, setting_of, IsThere};
+ghost use Rattle.fs_litmus.specs.Settings.{signed, word_of, register_place, place_of, setting_of, IsThere};
 
 use crate::names::Names;
 use fs_instr::Reg;
+use fs_syntax::Location;
 use fs_tokens::{Target, Value, number_of};
 
 /// A register of a hart, or a location by its number.
@@ -34,13 +35,6 @@ fn signed(negative: bool, number: u32) -> Option<u32>
     Some(number.wrapping_neg())
 }
 
-fn address_of(location: usize) -> u32
-    ensures { result ≡ address_of location }
-{
-    let within = location % (1 << 28);
-    ((4096 + 16 * within) % (1 << 32)) as u32
-}
-
 /// The word that a value means; nothing for a number out of range, -2147483648 to 4294967295, and for a name that isn't
 /// declared.
 pub fn word_of(names: &Names, value: Value) -> Option<u32>
@@ -48,7 +42,7 @@ pub fn word_of(names: &Names, value: Value) -> Option<u32>
 {
     match value {
         Value::Number { negative, digits } => signed(negative, number_of(digits)?),
-        Value::Address(name) => Some(address_of(names.number_of(name)?)),
+        Value::Address(name) => Some(Location::address_word(names.number_of(name)?)),
     }
 }
 

@@ -21,9 +21,13 @@ is_whole n a d = let e : a ≡ address_of d.0 = same d.2 in omega (arith, e)
 pub is_near : (n a : ℕ) → IsDeclared n (Some a) → (a - 4096) / 16 < n
 is_near n a d = let e : a ≡ address_of d.0 = same d.2 in let near : d.0 < n = d.1 in omega (arith, e, near)
 
--- past 4096 and at a multiple of 16 from there, the address is declared exactly where that multiple is
-pub near_exactly : (n m a : ℕ) → 4096 ≤ a → (a - 4096) % 16 ≡ 0 → m ≡ n → IsTrue (nat_lt ((a - 4096) / 16) m) ↔ IsDeclared n (Some a)
-near_exactly n m a low whole e = (
-  (λ h. let near : (a - 4096) / 16 < n = grind (arith, nat_tests) in declared n a low whole near),
-  (λ d. let near : (a - 4096) / 16 < n = is_near n a d in grind (arith, nat_tests)),
+-- the address of a location is declared exactly where the location is
+pub near_exactly : (n m k a : ℕ) → a ≡ address_of k → m ≡ n → IsTrue (nat_lt k m) ↔ IsDeclared n (Some a)
+near_exactly n m k a at e = (
+  (λ h. let near : k < n = grind (arith, nat_tests) in (k, near, ap (λ x. Some x) at)),
+  (λ d.
+      let there : a ≡ address_of d.0 = same d.2 in
+      let low : d.0 < n = d.1 in
+      let near : k < m = omega (arith, at, there, low, e) in
+      grind (arith, nat_tests)),
 )

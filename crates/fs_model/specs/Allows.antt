@@ -8,12 +8,10 @@ use Rattle.fs_syntax.specs.declared.test.Test.{Test}
 use Rattle.fs_syntax.specs.Slots.{slots}
 use Rattle.fs_model.specs.Execution.{Execution, IsExecution}
 use Rattle.fs_model.specs.Shows.{has_outcome}
-use Rattle.fs_model.specs.Values.{IsGrounded}
 
--- a grounded execution of the test with these fences that shows the outcome to rule out
+-- an execution of the test with these fences that shows the outcome to rule out
 pub record Shows (t : Test) (p : List Entry) (e : Execution) : Type 0 where
   pub execution : IsExecution t p e
-  pub grounded : IsGrounded t e
   pub outcome : has_outcome t e ≡ true
 
 abbrev pub Allows : Test → List Entry → Type 0

@@ -1,13 +1,9 @@
 -- Which instructions load, store, and are annotated or paired (RISC-V Unprivileged ISA 20191213, chapter "“A” Standard Extension
 -- for Atomic Instructions").
-use Rattle.std.specs.Prelude.{Bool, true, false, pos}
+use Rattle.std.specs.Prelude.{Bool, true, false}
 use Rattle.fs_instr.specs.declared.names.Ann.{Ann}
-use Rattle.fs_instr.specs.declared.names.ImmOp.TheVariants.{Addi}
 use Rattle.fs_instr.specs.declared.instr.Instr.{Instr}
-use Rattle.fs_instr.specs.declared.instr.Instr.TheVariants.{Immediate, Lw, Sw, Lr, Sc, Amo}
-
-abbrev pub nop : Instr
-nop = Immediate Addi 0 0 (pos 0)
+use Rattle.fs_instr.specs.declared.instr.Instr.TheVariants.{Lw, Sw, Lr, Sc, Amo}
 
 -- it loads a word: lw, lr.w or an AMO
 abbrev pub is_loading : Instr → Bool

@@ -7,7 +7,8 @@ use Rattle.fs_instr.specs.declared.instr.Instr.{Instr}
 use Rattle.fs_syntax.specs.Test.{address_of}
 use Rattle.fs_model.specs.declared.operation.Operation.{Operation}
 use Rattle.fs_model.specs.declared.step.Step.{Step}
-use Rattle.fs_model.specs.Forms.{nop, is_lr, is_sc, is_amo, annotation}
+use Rattle.fs_instr.specs.Instructions.{nop}
+use Rattle.fs_model.specs.Forms.{is_lr, is_sc, is_amo, annotation}
 use Rattle.fs_model.specs.Numbers.{is_same, numbers_below, between}
 
 -- What an execution has before any order: a run of each hart, and the words that the locations begin with.

@@ -15,12 +15,14 @@ pub data Rule : Type 0 where
 abbrev pub all_rules : List Rule
 all_rules = Rule1 ∷ Rule2 ∷ Rule3 ∷ Rule4 ∷ Rule5 ∷ Rule6 ∷ Rule7 ∷ Rule8 ∷ Rule9 ∷ Rule10 ∷ Rule11 ∷ Rule12 ∷ Rule13 ∷ []
 
--- The rules, for operations a and b. rf gives the operation that wrote what a load returns.
+-- The rules, for operations a and b. rf goes from a load to its source, the operation that wrote what it returns; the field draws it
+-- the other way.
 module _ (x : PreExecution) (p : List Entry) (rf : ℕ → Option ℕ) (a b : ℕ) where
   -- what each rule asks besides program order
   abbrev pub case_of : Rule → Bool
   -- overlapping addresses
   case_of Rule1 = is_store x b && same_word x a b
+  -- (loads without a source would count as returning different stores; in an execution each load has one)
   case_of Rule2 =
       is_load x a && is_load x b && same_word x a b
       && not (any_between x (λ m. is_store x m && same_word x m a) a b) && not (is_same (rf a) (rf b))
@@ -38,6 +40,7 @@ module _ (x : PreExecution) (p : List Entry) (rf : ℕ → Option ℕ) (a b : �
   -- pipeline dependencies
   case_of Rule12 =
       is_load x b && any_between x (λ m. is_store x m && (address_dependency x a m || data_dependency x a m) && is_same (rf b) (Some m)) a b
+  -- the instruction between may be any that has an address, a failed sc.w too
   case_of Rule13 = is_store x b && address_between x a b
 
   -- a before b is a case of rule r

@@ -1,4 +1,4 @@
--- Which tests are refused since their runs or candidates are too many or go astray.
+-- Which tests are refused since their runs are too many or go astray.
 use Rattle.std.specs.Prelude.{◌≡◌, ◌≢◌, ℕ, ◌<◌, ◌≤◌, ◌==◌, nat_lt, ◌⊎◌, Bool, true, ◌&&◌, ◌||◌, List, All, AllPairs, length}
 use Rattle.fs_kinds.specs.declared.fault.Fault.{Fault}
 use Rattle.fs_kinds.specs.declared.fault.Fault.TheVariants as fault
@@ -10,18 +10,14 @@ use Rattle.fs_model.specs.Choices.{choices_of, ComesBefore, IsStopped}
 use Rattle.fs_model.specs.Execution.{code_of, registers_of}
 use Rattle.fs_model.specs.Values.{IsValueAfter, LoadsFrom, rounds}
 use Rattle.fs_model.specs.Witness.{Chooses}
-use Rattle.fs_model.specs.Candidates.{AreRunsOverValues, IsRaw}
 
 -- more than n different things are so
 abbrev pub AreMoreThan : {X : Type 0} → ℕ → (X → Type 0) → Type 0
 AreMoreThan {X} n P = (xs : List X) × AllPairs (λ x y. x ≢ y) xs × All P xs × (n < length xs)
 
--- how many choice lists of a hart may end, and how many candidates and lists of runs there may be
+-- how many choice lists of a hart may end
 abbrev pub most_choice_lists : ℕ
 most_choice_lists = 100000
-
-abbrev pub most_candidates : ℕ
-most_candidates = 4000000
 
 -- ---- the choice lists of a hart, where V says which words a load may take at each location
 
@@ -67,12 +63,3 @@ pub record IsRunFault (t : Test) (f : Fault) : Type 0 where
   pub met : IsHartFault t (IsValueAfter t round) hart f
   pub first :
       (n h : ℕ) (g : Fault) → h < length t.codes → is_sooner n h round hart ≡ true → IsHartFault t (IsValueAfter t n) h g → ⊥
-
--- too many lists of runs, one of each hart, or too many candidates, whether they show the outcome or not
-abbrev pub HasTooMany : Test → Type 0
-HasTooMany t = AreMoreThan most_candidates (AreRunsOverValues t) ⊎ AreMoreThan most_candidates (IsRaw t)
-
--- why the candidates of a test aren't listed
-abbrev pub IsCandidateFault : Test → Fault → Type 0
-IsCandidateFault t fault.TooManyCandidates = ((f : Fault) → IsRunFault t f → ⊥) × HasTooMany t
-IsCandidateFault t f = IsRunFault t f

@@ -1,5 +1,6 @@
 -- Which words a location can come to hold, counted in rounds: a run whose loads take words of one round adds what it stores to
--- the next.
+-- the next. They bound which runs are listed. That each execution keeps to them, where no run over them goes astray, is a law of
+-- the memory model, and no part of what an execution is.
 use Rattle.std.specs.Prelude.{◌≡◌, ℕ, zero, suc, ◌<◌, ◌⊎◌, Some, List, [], ◌∷◌, All, length, slice_get, sum_by, count_by}
 use Rattle.fs_syntax.specs.declared.test.Test.{Test}
 use Rattle.fs_syntax.specs.Test.{address_of}
@@ -38,3 +39,9 @@ IsValue t k word = IsValueAfter t (rounds t) k word
 -- each word that is loaded is a value of its location
 abbrev pub IsGrounded : Test → Execution → Type 0
 IsGrounded t e = (hart : ℕ) → hart < length t.codes → LoadsFrom (IsValue t) (steps_of e.traces hart)
+
+-- a run of each hart, whose loads take words from the value sets
+pub record AreRunsOverValues (t : Test) (traces : List (List Step)) : Type 0 where
+  pub harts : length traces ≡ length t.codes
+  pub runs : (hart : ℕ) → hart < length t.codes → IsTrace t hart (steps_of traces hart)
+  pub values : (hart : ℕ) → hart < length t.codes → LoadsFrom (IsValue t) (steps_of traces hart)

@@ -1,7 +1,7 @@
 -- Witnesses: an execution as a file gives it, by the choices of each hart and the names of the operations in their order.
 use Rattle.std.specs.Prelude.{◌≡◌, ℕ, ◌<◌, Option, Some, option_map, option_and_then, List, [], map, length, slice_get}
 use Rattle.std.specs.List.{slice_index_or}
-use Rattle.fs_kinds.specs.declared.reason.Operation.{Operation as Name}
+use Rattle.fs_kinds.specs.declared.reason.OperationName.{OperationName as Name}
 use Rattle.fs_syntax.specs.declared.test.Test.{Test}
 use Rattle.fs_model.specs.declared.step.Step.{Step}
 use Rattle.fs_model.specs.declared.step.Choice.{Choice}
@@ -14,12 +14,13 @@ pub record Witness : Type 0 where
   pub choices : List (List Choice)
   pub order : List Name
 
--- the hart of an operation and the position of its instruction in the unfenced code
+-- the name of what a step does: its hart, and the position of its instruction in the unfenced code
+abbrev pub step_name : ℕ → Step → Name
+step_name hart s = record { hart = hart; at = s.at }
+
+-- the name of an operation; an initial store has none
 abbrev pub name_of : PreExecution → ℕ → Option Name
-name_of x a = option_and_then (λ hart. option_map (named hart) (slice_get (trace_of x a) (place x a))) (operation x a).hart
-  where
-    named : ℕ → Step → Name
-    named hart s = record { hart = hart; at = s.at }
+name_of x a = option_and_then (λ hart. option_map (step_name hart) (slice_get (trace_of x a) (place x a))) (operation x a).hart
 
 -- the hart's choices make these steps
 abbrev pub Chooses : Test → ℕ → List Choice → List Step → Type 0

@@ -11,16 +11,16 @@ ghost use Rattle.fs_model.specs.Trace.{start_with, after_step, IsDeclared};
 use crate::registers::{address, execute, next, word_to_store};
 use crate::step::{Choice, Step, Stop};
 use fs_instr::Instr;
+use fs_syntax::Location;
 
 // Is it the address of one of the first so many locations?
 fn is_declared(locations: u8, address: u32) -> bool
     ensures { IsTrue result ↔ IsDeclared locations (Some address) }
 {
-    if address < 4096 {
-        return false;
+    match Location::at(address) {
+        Some(location) => location < u32::from(locations),
+        None => false,
     }
-    let distance = address - 4096;
-    distance % 16 == 0 && distance / 16 < u32::from(locations)
 }
 
 /// A hart between two instructions.

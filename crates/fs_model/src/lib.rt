@@ -1,8 +1,6 @@
-//! The memory model RVWMO: the definitions of runs, executions and answers; the steps of a hart, and what is asked of single
 //! operations.
 #![tactic(auto)]
 
-pub mod answers;
 mod arithmetic;
 mod hart;
 pub mod laws;

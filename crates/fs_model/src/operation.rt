@@ -6,7 +6,7 @@ ghost use Rattle.fs_model.specs.Forms.{annotation};
 ghost use Rattle.fs_model.specs.Numbers.{is_same};
 ghost use Rattle.fs_model.specs.Operations.{nothing, precedes};
 
-use fs_instr::{Ann, ImmOp, Instr, Reg};
+use fs_instr::{Ann, Instr};
 use fs_kinds::Classes;
 
 /// A memory operation: a load, a store, or both at once (RISC-V Unprivileged ISA 20191213, section "Memory Model
@@ -29,12 +29,7 @@ pub struct Operation {
 const NOTHING: Operation = Operation {
     hart: None,
     place: 0,
-    instr: Instr::Immediate {
-        op: ImmOp::Addi,
-        rd: Reg::ZERO,
-        first: Reg::ZERO,
-        imm: 0,
-    },
+    instr: Instr::NOP,
     address: None,
     loaded: None,
     stored: None,

@@ -6,11 +6,13 @@ use Rattle.std.proofs.lemmas.Option.{slice_get_past}
 use Rattle.fs_kinds.specs.declared.placement.Entry.{Entry}
 use Rattle.fs_model.specs.declared.operation.Operation.{Operation}
 use Rattle.fs_model.specs.declared.step.Step.{Step}
-use Rattle.fs_model.specs.Operations.{PreExecution, operations}
+use Rattle.fs_model.specs.Operations.{PreExecution, operations, precedes}
 use Rattle.fs_model.specs.Preserved.{Rule, Rule1, Rule2, Rule3, Rule4, Rule5, Rule6, Rule7, Rule8, Rule9, Rule10}
 use Rattle.fs_model.specs.Preserved.{Rule11, Rule12, Rule13, rule, case_of, ppo, all_rules}
-use Rattle.fs_plain.specs.Among.{at, is_earlier, source_at, case_among, rule_among, is_rule}
-use Rattle.fs_plain.proofs.Counted.{count_accesses}
+use Rattle.fs_axioms.specs.Among.{at}
+use Rattle.fs_axioms.specs.Ordered.{source_at}
+use Rattle.fs_axioms.proofs.Counted.{count_accesses}
+use Rattle.fs_plain.specs.Among.{case_among, rule_among, is_rule}
 
 case_same : (x : PreExecution) (p : List Entry) (sources : List (Option ℕ)) (a b : ℕ) (r : Rule)
     → case_among (operations x) x.traces p sources a b r ≡ case_of x p (source_at sources) a b r
@@ -29,16 +31,16 @@ case_same x p sources a b Rule12 = rw (count_accesses x) refl
 case_same x p sources a b Rule13 = refl
 
 case_found : (x : PreExecution) (p : List Entry) (sources : List (Option ℕ)) (a b : ℕ) (found : Option Rule)
-    → (is_earlier (at (operations x) a) (at (operations x) b)
+    → (precedes (at (operations x) a) (at (operations x) b)
     && unwrap_or (option_map (case_among (operations x) x.traces p sources a b) found) false)
     ≡ unwrap_or (option_map (rule x p (source_at sources) a b) found) false
-case_found x p sources a b None = and-false (is_earlier (at (operations x) a) (at (operations x) b))
+case_found x p sources a b None = and-false (precedes (at (operations x) a) (at (operations x) b))
   where
     and-false : (c : Bool) → (c && false) ≡ false
     and-false true = refl
     and-false false = refl
 case_found x p sources a b (Some r) =
-    ap (λ c. is_earlier (at (operations x) a) (at (operations x) b) && c) (case_same x p sources a b r)
+    ap (λ c. precedes (at (operations x) a) (at (operations x) b) && c) (case_same x p sources a b r)
 
 pub among_is_rule : (x : PreExecution) (listed : List Operation) (runs : List (List Step)) (p : List Entry)
     (sources : List (Option ℕ)) (a b n : ℕ) → listed ≡ operations x → x.traces ≡ runs

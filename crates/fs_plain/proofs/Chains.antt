@@ -4,7 +4,7 @@ use Rattle.std.specs.List.{list_any}
 use Rattle.fs_model.specs.declared.step.Step.{Step}
 use Rattle.fs_model.specs.Numbers.{between}
 use Rattle.fs_model.specs.Dependencies.{depends_within}
-use Rattle.fs_plain.specs.Dependencies.{writes_last, leads_through}
+use Rattle.fs_plain.specs.inner.Dependencies.{writes_last, leads_through}
 
 -- where i doesn't write the register last, the steps between decide
 pub within_next : (distance : ℕ) (steps : List Step) (i j : ℕ) (register : Option ℕ) → (distance ≡ 0 → ⊥)

@@ -10,7 +10,7 @@ use Rattle.fs_model.specs.Execution.{pre_execution}
 use Rattle.fs_hart.specs.declared.trace.Trace.{Trace}
 use Rattle.fs_hart.proofs.Few.{few_accesses}
 use Rattle.fs_hart.proofs.Forward.{traces_short}
-use Rattle.fs_plain.specs.Among.{runs_in}
+use Rattle.fs_hart.specs.Steps.{steps_in}
 use Rattle.fs_plain.specs.Allowing.{AreWhole}
 
 abbrev pub AreShort : List Trace → Type 0
@@ -23,12 +23,12 @@ pub short : (t : Test) (traces : List Trace) → IsBounded t → AreWhole t trac
 short t traces bounded whole hart d low =
     let there : hart < length t.codes = omega (arith, low, harts_of t traces bounded whole) in
     subst (λ (steps : List Step). length steps ≤ 32) (get_or-map (λ (trace : Trace). trace.steps) traces hart d [] low)
-    (traces_short t hart (steps_of (runs_in traces) hart) bounded there (whole.runs hart there))
+    (traces_short t hart (steps_of (steps_in traces) hart) bounded there (whole.runs hart there))
 
 -- a bounded test has few operations
 pub few : (t : Test) (traces : List Trace) → IsBounded t → AreWhole t traces
-    → length (accesses (pre_execution t (runs_in traces))) ≤ 256
+    → length (accesses (pre_execution t (steps_in traces))) ≤ 256
 few t traces bounded whole =
-    let harts : length (runs_in traces) ≡ length t.codes =
+    let harts : length (steps_in traces) ≡ length t.codes =
     length-map traces (λ (trace : Trace). trace.steps) ∙ harts_of t traces bounded whole in
-    omega (arith, few_accesses t (runs_in traces) bounded harts whole.runs)
+    omega (arith, few_accesses t (steps_in traces) bounded harts whole.runs)

@@ -1,22 +1,16 @@
 -- All operations pass the tests just where their order obeys the axioms.
-use Rattle.std.proofs.Common.{◌≡◌, ◌∙◌, ℕ, zero, suc, ◌+◌, ◌<◌, ◌≤◌, Bool, true, false, ◌&&◌, Option, None, List, length, map, refl, sym, ap, arith}
-use Rattle.std.specs.List.{list_all, range_with_len, enumerate_from}
-use Rattle.std.proofs.lemmas.Bool.{and_parts, false≢true}
-use Rattle.std.proofs.lemmas.List.{length-append}
-use Rattle.std.proofs.lemmas.List.FromFn.{get_or-map-range_with_len}
+use Rattle.std.proofs.Common.{◌≡◌, ◌∙◌, ℕ, zero, suc, ◌+◌, ◌<◌, ◌≤◌, Bool, true, false, ◌&&◌, List, length, refl, sym, arith}
+use Rattle.std.specs.List.{list_all, range_with_len}
+use Rattle.std.proofs.lemmas.Bool.{false≢true}
 use Rattle.fs_kinds.specs.declared.placement.Entry.{Entry}
 use Rattle.fs_model.specs.Numbers.{numbers_below}
-use Rattle.fs_model.specs.Operations.{PreExecution, accesses, initial_store}
+use Rattle.fs_model.specs.Operations.{PreExecution, accesses}
 use Rattle.fs_model.specs.Source.{gmo, source_in, lists_each_once}
 use Rattle.fs_model.specs.Execution.{ObeysAxioms}
 use Rattle.fs_model.specs.Tests.{returns_source, goes_forward, keeps_atomicity}
 use Rattle.fs_model.proofs.Ranges.{each_below, each_two_below}
-use Rattle.fs_order.proofs.Axioms.{passing_obeys, obeying_goes_forward, obeying_returns, obeying_keeps_atomicity}
-use Rattle.fs_plain.specs.declared.axioms.Arranged.{Arranged}
-use Rattle.fs_plain.specs.Among.{source_at}
-use Rattle.fs_plain.specs.Arranged.{IsArranged, all_return, all_after, all_go_forward, all_paired, all_keep_atomicity, all_pass}
+use Rattle.fs_axioms.proofs.Axioms.{passing_obeys, obeying_goes_forward, obeying_returns, obeying_keeps_atomicity}
 use Rattle.fs_plain.specs.Decisions.{Decides}
-use Rattle.fs_plain.proofs.Agreeing.{forward_agrees, returns_agrees, keeps_agrees}
 
 both : (b c : Bool) → b ≡ true → c ≡ true → (b && c) ≡ true
 both true c e f = f
@@ -27,71 +21,54 @@ all_from test a zero h = refl
 all_from test a (suc n) h =
     both (test a) _ (h a (omega arith) (omega arith)) (all_from test (a + 1) n (λ k low high. h k (omega arith) (omega arith)))
 
-all_below : (test : ℕ → Bool) (n : ℕ) → ((k : ℕ) → k < n → test k ≡ true) → list_all test (numbers_below n) ≡ true
-all_below test n h = all_from test 0 n (λ k low high. h k (omega arith))
+all_below : (test : ℕ → Bool) (n : ℕ) → ((k : ℕ) → test k ≡ true) → list_all test (numbers_below n) ≡ true
+all_below test n h = all_from test 0 n (λ k low high. h k)
 
-module _ (x : PreExecution) (p : List Entry) (listed : List ℕ) (a : Arranged) (is : IsArranged x listed a) where
-  abbrev rf : ℕ → Option ℕ
-  rf = source_at a.sources.items
+two_below : (test : ℕ → ℕ → Bool) (n : ℕ) → ((a b : ℕ) → test a b ≡ true)
+    → list_all (λ a. list_all (test a) (numbers_below n)) (numbers_below n) ≡ true
+two_below test n h = all_below (λ a. list_all (test a) (numbers_below n)) n (λ a. all_below (test a) n (h a))
 
-  abbrev count : ℕ
-  count = length a.operations
+-- each operation, or each two, of the harts' own
+module _ (x : PreExecution) (p : List Entry) (listed : List ℕ) where
+  abbrev pub all_return : Bool
+  all_return = list_all (returns_source x (source_in x listed)) (numbers_below (length (accesses x)))
 
-  source : (k : ℕ) → k < count → rf k ≡ source_in x listed k
-  source k low =
-      ap (λ sources. source_at sources k) is.sources ∙ get_or-map-range_with_len (source_in x listed) 0 count k k None low (omega arith)
+  abbrev pub all_go_forward : Bool
+  all_go_forward =
+      list_all (λ a. list_all (goes_forward x p (source_in x listed) (gmo x listed) a) (numbers_below (length (accesses x))))
+      (numbers_below (length (accesses x)))
 
-  inside : (k : ℕ) → k < length (accesses x) → k < count
-  inside k low =
-      let parts = length-append (accesses x) (map initial_store (enumerate_from 0 x.words)) in
-      let whole = ap length is.runs.operations in
-      omega (arith, low, parts, whole)
+  abbrev pub all_keep_atomicity : Bool
+  all_keep_atomicity =
+      list_all (λ r. list_all (keeps_atomicity x (source_in x listed) (gmo x listed) r) (numbers_below (length (accesses x))))
+      (numbers_below (length (accesses x)))
 
-  passed : lists_each_once x listed ≡ true → all_pass x p rf (gmo x listed) count ≡ true → ObeysAxioms x p listed
-  passed once pass =
-      let parts = and_parts _ _ pass in
-      let more = and_parts _ _ parts.0 in
-      passing_obeys x p listed record {
-        once = once;
-        preserved = λ k m low high.
-            sym (forward_agrees x p rf (source_in x listed) k m (source k (inside k low)) (source m (inside m high)) (gmo x listed))
-            ∙ each_two_below (goes_forward x p rf (gmo x listed)) count k m more.1 (inside k low) (inside m high);
-        values = λ k low.
-            sym (returns_agrees x rf (source_in x listed) k (source k (inside k low)))
-            ∙ each_below (returns_source x rf) count k more.0 (inside k low);
-        atomic = λ r w low high.
-            sym (keeps_agrees x rf (source_in x listed) (gmo x listed) r w (source r (inside r low)))
-            ∙ each_two_below (keeps_atomicity x rf (gmo x listed)) count r w parts.1 (inside r low) (inside w high);
-      }
+  -- all tests pass: the order obeys the axioms
+  pub passed : lists_each_once x listed ≡ true → all_return ≡ true → all_go_forward ≡ true → all_keep_atomicity ≡ true
+      → ObeysAxioms x p listed
+  passed once returns forward atomic = passing_obeys x p listed record {
+    once = once;
+    preserved = λ a b low high.
+        each_two_below (goes_forward x p (source_in x listed) (gmo x listed)) (length (accesses x)) a b forward low high;
+    values = λ a low. each_below (returns_source x (source_in x listed)) (length (accesses x)) a returns low;
+    atomic = λ r w low high.
+        each_two_below (keeps_atomicity x (source_in x listed) (gmo x listed)) (length (accesses x)) r w atomic low high;
+  }
 
-  returning : ObeysAxioms x p listed → all_return x rf count ≡ true
-  returning h = all_below (returns_source x rf) count (λ k low.
-      returns_agrees x rf (source_in x listed) k (source k low) ∙ obeying_returns x p listed h k)
+  -- it obeys the axioms: each test passes
+  pub returning : ObeysAxioms x p listed → all_return ≡ true
+  returning h = all_below (returns_source x (source_in x listed)) (length (accesses x)) (obeying_returns x p listed h)
 
-  after : ObeysAxioms x p listed → (k : ℕ) → k < count → all_after x p rf (gmo x listed) count k ≡ true
-  after h k low = all_below (goes_forward x p rf (gmo x listed) k) count (λ m high.
-      forward_agrees x p rf (source_in x listed) k m (source k low) (source m high) (gmo x listed)
-      ∙ obeying_goes_forward x p listed h k m)
+  pub going_forward : ObeysAxioms x p listed → all_go_forward ≡ true
+  going_forward h =
+      two_below (goes_forward x p (source_in x listed) (gmo x listed)) (length (accesses x)) (obeying_goes_forward x p listed h)
 
-  going_forward : ObeysAxioms x p listed → all_go_forward x p rf (gmo x listed) count ≡ true
-  going_forward h = all_below (all_after x p rf (gmo x listed) count) count (after h)
+  pub keeping : ObeysAxioms x p listed → all_keep_atomicity ≡ true
+  keeping h =
+      two_below (keeps_atomicity x (source_in x listed) (gmo x listed)) (length (accesses x)) (obeying_keeps_atomicity x p listed h)
 
-  pairing : ObeysAxioms x p listed → (r : ℕ) → r < count → all_paired x rf (gmo x listed) count r ≡ true
-  pairing h r low = all_below (keeps_atomicity x rf (gmo x listed) r) count (λ w high.
-      keeps_agrees x rf (source_in x listed) (gmo x listed) r w (source r low) ∙ obeying_keeps_atomicity x p listed h r w)
-
-  keeping : ObeysAxioms x p listed → all_keep_atomicity x rf (gmo x listed) count ≡ true
-  keeping h = all_below (all_paired x rf (gmo x listed) count) count (pairing h)
-
-  obeyed : ObeysAxioms x p listed → all_pass x p rf (gmo x listed) count ≡ true
-  obeyed h = both _ _ (both _ _ (returning h) (going_forward h)) (keeping h)
-
-  by_answer : (result : Bool) → lists_each_once x listed ≡ true → result ≡ all_pass x p rf (gmo x listed) count
-      → Decides result (ObeysAxioms x p listed)
-  by_answer true once e = passed once (sym e)
-  by_answer false once e = λ h. false≢true (e ∙ obeyed h)
-
-  -- the tests of the operations in their order decide
-  pub decided : (result : Bool) → lists_each_once x listed ≡ true → result ≡ all_pass x p rf a.order count
-      → Decides result (ObeysAxioms x p listed)
-  decided result once e = by_answer result once (e ∙ ap (λ order. all_pass x p rf order count) is.order)
+  -- the last test decides, where the others pass
+  pub decided : (result : Bool) → lists_each_once x listed ≡ true → all_return ≡ true → all_go_forward ≡ true
+      → result ≡ all_keep_atomicity → Decides result (ObeysAxioms x p listed)
+  decided true once returns forward e = passed once returns forward (sym e)
+  decided false once returns forward e = λ h. false≢true (e ∙ keeping h)

@@ -10,10 +10,10 @@ use Rattle.fs_model.specs.Numbers.{has_number}
 use Rattle.fs_model.specs.Operations.{accesses}
 use Rattle.fs_model.specs.Execution.{pre_execution}
 use Rattle.fs_hart.specs.declared.trace.Trace.{Trace}
-use Rattle.fs_plain.specs.Among.{runs_in}
+use Rattle.fs_hart.specs.Steps.{steps_in}
 use Rattle.fs_plain.specs.Allowing.{execution_of, ShowsFrom}
 use Rattle.fs_plain.specs.Decisions.{Decides, ShowsOutcome}
-use Rattle.fs_plain.proofs.Permuted.{once_long, is_below, is_new}
+use Rattle.fs_model.proofs.OnceListed.{once_long, is_below, is_new}
 
 module _ (t : Test) (p : List Entry) (traces : List Trace) where
   -- the runs show it in this order
@@ -28,14 +28,14 @@ module _ (t : Test) (p : List Entry) (traces : List Trace) where
   pub whole_shows : (order : List ℕ) → Shown order → ShowsFrom t p traces order
   whole_shows order shown = ([], subst Shown (sym (append-nil order)) shown)
 
-  pub whole_fails : (order : List ℕ) → length order ≡ length (accesses (pre_execution t (runs_in traces)))
+  pub whole_fails : (order : List ℕ) → length order ≡ length (accesses (pre_execution t (steps_in traces)))
       → (Shown order → ⊥) → ShowsFrom t p traces order → ⊥
   whole_fails order long fails shows = by_rest shows.0 shows.1
     where
       by_rest : (rest : List ℕ) → Shown (order ++ rest) → ⊥
       by_rest [] shown = fails (subst Shown (append-nil order) shown)
       by_rest (b ∷ rest) shown =
-          let same = once_long (pre_execution t (runs_in traces)) (order ++ b ∷ rest) shown.0.axioms.once in
+          let same = once_long (pre_execution t (steps_in traces)) (order ++ b ∷ rest) shown.0.axioms.once in
           omega (arith, long, same, length-append order (b ∷ rest))
 
   -- with a at the end it shows
@@ -47,11 +47,11 @@ module _ (t : Test) (p : List Entry) (traces : List Trace) where
     joined : Shown (order ++ b ∷ shows.0)
     joined = subst Shown (append_assoc order (b ∷ []) shows.0) shows.1
 
-    next_below : b < length (accesses (pre_execution t (runs_in traces)))
-    next_below = is_below (pre_execution t (runs_in traces)) order shows.0 b joined.0.axioms.once
+    next_below : b < length (accesses (pre_execution t (steps_in traces)))
+    next_below = is_below (pre_execution t (steps_in traces)) order shows.0 b joined.0.axioms.once
 
     pub next_new : has_number order b ≡ true → ⊥
-    next_new = is_new (pre_execution t (runs_in traces)) order shows.0 b joined.0.axioms.once
+    next_new = is_new (pre_execution t (steps_in traces)) order shows.0 b joined.0.axioms.once
 
   pub none_more : (order : List ℕ) (a : ℕ) → NoneBelow order a → (ShowsFrom t p traces (order ++ a ∷ []) → ⊥)
       → NoneBelow order (a + 1)
@@ -61,13 +61,13 @@ module _ (t : Test) (p : List Entry) (traces : List Trace) where
   ]
 
   -- no number is left
-  pub none_shows : (order : List ℕ) (count : ℕ) → count ≡ length (accesses (pre_execution t (runs_in traces)))
+  pub none_shows : (order : List ℕ) (count : ℕ) → count ≡ length (accesses (pre_execution t (steps_in traces)))
       → (length order ≡ count → ⊥) → NoneBelow order count → ShowsFrom t p traces order → ⊥
   none_shows order count all short none shows = by_rest shows.0 shows.1
     where
       by_rest : (rest : List ℕ) → Shown (order ++ rest) → ⊥
       by_rest [] shown =
-          let same = once_long (pre_execution t (runs_in traces)) (order ++ []) shown.0.axioms.once in
+          let same = once_long (pre_execution t (steps_in traces)) (order ++ []) shown.0.axioms.once in
           short (ap length (sym (append-nil order)) ∙ same ∙ sym all)
       by_rest (b ∷ rest) shown =
           let next : ShowsFrom t p traces (order ++ b ∷ []) = (rest, subst Shown (sym (append_assoc order (b ∷ []) rest)) shown) in

@@ -1,14 +1,11 @@
 pub mod Between
 pub mod Chains
-pub mod Counted
 pub mod Cases
 pub mod SameSteps
 pub mod Stepwise
-pub mod Arranging
 pub mod Agreeing
 pub mod Deciding
 pub mod Showing
-pub mod Permuted
 pub mod Extending
 pub mod Choosing
 pub mod Counting

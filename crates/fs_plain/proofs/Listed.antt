@@ -19,7 +19,7 @@ use Rattle.fs_model.specs.Values.{LoadsFrom}
 use Rattle.fs_hart.specs.declared.trace.Trace.{Trace}
 use Rattle.fs_hart.specs.Listing.{End, EndsSo, IsEnd, IsOffered, IsTraceFault, AreTraces, trace_at}
 use Rattle.fs_hart.specs.Runs.{registers_after}
-use Rattle.fs_plain.specs.Among.{runs_in}
+use Rattle.fs_hart.specs.Steps.{steps_in}
 use Rattle.fs_plain.specs.Decisions.{ShowsOutcome}
 use Rattle.fs_plain.specs.Allowing.{AllowsOver, AreChosen, AreListed, AreWhole, IsListingFault, LoadsOver, ShowsAmong}
 use Rattle.fs_plain.specs.Allowing.{execution_of}
@@ -107,13 +107,13 @@ module _ (t : Test) (sets : List (List ℕ)) (lists : List (List Trace)) (bounde
     run : IsRun t sets hart at.trace
     run = is_run t sets hart (slice_index_or lists hart []) at.trace (listed hart inside) at.has
 
-    steps_here : steps_of (runs_in chosen) hart ≡ at.trace.steps
-    steps_here = get_or_from_slice_get (runs_in chosen) hart at.trace.steps []
+    steps_here : steps_of (steps_in chosen) hart ≡ at.trace.steps
+    steps_here = get_or_from_slice_get (steps_in chosen) hart at.trace.steps []
         (slice_get-map (λ trace. trace.steps) chosen hart ∙ ap (option_map (λ trace. trace.steps)) at.here)
 
     registers_here :
         slice_index_or (map (λ trace. trace.registers) chosen) hart []
-        ≡ registers_after t hart (steps_of (runs_in chosen) hart)
+        ≡ registers_after t hart (steps_of (steps_in chosen) hart)
     registers_here =
         get_or_from_slice_get (map (λ trace. trace.registers) chosen) hart at.trace.registers []
         (slice_get-map (λ trace. trace.registers) chosen hart ∙ ap (option_map (λ trace. trace.registers)) at.here)
@@ -141,7 +141,7 @@ module _ (t : Test) (sets : List (List ℕ)) (lists : List (List Trace)) (bounde
   traced first [] = []
   traced first (steps ∷ runs) = trace_at t first (whole_end steps) ∷ traced (first + 1) runs
 
-  runs_traced : (first : ℕ) (runs : List (List Step)) → runs_in (traced first runs) ≡ runs
+  runs_traced : (first : ℕ) (runs : List (List Step)) → steps_in (traced first runs) ≡ runs
   unfolding traced
   runs_traced first [] = refl
   runs_traced first (steps ∷ runs) = ap (λ rs. steps ∷ rs) (runs_traced (first + 1) runs)

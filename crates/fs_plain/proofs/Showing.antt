@@ -12,13 +12,13 @@ use Rattle.fs_model.specs.Shows.{has_outcome}
 use Rattle.fs_hart.specs.declared.trace.Trace.{Trace}
 use Rattle.fs_hart.proofs.Forward.{traces_short}
 use Rattle.fs_hart.proofs.Few.{few_operations}
-use Rattle.fs_order.specs.Final.{AreFinal}
-use Rattle.fs_plain.specs.Among.{runs_in}
-use Rattle.fs_plain.specs.Arranged.{execution_of}
+use Rattle.fs_axioms.specs.Final.{AreFinal}
+use Rattle.fs_hart.specs.Steps.{steps_in}
+use Rattle.fs_plain.specs.Whole.{pre_execution_of}
 use Rattle.fs_plain.specs.Decisions.{Decides, ShowsOutcome}
 
 steps_at : (traces : List Trace) (k : ℕ) (d : Trace) → k < length traces
-    → steps_of (runs_in traces) k ≡ (slice_index_or traces k d).steps
+    → steps_of (steps_in traces) k ≡ (slice_index_or traces k d).steps
 steps_at [] k d low = absurd (omega (arith, low))
 steps_at (trace ∷ traces) zero d low = refl
 steps_at (trace ∷ traces) (suc k) d low = steps_at traces k d (omega (arith, low))
@@ -30,7 +30,7 @@ is_so P false e h = absurd (false≢true e)
 
 -- whole runs of the test's harts
 module _ (t : Test) (traces : List Trace) (bounded : IsBounded t) (final : AreFinal t traces)
-    (runs : (hart : ℕ) → hart < length t.codes → IsTrace t hart (steps_of (runs_in traces) hart)) where
+    (runs : (hart : ℕ) → hart < length t.codes → IsTrace t hart (steps_of (steps_in traces) hart)) where
   harts : length traces ≡ length t.codes
   harts = final.harts ∙ bounded.starts
 
@@ -40,15 +40,15 @@ module _ (t : Test) (traces : List Trace) (bounded : IsBounded t) (final : AreFi
       traces_short t k (slice_index_or traces k d).steps bounded there
       (subst (λ (steps : List _). IsTrace t k steps) (steps_at traces k d low) (runs k there))
 
-  lists : length (runs_in traces) ≡ length t.codes
+  lists : length (steps_in traces) ≡ length t.codes
   lists = length-map traces (λ trace. trace.steps) ∙ harts
 
-  pub few : length (operations (execution_of t traces)) ≤ 256
-  few = let most = few_operations t (runs_in traces) bounded lists runs in omega (arith, most)
+  pub few : length (operations (pre_execution_of t traces)) ≤ 256
+  few = let most = few_operations t (steps_in traces) bounded lists runs in omega (arith, most)
 
   -- an order of theirs obeys the axioms: whether they show the outcome decides
-  pub shown : (p : List Entry) (order : List ℕ) (answer : Bool) → ObeysAxioms (execution_of t traces) p order
-      → answer ≡ has_outcome t (record { traces = runs_in traces; order = order })
-      → Decides answer (ShowsOutcome t p (record { traces = runs_in traces; order = order }))
+  pub shown : (p : List Entry) (order : List ℕ) (answer : Bool) → ObeysAxioms (pre_execution_of t traces) p order
+      → answer ≡ has_outcome t (record { traces = steps_in traces; order = order })
+      → Decides answer (ShowsOutcome t p (record { traces = steps_in traces; order = order }))
   shown p order true axioms e = (record { harts = lists; runs = runs; axioms = axioms }, sym e)
   shown p order false axioms e = λ h. false≢true (e ∙ h.1)

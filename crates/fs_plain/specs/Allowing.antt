@@ -11,8 +11,8 @@ use Rattle.fs_model.specs.Shows.{has_outcome}
 use Rattle.fs_model.specs.Values.{LoadsFrom}
 use Rattle.fs_hart.specs.declared.trace.Trace.{Trace}
 use Rattle.fs_hart.specs.Listing.{AreTraces, IsOffered, IsTraceFault}
-use Rattle.fs_order.specs.Final.{AreFinal}
-use Rattle.fs_plain.specs.Among.{runs_in}
+use Rattle.fs_axioms.specs.Final.{AreFinal}
+use Rattle.fs_hart.specs.Steps.{steps_in}
 use Rattle.fs_plain.specs.Decisions.{ShowsOutcome}
 
 -- each word that is loaded is one of its location's set
@@ -26,7 +26,7 @@ AllowsOver t p sets = (e : Execution) × IsExecution t p e × LoadsOver t sets e
 -- ---- runs and orders
 
 abbrev pub execution_of : List Trace → List ℕ → Execution
-execution_of traces order = record { traces = runs_in traces; order = order }
+execution_of traces order = record { traces = steps_in traces; order = order }
 
 -- some order that begins so shows it
 abbrev pub ShowsFrom : Test → List Entry → List Trace → List ℕ → Type 0
@@ -34,7 +34,7 @@ ShowsFrom t p traces order = (rest : List ℕ) × ShowsOutcome t p (execution_of
 
 -- a whole run of each hart, with its registers at the end
 pub record AreWhole (t : Test) (traces : List Trace) : Type 0 where
-  pub runs : (hart : ℕ) → hart < length t.codes → IsTrace t hart (steps_of (runs_in traces) hart)
+  pub runs : (hart : ℕ) → hart < length t.codes → IsTrace t hart (steps_of (steps_in traces) hart)
   pub last : AreFinal t traces
 
 -- a run out of each list

@@ -1,7 +1,7 @@
 -- What the rules of preserved program order ask, said of lists of operations and of runs.
-use Rattle.std.specs.Prelude.{ℕ, ◌+◌, ◌-◌, nat_lt, Bool, false, ◌&&◌, ◌||◌, not, List, [], count_by, map, slice_get}
-use Rattle.std.specs.Prelude.{Option, None, Some, is_some, option_map, option_and_then, unwrap_or}
-use Rattle.std.specs.List.{list_any, range_with_len, slice_index_or}
+use Rattle.std.specs.Prelude.{ℕ, ◌+◌, ◌-◌, Bool, false, ◌&&◌, ◌||◌, not, List, [], slice_get}
+use Rattle.std.specs.Prelude.{Option, Some, is_some, option_map, option_and_then, unwrap_or}
+use Rattle.std.specs.List.{list_any, range_with_len}
 use Rattle.fs_kinds.specs.declared.kind.Classes.{Classes}
 use Rattle.fs_kinds.specs.declared.kind.Kind.{Kind}
 use Rattle.fs_kinds.specs.declared.placement.Entry.{Entry}
@@ -11,37 +11,20 @@ use Rattle.fs_model.specs.declared.operation.Operation.{Operation}
 use Rattle.fs_model.specs.declared.step.Step.{Step}
 use Rattle.fs_model.specs.Forms.{is_amo, is_sc, annotation}
 use Rattle.fs_model.specs.Numbers.{is_same, numbers_below, between}
-use Rattle.fs_model.specs.Operations.{PreExecution, nothing, steps_of, instr_at, are_paired}
+use Rattle.fs_model.specs.Operations.{PreExecution, precedes, steps_of, instr_at, are_paired}
 use Rattle.fs_model.specs.Fences.{instr_orders, kind_orders}
 use Rattle.fs_model.specs.Dependencies.{address_depends, data_depends, control_depends}
 use Rattle.fs_model.specs.Preserved.{Rule, rule, all_rules, Rule1, Rule2, Rule3, Rule4, Rule5, Rule6, Rule7, Rule8, Rule9}
 use Rattle.fs_model.specs.Preserved.{Rule10, Rule11, Rule12, Rule13}
-use Rattle.fs_hart.specs.declared.trace.Trace.{Trace}
-
-abbrev pub at : List Operation → ℕ → Operation
-at operations a = slice_index_or operations a nothing
-
--- program order
-abbrev pub is_earlier : Operation → Operation → Bool
-is_earlier a b = is_same a.hart b.hart && nat_lt a.place b.place
+use Rattle.fs_axioms.specs.Among.{at, count_of_harts}
+use Rattle.fs_axioms.specs.Ordered.{source_at}
 
 abbrev pub classes_of : Operation → Classes
 classes_of a = record { reads = is_some a.loaded; writes = is_some a.stored }
 
--- the runs, and that of an operation's hart
-abbrev pub runs_in : List Trace → List (List Step)
-runs_in traces = map (λ trace. trace.steps) traces
-
+-- the run of an operation's hart
 abbrev pub run_of : List (List Step) → Operation → List Step
 run_of runs a = unwrap_or (option_map (steps_of runs) a.hart) []
-
--- the listed source of an operation
-abbrev pub source_at : List (Option ℕ) → ℕ → Option ℕ
-source_at sources a = slice_index_or sources a None
-
--- how many operations are the harts'
-abbrev pub count_of_harts : List Operation → ℕ
-count_of_harts operations = count_by (λ operation. is_some operation.hart) operations
 
 -- ---- the parts of the rules
 
@@ -50,7 +33,7 @@ overlaps a b = is_some b.stored && is_same a.address b.address
 
 abbrev pub is_store_between : List Operation → (a b m : ℕ) → Bool
 is_store_between operations a b m =
-    is_earlier (at operations a) (at operations m) && is_earlier (at operations m) (at operations b)
+    precedes (at operations a) (at operations m) && precedes (at operations m) (at operations b)
     && (is_some (at operations m).stored && is_same (at operations m).address (at operations a).address)
 
 abbrev pub any_store_between : List Operation → (a b : ℕ) → Bool
@@ -95,7 +78,7 @@ depends_on steps i j = address_depends steps i j || data_depends steps i j
 -- m is a store between a and b that depends on a and is the source
 abbrev pub passes_on : List Operation → List Step → Option ℕ → (a b m : ℕ) → Bool
 passes_on operations steps source a b m =
-    is_earlier (at operations a) (at operations m) && is_earlier (at operations m) (at operations b)
+    precedes (at operations a) (at operations m) && precedes (at operations m) (at operations b)
     && (is_some (at operations m).stored
     && depends_on steps (at operations a).place (at operations m).place
     && is_same source (Some m))
@@ -137,7 +120,7 @@ module _ (operations : List Operation) (runs : List (List Step)) (p : List Entry
 
   -- and in program order
   abbrev pub rule_among : ℕ → Bool
-  rule_among n = is_earlier (at operations a) (at operations b) && is_case n
+  rule_among n = precedes (at operations a) (at operations b) && is_case n
 
   -- some rule holds of them
   abbrev pub any_rule : Bool

@@ -1,6 +1,5 @@
-pub mod Dependencies
 pub mod Among
 pub mod Decisions
-pub mod Arranged
 pub mod Allowing
 pub mod Whole
+pub mod inner

@@ -2,10 +2,15 @@
 use Rattle.std.specs.Prelude.{◌≡◌, ℕ, ◌<◌, Option, None, Some, List, length}
 use Rattle.fs_syntax.specs.declared.test.Test.{Test}
 use Rattle.fs_model.specs.declared.step.Step.{Step}
-use Rattle.fs_model.specs.Operations.{steps_of}
-use Rattle.fs_model.specs.Execution.{IsTrace}
+use Rattle.fs_model.specs.Operations.{PreExecution, steps_of}
+use Rattle.fs_model.specs.Execution.{IsTrace, pre_execution}
 use Rattle.fs_hart.specs.declared.trace.Trace.{Trace}
+use Rattle.fs_hart.specs.Steps.{steps_in}
 use Rattle.fs_hart.specs.Runs.{registers_after}
+
+-- what these runs of the test's harts are before any order
+abbrev pub pre_execution_of : Test → List Trace → PreExecution
+pre_execution_of t traces = pre_execution t (steps_in traces)
 
 -- the steps are runs of the test's harts, one for each
 abbrev pub AreRuns : Test → List (List Step) → Type 0

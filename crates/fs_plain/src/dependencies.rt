@@ -6,7 +6,7 @@ ghost use Rattle.fs_instr.specs.Instructions.{sources_of};
 ghost use Rattle.fs_model.specs.Numbers.{between};
 ghost use Rattle.fs_model.specs.Operations.{instr_at};
 ghost use Rattle.fs_model.specs.Dependencies.{writes, depends_within, depends, address_depends, data_depends, control_depends};
-ghost use Rattle.fs_plain.specs.Dependencies.{writes_last, leads_through};
+ghost use Rattle.fs_plain.specs.inner.Dependencies.{writes_last, leads_through};
 
 use crate::steps::{address_source, data_source, first_source, instr_at, second_source, writes};
 use fs_model::Step;

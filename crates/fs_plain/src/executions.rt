@@ -5,18 +5,18 @@ ghost use Rattle.fs_kinds.specs.declared.fault.Fault.TheVariants.{Memory};
 ghost use Rattle.fs_syntax.specs.Test.{IsBounded, IsStart};
 ghost use Rattle.fs_model.specs.Operations.{steps_of};
 ghost use Rattle.fs_model.specs.Execution.{IsTrace};
-ghost use Rattle.fs_order.specs.Final.{AreFinal};
+ghost use Rattle.fs_axioms.specs.Final.{AreFinal};
 ghost use Rattle.fs_plain.specs.Allowing.{AreWhole};
-ghost use Rattle.fs_plain.specs.Among.{runs_in};
+ghost use Rattle.fs_hart.specs.Steps.{steps_in};
 ghost use Rattle.fs_plain.specs.Decisions.{Decides, ShowsOutcome};
 ghost use Rattle.fs_plain.specs.Whole.{AreRuns, IsWholeRun};
 
 use crate::axioms::obeys_axioms;
 use crate::runs::registers_after;
+use fs_axioms::{GlobalOrder, has_outcome};
 use fs_hart::{Steps, Trace, operations};
 use fs_kinds::{Fault, Placement};
 use fs_model::Step;
-use fs_order::{GlobalOrder, has_outcome};
 use fs_syntax::Test;
 use std::alloc::{AllocError, Global};
 
@@ -44,7 +44,7 @@ fn whole_runs(alloc: Global, test: &Test, runs: &[Steps]) -> Result<Option<Vec<T
     requires test { IsBounded test.now }
     requires starts { All IsStart test.now.starts }
     ensures some { IfOk result (λ found.
-        IfSome found (λ traces. (runs_in traces.items ≡ runs.now) × AreWhole test.now traces.items)) }
+        IfSome found (λ traces. (steps_in traces.items ≡ runs.now) × AreWhole test.now traces.items)) }
     ensures none { IfOk result (λ found. IfNone found (AreRuns test.now runs.now → ⊥)) }
 {
     if runs.len() != test.codes.as_slice().len() {
@@ -60,6 +60,15 @@ fn whole_runs(alloc: Global, test: &Test, runs: &[Steps]) -> Result<Option<Vec<T
     Ok(Some(traces))
 }
 
+/// Are these lists of steps runs of the test's harts, one for each? The time is that of `is_run` for each hart.
+pub fn are_runs(alloc: Global, test: &Test, runs: &[Steps]) -> Result<bool, AllocError>
+    requires test { IsBounded test.now }
+    requires starts { All IsStart test.now.starts }
+    ensures { IfOk result (λ are. Decides are (AreRuns test.now runs.now)) }
+{
+    Ok(whole_runs(alloc, test, runs)?.is_some())
+}
+
 // Are these whole runs of the test's harts, with this order of their operations, an execution of the test with the placement's
 // fences, and does it show the outcome? It is as slow as `obeys_axioms`.
 pub(crate) fn traces_show(
@@ -71,9 +80,9 @@ pub(crate) fn traces_show(
 ) -> Result<bool, Fault>
     requires test { IsBounded test.now }
     requires last { AreFinal test.now traces.now }
-    requires runs { (hart : ℕ) → hart < length test.now.codes → IsTrace test.now hart (steps_of (runs_in traces.now) hart) }
+    requires runs { (hart : ℕ) → hart < length test.now.codes → IsTrace test.now hart (steps_of (steps_in traces.now) hart) }
     ensures ok { IfOk result (λ shown.
-        Decides shown (ShowsOutcome test.now placement.now (record { traces = runs_in traces.now; order = order.now }))) }
+        Decides shown (ShowsOutcome test.now placement.now (record { traces = steps_in traces.now; order = order.now }))) }
     ensures err { IsOkUnless result Memory }
 {
     if !obeys_axioms(alloc, test, traces, placement, order)? {

@@ -7,7 +7,6 @@ ghost use Rattle.fs_model.specs.Operations.{instr_at};
 ghost use Rattle.fs_model.specs.Fences.{instr_orders, kind_orders};
 ghost use Rattle.fs_plain.specs.Among.{placed_at, is_placed_between, is_fenced};
 
-use crate::numbered::classes_of;
 use crate::steps::instr_at;
 use fs_instr::Instr;
 use fs_kinds::{Classes, Kind, Placement, Slot};
@@ -73,8 +72,8 @@ fn is_placed_between(
     ensures { result ≡ is_placed_between placement.now first.now second.now steps.now i j }
 {
     let hart = first.hart;
-    let before = classes_of(first);
-    let after = classes_of(second);
+    let before = first.classes();
+    let after = second.classes();
     (i + 1..j).any(|k| kind_orders(before, after, placed_at(placement, hart, steps, k)))
 }
 
@@ -89,6 +88,6 @@ pub(crate) fn is_fenced(
 {
     let i = usize::from(first.place);
     let j = usize::from(second.place);
-    is_written_between(classes_of(first), classes_of(second), steps, i, j)
+    is_written_between(first.classes(), second.classes(), steps, i, j)
         || is_placed_between(placement, first, second, steps, i, j + 1)
 }

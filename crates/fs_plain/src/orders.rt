@@ -6,12 +6,12 @@ ghost use Rattle.fs_kinds.specs.declared.fault.Fault.TheVariants.{Memory};
 ghost use Rattle.fs_syntax.specs.Test.{IsBounded};
 ghost use Rattle.fs_model.specs.Operations.{accesses};
 ghost use Rattle.fs_model.specs.Execution.{pre_execution};
-ghost use Rattle.fs_plain.specs.Among.{runs_in};
+ghost use Rattle.fs_hart.specs.Steps.{steps_in};
 ghost use Rattle.fs_plain.specs.Decisions.{Decides};
 ghost use Rattle.fs_plain.specs.Allowing.{AreWhole, ShowsFrom};
 
 use crate::executions::traces_show;
-use crate::numbered::count_of_harts;
+use fs_axioms::count_accesses;
 use fs_hart::{Trace, operations};
 use fs_kinds::{Fault, Placement};
 use fs_syntax::Test;
@@ -35,7 +35,7 @@ fn shows_from(
 ) -> Result<bool, Fault>
     requires test { IsBounded test.now }
     requires whole { AreWhole test.now traces.now }
-    requires count { count ≡ length (accesses (pre_execution test.now (runs_in traces.now))) }
+    requires count { count ≡ length (accesses (pre_execution test.now (steps_in traces.now))) }
     requires few { count ≤ 256 }
     requires within { length order.old.items ≤ count }
     ensures order { OnOk result (order.new.items ≡ order.old.items) }
@@ -72,7 +72,7 @@ pub(crate) fn shows_in_some_order(
     ensures err { IsOkUnless result Memory }
 {
     let operations = operations(alloc, test, traces)?;
-    let count = count_of_harts(operations.as_slice());
+    let count = count_accesses(operations.as_slice());
     let mut order = Vec::new(alloc);
     shows_from(alloc, test, traces, placement, count, &mut order)
 }

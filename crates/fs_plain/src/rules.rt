@@ -1,57 +1,57 @@
 //! The rules of preserved program order (RISC-V Unprivileged ISA 20191213, section "Preserved Program Order").
 
 ghost use Rattle.std.specs.Prelude.{◌≡◌, ◌<◌, ◌≤◌};
-ghost use Rattle.fs_model.specs.Operations.{PreExecution, operations as operations_of};
+ghost use Rattle.fs_model.specs.Operations.{PreExecution, operations as operations_of, precedes};
 ghost use Rattle.fs_model.specs.Preserved.{ppo};
-ghost use Rattle.fs_plain.specs.Among.{at, runs_in, source_at, is_earlier, is_case, rule_among, any_rule, is_rule};
+ghost use Rattle.fs_hart.specs.Steps.{steps_in};
+ghost use Rattle.fs_axioms.specs.Among.{at};
+ghost use Rattle.fs_axioms.specs.Ordered.{source_at};
+ghost use Rattle.fs_plain.specs.Among.{is_case, rule_among, any_rule, is_rule};
 ghost use Rattle.fs_plain.specs.Among.{overlaps, is_store_between, any_store_between, reads_differ, returns_amo_or_sc, is_rcsc};
 ghost use Rattle.fs_plain.specs.Among.{passes_on, any_passes_on, any_address_between};
 
 use crate::dependencies::{address_depends, control_depends, data_depends};
 use crate::fences::is_fenced;
-use crate::numbered::{
-    annotation, count_of_harts, is_amo_or_sc, is_earlier, is_from, is_same_number, is_same_word,
-    operation, run_of, source_at,
-};
-use crate::steps::are_paired;
-use fs_hart::Trace;
+use crate::numbered::{is_amo_or_sc, is_from, is_same_number};
+use fs_axioms::{count_accesses, source_at};
+use fs_hart::{Trace, steps_of};
 use fs_kinds::Placement;
-use fs_model::{Operation, Step};
+use fs_model::{Operation, Step, are_paired};
 
 fn overlaps(first: &Operation, second: &Operation) -> bool
     ensures { result ≡ overlaps first.now second.now }
 {
-    second.stored.is_some() && is_same_word(first.address, second.address)
+    second.is_store() && first.is_same_word(second)
 }
 
 // Is m a store to the word of a, between a and b in program order?
 fn is_store_between(operations: &[Operation], a: usize, b: usize, m: usize) -> bool
     ensures { result ≡ is_store_between operations.now a b m }
 {
-    let first = operation(operations, a);
-    let second = operation(operations, b);
-    let between = operation(operations, m);
-    is_earlier(&first, &between)
-        && is_earlier(&between, &second)
-        && between.stored.is_some()
-        && is_same_word(between.address, first.address)
+    let first = Operation::numbered(operations, a);
+    let second = Operation::numbered(operations, b);
+    let between = Operation::numbered(operations, m);
+    first.precedes(&between)
+        && between.precedes(&second)
+        && between.is_store()
+        && between.is_same_word(&first)
 }
 
 fn any_store_between(operations: &[Operation], a: usize, b: usize) -> bool
     ensures { result ≡ any_store_between operations.now a b }
 {
-    (0..count_of_harts(operations)).any(|m| is_store_between(operations, a, b, m))
+    (0..count_accesses(operations)).any(|m| is_store_between(operations, a, b, m))
 }
 
 // Do a and b load the same word, with no store to it between, and return different stores?
 fn reads_differ(operations: &[Operation], sources: &[Option<u8>], a: usize, b: usize) -> bool
     ensures { result ≡ reads_differ operations.now sources.now a b }
 {
-    let first = operation(operations, a);
-    let second = operation(operations, b);
-    first.loaded.is_some()
-        && second.loaded.is_some()
-        && is_same_word(first.address, second.address)
+    let first = Operation::numbered(operations, a);
+    let second = Operation::numbered(operations, b);
+    first.is_load()
+        && second.is_load()
+        && first.is_same_word(&second)
         && !any_store_between(operations, a, b)
         && !is_same_number(source_at(sources, a), source_at(sources, b))
 }
@@ -65,13 +65,13 @@ fn returns_amo_or_sc(
 ) -> bool
     ensures { result ≡ returns_amo_or_sc first.now second.now source number }
 {
-    is_amo_or_sc(first.instr) && second.loaded.is_some() && is_from(source, number)
+    is_amo_or_sc(first.instr) && second.is_load() && is_from(source, number)
 }
 
 fn is_rcsc(operation: &Operation) -> bool
     ensures { result ≡ is_rcsc operation.now }
 {
-    annotation(operation.instr).acquire || annotation(operation.instr).release
+    operation.annotation().acquire || operation.annotation().release
 }
 
 // Is m a store between a and b that depends on a, and the source?
@@ -85,14 +85,14 @@ fn passes_on(
 ) -> bool
     ensures { result ≡ passes_on operations.now steps.now source a b m }
 {
-    let first = operation(operations, a);
-    let second = operation(operations, b);
-    let between = operation(operations, m);
+    let first = Operation::numbered(operations, a);
+    let second = Operation::numbered(operations, b);
+    let between = Operation::numbered(operations, m);
     let i = usize::from(first.place);
     let k = usize::from(between.place);
-    is_earlier(&first, &between)
-        && is_earlier(&between, &second)
-        && between.stored.is_some()
+    first.precedes(&between)
+        && between.precedes(&second)
+        && between.is_store()
         && (address_depends(steps, i, k) || data_depends(steps, i, k))
         && is_from(source, m)
 }
@@ -106,7 +106,7 @@ fn any_passes_on(
 ) -> bool
     ensures { result ≡ any_passes_on operations.now steps.now source a b }
 {
-    (0..count_of_harts(operations)).any(|m| passes_on(operations, steps, source, a, b, m))
+    (0..count_accesses(operations)).any(|m| passes_on(operations, steps, source, a, b, m))
 }
 
 // Has an instruction between steps i and j an address dependency on step i?
@@ -120,9 +120,9 @@ fn any_address_between(steps: &[Step], i: usize, j: usize) -> bool
 
 // Does operation a precede operation b in program order?
 fn precedes(operations: &[Operation], a: usize, b: usize) -> bool
-    ensures { result ≡ is_earlier (at operations.now a) (at operations.now b) }
+    ensures { result ≡ precedes (at operations.now a) (at operations.now b) }
 {
-    is_earlier(&operation(operations, a), &operation(operations, b))
+    Operation::numbered(operations, a).precedes(&Operation::numbered(operations, b))
 }
 
 // What the rule of this number asks besides program order.
@@ -136,11 +136,11 @@ fn is_case(
     b: usize,
 ) -> bool
     requires { 1 ≤ n }
-    ensures { result ≡ is_case operations.now (runs_in traces.now) placement.now sources.now a b n }
+    ensures { result ≡ is_case operations.now (steps_in traces.now) placement.now sources.now a b n }
 {
-    let first = operation(operations, a);
-    let second = operation(operations, b);
-    let steps = run_of(traces, &first);
+    let first = Operation::numbered(operations, a);
+    let second = Operation::numbered(operations, b);
+    let steps = steps_of(traces, first.hart);
     let i = usize::from(first.place);
     let j = usize::from(second.place);
     match n {
@@ -148,16 +148,15 @@ fn is_case(
         2 => reads_differ(operations, sources, a, b),
         3 => returns_amo_or_sc(&first, &second, source_at(sources, b), a),
         4 => is_fenced(placement, steps, &first, &second),
-        5 => annotation(first.instr).acquire,
-        6 => annotation(second.instr).release,
+        5 => first.annotation().acquire,
+        6 => second.annotation().release,
         7 => is_rcsc(&first) && is_rcsc(&second),
         8 => are_paired(steps, i, j),
         9 => address_depends(steps, i, j),
         10 => data_depends(steps, i, j),
-        11 => second.stored.is_some() && control_depends(steps, i, j),
-        12 => second.loaded.is_some()
-            && any_passes_on(operations, steps, source_at(sources, b), a, b),
-        13 => second.stored.is_some() && any_address_between(steps, i, j),
+        11 => second.is_store() && control_depends(steps, i, j),
+        12 => second.is_load() && any_passes_on(operations, steps, source_at(sources, b), a, b),
+        13 => second.is_store() && any_address_between(steps, i, j),
         _ => false,
     }
 }
@@ -173,7 +172,7 @@ fn rule_among(
     b: usize,
 ) -> bool
     requires { 1 ≤ n }
-    ensures { result ≡ rule_among operations.now (runs_in traces.now) placement.now sources.now a b n }
+    ensures { result ≡ rule_among operations.now (steps_in traces.now) placement.now sources.now a b n }
 {
     precedes(operations, a, b) && is_case(n, traces, operations, placement, sources, a, b)
 }
@@ -192,7 +191,7 @@ pub fn rule(
     requires { 1 ≤ n }
     ensures { (x : PreExecution)
         → operations.now ≡ operations_of x
-        → x.traces ≡ runs_in traces.now
+        → x.traces ≡ steps_in traces.now
         → result ≡ is_rule x placement.now (source_at sources.now) a b n }
 {
     rule_among(n, traces, operations, placement, sources, a, b)
@@ -207,7 +206,7 @@ fn any_rule(
     a: usize,
     b: usize,
 ) -> bool
-    ensures { result ≡ any_rule operations.now (runs_in traces.now) placement.now sources.now a b }
+    ensures { result ≡ any_rule operations.now (steps_in traces.now) placement.now sources.now a b }
 {
     (1..14).any(|n| rule_among(n, traces, operations, placement, sources, a, b))
 }
@@ -224,7 +223,7 @@ pub fn ppo(
 ) -> bool
     ensures { (x : PreExecution)
         → operations.now ≡ operations_of x
-        → x.traces ≡ runs_in traces.now
+        → x.traces ≡ steps_in traces.now
         → result ≡ ppo x placement.now (source_at sources.now) a b }
 {
     any_rule(traces, operations, placement, sources, a, b)

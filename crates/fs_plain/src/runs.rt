@@ -6,9 +6,8 @@ ghost use Rattle.fs_model.specs.Choices.{choice_by};
 ghost use Rattle.fs_model.specs.Trace.{IsStep};
 ghost use Rattle.fs_model.specs.Execution.{IsTrace, code_of, registers_of};
 ghost use Rattle.fs_plain.specs.Decisions.{Decides};
-ghost use Rattle.fs_plain.specs.Whole.{AreRuns, EndsWith};
+ghost use Rattle.fs_plain.specs.Whole.{EndsWith};
 
-use fs_hart::Steps;
 use fs_instr::Instr;
 use fs_model::{Choice, Hart, Step};
 use fs_syntax::Test;
@@ -98,21 +97,4 @@ pub fn is_run(test: &Test, hart: u8, steps: &[Step]) -> bool
     ensures { Decides result (IsTrace test.now hart steps.now) }
 {
     registers_after(test, hart, steps).is_some()
-}
-
-/// Are these lists of steps runs of the test's harts, one for each?
-pub fn are_runs(test: &Test, runs: &[Steps]) -> bool
-    requires test { IsBounded test.now }
-    requires starts { All IsStart test.now.starts }
-    ensures { Decides result (AreRuns test.now runs.now) }
-{
-    if runs.len() != test.codes.as_slice().len() {
-        return false;
-    }
-    for (hart, steps) in runs.iter().enumerate() {
-        if !is_run(test, hart as u8, steps.as_slice()) {
-            return false;
-        }
-    }
-    true
 }

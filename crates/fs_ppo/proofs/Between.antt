@@ -7,9 +7,9 @@ use Rattle.std.proofs.lemmas.List.Elements.{All-map}
 use Rattle.fs_model.specs.declared.operation.Operation.{Operation}
 use Rattle.fs_model.specs.Numbers.{is_same}
 use Rattle.fs_model.specs.Operations.{PreExecution, operation, operations, accesses, initial_store, nothing, is_store, same_word, precedes, po, any_between}
-use Rattle.fs_ppo.proofs.Located.{located}
-use Rattle.fs_ppo.proofs.Made.{po_hart}
-use Rattle.fs_ppo.proofs.Tests.{same_tests, any_from, any_to, any_of_first}
+use Rattle.fs_model.proofs.RangeTests.{any_from, any_to}
+use Rattle.fs_model.proofs.ProgramOrder.{po_of_harts}
+use Rattle.fs_ppo.proofs.Tests.{same_tests, any_of_first}
 
 -- between a and b in program order, where the test passes
 abbrev pub stands_between : Operation → Operation → (Operation → Bool) → Operation → Bool
@@ -63,9 +63,8 @@ one_passes x test a b s = same_tests _ _ to from
     from h =
         let outer = and_parts (po x a s && po x s b) (test s) h in
         let before = and_parts (po x a s) (po x s b) outer.0 in
-        let hart = po_hart x a s before.0 in
         any_to (λ m. po x a m && po x m b && (test m && is_same (Some s) (Some m))) 0 (length (accesses x)) s (omega arith)
-        (omega (arith, (located x s hart.0 hart.2).numbered))
+        (omega (arith, (po_of_harts x a s before.0).1))
         (and_from (po x a s && po x s b) (test s && (s == s)) outer.0 (and_from (test s) (s == s) outer.1 (eq-eqb s s refl)))
 
 pub passes_one : (x : PreExecution) (test : ℕ → Bool) (source : Option ℕ) (a b s : ℕ) (found : Bool) → source ≡ Some s

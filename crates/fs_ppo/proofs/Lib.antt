@@ -1,4 +1,3 @@
-pub mod Located
 pub mod Tests
 pub mod Made
 pub mod Between

@@ -1,28 +1,20 @@
 -- The dependencies of a candidate are those of its runs, between operations of one hart.
-use Rattle.std.proofs.Common.{◌≡◌, ℕ, ◌+◌, ◌-◌, ◌<◌, nat_lt, true, Option, None, Some, option_map, unwrap_or, List, [], length, refl, sym, ap, subst, arith}
+use Rattle.std.proofs.Common.{◌≡◌, ℕ, ◌+◌, ◌-◌, ◌<◌, true, Option, Some, option_map, unwrap_or, List, [], length, sym, ap, subst, arith}
 use Rattle.std.specs.List.{list_any, slice_index_or}
-use Rattle.std.proofs.lemmas.Bool.{and_parts, eqb-true, false≢true}
-use Rattle.std.proofs.lemmas.Option.{unwrap_or-slice_get}
+use Rattle.std.proofs.lemmas.Option.{unwrap_or-slice_get, slice_get_within}
 use Rattle.std.proofs.lemmas.List.{length-map}
-use Rattle.fs_model.specs.Numbers.{is_same, between}
+use Rattle.fs_model.specs.Numbers.{between}
 use Rattle.fs_model.specs.declared.step.Step.{Step}
-use Rattle.fs_model.specs.Operations.{PreExecution, operation, place, steps_of, trace_of, same_hart, po}
+use Rattle.fs_model.specs.Operations.{PreExecution, operation, place, steps_of, trace_of, po}
 use Rattle.fs_model.specs.Dependencies.{address_depends, address_dependency, data_dependency, control_dependency, address_between}
+use Rattle.fs_model.proofs.RangeTests.{any_alike}
+use Rattle.fs_model.proofs.WhichOperation.{of_hart}
+use Rattle.fs_model.proofs.ProgramOrder.{in_po}
 use Rattle.fs_deps.specs.Masks.{IsDepsOf, has_address, has_data, has_control}
 use Rattle.fs_cand.specs.declared.candidate.Candidate.{Candidate}
-use Rattle.fs_cand.specs.Candidates.{steps_in, runs_of, IsMade}
-use Rattle.fs_ppo.specs.Parts.{deps_of}
-use Rattle.fs_ppo.proofs.Located.{located}
-use Rattle.fs_ppo.proofs.Tests.{any_alike}
-
-pub same_parts : (o p : Option ℕ) → is_same o p ≡ true → (n : ℕ) × (o ≡ Some n) × (p ≡ Some n)
-same_parts None p e = absurd (false≢true e)
-same_parts (Some a) None e = absurd (false≢true e)
-same_parts (Some a) (Some b) e = (a, refl, ap (λ (n : ℕ). Some n) (sym (eqb-true a b e)))
-
--- both operations are of one hart
-pub po_hart : (x : PreExecution) (a b : ℕ) → po x a b ≡ true → (h : ℕ) × ((operation x a).hart ≡ Some h) × ((operation x b).hart ≡ Some h)
-po_hart x a b before = same_parts (operation x a).hart (operation x b).hart (and_parts (same_hart x a b) (nat_lt (place x a) (place x b)) before).0
+use Rattle.fs_hart.specs.Steps.{steps_in}
+use Rattle.fs_cand.specs.Candidates.{runs_of, IsMade}
+use Rattle.fs_ppo.specs.inner.Parts.{deps_of}
 
 -- the dependencies in the run of a's hart, where b is an operation
 record AreDeps (c : Candidate) (x : PreExecution) (a b : ℕ) : Type 0 where
@@ -32,18 +24,19 @@ record AreDeps (c : Candidate) (x : PreExecution) (a b : ℕ) : Type 0 where
 deps_at : (c : Candidate) (words : List ℕ) (a b h : ℕ) → IsMade words c → (operation (runs_of c words) a).hart ≡ Some h
     → (operation (runs_of c words) b).hart ≡ Some h → AreDeps c (runs_of c words) a b
 deps_at c words a b h made first second =
-    let there = located (runs_of c words) b h second in
+    let there = of_hart (runs_of c words) b h second in
     let many : h < length c.traces = omega (arith, there.traced, length-map c.traces (λ trace. trace.steps)) in
     let trace : trace_of (runs_of c words) a ≡ steps_of (steps_in c.traces) h = ap (λ (o : Option ℕ). unwrap_or (option_map (steps_of (steps_in c.traces)) o) []) first in
     let deps : deps_of c (operation (runs_of c words) a).hart ≡ slice_index_or c.deps h [] = cc (first, unwrap_or-slice_get c.deps h []) in
     record {
       made = subst (λ (steps : List Step). IsDepsOf steps (deps_of c (operation (runs_of c words) a).hart)) (sym trace)
           (subst (IsDepsOf (steps_of (steps_in c.traces) h)) (sym deps) (made.deps h many));
-      placed = subst (λ (steps : List Step). place (runs_of c words) b < length steps) (sym trace) there.placed;
+      placed = subst (λ (steps : List Step). place (runs_of c words) b < length steps) (sym trace)
+          (slice_get_within (steps_of (steps_in c.traces) h) (place (runs_of c words) b) there.step there.there);
     }
 
 are_deps : (c : Candidate) (words : List ℕ) (a b : ℕ) → IsMade words c → po (runs_of c words) a b ≡ true → AreDeps c (runs_of c words) a b
-are_deps c words a b made before = let h = po_hart (runs_of c words) a b before in deps_at c words a b h.0 made h.1 h.2
+are_deps c words a b made before = let at = in_po (runs_of c words) a b before in deps_at c words a b at.hart made at.first at.second
 
 pub address_made : (c : Candidate) (words : List ℕ) (a b : ℕ) → IsMade words c → po (runs_of c words) a b ≡ true
     → has_address (deps_of c (operation (runs_of c words) a).hart) (place (runs_of c words) a) (place (runs_of c words) b) ≡ address_dependency (runs_of c words) a b

@@ -1,35 +1,13 @@
 -- Tests on lists of numbers.
-use Rattle.std.proofs.Common.{◌≡◌, ℕ, zero, suc, ◌+◌, ◌<◌, ◌≤◌, Bool, true, false, ◌||◌, List, [], ◌∷◌, ◌++◌, length, refl, sym, ap, subst, inl, inr, arith}
+use Rattle.std.proofs.Common.{◌≡◌, ℕ, zero, suc, ◌+◌, Bool, true, false, ◌||◌, List, [], ◌∷◌, ◌++◌, length, refl, sym, ap, arith}
 use Rattle.std.specs.List.{list_any, range_with_len, slice_index_or}
 use Rattle.std.proofs.lemmas.List.Folds.{list_any-append}
-use Rattle.std.proofs.lemmas.Bool.{or_cases, or_left, or_right, cases_eq, false≢true}
+use Rattle.fs_model.proofs.RangeTests.{any_alike}
 
 pub same_tests : (b c : Bool) → (b ≡ true → c ≡ true) → (c ≡ true → b ≡ true) → b ≡ c
 same_tests true c to from = sym (to refl)
 same_tests false true to from = from refl
 same_tests false false to from = refl
-
-pub any_from : (f : ℕ → Bool) (a n : ℕ) → list_any f (range_with_len a n) ≡ true → (m : ℕ) × (a ≤ m) × (m < a + n) × (f m ≡ true)
-any_from f a zero h = absurd (false≢true h)
-any_from f a (suc n) h = elim (or_cases (f a) (list_any f (range_with_len (a + 1) n)) h) [
-  | inl e ↦ (a, omega arith, omega arith, e)
-  | inr later ↦ (let m = any_from f (a + 1) n later in (m.0, omega (arith, m.1), omega (arith, m.2), m.3))
-]
-
-pub any_to : (f : ℕ → Bool) (a n m : ℕ) → a ≤ m → m < a + n → f m ≡ true → list_any f (range_with_len a n) ≡ true
-any_to f a zero m low high e = absurd (omega arith)
-any_to f a (suc n) m low high e = elim (cases_eq a m) [
-  | inl here ↦ or_left (f a) _ (subst (λ (x : ℕ). f x ≡ true) (sym here) e)
-  | inr ne ↦ or_right (f a) _ (any_to f (a + 1) n m (omega arith) (omega arith) e)
-]
-
--- tests that agree at each of the numbers
-pub any_alike : (f g : ℕ → Bool) (a n : ℕ) → ((m : ℕ) → a ≤ m → m < a + n → f m ≡ g m) → list_any f (range_with_len a n) ≡ list_any g (range_with_len a n)
-any_alike f g a zero alike = refl
-any_alike f g a (suc n) alike =
-    let here = alike a (omega arith) (omega arith) in
-    let later = any_alike f g (a + 1) n (λ m low high. alike m (omega arith) (omega arith)) in
-    cc (here, later)
 
 any_shifted : (f : ℕ → Bool) (a n : ℕ) → list_any f (range_with_len (a + 1) n) ≡ list_any (λ m. f (m + 1)) (range_with_len a n)
 any_shifted f a zero = refl

@@ -9,7 +9,7 @@ ghost use Rattle.fs_model.specs.Operations.{po, place, is_store, any_between, pa
 ghost use Rattle.fs_model.specs.Dependencies.{address_dependency, data_dependency, control_dependency, address_between};
 ghost use Rattle.fs_cand.specs.Candidates.{rf};
 ghost use Rattle.fs_ppo.specs.Rules.{OfRuns};
-ghost use Rattle.fs_ppo.specs.Parts.{deps_of};
+ghost use Rattle.fs_ppo.specs.inner.Parts.{deps_of};
 
 use crate::operations::{hart, is_store, place, precedes, source, steps};
 use fs_cand::Candidate;

@@ -5,7 +5,7 @@ ghost use Rattle.std.specs.List.{list_any};
 ghost use Rattle.fs_model.specs.Numbers.{between};
 ghost use Rattle.fs_model.specs.Operations.{classes, place, trace_of, instr_at};
 ghost use Rattle.fs_model.specs.Fences.{instr_orders, kind_orders, placed_before};
-ghost use Rattle.fs_ppo.specs.Parts.{placed_at};
+ghost use Rattle.fs_ppo.specs.inner.Parts.{placed_at};
 ghost use Rattle.fs_ppo.specs.Rules.{OfRuns};
 
 use crate::operations::{classes, hart, place, steps};

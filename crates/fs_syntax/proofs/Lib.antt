@@ -1,4 +1,5 @@
 pub mod AccessSteps
+pub mod Addresses
 pub mod Assembled
 pub mod Conditions
 pub mod FencedSteps

@@ -1,8 +1,9 @@
 -- What a litmus test is: a value that herd7's format for RISC-V can write, within the limits.
-use Rattle.std.specs.Prelude.{◌≡◌, ◌≢◌, ℕ, ◌+◌, ◌*◌, ◌<◌, ◌≤◌, ◌^◌, List, [], ◌∷◌, length, sum_by, count_by, Bool, false, not, ◌&&◌, ◌||◌, ◌==◌, IsTrue, Option, Some, None, option_and_then, All, AllPairs, slice_get, slice_index}
+use Rattle.std.specs.Prelude.{◌≡◌, ◌≢◌, ℕ, ◌+◌, ◌-◌, ◌*◌, ◌/◌, ◌%◌, ◌<◌, ◌≤◌, ◌^◌, List, [], ◌∷◌, length, sum_by, count_by, Bool, false, not, ◌&&◌, ◌||◌, ◌==◌, nat_le, if◌then◌else◌, IsTrue, Option, Some, None, option_and_then, All, AllPairs, slice_get, slice_index}
 use Rattle.std.specs.Char.{is_ascii_alphabetic, is_ascii_alphanumeric}
 use Rattle.std.specs.Str.{IsUtf8}
 use Rattle.std.specs.List.{list_any, list_all, last_or}
+use Rattle.fs_kinds.specs.Limits.{most_harts, most_instructions, most_accesses, most_locations, most_depth}
 use Rattle.fs_instr.specs.Instructions.{is_memory, target_of}
 use Rattle.fs_instr.specs.OfTable.{IsOfTable}
 use Rattle.fs_instr.specs.declared.instr.Instr.{Instr}
@@ -40,16 +41,20 @@ is_title text = is_visible (slice_get text 0) && is_visible (last_or None text) 
 abbrev pub address_of : ℕ → ℕ
 address_of location = 4096 + 16 * location
 
+-- the number of the location of this address, where it is that of one
+abbrev pub location_of : ℕ → Option ℕ
+location_of address = if nat_le 4096 address && ((address - 4096) % 16 == 0) then Some ((address - 4096) / 16) else None
+
 -- its branches go forward, its atoms speak of what is there, and it is within the limits
 pub record IsBounded (t : Test) : Type 0 where
   pub starts : length t.starts ≡ length t.codes
   pub forward : All GoesForward t.codes
   pub atoms : SpeaksOf (length t.codes) (length t.locations) (condition_of t.condition)
-  pub harts : length t.codes ≤ 8
-  pub lengths : All (λ code. length code ≤ 32) t.codes
-  pub accesses : sum_by (count_by is_memory) t.codes ≤ 48
-  pub locations : length t.locations ≤ 8
-  pub depth : nesting (condition_of t.condition) ≤ 64
+  pub harts : length t.codes ≤ most_harts
+  pub lengths : All (λ code. length code ≤ most_instructions) t.codes
+  pub accesses : sum_by (count_by is_memory) t.codes ≤ most_accesses
+  pub locations : length t.locations ≤ most_locations
+  pub depth : nesting (condition_of t.condition) ≤ most_depth
 
 -- a test: its name is text in one line, and each part is of its kind
 pub record IsTest (t : Test) : Type 0 where

@@ -18,6 +18,3 @@ pub use outcome::Outcome;
 pub use print::write_fenced;
 pub use test::{Location, Quantifier, Test};
 pub use words::read_fences;
-
-#[cfg(test)]
-mod tests;

@@ -1,9 +1,16 @@
 //! Litmus tests.
 
-ghost use Rattle.std.specs.Prelude.{◌≡◌, ◌+◌, ◌*◌};
+ghost use Rattle.std.specs.Prelude.{◌≡◌, ◌≢◌, ℕ, ◌%◌, ◌^◌, IfSome, IfNone};
+ghost use Rattle.fs_syntax.specs.Test.{address_of, location_of};
 
 use crate::lists::{Codes, Locations, Name, Starts};
 use crate::outcome::Outcome;
+
+/// The address of location 0.
+const FIRST_ADDRESS: u32 = 4096;
+
+/// How far the addresses of two locations in turn are apart.
+const ADDRESS_STEP: u32 = 16;
 
 /// A declared location. Location k of a test, counted from 0, has the address 4096 + 16k.
 #[derive(Drop)]
@@ -17,9 +24,31 @@ pub struct Location {
 impl Location {
     /// The address of the location of this number.
     pub fn address(location: u8) -> u32
-        ensures { result ≡ 4096 + 16 * location }
+        ensures { result ≡ address_of location }
     {
-        4096 + 16 * u32::from(location)
+        FIRST_ADDRESS + ADDRESS_STEP * u32::from(location)
+    }
+
+    /// The address of the location of this number as a word of 32 bits, for a text that names more locations than a test may
+    /// have: past 2^32 it wraps.
+    pub fn address_word(location: usize) -> u32
+        ensures { result ≡ address_of location % 2 ^ 32 }
+    {
+        let number = (location % (1 << 32)) as u32;
+        FIRST_ADDRESS.wrapping_add(ADDRESS_STEP.wrapping_mul(number))
+    }
+
+    /// The number of the location of this address; nothing where it is that of none.
+    pub fn at(address: u32) -> Option<u32>
+        ensures value { result ≡ location_of address }
+        ensures found { IfSome result (λ location. address ≡ address_of location) }
+        ensures none { IfNone result ((location : ℕ) → address ≢ address_of location) }
+    {
+        if address >= FIRST_ADDRESS && (address - FIRST_ADDRESS) % ADDRESS_STEP == 0 {
+            Some((address - FIRST_ADDRESS) / ADDRESS_STEP)
+        } else {
+            None
+        }
     }
 }
 

@@ -11,13 +11,13 @@ use crate::texts::{
     ADD2, CO_RR, FORWARDED, LB, LBC, LBD, LRSC, LRSCF, MP11, MPA, POINTER, SB, SBF, SBX, SBXA,
     TWO_WRITES,
 };
+use fs_axioms::count_accesses;
 use fs_cand::Traces;
 use fs_check::{OrderVerdict, check_order};
 use fs_hart::{Operation, Steps, Trace, Words, operations};
 use fs_instr::Instr;
 use fs_kinds::{Fault, Placement};
 use fs_litmus::{Test, read_fences, read_test};
-use fs_order::count_accesses;
 use fs_plain::{allows_over, shows};
 use std::alloc::{AllocError, Global};
 use std::test::Fail;

@@ -1,8 +1,8 @@
 //! The fenced test, read back from its printed form.
 use crate::litmus::{MP, MPB};
-use fs_fenced::fence;
 use fs_kinds::{Fault, Limit, Placement, Slot};
 use fs_litmus::{read_fences, read_test, slots};
+use fs_round_trip::fence;
 use std::alloc::Global;
 use std::test::Fail;
 

@@ -12,6 +12,8 @@ mod executions;
 #[cfg(test)]
 mod fenced;
 #[cfg(test)]
+mod laws;
+#[cfg(test)]
 mod listing;
 #[cfg(test)]
 mod litmus;

@@ -1,6 +1,7 @@
 use Rattle.std.proofs.Common.{option_map, sym, ◌∙◌, ap}
 use Rattle.fs_model.specs.Execution.{initial_words}
-use Rattle.fs_cand.specs.Candidates.{runs_of, steps_in}
+use Rattle.fs_hart.specs.Steps.{steps_in}
+use Rattle.fs_cand.specs.Candidates.{runs_of}
 use Rattle.fs_check.proofs.Found.{few_made, few_names, once_is, order_found, no_name, not_once}
 use Rattle.fs_check.proofs.order.listed.Goals as goal
 

@@ -1,5 +1,5 @@
 use Rattle.std.proofs.Common.{sym, ap}
-use Rattle.fs_cand.specs.Candidates.{steps_in}
+use Rattle.fs_hart.specs.Steps.{steps_in}
 use Rattle.fs_check.proofs.Found.{named_there}
 use Rattle.fs_check.proofs.order.operation_name.Goals as goal
 

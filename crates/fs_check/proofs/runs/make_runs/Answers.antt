@@ -1,6 +1,6 @@
 use Rattle.std.proofs.Common.{length, sym, ◌∙◌, ap, subst, arith}
 use Rattle.std.proofs.lemmas.List.{get_or_default}
-use Rattle.fs_check.specs.WitnessRuns.{AreWholeRuns}
+use Rattle.fs_check.specs.inner.WitnessRuns.{AreWholeRuns}
 use Rattle.fs_check.proofs.FirstStops.{more_at, stopped_at}
 use Rattle.fs_check.proofs.runs.make_runs.Goals as goal
 

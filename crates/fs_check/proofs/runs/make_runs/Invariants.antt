@@ -1,5 +1,5 @@
 use Rattle.std.proofs.Common.{◌≡◌, length}
-use Rattle.fs_check.specs.WitnessRuns.{AreWholeRuns}
+use Rattle.fs_check.specs.inner.WitnessRuns.{AreWholeRuns}
 use Rattle.fs_check.proofs.runs.make_runs.Given as goal
 
 -- the runs of the harts so far

@@ -1,7 +1,7 @@
 use Rattle.std.proofs.Common.{◌≤◌, ◌∙◌, sym, subst, ◌+◌, ap, take}
 use Rattle.fs_code.specs.Cells.{items_of}
 use Rattle.fs_code.specs.Labels.{IsStray}
-use Rattle.fs_code.specs.Order.{IsFirstOf, earliest}
+use Rattle.fs_kinds.specs.FaultOrder.{IsFirstOf, earliest}
 use Rattle.fs_code.proofs.LabelLemmas.{after_small, count_step, stray_step}
 use Rattle.fs_code.proofs.branches.first_stray.Goals as goal
 

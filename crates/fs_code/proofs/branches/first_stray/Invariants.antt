@@ -1,7 +1,7 @@
 use Rattle.std.proofs.Common.{◌≡◌, ◌≤◌, take}
 use Rattle.fs_code.specs.Cells.{items_of}
 use Rattle.fs_code.specs.Labels.{instruction_count, IsStray}
-use Rattle.fs_code.specs.Order.{IsFirstOf}
+use Rattle.fs_kinds.specs.FaultOrder.{IsFirstOf}
 use Rattle.fs_code.proofs.branches.first_stray.Given as goal
 
 abbrev pub invariant-loop-item : goal.invariant-loop-item

@@ -1,7 +1,7 @@
 use Rattle.std.proofs.Common.{[], ◌∷◌, ◌++◌, ◌+◌, Some, ◌∙◌, ap, subst, arith}
 use Rattle.fs_code.specs.Columns.{column, cells_of}
 use Rattle.fs_code.specs.Codes.{ReadsHart}
-use Rattle.fs_code.specs.Order.{earliest}
+use Rattle.fs_kinds.specs.FaultOrder.{earliest}
 use Rattle.fs_code.proofs.HartLemmas.{at_column, hart_right, hart_wrong, harts_same, harts_end}
 use Rattle.fs_code.proofs.codes.read_harts.Goals as goal
 use Rattle.fs_code.proofs.codes.read_harts.Goals.{in-Ok+in_ok-push-in-Ok, in-Err}

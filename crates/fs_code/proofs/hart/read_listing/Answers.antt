@@ -1,7 +1,7 @@
 use Rattle.std.proofs.Common.{sym, subst, arith}
 use Rattle.fs_code.specs.Cells.{items_of}
 use Rattle.fs_code.specs.Labels.{IsLabelFault}
-use Rattle.fs_code.specs.Order.{IsFirstOf}
+use Rattle.fs_kinds.specs.FaultOrder.{IsFirstOf}
 use Rattle.fs_code.proofs.CodeLemmas.{label_first}
 use Rattle.fs_code.proofs.HartLemmas.{short_is, long_is}
 use Rattle.fs_code.proofs.hart.read_listing.Goals as goal
@@ -11,16 +11,16 @@ returns-in-Some c =
     let hart = items_of c.args.listing.now in
     subst (λ o. IsFirstOf (IsLabelFault hart) o) (sym c.in-Some.ensures) (label_first hart _ _ c.in_ok-positions.ensures.twice c.first_stray-stray.ensures)
 
-pub returns-then-count-gt-MOST : goal.returns-then-count-gt-MOST
-returns-then-count-gt-MOST c =
+pub returns-then-count-gt-MOST_INSTRUCTIONS : goal.returns-then-count-gt-MOST_INSTRUCTIONS
+returns-then-count-gt-MOST_INSTRUCTIONS c =
     let hart = items_of c.args.listing.now in
     let clean = subst (λ o. IsFirstOf (IsLabelFault hart) o) (sym c.in_default.ensures) (label_first hart _ _ c.in_ok-positions.ensures.twice c.first_stray-stray.ensures) in
-    long_is hart c.instruction_count-count.result clean c.instruction_count-count.ensures c.if-count-gt-MOST.true
+    long_is hart c.instruction_count-count.result clean c.instruction_count-count.ensures c.if-count-gt-MOST_INSTRUCTIONS.true
 
 pub returns : goal.returns
 returns c =
     let hart = items_of c.args.listing.now in
     let clean = subst (λ o. IsFirstOf (IsLabelFault hart) o) (sym c.in_default.ensures) (label_first hart _ _ c.in_ok-positions.ensures.twice c.first_stray-stray.ensures) in
     let same = c.instruction_count-count.ensures in
-    let most = c.if-count-gt-MOST.false in
+    let most = c.if-count-gt-MOST_INSTRUCTIONS.false in
     short_is hart _ clean c.in_ok-code.ensures (omega arith)

@@ -2,15 +2,12 @@ use Rattle.std.proofs.Common.{◌≡◌, ℕ, ◌<◌, ◌≤◌, ◌++◌, List
 use Rattle.std.proofs.lemmas.List.{append-nil, length-map}
 use Rattle.fs_syntax.specs.declared.test.Location.{Location}
 use Rattle.fs_syntax.proofs.Numbered.{numbered_end, numbered_flat}
-use Rattle.fs_model.specs.declared.step.Step.{Step}
 use Rattle.fs_model.specs.Operations.{accesses, accesses_of, initial_store}
 use Rattle.fs_model.specs.Execution.{pre_execution, initial_words}
 use Rattle.fs_hart.specs.declared.trace.Trace.{Trace}
+use Rattle.fs_hart.specs.Steps.{steps_in}
 use Rattle.fs_hart.proofs.Numbering.{mapped_push, mapped_at}
 use Rattle.fs_hart.proofs.accesses.operations.Goals as goal
-
-abbrev steps_in : List Trace → List (List Step)
-steps_in traces = map (λ trace. trace.steps) traces
 
 within : (traces : List Trace) (i : ℕ) → i < length traces → i < length (steps_in traces)
 within traces i l = rw length-map l

@@ -1,7 +1,7 @@
 use Rattle.std.proofs.Common.{refl, ap, subst, ◌∙◌, arith}
 use Rattle.fs_model.specs.Trace.{start_with}
 use Rattle.fs_hart.specs.Listing.{IsTraceFault}
-use Rattle.fs_hart.specs.Walking.{IsCut}
+use Rattle.fs_hart.specs.inner.Walking.{IsCut}
 use Rattle.fs_hart.proofs.Exploring.{handed}
 use Rattle.fs_hart.proofs.Listings.{traces_found, astray_found, why_none}
 use Rattle.fs_hart.proofs.listing.traces_over.Goals as goal

@@ -3,7 +3,7 @@ use Rattle.fs_kinds.specs.declared.fault.Fault.TheVariants.{Memory}
 use Rattle.fs_form.specs.Form.{form_of}
 use Rattle.fs_form.specs.Init.{entries_of}
 use Rattle.fs_condition.specs.Views.{atom_of}
-use Rattle.fs_code.specs.Order.{IsFirst}
+use Rattle.fs_kinds.specs.FaultOrder.{IsFirst}
 use Rattle.fs_litmus.specs.Settings.{are_there, entry_bindings, settings_after}
 use Rattle.fs_litmus.specs.Checks.{IsEntryFault}
 use Rattle.fs_litmus.proofs.FormFaults.{handed, first_entry, first_atom, no_binding_fault}

@@ -2,11 +2,11 @@ use Rattle.std.proofs.Common.{rules, arith, refl, sym, ap, ◌∙◌, subst}
 use Rattle.fs_tokens.specs.Tokens.{AreTokens, views}
 use Rattle.fs_kinds.specs.declared.fault.Fault.TheVariants.{Syntax}
 use Rattle.fs_form.specs.Form.{form_of}
-use Rattle.fs_code.specs.Order.{IsFirst}
+use Rattle.fs_kinds.specs.FaultOrder.{IsFirst}
 use Rattle.fs_litmus.specs.Faults.{HasFault, no_block}
 use Rattle.fs_litmus.specs.Reads.{HasTokens}
 use Rattle.fs_litmus.specs.Rising.{entry_lines}
-use Rattle.fs_litmus.specs.Sections.{fault_of}
+use Rattle.fs_litmus.specs.inner.Sections.{fault_of}
 use Rattle.fs_litmus.specs.Title.{HasTitle}
 use Rattle.fs_litmus.proofs.Sections.{stop_first, open_first, test_first, test_clean, titled, tokens_there}
 use Rattle.fs_litmus.proofs.RisingLines.{lower, form_rises}

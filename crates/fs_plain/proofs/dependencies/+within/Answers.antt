@@ -1,5 +1,5 @@
 use Rattle.std.proofs.Common.{◌-◌, sym, ◌∙◌}
-use Rattle.fs_plain.specs.Dependencies.{leads_through}
+use Rattle.fs_plain.specs.inner.Dependencies.{leads_through}
 use Rattle.fs_plain.proofs.Between.{any_next, any_here}
 use Rattle.fs_plain.proofs.Chains.{within_next}
 use Rattle.fs_plain.proofs.dependencies.+within.Goals as goal

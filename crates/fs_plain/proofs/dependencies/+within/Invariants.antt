@@ -1,7 +1,7 @@
 use Rattle.std.proofs.Common.{◌≡◌, ◌+◌, ◌-◌}
 use Rattle.std.specs.List.{list_any, range_with_len}
 use Rattle.fs_model.specs.Dependencies.{depends_within}
-use Rattle.fs_plain.specs.Dependencies.{leads_through}
+use Rattle.fs_plain.specs.inner.Dependencies.{leads_through}
 use Rattle.fs_plain.proofs.dependencies.+within.Given as goal
 
 abbrev pub decreases-depends_within : goal.decreases-depends_within

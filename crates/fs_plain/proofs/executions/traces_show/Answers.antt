@@ -1,6 +1,6 @@
 use Rattle.std.proofs.Common.{◌∙◌, length, ap, arith}
 use Rattle.fs_model.specs.Execution.{ObeysAxioms}
-use Rattle.fs_plain.specs.Arranged.{execution_of}
+use Rattle.fs_plain.specs.Whole.{pre_execution_of}
 use Rattle.fs_plain.proofs.Showing.{is_so, all_short, few, shown}
 use Rattle.fs_plain.proofs.executions.traces_show.Goals as goal
 
@@ -20,7 +20,7 @@ new-requires c =
 
 pub returns-clause-ok : goal.returns-clause-ok
 returns-clause-ok c =
-    let x = execution_of c.args.test.now c.args.traces.now in
+    let x = pre_execution_of c.args.test.now c.args.traces.now in
     let obeys = is_so (ObeysAxioms x c.args.placement.now c.args.order.now) c.in_ok-obeys_axioms.field-0 c.if-not-branch.false
     c.in_ok-obeys_axioms.ensures.ok in
     shown c.args.test.now c.args.traces.now c.requires.test c.requires.last c.requires.runs c.args.placement.now c.args.order.now

@@ -2,7 +2,7 @@ use Rattle.std.proofs.Common.{◌≡◌, ◌++◌, ◌∷◌, [], true, refl, sy
 use Rattle.fs_model.specs.Numbers.{has_number}
 use Rattle.fs_plain.specs.Allowing.{ShowsFrom}
 use Rattle.fs_plain.proofs.Extending.{none_more, none_shows, next_new, extended, popped, when_no}
-use Rattle.fs_plain.proofs.Permuted.{has_number_any}
+use Rattle.fs_model.proofs.ListedNumbers.{has_number_any}
 use Rattle.fs_plain.proofs.orders.+shows_from.Goals as goal
 use Rattle.fs_plain.proofs.orders.+shows_from.Goals.{then-not-has_number+in_ok-push+in_ok-found+else-found, else-not-has_number}
 

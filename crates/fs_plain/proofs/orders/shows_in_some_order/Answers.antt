@@ -1,7 +1,6 @@
-use Rattle.std.proofs.Common.{sym, ap, ◌∙◌, subst, ◌≤◌}
+use Rattle.std.proofs.Common.{sym, ◌∙◌, subst, ◌≤◌}
 use Rattle.fs_model.specs.Execution.{pre_execution}
-use Rattle.fs_plain.specs.Among.{runs_in, count_of_harts}
-use Rattle.fs_plain.proofs.Counted.{count_accesses}
+use Rattle.fs_hart.specs.Steps.{steps_in}
 use Rattle.fs_plain.proofs.Counting.{short, few}
 use Rattle.fs_plain.proofs.orders.shows_in_some_order.Goals as goal
 
@@ -10,8 +9,8 @@ operations-requires-clause-steps c = short c.args.test.now c.args.traces.now c.r
 
 pub shows_from-requires-clause-count : goal.shows_from-requires-clause-count
 shows_from-requires-clause-count c =
-    c.count_of_harts-count.ensures ∙ ap count_of_harts (c.as_slice.ensures ∙ c.in_ok-operations.ensures.ok)
-    ∙ count_accesses (pre_execution c.args.test.now (runs_in c.args.traces.now))
+    c.count_accesses-count.ensures.count (pre_execution c.args.test.now (steps_in c.args.traces.now))
+    (c.as_slice.ensures ∙ c.in_ok-operations.ensures.ok)
 
 pub shows_from-requires-clause-few : goal.shows_from-requires-clause-few
 shows_from-requires-clause-few c =

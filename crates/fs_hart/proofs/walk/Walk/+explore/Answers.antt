@@ -6,7 +6,7 @@ use Rattle.fs_model.specs.Trace.{after_step, hart_after}
 use Rattle.fs_model.specs.Choices.{GoesAstray}
 use Rattle.fs_model.specs.Execution.{code_of}
 use Rattle.std.proofs.lemmas.Bool.{false≢true}
-use Rattle.fs_hart.specs.Walking.{options, IsCut}
+use Rattle.fs_hart.specs.inner.Walking.{options, IsCut}
 use Rattle.fs_hart.proofs.Adding.{Tries}
 use Rattle.fs_hart.proofs.Along.{makes_later, code_forward, after_more}
 use Rattle.fs_hart.proofs.Exploring.{Reads, tries_none, whole_explores, astray_explores, whole_cut, astray_cut, read_more, read_skipped, read_cut, read_all, handed, popped, on_both, if_err}

@@ -1,0 +1,4 @@
+pub mod Handed
+pub mod Items
+pub mod Once
+pub mod Spelling

@@ -1,0 +1,21 @@
+-- Why the candidates of a test aren't listed.
+use Rattle.std.specs.Prelude.{ℕ, ◌⊎◌}
+use Rattle.fs_kinds.specs.declared.fault.Fault.{Fault}
+use Rattle.fs_kinds.specs.declared.fault.Fault.TheVariants as fault
+use Rattle.fs_syntax.specs.declared.test.Test.{Test}
+use Rattle.fs_model.specs.Values.{AreRunsOverValues}
+use Rattle.fs_model.specs.TooMany.{AreMoreThan, IsRunFault}
+use Rattle.fs_answer.specs.Candidates.{IsRaw}
+
+-- how many candidates and lists of runs there may be
+abbrev pub most_candidates : ℕ
+most_candidates = 4000000
+
+-- too many lists of runs, one of each hart, or too many candidates, whether they show the outcome or not
+abbrev pub HasTooMany : Test → Type 0
+HasTooMany t = AreMoreThan most_candidates (AreRunsOverValues t) ⊎ AreMoreThan most_candidates (IsRaw t)
+
+-- the fault of a test: that of its runs, or else too many candidates
+abbrev pub IsCandidateFault : Test → Fault → Type 0
+IsCandidateFault t fault.TooManyCandidates = ((f : Fault) → IsRunFault t f → ⊥) × HasTooMany t
+IsCandidateFault t f = IsRunFault t f

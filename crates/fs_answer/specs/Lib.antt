@@ -1,0 +1,14 @@
+pub mod Candidates
+pub mod Judged
+pub mod Listings
+pub mod CandidateFaults
+pub mod Shown
+pub mod Widths
+pub mod Parts
+pub mod Pruning
+pub mod Certificate
+pub mod Valid
+pub mod Refusals
+pub mod WitnessFile
+pub mod CertificateFile
+pub mod Texts

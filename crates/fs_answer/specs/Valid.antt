@@ -1,0 +1,104 @@
+-- Valid certificates: for a placement one cycle for each showing candidate, and a tree that leaves no better placement; for
+-- none an execution that shows the outcome with rw,rw in every slot.
+use Rattle.std.specs.Prelude.{◌≡◌, ℕ, ◌≤◌, nat_le, Bool, true, Option, None, Some, List, [], ◌∷◌, ◌++◌, map, length, take, drop, slice_get}
+use Rattle.std.specs.List.{AllZip, list_all, zip}
+use Rattle.fs_kinds.specs.declared.placement.Entry.{Entry}
+use Rattle.fs_kinds.specs.declared.slot.Slot.{Slot}
+use Rattle.fs_kinds.specs.PriceTable.{PriceTable, cost}
+use Rattle.fs_syntax.specs.declared.test.Test.{Test}
+use Rattle.fs_syntax.specs.Slots.{slots}
+use Rattle.fs_model.specs.Operations.{PreExecution}
+use Rattle.fs_model.specs.Execution.{Execution}
+use Rattle.fs_model.specs.Allows.{RefutesAll}
+use Rattle.fs_model.specs.Witness.{Witness, IsOfWitness, name_of}
+use Rattle.fs_answer.specs.Candidates.{Candidate, runs_of}
+use Rattle.fs_answer.specs.Listings.{IsListing}
+use Rattle.fs_answer.specs.Judged.{Cause, is_edge}
+use Rattle.fs_answer.specs.Shown.{ShowsAs}
+use Rattle.fs_answer.specs.Widths.{width}
+use Rattle.fs_answer.specs.Parts.{Part, undecided, is_undecided, floor, filled, child_parts}
+use Rattle.fs_answer.specs.Pruning.{is_pruned}
+use Rattle.fs_answer.specs.Certificate.{Certificate, Version, First, Second, NoneForbids, Item, SplitAt, Costly, Refuted, Bounded, Link, IsAnswered}
+
+-- ---- cycles
+
+abbrev pub most_links : ℕ
+most_links = 64
+
+-- each operation with the next one, and the last with the first
+abbrev pub around : List ℕ → List (ℕ × ℕ)
+around operations = zip operations (drop 1 operations ++ take 1 operations)
+
+-- each two are an edge of the judged relation, for the cause beside them
+abbrev pub are_edges : PreExecution → List Entry → Candidate → List (ℕ × ℕ) → List Cause → Bool
+are_edges x p c pairs causes = list_all (λ edge. is_edge x p c edge.0.0 edge.0.1 edge.1) (zip pairs causes)
+
+-- a cycle of the candidate's judged relation under the placement
+pub record IsCycle (t : Test) (p : List Entry) (c : Candidate) (links : List Link) : Type 0 where
+  pub some : 1 ≤ length links
+  pub most : length links ≤ most_links
+  pub operations : List ℕ
+  pub names : map (name_of (runs_of t c)) operations ≡ map (λ link. Some link.operation) links
+  pub edges : are_edges (runs_of t c) p c (around operations) (map (λ link. link.cause) links) ≡ true
+
+-- one cycle for each showing candidate, in their order
+abbrev pub HasCycles : Test → List Entry → List (List Link) → Type 0
+HasCycles t p cycles = (cs : List Candidate) × IsListing t cs × AllZip (IsCycle t p) cs cycles
+
+-- ---- the tree
+
+-- even the least placement under the part is no better than the answer p: by cost alone, or by cost and order
+abbrev pub is_costly : Version → PriceTable → List Entry → Part → Bool
+is_costly First prices p part = nat_le (cost prices p) (cost prices (floor part))
+is_costly Second prices p part = is_pruned prices (Some p) part []
+
+-- the witness of this number gives this execution, and it shows the outcome with these fences
+abbrev pub RefutesBy : Test → List Witness → List Entry → ℕ → Execution → Type 0
+RefutesBy t witnesses p j e = (w : Witness) × (slice_get witnesses j ≡ Some w) × ShowsAs t p w e
+
+-- it gives an execution that does so
+abbrev pub Refutes : Test → List Witness → List Entry → ℕ → Type 0
+Refutes t witnesses p j = (e : Execution) × RefutesBy t witnesses p j e
+
+-- the witnesses of these numbers give executions that show the outcome under the part's floor, and they bound the part
+abbrev pub Bounds : Test → PriceTable → List Witness → List Entry → Part → List ℕ → Type 0
+Bounds t prices witnesses p part js =
+    (es : List Execution) × AllZip (RefutesBy t witnesses (floor part)) js es
+    × (is_pruned prices (Some p) part (map (width t) es) ≡ true)
+
+module _ (t : Test) (prices : PriceTable) (c : Certificate) (p : List Entry) where
+  -- the items are one whole tree for each of these parts, in preorder
+  abbrev pub Covers : List Part → List Item → Type 0
+  Covers [] [] = Unit {0}
+  Covers [] (item ∷ items) = ⊥
+  Covers (part ∷ parts) [] = ⊥
+  Covers (part ∷ parts) (SplitAt k ∷ items) =
+      (slot : Slot) × (slice_get (slots t) k ≡ Some slot) × (is_undecided slot part ≡ true)
+      × Covers (child_parts prices slot part ++ parts) items
+  Covers (part ∷ parts) (Costly ∷ items) = (is_costly c.version prices p part ≡ true) × Covers parts items
+  Covers (part ∷ parts) (Refuted j ∷ items) = Refutes t c.witnesses (filled part) j × Covers parts items
+  Covers (part ∷ parts) (Bounded js ∷ items) = Bounds t prices c.witnesses p part js × Covers parts items
+
+-- ---- the whole
+
+-- a valid certificate for the placement p
+pub record IsValidFor (t : Test) (prices : PriceTable) (c : Certificate) (p : List Entry) : Type 0 where
+  pub answered : IsAnswered t prices c.answer p
+  pub cycles : HasCycles t p c.cycles
+  pub tree : Covers t prices c p (undecided t ∷ []) c.tree
+
+-- a valid certificate for none
+pub record IsValidForNone (t : Test) (c : Certificate) : Type 0 where
+  pub answered : c.answer ≡ NoneForbids
+  pub cycles : c.cycles ≡ []
+  pub tree : c.tree ≡ []
+  pub witness : Witness
+  pub only : c.witnesses ≡ witness ∷ []
+  pub execution : Execution
+  pub given : IsOfWitness t witness execution
+  pub refutes : RefutesAll t execution
+
+-- a valid certificate, with the placement that it answers or none
+abbrev pub IsValid : Test → PriceTable → Certificate → Option (List Entry) → Type 0
+IsValid t prices c (Some p) = IsValidFor t prices c p
+IsValid t prices c None = IsValidForNone t c

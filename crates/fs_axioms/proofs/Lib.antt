@@ -1,0 +1,5 @@
+pub mod Axioms
+pub mod Listed
+pub mod Earlier
+pub mod Counted
+pub mod Sources

@@ -1,0 +1,4 @@
+pub mod Among
+pub mod Earlier
+pub mod Final
+pub mod Ordered

@@ -1,0 +1,6 @@
+pub mod Ranked
+pub mod Floors
+pub mod Breaks
+pub mod Bounded
+pub mod OneWitness
+pub mod EarlyExecutions

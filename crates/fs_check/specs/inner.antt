@@ -1,0 +1,5 @@
+-- What only inner functions and proofs need.
+pub mod Breaking
+pub mod NamedOrder
+pub mod Ordered
+pub mod WitnessRuns

@@ -1,0 +1,14 @@
+pub mod Orders
+pub mod Agree
+pub mod GlobalOrder
+pub mod Rules
+pub mod Sourced
+pub mod CandidateOf
+pub mod Forth
+pub mod Edges
+pub mod Back
+pub mod Sorting
+pub mod Deciding
+pub mod Acyclic
+pub mod FenceEdges
+pub mod Links

@@ -1,3 +1,0 @@
-pub mod Fence
-pub mod Printable
-pub mod Written

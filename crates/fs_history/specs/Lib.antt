@@ -1,0 +1,4 @@
+pub mod Board
+pub mod Histories
+pub mod Sizes
+pub mod Receipts

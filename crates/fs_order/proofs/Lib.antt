@@ -1,4 +1,0 @@
-pub mod Axioms
-pub mod Listed
-pub mod Earlier
-pub mod Counted

@@ -1,0 +1,16 @@
+//! Tests of the layers of the reader by themselves: on kinds and prices, sections, conditions, instructions, cells, and the printed form.
+//! They stand apart, so that no layer is proved twice for the sake of its tests.
+#![tactic(auto)]
+
+#[cfg(test)]
+mod code;
+#[cfg(test)]
+mod condition;
+#[cfg(test)]
+mod form;
+#[cfg(test)]
+mod instr;
+#[cfg(test)]
+mod kinds;
+#[cfg(test)]
+mod syntax;

@@ -1,0 +1,3 @@
+-- What only inner functions and proofs need.
+pub mod Printable
+pub mod Written

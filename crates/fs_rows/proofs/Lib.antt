@@ -1,0 +1,17 @@
+pub mod Examples
+pub mod Inversion
+pub mod StoreBuffering
+pub mod Witnesses
+pub mod SearchBoard
+pub mod CoherentReads
+pub mod CoherentListing
+pub mod Limits
+pub mod Ties
+pub mod Named
+pub mod CoherentCertificates
+pub mod MessagePassing
+pub mod Witnessed
+pub mod Adding
+pub mod PassingListing
+pub mod PassingCertificates
+pub mod Bounded

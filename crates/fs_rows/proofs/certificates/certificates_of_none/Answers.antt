@@ -1,0 +1,14 @@
+use Rattle.fs_rows.proofs.PassingCertificates.{valid, no_witnesses, with_tree, other_test}
+use Rattle.fs_rows.proofs.certificates.certificates_of_none.Goals as goal
+
+pub returns-clause-valid : goal.returns-clause-valid
+returns-clause-valid c = valid
+
+pub returns-clause-no_witness : goal.returns-clause-no_witness
+returns-clause-no_witness c = no_witnesses
+
+pub returns-clause-tree : goal.returns-clause-tree
+returns-clause-tree c = with_tree
+
+pub returns-clause-other_test : goal.returns-clause-other_test
+returns-clause-other_test c = other_test

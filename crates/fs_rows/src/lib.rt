@@ -1,0 +1,22 @@
+//! Worked rows over the definitions, by computation: the rules of preserved program order in small runs; what is said of witnesses,
+//! boards, candidates and certificates of small tests; and the words that a location can come to hold. The functions do nothing: each
+//! stands for the laws that it promises.
+#![tactic(auto)]
+
+mod answers;
+mod boards;
+mod certificates;
+mod rules;
+mod values;
+
+pub use answers::{board, cycles, reasons};
+pub use boards::{equal_costs, full_board, sizes, witnessed_boards};
+pub use certificates::{
+    bounded_leaves, certificates_of_none, cheap_leaves, one_candidate, refused_cycles,
+    refused_trees, valid_certificates,
+};
+pub use rules::{
+    annotations, dependencies, dependencies_carried, fences_by_position, loads_run_ahead,
+    overlapping_addresses, pairs, placed_fences, store_buffering, stores_and_reads, written_fences,
+};
+pub use values::values_of_two_adds;

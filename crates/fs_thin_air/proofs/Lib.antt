@@ -1,0 +1,15 @@
+pub mod Clean
+pub mod Altered
+pub mod Finish
+pub mod Kept
+pub mod Keeping
+pub mod Earlier
+pub mod Accessible
+pub mod Steps
+pub mod Counting
+pub mod FewStores
+pub mod Levels
+pub mod Executions
+pub mod Grounded
+pub mod Faults
+pub mod Readings

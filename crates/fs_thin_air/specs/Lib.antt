@@ -1,0 +1,2 @@
+pub mod ThinAir
+pub mod Readings
