@@ -1,23 +1,16 @@
 -- What a cell says.
-use Rattle.std.proofs.Common.{◌≡◌, ℕ, ◌+◌, ◌-◌, ◌≤◌, List, [], ◌∷◌, ◌++◌, length, drop, Option, Some, None, option_map, Result, Ok, Err, refl, sym, ap, ◌∙◌, subst, append_assoc, append-nil, length-drop, arith}
-use Rattle.std.proofs.lemmas.List.{map-append, drop-map, drop-drop}
-use denote.Ref.{Bor}
+use Rattle.std.proofs.Common.{◌≡◌, ℕ, ◌+◌, ◌-◌, ◌≤◌, List, [], ◌∷◌, ◌++◌, length, drop, Option, Some, None, Err, refl, sym, ap, ◌∙◌, subst, append_assoc, append-nil, length-drop, arith}
+use Rattle.std.proofs.lemmas.List.{drop-map, drop-drop}
 use Rattle.fs_tokens.specs.Tokens.{Tok, Lined, without_lines, view, views, kind_of}
 use Rattle.fs_tokens.specs.declared.token.Token.{Token}
 use Rattle.fs_instr.specs.Operands.{toks}
-use Rattle.fs_instr.specs.Reading.{Outcome, outcome_of, read_tokens}
 use Rattle.fs_instr.specs.Spelled.{Spells, IsUnknown, IsUnsupported, Answers}
-use Rattle.fs_instr.proofs.Spelling.{spelled_read, unknown_read, unsupported_read, answers}
+use Rattle.fs_instr.proofs.Spelling.{spelled_read, unknown_read, unsupported_read}
 use Rattle.fs_instr.specs.declared.instr.Instr.{Instr}
-use Rattle.fs_instr.specs.declared.instr.Instr.TheVariants as instr
-use Rattle.fs_instr.specs.declared.reading.Parsed.{Parsed}
-use Rattle.fs_instr.specs.declared.reading.Refused.{Refused}
 use Rattle.fs_instr.specs.declared.reading.Refused.TheVariants.{Form, Name, Suffix}
 use Rattle.fs_kinds.specs.declared.fault.Fault.{Fault}
 use Rattle.fs_kinds.specs.declared.fault.Fault.TheVariants.{Syntax, UnknownInstr, BadAnnotation}
-use Rattle.fs_code.specs.declared.cell.Item as items
-use Rattle.fs_code.specs.declared.cell.Item.TheVariants as item
-use Rattle.fs_code.specs.Cells.{Item, Label, Instruction, front_label, AreLabels, none, label, IsCell, labels, instruction, IsMalformed, IsCellFault, syntax, unknown, annotation, instr_in, item_of, items_of, AddsLabels, AddsItems}
+use Rattle.fs_code.specs.Cells.{Item, Label, Instruction, front_label, AreLabels, none, label, IsCell, labels, instruction, IsMalformed, IsCellFault, syntax, unknown, annotation, AddsLabels, AddsItems}
 
 pub record SameLabels (xs ys : List Item) (r s : List Lined) : Type 0 where
   pub items : xs ≡ ys
@@ -148,32 +141,15 @@ at_rest cell rest old new taken e h = record { added = h.added; are = subst (λ 
 pub labels_alone : (cell rest : List Token) (old new : List Item) → AtRest cell rest old new → length rest ≡ 0 → AddsItems (views cell) old new
 labels_alone cell rest old new h e = record { added = h.added; is = labels (subst (λ l. AreLabels (views cell) h.added (views l)) (empty_is rest e) h.are); new_is = h.new_is }
 
--- the instruction that tokens spell
-spelled_in : {ts : List Tok} {i : Instr} {l : Option (List ℕ)} → Spells ts i l → instr_in (read_tokens ts) ≡ i
-spelled_in h = ap (λ o. instr_in o) (spelled_read h)
-
-none_in : (ts : List Tok) (o : Outcome) → read_tokens ts ≡ o → ((i : Instr) (l : Option (List ℕ)) → ¬ Spells ts i l) → instr_in o ≡ instr.FenceTso
-none_in ts (Ok x) e h = absurd (h x.0 x.1 (answers ts (Ok x) (sym e)))
-none_in ts (Err f) e h = refl
-
-abbrev pub instr_or : Result Parsed Refused → Instr
-instr_or (Ok p) = p.instr
-instr_or (Err f) = instr.FenceTso
-
-pub instr_is : (ts : List Tok) (r : Result Parsed Refused) → Answers ts (outcome_of r) → ((i : Instr) (l : Option (List ℕ)) → Spells ts i l → outcome_of r ≡ Ok (i, l)) → instr_or r ≡ instr_in (read_tokens ts)
-instr_is ts (Ok p) a h = sym (spelled_in a)
-instr_is ts (Err f) a h = sym (none_in ts (read_tokens ts) refl (λ i l s. let e = h i l s in cc e))
-
-pub with_instruction : (cell rest : List Token) (old mid new : List items.Item) (tokens : Bor (List Token)) (m : Token) (after : List Token) (i : Instr) (target : Option (Bor (List ℕ))) → AtRest cell rest (items_of old) (items_of mid) → rest ≡ m ∷ after → tokens.now ≡ rest → Spells (toks rest) i (option_map (λ w. w.now) target) → new ≡ mid ++ item.Instruction tokens target m.line ∷ [] → AddsItems (views cell) (items_of old) (items_of new)
-with_instruction cell rest old mid new tokens m after i target h e t s n =
-    let last : Item = Instruction i (option_map (λ w. w.now) target) m.line in
-    let same : item_of (item.Instruction tokens target m.line) ≡ last = ap (λ j. Instruction j (option_map (λ w. w.now) target) m.line) (ap (λ l. instr_in (read_tokens (toks l))) t ∙ spelled_in s) in
+pub with_instruction : (cell rest : List Token) (old mid new : List Item) (m : Token) (after : List Token) (i : Instr) (target : Option (List ℕ)) → AtRest cell rest old mid → rest ≡ m ∷ after → Spells (toks rest) i target → new ≡ mid ++ Instruction i target m.line ∷ [] → AddsItems (views cell) old new
+with_instruction cell rest old mid new m after i target h e s n =
+    let last : Item = Instruction i target m.line in
     let here : AreLabels (views cell) h.added (views (m ∷ after)) = subst (λ l. AreLabels (views cell) h.added (views l)) e h.are in
-    let spelled : Spells (without_lines (views (m ∷ after))) i (option_map (λ w. w.now) target) = subst (λ l. Spells (without_lines (views l)) i (option_map (λ w. w.now) target)) e (subst (λ l. Spells l i (option_map (λ w. w.now) target)) (toks_are rest) s) in
+    let spelled : Spells (without_lines (views (m ∷ after))) i target = subst (λ l. Spells (without_lines (views l)) i target) e (subst (λ l. Spells l i target) (toks_are rest) s) in
     record {
       added = h.added ++ last ∷ [];
       is = instruction here spelled refl;
-      new_is = ap (λ l. items_of l) n ∙ map-append item_of mid (item.Instruction tokens target m.line ∷ []) ∙ ap (λ x. items_of mid ++ x ∷ []) same ∙ ap (λ l. l ++ last ∷ []) h.new_is ∙ append_assoc (items_of old) h.added (last ∷ []);
+      new_is = n ∙ ap (λ l. l ++ last ∷ []) h.new_is ∙ append_assoc old h.added (last ∷ []);
     }
 
 module _ (cell rest : List Token) (old new : List Item) (m : Token) (after : List Token) (h : AtRest cell rest old new) (e : rest ≡ m ∷ after) where

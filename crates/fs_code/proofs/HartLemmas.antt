@@ -10,8 +10,7 @@ use Rattle.fs_tokens.specs.declared.token.Token.{Token}
 use Rattle.fs_instr.specs.declared.instr.Instr.{Instr}
 use Rattle.fs_kinds.specs.declared.fault.Fault.{Fault}
 use Rattle.std.specs.Result.{IfOk}
-use Rattle.fs_code.specs.declared.cell.Item as items
-use Rattle.fs_code.specs.Cells.{Item, AreCells, AreFaulty, IsListing, items_of}
+use Rattle.fs_code.specs.Cells.{Item, AreCells, AreFaulty, IsListing}
 use Rattle.fs_code.specs.Columns.{column, cells_of}
 use Rattle.fs_code.specs.Labels.{IsCode, IsLabelFault, instruction_count, resolved}
 use Rattle.fs_code.specs.Codes.{IsHart, IsHartFault, of_cell, of_label, AreCodes, IsFault, fault, IsKept, AreKept, ReadsHart, ReadsListing, AreHarts}
@@ -47,9 +46,9 @@ pub hart_from : (cells : List (List Lined)) (hart : List Item) (read : Result Ha
 hart_from cells hart (Ok kept) are h = (h.0, record { hart = hart; are = are; means = h.1 }, h.2)
 hart_from cells hart (Err f) are h = record { is = of_label are h.is; first = label_before are h }
 
-pub hart_if : {E : Type 0} (cells : List (List Lined)) (listing xs : List items.Item) (r : Result (Result HartCode Fault) E) → IsListing cells (items_of xs) None → listing ≡ xs → IfOk r (λ read. ReadsListing (items_of listing) read) → IfOk r (λ read. ReadsHart cells read)
-hart_if cells listing xs (Ok read) are e h = hart_from cells (items_of listing) read (subst (λ l. AreCells cells (items_of l)) (sym e) are) h
-hart_if cells listing xs (Err f) are e h = h
+pub hart_if : {E : Type 0} (cells : List (List Lined)) (hart listing : List Item) (r : Result (Result HartCode Fault) E) → IsListing cells listing None → hart ≡ listing → IfOk r (λ read. ReadsListing hart read) → IfOk r (λ read. ReadsHart cells read)
+hart_if cells hart listing (Ok read) are e h = hart_from cells hart read (subst (λ l. AreCells cells l) (sym e) are) h
+hart_if cells hart listing (Err f) are e h = h
 
 pub short_is : (hart : List Item) (kept : List Instr) → ((f : Fault) → ¬ IsLabelFault hart f) → kept ≡ resolved hart hart → instruction_count hart ≤ 32 → (code : List Instr) × IsCode hart code × ((length code ≤ 32) × (kept ≡ code))
 short_is hart kept h e small =

@@ -1,7 +1,7 @@
 -- Labels and branches of a hart.
-use Rattle.std.proofs.Common.{◌≡◌, ◌⊎◌, inl, inr, ℕ, ◌+◌, ◌<◌, ◌≤◌, zero, suc, List, [], ◌∷◌, ◌++◌, length, take, map, get_or, is_some, Option, Some, None, option_map, Bool, true, false, cond, refl, sym, ap, ◌∙◌, subst, arith, add-one}
+use Rattle.std.proofs.Common.{◌≡◌, ◌⊎◌, inl, inr, ℕ, ◌+◌, ◌<◌, ◌≤◌, zero, suc, List, [], ◌∷◌, ◌++◌, length, take, get_or, is_some, Option, Some, None, option_map, Bool, true, false, cond, refl, sym, ap, ◌∙◌, subst, arith, add-one}
 use Rattle.std.proofs.Math.Seq.{take-suc}
-use Rattle.std.proofs.lemmas.List.{map-append}
+use Rattle.std.proofs.lemmas.List.{map-append, take_all}
 use Rattle.std.proofs.lemmas.Slice.Eq.{bytes_eq-Decides}
 use Rattle.std.proofs.lemmas.Bool.Decides.{nat_tests}
 use Rattle.std.specs.Str.{bytes_eq}
@@ -10,16 +10,21 @@ use Rattle.fs_kinds.specs.declared.fault.Fault.{Fault}
 use Rattle.fs_kinds.specs.declared.fault.Fault.TheVariants.{BadLabel}
 use Rattle.fs_kinds.specs.FaultOrder.{IsFirstOf, earliest}
 use Rattle.fs_kinds.proofs.FirstFault.{first_join, this_first, same_first}
-use Rattle.fs_code.specs.declared.cell.Item as items
-use Rattle.fs_code.specs.Cells.{Item, Label, Instruction, item_of, items_of}
+use Rattle.fs_code.specs.declared.listing.Mark.{Mark}
+use Rattle.fs_code.specs.inner.Listings.{item_at, marked}
+use Rattle.fs_code.specs.Cells.{Item, Label, Instruction}
 use Rattle.fs_code.specs.Labels.{StandsAt, IsBranch, IsTwice, IsStray, instruction_count, position, is_ahead, with_label, resolved, stray_of, number_after}
 use Rattle.fs_code.specs.Labels.{here, past_label, past_instruction, this, after_label, after_instruction, again, later, missing, behind}
 
--- one item more
-pub items_more : (xs : List items.Item) (i : ℕ) (d : items.Item) → i < length xs → items_of (take (i + 1) xs) ≡ items_of (take i xs) ++ item_of (get_or xs i d) ∷ []
-items_more xs i d h =
+-- one mark more
+pub items_more : (code : List Instr) (xs : List Mark) (i : ℕ) (d x : Mark) → i < length xs → get_or xs i d ≡ x → marked code (take (i + 1) xs) ≡ marked code (take i xs) ++ item_at code x ∷ []
+items_more code xs i d x h e =
     let more : take (i + 1) xs ≡ take i xs ++ get_or xs i d ∷ [] = rw add-one (take-suc xs i d h) in
-    ap (λ l. map item_of l) more ∙ map-append item_of (take i xs) (get_or xs i d ∷ [])
+    ap (λ l. marked code l) more ∙ map-append (λ m. item_at code m) (take i xs) (get_or xs i d ∷ []) ∙ ap (λ y. marked code (take i xs) ++ item_at code y ∷ []) e
+
+-- all marks
+pub marked_whole : (code : List Instr) (marks seen : List Mark) (i : ℕ) → seen ≡ marks → length seen ≤ i → marked code (take i seen) ≡ marked code marks
+marked_whole code marks seen i e h = ap (λ l. marked code l) (take_all i seen h ∙ e)
 
 -- ---- one label or one instruction more
 
@@ -303,21 +308,17 @@ pub after_small : (n i : ℕ) (x : Item) → n ≤ i → number_after n x ≤ i 
 after_small n i (Label w k) h = omega arith
 after_small n i (Instruction j t k) h = omega arith
 
-pub count_step : (xs : List items.Item) (i : ℕ) (d : items.Item) (n : ℕ) → i < length xs → n ≡ instruction_count (items_of (take i xs)) → number_after n (item_of (get_or xs i d)) ≡ instruction_count (items_of (take (i + 1) xs))
-count_step xs i d n h e =
-    ap (λ m. number_after m (item_of (get_or xs i d))) e ∙ sym (count_more (items_of (take i xs)) (item_of (get_or xs i d))) ∙ ap (λ l. instruction_count l) (sym (items_more xs i d h))
+pub count_step : (code : List Instr) (xs : List Mark) (i : ℕ) (d x : Mark) (n : ℕ) → i < length xs → get_or xs i d ≡ x → n ≡ instruction_count (marked code (take i xs)) → number_after n (item_at code x) ≡ instruction_count (marked code (take (i + 1) xs))
+count_step code xs i d x n h at e =
+    ap (λ m. number_after m (item_at code x)) e ∙ sym (count_more (marked code (take i xs)) (item_at code x)) ∙ ap (λ l. instruction_count l) (sym (items_more code xs i d x h at))
 
-pub stray_step : (hart : List Item) (xs : List items.Item) (i : ℕ) (d : items.Item) (n : ℕ) (where_is : List ℕ → Option ℕ) (o : Option Fault) → i < length xs → n ≡ instruction_count (items_of (take i xs)) → ((w : List ℕ) → where_is w ≡ position w hart) → IsFirstOf (IsStray hart (items_of (take i xs))) o → IsFirstOf (IsStray hart (items_of (take (i + 1) xs))) (earliest o (stray_of where_is n (item_of (get_or xs i d))))
-stray_step hart xs i d n where_is o h e same f =
-    let seen = items_of (take i xs) in
-    let x = item_of (get_or xs i d) in
+pub stray_step : (code : List Instr) (hart : List Item) (xs : List Mark) (i : ℕ) (d y : Mark) (n : ℕ) (where_is : List ℕ → Option ℕ) (o : Option Fault) → i < length xs → get_or xs i d ≡ y → n ≡ instruction_count (marked code (take i xs)) → ((w : List ℕ) → where_is w ≡ position w hart) → IsFirstOf (IsStray hart (marked code (take i xs))) o → IsFirstOf (IsStray hart (marked code (take (i + 1) xs))) (earliest o (stray_of where_is n (item_at code y)))
+stray_step code hart xs i d y n where_is o h at e same f =
+    let seen = marked code (take i xs) in
+    let x = item_at code y in
     let found : stray_of where_is n x ≡ stray_at hart seen x = stray_of_same where_is (λ w. position w hart) n x same ∙ ap (λ m. stray_of (λ w. position w hart) m x) e in
     let whole : IsFirstOf (IsStray hart (seen ++ x ∷ [])) (earliest o (stray_at hart seen x)) = first_join (IsStray hart seen) (λ g. stray_at hart seen x ≡ Some g) (IsStray hart (seen ++ x ∷ [])) (λ g k. stray_kept x k) (λ g k. stray_new hart seen x g k) (λ g k. stray_before hart seen x g k) o (stray_at hart seen x) f (this_first (stray_at hart seen x)) in
-    subst (λ l. IsFirstOf (IsStray hart l) (earliest o (stray_of where_is n x))) (sym (items_more xs i d h)) (subst (λ r. IsFirstOf (IsStray hart (seen ++ x ∷ [])) (earliest o r)) (sym found) whole)
-
--- the next item is this
-pub item_next : (xs : List items.Item) (i : ℕ) (d x : items.Item) → i < length xs → get_or xs i d ≡ x → items_of (take (i + 1) xs) ≡ items_of (take i xs) ++ item_of x ∷ []
-item_next xs i d x h e = items_more xs i d h ∙ ap (λ y. items_of (take i xs) ++ item_of y ∷ []) e
+    subst (λ l. IsFirstOf (IsStray hart l) (earliest o (stray_of where_is n x))) (sym (items_more code xs i d y h at)) (subst (λ r. IsFirstOf (IsStray hart (seen ++ x ∷ [])) (earliest o r)) (sym found) whole)
 
 -- what is known of the labels and instructions of these items: how many instructions, where each label stands first, and the first that stands twice
 pub record LabelsRead (xs : List Item) (n : ℕ) (where_is : List ℕ → Option ℕ) (o : Option Fault) : Type 0 where
@@ -420,5 +421,5 @@ position_small w (Instruction i t k ∷ xs) p e =
     let same = before.2 in
     omega arith
 
-pub resolved_next : (hart : List Item) (xs : List items.Item) (i : ℕ) (d x : items.Item) → i < length xs → get_or xs i d ≡ x → resolved hart (items_of (take (i + 1) xs)) ≡ resolved hart (items_of (take i xs)) ++ resolved hart (item_of x ∷ [])
-resolved_next hart xs i d x h e = ap (λ l. resolved hart l) (item_next xs i d x h e) ∙ resolved-more hart (items_of (take i xs)) (item_of x ∷ [])
+pub resolved_next : (code : List Instr) (hart : List Item) (xs : List Mark) (i : ℕ) (d x : Mark) → i < length xs → get_or xs i d ≡ x → resolved hart (marked code (take (i + 1) xs)) ≡ resolved hart (marked code (take i xs)) ++ resolved hart (item_at code x ∷ [])
+resolved_next code hart xs i d x h e = ap (λ l. resolved hart l) (items_more code xs i d x h e) ∙ resolved-more hart (marked code (take i xs)) (item_at code x ∷ [])

@@ -1,4 +1,5 @@
 pub mod CellLemmas
+pub mod ListingLemmas
 pub mod ColumnLemmas
 pub mod LabelLemmas
 pub mod CodeLemmas

@@ -1,18 +1,13 @@
 -- The cells of a hart (herd7's format of litmus tests): any number of labels, and then an instruction or nothing.
-use Rattle.std.specs.Prelude.{◌≡◌, ℕ, List, [], ◌∷◌, ◌++◌, Bool, true, false, ◌&&◌, Option, Some, None, Ok, Err, option_map, map, drop, if◌then◌else◌}
+use Rattle.std.specs.Prelude.{◌≡◌, ℕ, List, [], ◌∷◌, ◌++◌, Bool, true, false, ◌&&◌, Option, Some, None, drop, if◌then◌else◌}
 use Rattle.fs_tokens.specs.Words.{is_name}
 use Rattle.fs_tokens.specs.Tokens.{Tok, Lined, Word, Sign, without_lines}
 use Rattle.fs_tokens.specs.declared.token.Mark.TheVariants.{Colon}
-use Rattle.fs_instr.specs.Operands.{toks}
-use Rattle.fs_instr.specs.Reading.{Outcome, read_tokens}
 use Rattle.fs_instr.specs.Spelled.{Spells, IsUnknown, IsUnsupported}
 use Rattle.fs_instr.specs.declared.instr.Instr.{Instr}
-use Rattle.fs_instr.specs.declared.instr.Instr.TheVariants as instr
 use Rattle.fs_kinds.specs.declared.fault.Fault.{Fault}
 use Rattle.fs_kinds.specs.declared.fault.Fault.TheVariants.{Syntax, UnknownInstr, BadAnnotation}
 use Rattle.fs_kinds.specs.FaultOrder.{IsFirst}
-use Rattle.fs_code.specs.declared.cell.Item as items
-use Rattle.fs_code.specs.declared.cell.Item.TheVariants as item
 
 -- what stands in a cell, with its line: a label; or an instruction, with the label that it names where it is a branch
 pub data Item : Type 0 where
@@ -59,20 +54,6 @@ pub data AreCells : List (List Lined) → List Item → Type 0 where
 pub data AreFaulty : List (List Lined) → Fault → Type 0 where
   here : {c : List Lined} {cs : List (List Lined)} {f : Fault} → IsCellFault c f → AreFaulty (c ∷ cs) f
   later : {c : List Lined} {cs : List (List Lined)} {f : Fault} → AreFaulty cs f → AreFaulty (c ∷ cs) f
-
--- ---- what the reader's values stand for
-
--- the instruction that was read; any one where none was
-abbrev pub instr_in : Outcome → Instr
-instr_in (Ok x) = x.0
-instr_in (Err e) = instr.FenceTso
-
-abbrev pub item_of : items.Item → Item
-item_of (item.Label name line) = Label name.now line
-item_of (item.Instruction tokens target line) = Instruction (instr_in (read_tokens (toks tokens.now))) (option_map (λ w. w.now) target) line
-
-abbrev pub items_of : List items.Item → List Item
-items_of xs = map item_of xs
 
 -- ---- what the reader does
 

@@ -1,4 +1,5 @@
 pub mod Cells
+pub mod inner
 pub mod Columns
 pub mod Labels
 pub mod Codes

@@ -2,29 +2,14 @@
 
 ghost use Rattle.std.specs.Prelude.{◌≡◌, ◌≤◌, length, drop, option_map, IfSome, IfOk};
 ghost use Rattle.fs_tokens.specs.Tokens.{view, views};
-ghost use Rattle.fs_code.specs.Cells.{is_colon, front_label, items_of, AddsLabels, AddsCell};
+ghost use Rattle.fs_code.specs.Cells.{is_colon, front_label, AddsLabels, AddsCell};
 
+use crate::listing::Listing;
 use crate::slices::skip;
 use fs_instr::{Refused, read_tokens};
 use fs_kinds::Fault;
 use fs_tokens::{Kind, Mark, Token};
 use std::alloc::AllocError;
-
-/// What stands in a hart's cells, with its line.
-#[derive(Clone, Copy, Debug)]
-pub(crate) enum Item<'b, 'a> {
-    /// A label before the next instruction or at the end.
-    Label {
-        name: &'a str,
-        line: usize,
-    },
-    /// An instruction: its tokens, and the label that it names where it is a branch.
-    Instruction {
-        tokens: &'b [Token<'a>],
-        target: Option<&'a str>,
-        line: usize,
-    },
-}
 
 // Is it a colon?
 fn is_colon(token: &Token<'_>) -> bool
@@ -53,16 +38,13 @@ fn front_label<'a>(tokens: &[Token<'a>]) -> Option<(&'a str, usize)>
 }
 
 // Appends the labels at the front of a cell to the hart's listing; how many tokens they are.
-fn read_labels<'b, 'a>(
-    cell: &[Token<'a>],
-    listing: &mut Vec<Item<'b, 'a>>,
-) -> Result<usize, AllocError>
+fn read_labels<'a>(cell: &[Token<'a>], listing: &mut Listing<'a>) -> Result<usize, AllocError>
     ensures room { IfOk result (λ taken. taken ≤ length cell.now) }
-    ensures labels { IfOk result (λ taken. AddsLabels (views cell.now) (items_of listing.old.items) (items_of listing.new.items) (views (drop taken cell.now))) }
+    ensures labels { IfOk result (λ taken. AddsLabels (views cell.now) listing.old listing.new (views (drop taken cell.now))) }
 {
     let mut taken = 0;
     while let Some((name, line)) = front_label(skip(cell, taken)) {
-        listing.push(Item::Label { name, line })?;
+        listing.push_label(name, line)?;
         taken += 2;
     }
     Ok(taken)
@@ -70,11 +52,11 @@ fn read_labels<'b, 'a>(
 
 /// Appends what stands in a cell to the hart's listing; or the cell's fault, and then the listing is of no use. Linear in the
 /// tokens. Fails only for want of memory.
-pub(crate) fn read_cell<'b, 'a>(
-    cell: &'b [Token<'a>],
-    listing: &mut Vec<Item<'b, 'a>>,
+pub(crate) fn read_cell<'a>(
+    cell: &[Token<'a>],
+    listing: &mut Listing<'a>,
 ) -> Result<Option<Fault>, AllocError>
-    ensures { IfOk result (λ fault. AddsCell (views cell.now) (items_of listing.old.items) (items_of listing.new.items) fault) }
+    ensures { IfOk result (λ fault. AddsCell (views cell.now) listing.old listing.new fault) }
 {
     let Some((first, _)) = cell.split_first() else {
         return Ok(None);
@@ -86,11 +68,7 @@ pub(crate) fn read_cell<'b, 'a>(
     };
     match read_tokens(rest) {
         Ok(parsed) => {
-            listing.push(Item::Instruction {
-                tokens: rest,
-                target: parsed.label,
-                line: mnemonic.line,
-            })?;
+            listing.push_instruction(parsed.instr, parsed.label, mnemonic.line)?;
             Ok(None)
         }
         Err(Refused::Form) => Ok(Some(Fault::Syntax { line: first.line })),

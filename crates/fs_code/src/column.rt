@@ -1,10 +1,11 @@
 //! The column of a hart.
 
 ghost use Rattle.std.specs.Prelude.{◌<◌, IfOk};
-ghost use Rattle.fs_code.specs.Cells.{items_of, IsListing};
+ghost use Rattle.fs_code.specs.Cells.{IsListing};
 ghost use Rattle.fs_code.specs.Columns.{column, cells_of};
 
-use crate::cell::{Item, read_cell};
+use crate::cell::read_cell;
+use crate::listing::Listing;
 use crate::slices::skip;
 use fs_kinds::{Fault, earliest};
 use fs_tokens::Token;
@@ -12,15 +13,15 @@ use std::alloc::{AllocError, Global};
 
 /// What stands in each cell of a hart, whose cells are the first of these, and then each that is as many further on as there are
 /// columns; and the first fault of its cells, where the listing is of no use. Linear in the tokens. Fails only for want of memory.
-pub(crate) fn read_column<'b, 'a>(
+pub(crate) fn read_column<'a>(
     alloc: Global,
     columns: usize,
-    cells: &[&'b [Token<'a>]],
-) -> Result<(Vec<Item<'b, 'a>>, Option<Fault>), AllocError>
+    cells: &[&[Token<'a>]],
+) -> Result<(Listing<'a>, Option<Fault>), AllocError>
     requires { 0 < columns }
-    ensures { IfOk result (λ x. IsListing (column columns 0 (cells_of cells.now)) (items_of x.0.items) x.1) }
+    ensures { IfOk result (λ x. IsListing (column columns 0 (cells_of cells.now)) x.0 x.1) }
 {
-    let mut listing = Vec::new(alloc);
+    let mut listing = Listing::new(alloc);
     let mut fault = None;
     let mut rest = cells;
     while let Some((cell, after)) = rest.split_first() {

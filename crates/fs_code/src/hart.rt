@@ -1,14 +1,13 @@
 //! The code of one hart.
 
 ghost use Rattle.std.specs.Prelude.{◌<◌, IfOk};
-ghost use Rattle.fs_code.specs.Cells.{items_of};
 ghost use Rattle.fs_code.specs.Columns.{column, cells_of};
 ghost use Rattle.fs_code.specs.Codes.{ReadsHart, ReadsListing};
 
 use crate::branches::{first_stray, instruction_count, resolve};
-use crate::cell::Item;
 use crate::column::read_column;
 use crate::labels::read_positions;
+use crate::listing::Listing;
 use fs_instr::Instr;
 use fs_kinds::{Fault, MOST_INSTRUCTIONS, earliest};
 use fs_tokens::Token;
@@ -25,11 +24,8 @@ pub enum HartCode {
 }
 
 // The code of a hart from what stands in its cells, or the first fault of its labels and branches.
-fn read_listing(
-    alloc: Global,
-    listing: &[Item<'_, '_>],
-) -> Result<Result<HartCode, Fault>, AllocError>
-    ensures { IfOk result (λ read. ReadsListing (items_of listing.now) read) }
+fn read_listing(alloc: Global, listing: &Listing<'_>) -> Result<Result<HartCode, Fault>, AllocError>
+    ensures { IfOk result (λ read. ReadsListing listing.now read) }
 {
     let (positions, twice) = read_positions(alloc, listing)?;
     let stray = first_stray(listing, &positions);

@@ -7,6 +7,7 @@ mod codes;
 mod column;
 mod hart;
 mod labels;
+mod listing;
 mod slices;
 
 pub use codes::read_codes;

@@ -9,10 +9,10 @@ use Rattle.fs_condition.specs.declared.condition.Atom as atoms
 use Rattle.fs_condition.specs.declared.condition.Tree.{Tree}
 use Rattle.fs_condition.specs.declared.condition.Tree.TheVariants as trees
 use Rattle.fs_condition.specs.declared.condition.Condition as conditions
-use Rattle.fs_condition.specs.declared.part.Connective.{Connective}
-use Rattle.fs_condition.specs.declared.part.Connective.TheVariants as connectives
-use Rattle.fs_condition.specs.declared.part.Part.{Part}
-use Rattle.fs_condition.specs.declared.part.Part.TheVariants as parts
+use Rattle.fs_condition.specs.declared.subformula.Connective.{Connective}
+use Rattle.fs_condition.specs.declared.subformula.Connective.TheVariants as connectives
+use Rattle.fs_condition.specs.declared.subformula.Subformula.{Subformula}
+use Rattle.fs_condition.specs.declared.subformula.Subformula.TheVariants as parts
 use Rattle.fs_condition.specs.declared.atom.AtomPlace as places
 use Rattle.fs_condition.specs.declared.atom.AtomPlace.TheVariants as atom_places
 use Rattle.fs_condition.specs.declared.atom.AtomStep.{AtomStep}
@@ -41,9 +41,9 @@ abbrev pub connective_of : Connective → Condition → Condition → Condition
 connective_of connectives.And = Both
 connective_of connectives.Or = Either
 
-abbrev pub part_of : Part → Bounded
-part_of parts.TooDeep = Deep
-part_of (parts.Shallow w g b) = Fine w g (tree_of b.value)
+abbrev pub subformula_of : Subformula → Bounded
+subformula_of parts.TooDeep = Deep
+subformula_of (parts.Shallow w g b) = Fine w g (tree_of b.value)
 
 abbrev pub atom_place_of : places.AtomPlace → AtomPlace
 atom_place_of (atom_places.AfterHart h) = AfterHart h.now
@@ -60,7 +60,7 @@ atom_step_of (steps.Done a) = Finish (atom_of a)
 atom_step_of steps.Bad = Bad
 
 abbrev pub layer_of : Layer → Frame Bounded
-layer_of l = record { sum = option_map part_of l.sum; product = option_map part_of l.product; denials = l.denials }
+layer_of l = record { sum = option_map subformula_of l.sum; product = option_map subformula_of l.product; denials = l.denials }
 
 abbrev pub place_of : spots.Place → Place Bounded
 place_of spot.Begin = Begin
@@ -68,7 +68,7 @@ place_of (spot.AfterNot w) = AfterNot w.now
 place_of (spot.AfterTrue w) = AfterTrue w.now
 place_of (spot.AfterFalse w) = AfterFalse w.now
 place_of (spot.InAtom p) = InAtom (atom_place_of p)
-place_of (spot.AfterUnit u) = AfterUnit (part_of u)
+place_of (spot.AfterUnit u) = AfterUnit (subformula_of u)
 
 -- the innermost layer is the last
 abbrev pub below_of : List Layer → List (Frame Bounded) → List (Frame Bounded)
@@ -78,7 +78,7 @@ below_of (l ∷ ls) fs = below_of ls (layer_of l ∷ fs)
 abbrev pub reader_of : Reader → State Bounded
 reader_of r = record { place = place_of r.place; frame = layer_of r.layer; below = below_of r.below.items [] }
 
--- the tree of a part, where it isn't too deep
+-- the tree of a subformula, where it isn't too deep
 abbrev pub shallow : Bounded → Option Condition
 shallow Deep = None
 shallow (Fine w g c) = Some c

@@ -3,47 +3,51 @@
 ghost use Rattle.std.specs.Prelude.{◌≡◌, ◌<◌, IfOk, option_map};
 ghost use Rattle.fs_condition.specs.Machine.{joined, denied, empty, with_denial, with_unit, sum_of};
 ghost use Rattle.fs_condition.specs.Limited.{limited};
-ghost use Rattle.fs_condition.specs.Views.{part_of, layer_of};
+ghost use Rattle.fs_condition.specs.Views.{subformula_of, layer_of};
 
-use crate::part::{Connective, Part};
+use crate::subformula::{Connective, Subformula};
 use std::alloc::{AllocError, Global};
 
 /// What stands before a unit inside one pair of parentheses. 56 bytes.
 #[derive(Drop)]
 pub struct Layer<'a> {
     /// The conjunctions that are read, joined by `\/`.
-    pub sum: Option<Part<'a>>,
+    pub sum: Option<Subformula<'a>>,
     /// The units of this conjunction that are read, joined by `/\`.
-    pub product: Option<Part<'a>>,
+    pub product: Option<Subformula<'a>>,
     /// How many denials stand before the unit.
     pub denials: usize,
 }
 
 // So many denials of a unit.
-fn denied<'a>(alloc: Global, denials: usize, unit: Part<'a>) -> Result<Part<'a>, AllocError>
-    ensures { IfOk result (λ p. part_of p ≡ denied limited.deny denials (part_of unit.entry)) }
+fn denied<'a>(
+    alloc: Global,
+    denials: usize,
+    unit: Subformula<'a>,
+) -> Result<Subformula<'a>, AllocError>
+    ensures { IfOk result (λ p. subformula_of p ≡ denied limited.deny denials (subformula_of unit.entry)) }
 {
-    let mut part = unit;
+    let mut subformula = unit;
     for _i in 0..denials {
-        part = part.denied(alloc)?;
+        subformula = subformula.denied(alloc)?;
     }
-    Ok(part)
+    Ok(subformula)
 }
 
 // The units that `/\` joins, with the last of them.
 fn product<'a>(
     alloc: Global,
-    before: Option<Part<'a>>,
+    before: Option<Subformula<'a>>,
     denials: usize,
-    unit: Part<'a>,
-) -> Result<Part<'a>, AllocError>
-    ensures { IfOk result (λ p. part_of p
-        ≡ joined limited.both (option_map part_of before.entry) (denied limited.deny denials (part_of unit.entry))) }
+    unit: Subformula<'a>,
+) -> Result<Subformula<'a>, AllocError>
+    ensures { IfOk result (λ p. subformula_of p
+        ≡ joined limited.both (option_map subformula_of before.entry) (denied limited.deny denials (subformula_of unit.entry))) }
 {
-    let part = denied(alloc, denials, unit)?;
+    let subformula = denied(alloc, denials, unit)?;
     match before {
-        None => Ok(part),
-        Some(before) => Ok(before.connected(alloc, Connective::And, part)?),
+        None => Ok(subformula),
+        Some(before) => Ok(before.connected(alloc, Connective::And, subformula)?),
     }
 }
 
@@ -77,35 +81,35 @@ impl<'a> Layer<'a> {
     }
 
     /// The unit, and then `/\`.
-    pub fn with_unit(self, alloc: Global, unit: Part<'a>) -> Result<Layer<'a>, AllocError>
-        ensures { IfOk result (λ l. layer_of l ≡ with_unit limited (layer_of self.entry) (part_of unit.entry)) }
+    pub fn with_unit(self, alloc: Global, unit: Subformula<'a>) -> Result<Layer<'a>, AllocError>
+        ensures { IfOk result (λ l. layer_of l ≡ with_unit limited (layer_of self.entry) (subformula_of unit.entry)) }
     {
         let Layer {
             sum,
             product: before,
             denials,
         } = self;
-        let part = product(alloc, before, denials, unit)?;
+        let subformula = product(alloc, before, denials, unit)?;
         Ok(Layer {
             sum,
-            product: Some(part),
+            product: Some(subformula),
             denials: 0,
         })
     }
 
     /// The whole of the layer, with its last unit.
-    pub fn total(self, alloc: Global, unit: Part<'a>) -> Result<Part<'a>, AllocError>
-        ensures { IfOk result (λ p. part_of p ≡ sum_of limited (layer_of self.entry) (part_of unit.entry)) }
+    pub fn total(self, alloc: Global, unit: Subformula<'a>) -> Result<Subformula<'a>, AllocError>
+        ensures { IfOk result (λ p. subformula_of p ≡ sum_of limited (layer_of self.entry) (subformula_of unit.entry)) }
     {
         let Layer {
             sum,
             product: before,
             denials,
         } = self;
-        let part = product(alloc, before, denials, unit)?;
+        let subformula = product(alloc, before, denials, unit)?;
         match sum {
-            None => Ok(part),
-            Some(sum) => Ok(sum.connected(alloc, Connective::Or, part)?),
+            None => Ok(subformula),
+            Some(sum) => Ok(sum.connected(alloc, Connective::Or, subformula)?),
         }
     }
 }

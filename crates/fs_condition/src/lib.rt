@@ -4,8 +4,8 @@
 mod atom;
 mod condition;
 mod layer;
-mod part;
 mod reader;
+mod subformula;
 
 pub use condition::{Atom, Condition, Tree};
 pub use reader::read_condition;

@@ -6,12 +6,12 @@ ghost use Rattle.fs_condition.specs.Grammar.{Syntax, IsCondition};
 ghost use Rattle.fs_condition.specs.Answer.{Means, StopsAt};
 ghost use Rattle.fs_condition.specs.Machine.{next_begin, next_after, named, closed, finished, next_atom, atoms_at, put_off, place_after, next, last_unit, end_of, read, start};
 ghost use Rattle.fs_condition.specs.Limited.{limited};
-ghost use Rattle.fs_condition.specs.Views.{part_of, atom_of, atom_place_of, layer_of, below_of, place_of, reader_of, Gives};
+ghost use Rattle.fs_condition.specs.Views.{subformula_of, atom_of, atom_place_of, layer_of, below_of, place_of, reader_of, Gives};
 
 use crate::atom::{AtomPlace, AtomStep};
 use crate::condition::{Atom, Condition, Tree};
 use crate::layer::Layer;
-use crate::part::Part;
+use crate::subformula::Subformula;
 use fs_tokens::{Class, Kind, Mark, Stop, Target, Token};
 use std::alloc::{AllocError, Global};
 
@@ -23,7 +23,7 @@ enum Place<'a> {
     AfterTrue(&'a str),
     AfterFalse(&'a str),
     InAtom(AtomPlace<'a>),
-    AfterUnit(Part<'a>),
+    AfterUnit(Subformula<'a>),
 }
 
 /// What is read so far of a condition, but for its atoms: the layers of the parentheses that are open, the innermost apart.
@@ -86,19 +86,19 @@ fn begin<'a>(
 // A closing parenthesis after a unit.
 fn close<'a>(
     alloc: Global,
-    unit: Part<'a>,
+    unit: Subformula<'a>,
     layer: Layer<'a>,
     mut below: Vec<Layer<'a>>,
 ) -> Result<Option<Reader<'a>>, AllocError>
     ensures { IfOk result (λ r. option_map reader_of r
-        ≡ closed limited (layer_of layer.entry) (below_of below.entry.items []) (part_of unit.entry)) }
+        ≡ closed limited (layer_of layer.entry) (below_of below.entry.items []) (subformula_of unit.entry)) }
 {
     match below.pop() {
         None => Ok(None),
         Some(outer) => {
-            let part = layer.total(alloc, unit)?;
+            let subformula = layer.total(alloc, unit)?;
             Ok(Some(Reader {
-                place: Place::AfterUnit(part.in_parentheses()),
+                place: Place::AfterUnit(subformula.in_parentheses()),
                 layer: outer,
                 below,
             }))
@@ -109,13 +109,13 @@ fn close<'a>(
 // After a unit.
 fn after<'a>(
     alloc: Global,
-    unit: Part<'a>,
+    unit: Subformula<'a>,
     layer: Layer<'a>,
     below: Vec<Layer<'a>>,
     kind: Kind<'a>,
 ) -> Result<Option<Reader<'a>>, AllocError>
     ensures { IfOk result (λ r. option_map reader_of r
-        ≡ next_after limited (part_of unit.entry) (layer_of layer.entry) (below_of below.entry.items []) (kind_of kind.entry)) }
+        ≡ next_after limited (subformula_of unit.entry) (layer_of layer.entry) (below_of below.entry.items []) (kind_of kind.entry)) }
 {
     match kind {
         Kind::Sign(Mark::And) => {
@@ -127,9 +127,9 @@ fn after<'a>(
             }))
         }
         Kind::Sign(Mark::Or) => {
-            let part = layer.total(alloc, unit)?;
+            let subformula = layer.total(alloc, unit)?;
             let layer = Layer {
-                sum: Some(part),
+                sum: Some(subformula),
                 product: None,
                 denials: 0,
             };
@@ -171,8 +171,8 @@ fn in_atom<'a>(
         AtomStep::Go(place) => Ok(Some(Place::InAtom(place))),
         AtomStep::Done(atom) => {
             atoms.push(atom)?;
-            let part = Part::leaf(alloc, Tree::Atom(atom))?;
-            Ok(Some(Place::AfterUnit(part)))
+            let subformula = Subformula::leaf(alloc, Tree::Atom(atom))?;
+            Ok(Some(Place::AfterUnit(subformula)))
         }
         AtomStep::Bad => Ok(None),
     }
@@ -205,14 +205,14 @@ fn step<'a>(
         Place::AfterTrue(word) => match kind {
             Kind::Sign(Mark::Equals) => Ok(Some(named(word, layer, below))),
             _ => {
-                let unit = Part::leaf(alloc, Tree::True)?;
+                let unit = Subformula::leaf(alloc, Tree::True)?;
                 Ok(after(alloc, unit, layer, below, kind)?)
             }
         },
         Place::AfterFalse(word) => match kind {
             Kind::Sign(Mark::Equals) => Ok(Some(named(word, layer, below))),
             _ => {
-                let unit = Part::leaf(alloc, Tree::False)?;
+                let unit = Subformula::leaf(alloc, Tree::False)?;
                 Ok(after(alloc, unit, layer, below, kind)?)
             }
         },
@@ -229,20 +229,20 @@ fn step<'a>(
 }
 
 // The last unit, where the text may end.
-fn last_unit<'a>(alloc: Global, place: Place<'a>) -> Result<Option<Part<'a>>, AllocError>
-    ensures { IfOk result (λ u. option_map part_of u ≡ last_unit limited (place_of place.entry)) }
+fn last_unit<'a>(alloc: Global, place: Place<'a>) -> Result<Option<Subformula<'a>>, AllocError>
+    ensures { IfOk result (λ u. option_map subformula_of u ≡ last_unit limited (place_of place.entry)) }
 {
     match place {
-        Place::AfterTrue(_) => Ok(Some(Part::leaf(alloc, Tree::True)?)),
-        Place::AfterFalse(_) => Ok(Some(Part::leaf(alloc, Tree::False)?)),
+        Place::AfterTrue(_) => Ok(Some(Subformula::leaf(alloc, Tree::True)?)),
+        Place::AfterFalse(_) => Ok(Some(Subformula::leaf(alloc, Tree::False)?)),
         Place::AfterUnit(unit) => Ok(Some(unit)),
         _ => Ok(None),
     }
 }
 
 // The whole, where the text may end.
-fn finish<'a>(alloc: Global, reader: Reader<'a>) -> Result<Option<Part<'a>>, AllocError>
-    ensures { IfOk result (λ p. option_map part_of p ≡ end_of limited (reader_of reader.entry)) }
+fn finish<'a>(alloc: Global, reader: Reader<'a>) -> Result<Option<Subformula<'a>>, AllocError>
+    ensures { IfOk result (λ p. option_map subformula_of p ≡ end_of limited (reader_of reader.entry)) }
 {
     let Reader {
         place,
@@ -275,9 +275,9 @@ fn read_all<'b, 'a>(alloc: Global, tokens: &'b [Token<'a>]) -> Result<Condition<
         }
     }
     match finish(alloc, reader)? {
-        Some(part) => Ok(Condition {
+        Some(subformula) => Ok(Condition {
             atoms,
-            tree: part.into_tree(),
+            tree: subformula.into_tree(),
         }),
         None => Err(Stop::At(&tokens[tokens.len()..])),
     }

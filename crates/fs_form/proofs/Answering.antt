@@ -7,15 +7,15 @@ use Rattle.fs_tokens.specs.Sections.{Move, Finish, Bad, moved, scan, Takes, Stop
 use Rattle.fs_form.specs.Reading.{IsEnd, StopsAt}
 
 -- one more token
-pub scans_on : {S A : Type 0} (step : S → Lined → Move S A) (s : S) (ts : List Token) (i : ℕ) (d : Token) (move : Move S A) → i < length ts → move ≡ step s (view (get_or ts i d)) → scan step s (views (drop i ts)) ≡ moved move (λ s'. scan step s' (views (drop (i + 1) ts))) (view (get_or ts i d)) (views (drop (i + 1) ts))
-scans_on step s ts i d move h e =
-    at_drop_more (λ l. scan step s (views l)) ts i d h
-    ∙ ap (λ m. moved m (λ s'. scan step s' (views (drop (i + 1) ts))) (view (get_or ts i d)) (views (drop (i + 1) ts))) (sym e)
+pub scans_on : {S A : Type 0} (transition : S → Lined → Move S A) (s : S) (ts : List Token) (i : ℕ) (d : Token) (move : Move S A) → i < length ts → move ≡ transition s (view (get_or ts i d)) → scan transition s (views (drop i ts)) ≡ moved move (λ s'. scan transition s' (views (drop (i + 1) ts))) (view (get_or ts i d)) (views (drop (i + 1) ts))
+scans_on transition s ts i d move h e =
+    at_drop_more (λ l. scan transition s (views l)) ts i d h
+    ∙ ap (λ m. moved m (λ s'. scan transition s' (views (drop (i + 1) ts))) (view (get_or ts i d)) (views (drop (i + 1) ts))) (sym e)
 
 -- a token that can't stand there
-pub scans_bad : {S A : Type 0} (step : S → Lined → Move S A) (s : S) (ts : List Token) (i : ℕ) (d : Token) → i < length ts → Bad ≡ step s (view (get_or ts i d)) → scan step s (views (drop i ts)) ≡ Err (views (drop i ts))
-scans_bad step s ts i d h e =
-    scans_on step s ts i d Bad h e ∙ ap (λ l. Err (views l)) (sym (at_drop_more (λ l. l) ts i d h))
+pub scans_bad : {S A : Type 0} (transition : S → Lined → Move S A) (s : S) (ts : List Token) (i : ℕ) (d : Token) → i < length ts → Bad ≡ transition s (view (get_or ts i d)) → scan transition s (views (drop i ts)) ≡ Err (views (drop i ts))
+scans_bad transition s ts i d h e =
+    scans_on transition s ts i d Bad h e ∙ ap (λ l. Err (views l)) (sym (at_drop_more (λ l. l) ts i d h))
 
 -- the tokens from an index on, as they are lent
 lent : (ts : List Token) (k : ℕ) → take (length ts - k) (drop k ts) ≡ drop k ts
@@ -28,7 +28,7 @@ pub end_of_end : (ts mid rest : List Token) → IsEnd ts mid → IsEnd mid rest 
 end_of_end ts mid rest h k =
     record { front = h.front ++ k.front; split = h.split ∙ ap (λ l. h.front ++ l) k.split ∙ sym (append_assoc h.front k.front rest) }
 
-module _ {S A : Type 0} (L : List Lined → A → List Lined → Type 0) (step : S → Lined → Move S A) (ts : List Token) (all : Result (A × List Lined) (List Lined)) where
+module _ {S A : Type 0} (L : List Lined → A → List Lined → Type 0) (transition : S → Lined → Move S A) (ts : List Token) (all : Result (A × List Lined) (List Lined)) where
   takes_from : (a : A) (rest : List Lined) → Scanned L (views ts) all → all ≡ Ok (a, rest) → Takes L (views ts) a rest
   takes_from a rest h e = subst (Scanned L (views ts)) e h
 
@@ -36,22 +36,22 @@ module _ {S A : Type 0} (L : List Lined → A → List Lined → Type 0) (step :
   stops_from rest h e = subst (Scanned L (views ts)) e h
 
   -- the section ends at an index
-  pub finished : (s : S) (i : ℕ) (d : Token) (a : A) → Scanned L (views ts) all → scan step s (views (drop i ts)) ≡ all → i < length ts → Finish a ≡ step s (view (get_or ts i d)) → Takes L (views ts) a (views (take (length ts - (i + 1)) (drop (i + 1) ts)))
+  pub finished : (s : S) (i : ℕ) (d : Token) (a : A) → Scanned L (views ts) all → scan transition s (views (drop i ts)) ≡ all → i < length ts → Finish a ≡ transition s (view (get_or ts i d)) → Takes L (views ts) a (views (take (length ts - (i + 1)) (drop (i + 1) ts)))
   finished s i d a h same within move =
-      takes_from a (views (take (length ts - (i + 1)) (drop (i + 1) ts))) h (sym same ∙ scans_on step s ts i d (Finish a) within move ∙ ap (λ l. Ok (a, views l)) (sym (lent ts (i + 1))))
+      takes_from a (views (take (length ts - (i + 1)) (drop (i + 1) ts))) h (sym same ∙ scans_on transition s ts i d (Finish a) within move ∙ ap (λ l. Ok (a, views l)) (sym (lent ts (i + 1))))
 
   -- the token at an index is bad
-  pub refused : (s : S) (i : ℕ) (d : Token) → Scanned L (views ts) all → scan step s (views (drop i ts)) ≡ all → i < length ts → Bad ≡ step s (view (get_or ts i d)) → StopsAt L ts (take (length ts - i) (drop i ts))
+  pub refused : (s : S) (i : ℕ) (d : Token) → Scanned L (views ts) all → scan transition s (views (drop i ts)) ≡ all → i < length ts → Bad ≡ transition s (view (get_or ts i d)) → StopsAt L ts (take (length ts - i) (drop i ts))
   refused s i d h same within move =
-      let e = sym same ∙ scans_bad step s ts i d within move ∙ ap (λ l. Err (views l)) (sym (lent ts i)) in
+      let e = sym same ∙ scans_bad transition s ts i d within move ∙ ap (λ l. Err (views l)) (sym (lent ts i)) in
       record { stops = stops_from (views (take (length ts - i) (drop i ts))) h e; is_end = is_end_lent ts i }
 
   -- the tokens end too soon
-  pub ended : (s : S) (i : ℕ) → Scanned L (views ts) all → scan step s (views (drop i ts)) ≡ all → length ts ≤ i → StopsAt L ts (take (length ts - length ts) (drop (length ts) ts))
+  pub ended : (s : S) (i : ℕ) → Scanned L (views ts) all → scan transition s (views (drop i ts)) ≡ all → length ts ≤ i → StopsAt L ts (take (length ts - length ts) (drop (length ts) ts))
   ended s i h same past =
       let none = drop_all i ts past in
       let last = lent ts (length ts) ∙ drop_all (length ts) ts (omega arith) in
-      let e = sym same ∙ ap (λ l. scan step s (views l)) none ∙ ap (λ l. Err (views l)) (sym last) in
+      let e = sym same ∙ ap (λ l. scan transition s (views l)) none ∙ ap (λ l. Err (views l)) (sym last) in
       record { stops = stops_from (views (take (length ts - length ts) (drop (length ts) ts))) h e; is_end = is_end_lent ts (length ts) }
 
 -- a section whose meaning is told in another way

@@ -7,8 +7,8 @@ use Rattle.fs_tokens.specs.declared.token.Mark.TheVariants.{Semicolon, Bar}
 use Rattle.fs_tokens.specs.Tokens.{Tok, Lined, Word, Sign}
 use Rattle.fs_tokens.specs.Sections.{scan, IsAlive, Scanned}
 use Rattle.fs_tokens.proofs.Scans.{Follows, scanned}
-use Rattle.fs_form.specs.declared.header.Place.{Place}
-use Rattle.fs_form.specs.declared.header.Place.TheVariants.{BeforeWord, AfterWord}
+use Rattle.fs_form.specs.declared.header.Position.{Position}
+use Rattle.fs_form.specs.declared.header.Position.TheVariants.{BeforeWord, AfterWord}
 use Rattle.fs_form.specs.Header.{column_word, IsColumns, last, more, IsHeader, is_column, word_next, next_in, next}
 
 -- after the word of column k
@@ -16,7 +16,7 @@ data AfterColumn : ℕ → List Lined → ℕ → List Lined → Type 0 where
   ends : {k j : ℕ} {rest : List Lined} → AfterColumn k ((Sign Semicolon, j) ∷ rest) (k + 1) rest
   goes : {k n j : ℕ} {ts rest : List Lined} → IsColumns (k + 1) ts n rest → AfterColumn k ((Sign Bar, j) ∷ ts) n rest
 
-abbrev Left : Place → List Lined → ℕ → List Lined → Type 0
+abbrev Left : Position → List Lined → ℕ → List Lined → Type 0
 Left (BeforeWord k) ts n m = IsColumns k ts n m
 Left (AfterWord k) ts n m = AfterColumn k ts n m
 
@@ -70,15 +70,15 @@ follows_after k (Sign Semicolon) i = (λ ts n m h. semicolon_to h, λ ts. ends)
 follows_after k (Sign Bar) i = (λ ts n m h. bar_to h, λ ts n m h. goes h)
 follows_after k _ i = λ ts n m h. mark_first h
 
-follows : (p : Place) (t : Lined) → Follows Left (λ us. Left p (t ∷ us)) (next p t)
+follows : (p : Position) (t : Lined) → Follows Left (λ us. Left p (t ∷ us)) (next p t)
 follows (BeforeWord k) (t, i) = follows_before k t i
 follows (AfterWord k) (t, i) = follows_after k t i
 
-alive : (p : Place) → IsAlive (Left p) []
+alive : (p : Position) → IsAlive (Left p) []
 alive (BeforeWord k) = ((Word class.Name (column_word k), 0) ∷ (Sign Semicolon, 0) ∷ [], k + 1, λ q. last refl)
 alive (AfterWord k) = ((Sign Semicolon, 0) ∷ [], k + 1, λ q. ends)
 
-no_end : (p : Place) (n : ℕ) (m : List Lined) → Left p [] n m → ⊥
+no_end : (p : Position) (n : ℕ) (m : List Lined) → Left p [] n m → ⊥
 no_end (BeforeWord k) n m h = elim h [ ]
 no_end (AfterWord k) n m h = elim h [ ]
 

@@ -8,7 +8,7 @@ use Rattle.fs_tokens.specs.Tokens.{Tok, Lined, Word, Sign}
 use Rattle.fs_tokens.specs.Values.{Target, Register, Location, Value, Number, Address, IsTarget, register, location, bracketed, IsValue, number, minus, address}
 use Rattle.fs_tokens.specs.Sections.{scan, IsAlive, Scanned}
 use Rattle.fs_tokens.proofs.Scans.{Follows, scanned}
-use Rattle.fs_form.specs.Init.{Entry, IsBare, bare, IsEntry, untyped, typed, IsEntries, none, entry, IsEntryEnd, brace, semicolon, IsInit, block, Place, BeforeBrace, BeforeEntry, AfterType, AfterHart, AfterColon, AfterBracket, AfterBracketedName, AfterTarget, AfterEquals, AfterMinus, AfterValue, State, next_in, next}
+use Rattle.fs_form.specs.Init.{Entry, IsBare, bare, IsEntry, untyped, typed, IsEntries, none, entry, IsEntryEnd, brace, semicolon, IsInit, block, Position, BeforeBrace, BeforeEntry, AfterType, AfterHart, AfterColon, AfterBracket, AfterBracketedName, AfterTarget, AfterEquals, AfterMinus, AfterValue, State, next_in, next}
 
 abbrev pub Tokens : Type 0
 Tokens = List Lined
@@ -53,7 +53,7 @@ pub record ThenTarget (es : Entries) (line : ℕ) (front ts : Tokens) (a : Entri
   pub then : ThenEquals es line target mid a m
 
 -- where a word or a mark has been read, its line no longer matters, so that 0 stands for it
-abbrev pub LeftIn : Place → Entries → Tokens → Entries → Tokens → Type 0
+abbrev pub LeftIn : Position → Entries → Tokens → Entries → Tokens → Type 0
 LeftIn BeforeBrace es ts a m = ThenBlock es ts a m
 LeftIn BeforeEntry es ts a m = ThenEntries es ts a m
 LeftIn (AfterType line w) es ts a m = ThenEntries es ((Word class.TypeWord w, line) ∷ ts) a m
@@ -67,7 +67,7 @@ LeftIn (AfterMinus line x) es ts a m = ThenValue es line x ((Sign Minus, 0) ∷ 
 LeftIn (AfterValue e) es ts a m = ThenEnd es e ts a m
 
 abbrev pub Left : State → Tokens → Entries → Tokens → Type 0
-Left s ts a m = LeftIn s.place s.entries ts a m
+Left s ts a m = LeftIn s.position s.entries ts a m
 
 -- ---- lines and classes that don't matter
 
@@ -132,7 +132,7 @@ typed_from : {es a : Entries} {t : Tok} {w : List ℕ} {k line : ℕ} {x : Targe
 typed_from t h =
     record { more = _; are_entries = entry (typed (bare_from t h.heads h.then.is_value)) h.then.then.is_end; all = h.then.then.all }
 
--- ---- what can't stand at a place
+-- ---- what can't stand at a position
 
 abbrev BeginsTarget : Tok → Type 0
 BeginsTarget (Word class.Other w) = ⊥
@@ -288,7 +288,7 @@ none_to : {a b : Entries} {k : ℕ} {ts m : Tokens} (es : Entries) → IsEntries
 none_to es none s = (s ∙ append-nil es, refl)
 none_to es (entry e x) s = absurd (entry_first e)
 
--- ---- each place
+-- ---- each position
 
 module _ (es : Entries) where
   follows_open : (t : Tok) (k : ℕ) → Follows Left (λ us. ThenBlock es ((t, k) ∷ us)) (next_in BeforeBrace es (t, k))
@@ -350,7 +350,7 @@ module _ (es : Entries) where
   follows_value e (Sign CloseBrace) k = (λ ts a m h. brace_to es e h.is_end h.all, λ ts. record { more = []; is_end = brace; all = refl })
   follows_value e _ k = λ ts a m h. end_first h.is_end
 
-  follows_in : (p : Place) (t : Lined) → Follows Left (λ us. LeftIn p es (t ∷ us)) (next_in p es t)
+  follows_in : (p : Position) (t : Lined) → Follows Left (λ us. LeftIn p es (t ∷ us)) (next_in p es t)
   follows_in BeforeBrace (t, k) = follows_open t k
   follows_in BeforeEntry (t, k) = follows_entry t k
   follows_in (AfterType line w) (t, k) = follows_type line w t k
@@ -381,7 +381,7 @@ then_equals es line x q = record { mid = (Word class.Number [], 0) ∷ (Sign Clo
 ending : Tokens
 ending = (Sign Equals, 0) ∷ (Word class.Number [], 0) ∷ (Sign CloseBrace, 0) ∷ []
 
-alive_in : (p : Place) (es : Entries) → IsAlive (LeftIn p es) []
+alive_in : (p : Position) (es : Entries) → IsAlive (LeftIn p es) []
 unfolding ending
 alive_in BeforeBrace es = ((Sign OpenBrace, 0) ∷ (Sign CloseBrace, 0) ∷ [], es, λ q. record { more = []; is_block = block none; all = sym (append-nil es) })
 alive_in BeforeEntry es = ((Sign CloseBrace, 0) ∷ [], es, λ q. record { more = []; are_entries = none; all = sym (append-nil es) })
@@ -435,7 +435,7 @@ no_name h = elim h [ ]
 no_bracket : {c : Class} {w : List ℕ} {j k : ℕ} {x : Target} {m : Tokens} → IsTarget ((Sign OpenBracket, j) ∷ (Word c w, k) ∷ []) x m → ⊥
 no_bracket h = elim h [ ]
 
-no_end_in : (p : Place) (es a : Entries) (m : Tokens) → LeftIn p es [] a m → ⊥
+no_end_in : (p : Position) (es a : Entries) (m : Tokens) → LeftIn p es [] a m → ⊥
 no_end_in BeforeBrace es a m h = no_block h.is_block
 no_end_in BeforeEntry es a m h = no_entries h.are_entries
 no_end_in (AfterType line w) es a m h = no_typed h.are_entries
@@ -450,4 +450,4 @@ no_end_in (AfterValue e) es a m h = no_end h.is_end
 
 pub scanned_left : (s : State) (ts : Tokens) → Scanned (Left s) ts (scan next s ts)
 scanned_left s ts =
-    scanned next Left (λ x t. follows_in x.entries x.place t) (λ x. alive_in x.place x.entries) (λ x a m h. no_end_in x.place x.entries a m h) s ts
+    scanned next Left (λ x t. follows_in x.entries x.position t) (λ x. alive_in x.position x.entries) (λ x a m h. no_end_in x.position x.entries a m h) s ts

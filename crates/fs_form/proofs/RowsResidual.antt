@@ -10,7 +10,7 @@ use Rattle.fs_form.specs.declared.rows.Quantifier.TheVariants.{Exists, NotExists
 use Rattle.fs_form.specs.declared.rows.Tail.{Tail}
 use Rattle.fs_form.specs.declared.rows.Tail.TheVariants.{AfterLocationsWord, InLocations, BeforeQuantifier, AfterTilde}
 use Rattle.fs_form.specs.Body.{is_plain, Cell, nothing, plain, IsRow, one, cells, is_skipped, IsSkipped, closed, skipped, IsQuantifier, exists, not_exists, forall, IsEnding, bare, after_locations, is_stop, Body, IsBody, ending, row, flatten}
-use Rattle.fs_form.specs.Rows.{quantifier_begun, rows_stopped, after_rows, Place, BeforeRow, InCell, InTail, Flat, State, went_to, in_tail, bar_in, semicolon_in, cell_next, row_begun, next_in, next}
+use Rattle.fs_form.specs.Rows.{quantifier_begun, rows_stopped, after_rows, Position, BeforeRow, InCell, InTail, Flat, State, went_to, in_tail, bar_in, semicolon_in, cell_next, row_begun, next_in, next}
 
 abbrev pub Tokens : Type 0
 Tokens = List Lined
@@ -55,13 +55,13 @@ pub record InRow (n left : ℕ) (c : Cell) (cs : Cells) (ts : Tokens) (a : Flat)
   pub is_body : IsBody (suc n) mid rest m
   pub all : a ≡ whole cs ((c ++ cell) ∷ more) rest
 
-abbrev pub LeftIn : ℕ → Place → Cells → Tokens → Flat → Tokens → Type 0
+abbrev pub LeftIn : ℕ → Position → Cells → Tokens → Flat → Tokens → Type 0
 LeftIn n BeforeRow cs ts a m = ThenRows n cs ts a m
 LeftIn n (InCell left c) cs ts a m = InRow n left c cs ts a m
 LeftIn n (InTail p) cs ts a m = ThenTail p cs ts a m
 
 abbrev pub Left : ℕ → State → Tokens → Flat → Tokens → Type 0
-Left n s ts a m = LeftIn n s.place s.cells ts a m
+Left n s ts a m = LeftIn n s.position s.cells ts a m
 
 -- ---- the tail, by itself
 
@@ -343,7 +343,7 @@ module _ (n : ℕ) where
   follows_begin cs (Sign Tilde) k = follows_stop cs (Sign Tilde) k (Go AfterTilde) refl (λ ts q m h. tilde_ending h, λ ts q m h. bare (tilde_any h))
   follows_begin cs t k = follows_row cs t k refl
 
-  follows_in : (p : Place) (cs : Cells) (t : Lined) → Follows (Left n) (λ us. LeftIn n p cs (t ∷ us)) (next_in n p cs t)
+  follows_in : (p : Position) (cs : Cells) (t : Lined) → Follows (Left n) (λ us. LeftIn n p cs (t ∷ us)) (next_in n p cs t)
   follows_in BeforeRow cs (t, k) = follows_begin cs t k
   follows_in (InCell left c) cs (t, k) = follows_cell left c cs t k
   follows_in (InTail p) cs (t, k) = follows_tail_at p cs t k
@@ -372,7 +372,7 @@ module _ (n : ℕ) where
   alive_tail BeforeQuantifier cs = (exists_token ∷ [], record { cells = cs; quantifier = Exists }, λ q. record { read = Exists; is_tail = exists; all = refl })
   alive_tail AfterTilde cs = (exists_token ∷ [], record { cells = cs; quantifier = NotExists }, λ q. record { read = NotExists; is_tail = not_exists; all = refl })
 
-  alive_in : (p : Place) (cs : Cells) → IsAlive (LeftIn n p cs) []
+  alive_in : (p : Position) (cs : Cells) → IsAlive (LeftIn n p cs) []
   alive_in BeforeRow cs = (exists_token ∷ [], record { cells = cs; quantifier = Exists }, λ q. ending_from cs (Exists, bare exists, refl))
   alive_in (InCell left c) cs = (
     row_end left ++ exists_token ∷ [],
@@ -398,11 +398,11 @@ module _ (n : ℕ) where
   no_tail BeforeQuantifier q m h = elim h [ ]
   no_tail AfterTilde q m h = elim h [ ]
 
-  no_end_in : (p : Place) (cs : Cells) (a : Flat) (m : Tokens) → LeftIn n p cs [] a m → ⊥
+  no_end_in : (p : Position) (cs : Cells) (a : Flat) (m : Tokens) → LeftIn n p cs [] a m → ⊥
   no_end_in BeforeRow cs a m h = no_body h.is_body
   no_end_in (InCell left c) cs a m h = no_row h.is_row
   no_end_in (InTail p) cs a m h = no_tail p h.read m h.is_tail
 
   pub scanned_left : (s : State) (ts : Tokens) → Scanned (Left n s) ts (scan (next n) s ts)
   scanned_left s ts =
-      scanned (next n) (Left n) (λ x t. follows_in x.place x.cells t) (λ x. alive_in x.place x.cells) (λ x a m h. no_end_in x.place x.cells a m h) s ts
+      scanned (next n) (Left n) (λ x t. follows_in x.position x.cells t) (λ x. alive_in x.position x.cells) (λ x a m h. no_end_in x.position x.cells a m h) s ts

@@ -5,10 +5,10 @@ use Rattle.fs_tokens.specs.Tokens.{Tok, Lined, Word, Sign}
 use Rattle.fs_tokens.specs.declared.word.Class.{Class}
 use Rattle.fs_tokens.specs.declared.token.Mark.TheVariants.{Semicolon, Bar}
 use Rattle.fs_tokens.specs.Sections.{Move, Go, Finish, Bad}
-use Rattle.fs_form.specs.declared.header.Place.{Place}
-use Rattle.fs_form.specs.declared.header.Place.TheVariants.{BeforeWord, AfterWord}
-use Rattle.fs_form.specs.declared.header.Step as steps
-use Rattle.fs_form.specs.declared.header.Step.TheVariants as step
+use Rattle.fs_form.specs.declared.header.Position.{Position}
+use Rattle.fs_form.specs.declared.header.Position.TheVariants.{BeforeWord, AfterWord}
+use Rattle.fs_form.specs.declared.header.Transition as transitions
+use Rattle.fs_form.specs.declared.header.Transition.TheVariants as transition
 
 -- the word of column k: P and its number
 abbrev pub column_word : ℕ → List ℕ
@@ -28,31 +28,31 @@ IsHeader = IsColumns 0
 abbrev pub is_column : ℕ → List ℕ → Bool
 is_column k w = bytes_eq w (column_word k)
 
-abbrev pub word_next : Bool → ℕ → Move Place ℕ
+abbrev pub word_next : Bool → ℕ → Move Position ℕ
 word_next true k = Go (AfterWord k)
 word_next false k = Bad
 
-abbrev pub next_in : Place → Tok → Move Place ℕ
+abbrev pub next_in : Position → Tok → Move Position ℕ
 next_in (BeforeWord k) (Word c w) = word_next (is_column k w) k
 next_in (AfterWord k) (Sign Semicolon) = Finish (k + 1)
 next_in (AfterWord k) (Sign Bar) = Go (BeforeWord (k + 1))
 next_in _ _ = Bad
 
-abbrev pub next : Place → Lined → Move Place ℕ
+abbrev pub next : Position → Lined → Move Position ℕ
 next p t = next_in p t.0
 
 -- ---- what the reader's values stand for
 
-abbrev pub column_of : Place → ℕ
+abbrev pub column_of : Position → ℕ
 column_of (BeforeWord k) = k
 column_of (AfterWord k) = k
 
-abbrev pub move_of : steps.Step → Move Place ℕ
-move_of (step.Go p) = Go p
-move_of (step.Finish n) = Finish n
-move_of step.Bad = Bad
+abbrev pub move_of : transitions.Transition → Move Position ℕ
+move_of (transition.Go p) = Go p
+move_of (transition.Finish n) = Finish n
+move_of transition.Bad = Bad
 
-abbrev pub column_after : steps.Step → ℕ
-column_after (step.Go p) = column_of p
-column_after (step.Finish n) = n
-column_after step.Bad = 0
+abbrev pub column_after : transitions.Transition → ℕ
+column_after (transition.Go p) = column_of p
+column_after (transition.Finish n) = n
+column_after transition.Bad = 0

@@ -7,10 +7,10 @@ use Rattle.fs_tokens.specs.declared.token.Mark.TheVariants.{OpenBrace, CloseBrac
 use Rattle.fs_tokens.specs.Values.{Target, Register, Location, Value, Number, Address, IsTarget, IsValue, target_of, value_of}
 use Rattle.fs_tokens.specs.Sections.{Move, Go, Finish, Bad}
 use Rattle.fs_form.specs.declared.init.Entry as entries
-use Rattle.fs_form.specs.declared.init.Place as places
-use Rattle.fs_form.specs.declared.init.Place.TheVariants as place
-use Rattle.fs_form.specs.declared.init.Step as steps
-use Rattle.fs_form.specs.declared.init.Step.TheVariants as step
+use Rattle.fs_form.specs.declared.init.Position as positions
+use Rattle.fs_form.specs.declared.init.Position.TheVariants as position
+use Rattle.fs_form.specs.declared.init.Transition as transitions
+use Rattle.fs_form.specs.declared.init.Transition.TheVariants as transition
 
 -- an initial value, and the line of the first token of its target
 pub record Entry : Type 0 where
@@ -51,22 +51,22 @@ entries_of es = map entry_of es
 -- ---- what the reader does
 
 -- what was read last
-pub data Place : Type 0 where
-  BeforeBrace : Place
-  BeforeEntry : Place
-  AfterType : (line : ℕ) → (w : List ℕ) → Place
-  AfterHart : (line : ℕ) → (hart : List ℕ) → Place
-  AfterColon : (line : ℕ) → (hart : List ℕ) → Place
-  AfterBracket : (line : ℕ) → Place
-  AfterBracketedName : (line : ℕ) → (name : List ℕ) → Place
-  AfterTarget : (line : ℕ) → Target → Place
-  AfterEquals : (line : ℕ) → Target → Place
-  AfterMinus : (line : ℕ) → Target → Place
-  AfterValue : Entry → Place
+pub data Position : Type 0 where
+  BeforeBrace : Position
+  BeforeEntry : Position
+  AfterType : (line : ℕ) → (w : List ℕ) → Position
+  AfterHart : (line : ℕ) → (hart : List ℕ) → Position
+  AfterColon : (line : ℕ) → (hart : List ℕ) → Position
+  AfterBracket : (line : ℕ) → Position
+  AfterBracketedName : (line : ℕ) → (name : List ℕ) → Position
+  AfterTarget : (line : ℕ) → Target → Position
+  AfterEquals : (line : ℕ) → Target → Position
+  AfterMinus : (line : ℕ) → Target → Position
+  AfterValue : Entry → Position
 
 -- what a token does that ends no entry
 abbrev pub Turn : Type 0
-Turn = Move Place (Unit {0})
+Turn = Move Position (Unit {0})
 
 abbrev pub target_begun : Lined → Turn
 target_begun (Word class.Number h, k) = Go (AfterHart k h)
@@ -90,7 +90,7 @@ bracket_followed line (Word class.Other w) = Bad
 bracket_followed line (Word c w) = Go (AfterBracketedName line w)
 bracket_followed line _ = Bad
 
-abbrev pub target_followed : Place → Tok → Turn
+abbrev pub target_followed : Position → Tok → Turn
 target_followed (AfterHart line h) (Sign Colon) = Go (AfterColon line h)
 target_followed (AfterColon line h) (Word c r) = Go (AfterTarget line (Register h r))
 target_followed (AfterBracket line) t = bracket_followed line t
@@ -117,21 +117,21 @@ brace_expected (Sign OpenBrace) = Go BeforeEntry
 brace_expected _ = Bad
 
 pub record State : Type 0 where
-  pub place : Place
+  pub position : Position
   pub entries : List Entry
 
 -- with the entries so far
 abbrev pub at_entries : List Entry → Turn → Move State (List Entry)
-at_entries es (Go p) = Go (record { place = p; entries = es })
+at_entries es (Go p) = Go (record { position = p; entries = es })
 at_entries es (Finish u) = Finish es
 at_entries es Bad = Bad
 
 abbrev pub entry_ended : Entry → List Entry → Tok → Move State (List Entry)
-entry_ended e es (Sign Semicolon) = Go (record { place = BeforeEntry; entries = es ++ e ∷ [] })
+entry_ended e es (Sign Semicolon) = Go (record { position = BeforeEntry; entries = es ++ e ∷ [] })
 entry_ended e es (Sign CloseBrace) = Finish (es ++ e ∷ [])
 entry_ended e es _ = Bad
 
-abbrev pub next_in : Place → List Entry → Lined → Move State (List Entry)
+abbrev pub next_in : Position → List Entry → Lined → Move State (List Entry)
 next_in BeforeBrace es t = at_entries es (brace_expected t.0)
 next_in BeforeEntry es t = at_entries es (entry_begun t)
 next_in (AfterType line w) es t = at_entries es (type_followed line w t)
@@ -141,28 +141,28 @@ next_in (AfterValue e) es t = entry_ended e es t.0
 next_in p es t = at_entries es (target_followed p t.0)
 
 abbrev pub next : State → Lined → Move State (List Entry)
-next s t = next_in s.place s.entries t
+next s t = next_in s.position s.entries t
 
 abbrev pub start : State
-start = record { place = BeforeBrace; entries = [] }
+start = record { position = BeforeBrace; entries = [] }
 
-abbrev pub place_of : places.Place → Place
-place_of place.BeforeBrace = BeforeBrace
-place_of place.BeforeEntry = BeforeEntry
-place_of (place.AfterType line w) = AfterType line w.now
-place_of (place.AfterHart line h) = AfterHart line h.now
-place_of (place.AfterColon line h) = AfterColon line h.now
-place_of (place.AfterBracket line) = AfterBracket line
-place_of (place.AfterBracketedName line w) = AfterBracketedName line w.now
-place_of (place.AfterTarget line x) = AfterTarget line (target_of x)
-place_of (place.AfterEquals line x) = AfterEquals line (target_of x)
-place_of (place.AfterMinus line x) = AfterMinus line (target_of x)
-place_of (place.AfterValue e) = AfterValue (entry_of e)
+abbrev pub position_of : positions.Position → Position
+position_of position.BeforeBrace = BeforeBrace
+position_of position.BeforeEntry = BeforeEntry
+position_of (position.AfterType line w) = AfterType line w.now
+position_of (position.AfterHart line h) = AfterHart line h.now
+position_of (position.AfterColon line h) = AfterColon line h.now
+position_of (position.AfterBracket line) = AfterBracket line
+position_of (position.AfterBracketedName line w) = AfterBracketedName line w.now
+position_of (position.AfterTarget line x) = AfterTarget line (target_of x)
+position_of (position.AfterEquals line x) = AfterEquals line (target_of x)
+position_of (position.AfterMinus line x) = AfterMinus line (target_of x)
+position_of (position.AfterValue e) = AfterValue (entry_of e)
 
-abbrev pub turn_of : steps.Step → Turn
-turn_of (step.Go p) = Go (place_of p)
-turn_of step.Finish = Finish tt
-turn_of step.Bad = Bad
+abbrev pub turn_of : transitions.Transition → Turn
+turn_of (transition.Go p) = Go (position_of p)
+turn_of transition.Finish = Finish tt
+turn_of transition.Bad = Bad
 
-abbrev pub move_of : steps.Step → List entries.Entry → Move State (List Entry)
+abbrev pub move_of : transitions.Transition → List entries.Entry → Move State (List Entry)
 move_of s es = at_entries (entries_of es) (turn_of s)

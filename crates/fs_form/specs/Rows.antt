@@ -10,14 +10,14 @@ use Rattle.fs_form.specs.declared.rows.Quantifier.{Quantifier}
 use Rattle.fs_form.specs.declared.rows.Quantifier.TheVariants.{Exists, NotExists, Forall}
 use Rattle.fs_form.specs.declared.rows.Tail.{Tail}
 use Rattle.fs_form.specs.declared.rows.Tail.TheVariants.{AfterLocationsWord, InLocations, BeforeQuantifier, AfterTilde}
-use Rattle.fs_form.specs.declared.rows.Part.{Part}
-use Rattle.fs_form.specs.declared.rows.Part.TheVariants as part
+use Rattle.fs_form.specs.declared.rows.CellToken.{CellToken}
+use Rattle.fs_form.specs.declared.rows.CellToken.TheVariants as cell_token
 use Rattle.fs_form.specs.declared.rows.Turn as turns
 use Rattle.fs_form.specs.declared.rows.Turn.TheVariants as turn
-use Rattle.fs_form.specs.declared.rows.Place as places
-use Rattle.fs_form.specs.declared.rows.Place.TheVariants as place
-use Rattle.fs_form.specs.declared.rows.Step as steps
-use Rattle.fs_form.specs.declared.rows.Step.TheVariants as step
+use Rattle.fs_form.specs.declared.rows.Position as positions
+use Rattle.fs_form.specs.declared.rows.Position.TheVariants as position
+use Rattle.fs_form.specs.declared.rows.Transition as transitions
+use Rattle.fs_form.specs.declared.rows.Transition.TheVariants as transition
 use Rattle.fs_form.specs.declared.rows.Body as bodies
 use Rattle.fs_form.specs.Body.{Cell, Body, cells_of, rows_of}
 
@@ -49,11 +49,11 @@ after_rows AfterTilde _ = Bad
 -- ---- in the rows, at n + 1 columns
 
 -- what was read last
-pub data Place : Type 0 where
-  BeforeRow : Place
+pub data Position : Type 0 where
+  BeforeRow : Position
   -- in a cell with so many cells after it in its row, and what is read of it
-  InCell : (left : ℕ) → Cell → Place
-  InTail : Tail → Place
+  InCell : (left : ℕ) → Cell → Position
+  InTail : Tail → Position
 
 -- the cells of all rows in order, and the quantifier
 pub record Flat : Type 0 where
@@ -61,11 +61,11 @@ pub record Flat : Type 0 where
   pub quantifier : Quantifier
 
 pub record State : Type 0 where
-  pub place : Place
+  pub position : Position
   pub cells : List Cell
 
-abbrev pub went_to : List Cell → Place → Move State Flat
-went_to cs p = Go (record { place = p; cells = cs })
+abbrev pub went_to : List Cell → Position → Move State Flat
+went_to cs p = Go (record { position = p; cells = cs })
 
 abbrev pub in_tail : List Cell → Move Tail Quantifier → Move State Flat
 in_tail cs (Go p) = went_to cs (InTail p)
@@ -80,35 +80,35 @@ abbrev pub semicolon_in : ℕ → Cell → List Cell → Move State Flat
 semicolon_in zero c cs = went_to (cs ++ c ∷ []) BeforeRow
 semicolon_in (suc left) c cs = Bad
 
-abbrev pub part_of : Tok → Part
-part_of (Sign Bar) = part.Bar
-part_of (Sign Semicolon) = part.Semicolon
-part_of Strange = part.Strange
-part_of _ = part.Plain
+abbrev pub cell_token_of : Tok → CellToken
+cell_token_of (Sign Bar) = cell_token.Bar
+cell_token_of (Sign Semicolon) = cell_token.Semicolon
+cell_token_of Strange = cell_token.Strange
+cell_token_of _ = cell_token.Plain
 
-abbrev pub part_next : ℕ → Cell → List Cell → Lined → Part → Move State Flat
-part_next left c cs t part.Plain = went_to cs (InCell left (c ++ t ∷ []))
-part_next left c cs t part.Bar = bar_in left c cs
-part_next left c cs t part.Semicolon = semicolon_in left c cs
-part_next left c cs t part.Strange = Bad
+abbrev pub cell_token_next : ℕ → Cell → List Cell → Lined → CellToken → Move State Flat
+cell_token_next left c cs t cell_token.Plain = went_to cs (InCell left (c ++ t ∷ []))
+cell_token_next left c cs t cell_token.Bar = bar_in left c cs
+cell_token_next left c cs t cell_token.Semicolon = semicolon_in left c cs
+cell_token_next left c cs t cell_token.Strange = Bad
 
 abbrev pub cell_next : ℕ → Cell → List Cell → Lined → Move State Flat
-cell_next left c cs t = part_next left c cs t (part_of t.0)
+cell_next left c cs t = cell_token_next left c cs t (cell_token_of t.0)
 
 abbrev pub row_begun : ℕ → List Cell → Lined → Option (Move Tail Quantifier) → Move State Flat
 row_begun n cs t None = cell_next n [] cs t
 row_begun n cs t (Some m) = in_tail cs m
 
-abbrev pub next_in : ℕ → Place → List Cell → Lined → Move State Flat
+abbrev pub next_in : ℕ → Position → List Cell → Lined → Move State Flat
 next_in n BeforeRow cs t = row_begun n cs t (rows_stopped t.0)
 next_in n (InCell left c) cs t = cell_next left c cs t
 next_in n (InTail p) cs t = in_tail cs (after_rows p t.0)
 
 abbrev pub next : ℕ → State → Lined → Move State Flat
-next n s t = next_in n s.place s.cells t
+next n s t = next_in n s.position s.cells t
 
 abbrev pub start : State
-start = record { place = BeforeRow; cells = [] }
+start = record { position = BeforeRow; cells = [] }
 
 -- ---- what the reader's values stand for
 
@@ -120,29 +120,29 @@ turn_of (turn.Go p) = Go p
 turn_of (turn.Finish q) = Finish q
 turn_of turn.Bad = Bad
 
-abbrev pub step_from : turns.Turn → steps.Step
-step_from (turn.Go p) = step.Go (place.InTail p)
-step_from (turn.Finish q) = step.Finish q
-step_from turn.Bad = step.Bad
+abbrev pub transition_from : turns.Turn → transitions.Transition
+transition_from (turn.Go p) = transition.Go (position.InTail p)
+transition_from (turn.Finish q) = transition.Finish q
+transition_from turn.Bad = transition.Bad
 
 -- the state before the token at an index
-abbrev pub place_of : List Token → ℕ → places.Place → Place
-place_of ts at place.BeforeRow = BeforeRow
-place_of ts at (place.InCell left start) = InCell left (views (slice_range ts start at))
-place_of ts at (place.InTail p) = InTail p
+abbrev pub position_of : List Token → ℕ → positions.Position → Position
+position_of ts at position.BeforeRow = BeforeRow
+position_of ts at (position.InCell left start) = InCell left (views (slice_range ts start at))
+position_of ts at (position.InTail p) = InTail p
 
-abbrev pub move_of : List Token → ℕ → List (Bor (List Token)) → steps.Step → Move State Flat
-move_of ts at cs (step.Go p) = went_to (cells_of cs) (place_of ts at p)
-move_of ts at cs (step.Finish q) = Finish (record { cells = cells_of cs; quantifier = q })
-move_of ts at cs step.Bad = Bad
+abbrev pub move_of : List Token → ℕ → List (Bor (List Token)) → transitions.Transition → Move State Flat
+move_of ts at cs (transition.Go p) = went_to (cells_of cs) (position_of ts at p)
+move_of ts at cs (transition.Finish q) = Finish (record { cells = cells_of cs; quantifier = q })
+move_of ts at cs transition.Bad = Bad
 
 -- a cell begins at or before the next token
-abbrev pub IsFine : ℕ → places.Place → Type 0
-IsFine at place.BeforeRow = Unit {0}
-IsFine at (place.InCell left start) = start ≤ at
-IsFine at (place.InTail p) = Unit {0}
+abbrev pub IsFine : ℕ → positions.Position → Type 0
+IsFine at position.BeforeRow = Unit {0}
+IsFine at (position.InCell left start) = start ≤ at
+IsFine at (position.InTail p) = Unit {0}
 
-abbrev pub IsFineStep : ℕ → steps.Step → Type 0
-IsFineStep at (step.Go p) = IsFine at p
-IsFineStep at (step.Finish q) = Unit {0}
-IsFineStep at step.Bad = Unit {0}
+abbrev pub IsFineTransition : ℕ → transitions.Transition → Type 0
+IsFineTransition at (transition.Go p) = IsFine at p
+IsFineTransition at (transition.Finish q) = Unit {0}
+IsFineTransition at transition.Bad = Unit {0}

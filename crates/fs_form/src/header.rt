@@ -11,15 +11,15 @@ use std::alloc::{AllocError, Global};
 
 /// What was read last: which column's word, or the mark before it.
 #[derive(Clone, Copy)]
-pub enum Place {
+pub enum Position {
     BeforeWord(usize),
     AfterWord(usize),
 }
 
 /// What one more token does.
 #[derive(Clone, Copy)]
-pub enum Step {
-    Go(Place),
+pub enum Transition {
+    Go(Position),
     Finish(usize),
     Bad,
 }
@@ -33,26 +33,26 @@ fn is_column(alloc: Global, column: usize, word: &str) -> Result<bool, AllocErro
 }
 
 // One more token.
-fn take(alloc: Global, place: Place, token: Kind) -> Result<Step, AllocError>
-    requires { column_of place + 1 < 2 ^ 64 }
-    ensures value { IfOk result (λ s. move_of s ≡ next_in place (kind_of token.entry)) }
-    ensures small { IfOk result (λ s. column_after s ≤ column_of place + 1) }
+fn take(alloc: Global, position: Position, token: Kind) -> Result<Transition, AllocError>
+    requires { column_of position + 1 < 2 ^ 64 }
+    ensures value { IfOk result (λ s. move_of s ≡ next_in position (kind_of token.entry)) }
+    ensures small { IfOk result (λ s. column_after s ≤ column_of position + 1) }
 {
-    match place {
-        Place::BeforeWord(column) => match token {
+    match position {
+        Position::BeforeWord(column) => match token {
             Kind::Word(_, word) => {
                 if is_column(alloc, column, word)? {
-                    Ok(Step::Go(Place::AfterWord(column)))
+                    Ok(Transition::Go(Position::AfterWord(column)))
                 } else {
-                    Ok(Step::Bad)
+                    Ok(Transition::Bad)
                 }
             }
-            _ => Ok(Step::Bad),
+            _ => Ok(Transition::Bad),
         },
-        Place::AfterWord(column) => match token {
-            Kind::Sign(Mark::Semicolon) => Ok(Step::Finish(column + 1)),
-            Kind::Sign(Mark::Bar) => Ok(Step::Go(Place::BeforeWord(column + 1))),
-            _ => Ok(Step::Bad),
+        Position::AfterWord(column) => match token {
+            Kind::Sign(Mark::Semicolon) => Ok(Transition::Finish(column + 1)),
+            Kind::Sign(Mark::Bar) => Ok(Transition::Go(Position::BeforeWord(column + 1))),
+            _ => Ok(Transition::Bad),
         },
     }
 }
@@ -69,12 +69,12 @@ pub fn read_header<'b, 'a>(
     ensures bad { IfErr result (Refuses IsHeader tokens.now) }
     ensures rest { IfOk result (λ x. IsEnd tokens.now x.1.now) }
 {
-    let mut place = Place::BeforeWord(0);
+    let mut position = Position::BeforeWord(0);
     for (i, token) in tokens.iter().enumerate() {
-        match take(alloc, place, token.kind)? {
-            Step::Go(next) => place = next,
-            Step::Finish(columns) => return Ok((columns, &tokens[i + 1..])),
-            Step::Bad => return Err(Stop::At(&tokens[i..])),
+        match take(alloc, position, token.kind)? {
+            Transition::Go(next) => position = next,
+            Transition::Finish(columns) => return Ok((columns, &tokens[i + 1..])),
+            Transition::Bad => return Err(Stop::At(&tokens[i..])),
         }
     }
     Err(Stop::At(&tokens[tokens.len()..]))

@@ -5,7 +5,7 @@ ghost use Rattle.fs_tokens.specs.Tokens.{view, kind_of, views};
 ghost use Rattle.fs_tokens.specs.Values.{target_of, value_of};
 ghost use Rattle.fs_tokens.specs.Sections.{Takes};
 ghost use Rattle.fs_form.specs.Reading.{IsEnd, Refuses};
-ghost use Rattle.fs_form.specs.Init.{IsInit, entry_of, entries_of, place_of, turn_of, move_of, target_begun, entry_begun, type_followed, target_followed, valued, value_begun, minus_followed, entry_ended, next_in};
+ghost use Rattle.fs_form.specs.Init.{IsInit, entry_of, entries_of, position_of, turn_of, move_of, target_begun, entry_begun, type_followed, target_followed, valued, value_begun, minus_followed, entry_ended, next_in};
 
 use fs_tokens::{Class, Kind, Mark, Stop, Target, Token, Value};
 use std::alloc::{AllocError, Global};
@@ -20,7 +20,7 @@ pub struct Entry<'a> {
 
 /// What was read last; the line is that of the target's first token, or of the type's word.
 #[derive(Clone, Copy)]
-pub enum Place<'a> {
+pub enum Position<'a> {
     BeforeBrace,
     BeforeEntry,
     AfterType(usize, &'a str),
@@ -36,84 +36,90 @@ pub enum Place<'a> {
 
 /// What one more token does.
 #[derive(Clone, Copy)]
-pub enum Step<'a> {
-    Go(Place<'a>),
+pub enum Transition<'a> {
+    Go(Position<'a>),
     Finish,
     Bad,
 }
 
 // The first token of a target.
-fn begin_target<'a>(token: Token<'a>) -> Step<'a>
+fn begin_target<'a>(token: Token<'a>) -> Transition<'a>
     ensures { turn_of result ≡ target_begun (view token.entry) }
 {
     match token.kind {
-        Kind::Word(Class::Number, hart) => Step::Go(Place::AfterHart(token.line, hart)),
-        Kind::Word(Class::Other, _) => Step::Bad,
-        Kind::Word(_, name) => Step::Go(Place::AfterTarget(token.line, Target::Location(name))),
-        Kind::Sign(Mark::OpenBracket) => Step::Go(Place::AfterBracket(token.line)),
-        _ => Step::Bad,
+        Kind::Word(Class::Number, hart) => Transition::Go(Position::AfterHart(token.line, hart)),
+        Kind::Word(Class::Other, _) => Transition::Bad,
+        Kind::Word(_, name) => Transition::Go(Position::AfterTarget(
+            token.line,
+            Target::Location(name),
+        )),
+        Kind::Sign(Mark::OpenBracket) => Transition::Go(Position::AfterBracket(token.line)),
+        _ => Transition::Bad,
     }
 }
 
 // The first token of an entry, or the brace after the last.
-fn begin_entry<'a>(token: Token<'a>) -> Step<'a>
+fn begin_entry<'a>(token: Token<'a>) -> Transition<'a>
     ensures { turn_of result ≡ entry_begun (view token.entry) }
 {
     match token.kind {
-        Kind::Sign(Mark::CloseBrace) => Step::Finish,
-        Kind::Word(Class::TypeWord, word) => Step::Go(Place::AfterType(token.line, word)),
+        Kind::Sign(Mark::CloseBrace) => Transition::Finish,
+        Kind::Word(Class::TypeWord, word) => Transition::Go(Position::AfterType(token.line, word)),
         _ => begin_target(token),
     }
 }
 
 // The token after a type's word, which is the target itself where `=` follows.
-fn follow_type<'a>(line: usize, word: &'a str, token: Token<'a>) -> Step<'a>
+fn follow_type<'a>(line: usize, word: &'a str, token: Token<'a>) -> Transition<'a>
     ensures { turn_of result ≡ type_followed line word.now (view token.entry) }
 {
     match token.kind {
-        Kind::Sign(Mark::Equals) => Step::Go(Place::AfterEquals(line, Target::Location(word))),
+        Kind::Sign(Mark::Equals) => Transition::Go(Position::AfterEquals(
+            line,
+            Target::Location(word),
+        )),
         _ => begin_target(token),
     }
 }
 
 // A token within a target.
-fn follow_target<'a>(place: Place<'a>, token: Kind<'a>) -> Step<'a>
-    ensures { turn_of result ≡ target_followed (place_of place.entry) (kind_of token.entry) }
+fn follow_target<'a>(position: Position<'a>, token: Kind<'a>) -> Transition<'a>
+    ensures { turn_of result ≡ target_followed (position_of position.entry) (kind_of token.entry) }
 {
-    match place {
-        Place::AfterHart(line, hart) => match token {
-            Kind::Sign(Mark::Colon) => Step::Go(Place::AfterColon(line, hart)),
-            _ => Step::Bad,
+    match position {
+        Position::AfterHart(line, hart) => match token {
+            Kind::Sign(Mark::Colon) => Transition::Go(Position::AfterColon(line, hart)),
+            _ => Transition::Bad,
         },
-        Place::AfterColon(line, hart) => match token {
+        Position::AfterColon(line, hart) => match token {
             Kind::Word(_, register) => {
-                Step::Go(Place::AfterTarget(line, Target::Register { hart, register }))
+                Transition::Go(Position::AfterTarget(line, Target::Register { hart, register }))
             }
-            _ => Step::Bad,
+            _ => Transition::Bad,
         },
-        Place::AfterBracket(line) => match token {
-            Kind::Word(Class::Number | Class::Other, _) => Step::Bad,
-            Kind::Word(_, name) => Step::Go(Place::AfterBracketedName(line, name)),
-            _ => Step::Bad,
+        Position::AfterBracket(line) => match token {
+            Kind::Word(Class::Number | Class::Other, _) => Transition::Bad,
+            Kind::Word(_, name) => Transition::Go(Position::AfterBracketedName(line, name)),
+            _ => Transition::Bad,
         },
-        Place::AfterBracketedName(line, name) => match token {
+        Position::AfterBracketedName(line, name) => match token {
             Kind::Sign(Mark::CloseBracket) => {
-                Step::Go(Place::AfterTarget(line, Target::Location(name)))
+                Transition::Go(Position::AfterTarget(line, Target::Location(name)))
             }
-            _ => Step::Bad,
+            _ => Transition::Bad,
         },
-        Place::AfterTarget(line, target) => match token {
-            Kind::Sign(Mark::Equals) => Step::Go(Place::AfterEquals(line, target)),
-            _ => Step::Bad,
+        Position::AfterTarget(line, target) => match token {
+            Kind::Sign(Mark::Equals) => Transition::Go(Position::AfterEquals(line, target)),
+            _ => Transition::Bad,
         },
-        _ => Step::Bad,
+        _ => Transition::Bad,
     }
 }
 
-fn valued<'a>(line: usize, target: Target<'a>, value: Value<'a>) -> Step<'a>
+fn valued<'a>(line: usize, target: Target<'a>, value: Value<'a>) -> Transition<'a>
     ensures { turn_of result ≡ valued line (target_of target.entry) (value_of value.entry) }
 {
-    Step::Go(Place::AfterValue(Entry {
+    Transition::Go(Position::AfterValue(Entry {
         line,
         target,
         value,
@@ -121,7 +127,7 @@ fn valued<'a>(line: usize, target: Target<'a>, value: Value<'a>) -> Step<'a>
 }
 
 // The first token of a value.
-fn begin_value<'a>(line: usize, target: Target<'a>, token: Kind<'a>) -> Step<'a>
+fn begin_value<'a>(line: usize, target: Target<'a>, token: Kind<'a>) -> Transition<'a>
     ensures { turn_of result ≡ value_begun line (target_of target.entry) (kind_of token.entry) }
 {
     match token {
@@ -133,15 +139,15 @@ fn begin_value<'a>(line: usize, target: Target<'a>, token: Kind<'a>) -> Step<'a>
                 digits,
             },
         ),
-        Kind::Word(Class::Other, _) => Step::Bad,
+        Kind::Word(Class::Other, _) => Transition::Bad,
         Kind::Word(_, name) => valued(line, target, Value::Address(name)),
-        Kind::Sign(Mark::Minus) => Step::Go(Place::AfterMinus(line, target)),
-        _ => Step::Bad,
+        Kind::Sign(Mark::Minus) => Transition::Go(Position::AfterMinus(line, target)),
+        _ => Transition::Bad,
     }
 }
 
 // The number after a minus.
-fn follow_minus<'a>(line: usize, target: Target<'a>, token: Kind<'a>) -> Step<'a>
+fn follow_minus<'a>(line: usize, target: Target<'a>, token: Kind<'a>) -> Transition<'a>
     ensures { turn_of result ≡ minus_followed line (target_of target.entry) (kind_of token.entry) }
 {
     match token {
@@ -153,7 +159,7 @@ fn follow_minus<'a>(line: usize, target: Target<'a>, token: Kind<'a>) -> Step<'a
                 digits,
             },
         ),
-        _ => Step::Bad,
+        _ => Transition::Bad,
     }
 }
 
@@ -162,43 +168,43 @@ fn end_entry<'a>(
     entry: Entry<'a>,
     entries: &mut Vec<Entry<'a>>,
     token: Kind<'a>,
-) -> Result<Step<'a>, AllocError>
+) -> Result<Transition<'a>, AllocError>
     ensures { IfOk result (λ s. move_of s entries.new.items
         ≡ entry_ended (entry_of entry.entry) (entries_of entries.old.items) (kind_of token.entry)) }
 {
     match token {
         Kind::Sign(Mark::Semicolon) => {
             entries.push(entry)?;
-            Ok(Step::Go(Place::BeforeEntry))
+            Ok(Transition::Go(Position::BeforeEntry))
         }
         Kind::Sign(Mark::CloseBrace) => {
             entries.push(entry)?;
-            Ok(Step::Finish)
+            Ok(Transition::Finish)
         }
-        _ => Ok(Step::Bad),
+        _ => Ok(Transition::Bad),
     }
 }
 
 // One more token.
 fn take<'a>(
-    place: Place<'a>,
+    position: Position<'a>,
     entries: &mut Vec<Entry<'a>>,
     token: Token<'a>,
-) -> Result<Step<'a>, AllocError>
+) -> Result<Transition<'a>, AllocError>
     ensures { IfOk result (λ s. move_of s entries.new.items
-        ≡ next_in (place_of place.entry) (entries_of entries.old.items) (view token.entry)) }
+        ≡ next_in (position_of position.entry) (entries_of entries.old.items) (view token.entry)) }
 {
-    match place {
-        Place::BeforeBrace => match token.kind {
-            Kind::Sign(Mark::OpenBrace) => Ok(Step::Go(Place::BeforeEntry)),
-            _ => Ok(Step::Bad),
+    match position {
+        Position::BeforeBrace => match token.kind {
+            Kind::Sign(Mark::OpenBrace) => Ok(Transition::Go(Position::BeforeEntry)),
+            _ => Ok(Transition::Bad),
         },
-        Place::BeforeEntry => Ok(begin_entry(token)),
-        Place::AfterType(line, word) => Ok(follow_type(line, word, token)),
-        Place::AfterEquals(line, target) => Ok(begin_value(line, target, token.kind)),
-        Place::AfterMinus(line, target) => Ok(follow_minus(line, target, token.kind)),
-        Place::AfterValue(entry) => Ok(end_entry(entry, entries, token.kind)?),
-        _ => Ok(follow_target(place, token.kind)),
+        Position::BeforeEntry => Ok(begin_entry(token)),
+        Position::AfterType(line, word) => Ok(follow_type(line, word, token)),
+        Position::AfterEquals(line, target) => Ok(begin_value(line, target, token.kind)),
+        Position::AfterMinus(line, target) => Ok(follow_minus(line, target, token.kind)),
+        Position::AfterValue(entry) => Ok(end_entry(entry, entries, token.kind)?),
+        _ => Ok(follow_target(position, token.kind)),
     }
 }
 
@@ -213,13 +219,13 @@ pub fn read_init<'b, 'a>(
     ensures bad { IfErr result (Refuses IsInit tokens.now) }
     ensures rest { IfOk result (λ x. IsEnd tokens.now x.1.now) }
 {
-    let mut place = Place::BeforeBrace;
+    let mut position = Position::BeforeBrace;
     let mut entries = Vec::new(alloc);
     for (i, token) in tokens.iter().enumerate() {
-        match take(place, &mut entries, *token)? {
-            Step::Go(next) => place = next,
-            Step::Finish => return Ok((entries, &tokens[i + 1..])),
-            Step::Bad => return Err(Stop::At(&tokens[i..])),
+        match take(position, &mut entries, *token)? {
+            Transition::Go(next) => position = next,
+            Transition::Finish => return Ok((entries, &tokens[i + 1..])),
+            Transition::Bad => return Err(Stop::At(&tokens[i..])),
         }
     }
     Err(Stop::At(&tokens[tokens.len()..]))

@@ -5,7 +5,7 @@ ghost use Rattle.fs_tokens.specs.Tokens.{view, kind_of, views};
 ghost use Rattle.fs_tokens.specs.Sections.{Takes};
 ghost use Rattle.fs_form.specs.Reading.{IsEnd, Refuses};
 ghost use Rattle.fs_form.specs.Body.{IsBody, flatten, cells_of};
-ghost use Rattle.fs_form.specs.Rows.{body_of, place_of, turn_of, move_of, IsFine, IsFineStep, part_of, quantifier_begun, rows_stopped, after_rows, cell_next, next_in};
+ghost use Rattle.fs_form.specs.Rows.{body_of, position_of, turn_of, move_of, IsFine, IsFineTransition, cell_token_of, quantifier_begun, rows_stopped, after_rows, cell_next, next_in};
 
 use fs_tokens::{Class, Kind, Mark, Stop, Token};
 use std::alloc::{AllocError, Global};
@@ -18,7 +18,7 @@ pub enum Quantifier {
     Forall,
 }
 
-/// The cells, row after row, and the quantifier. A cell is the part of the tokens that it takes.
+/// The cells, row after row, and the quantifier. A cell is the cell_token of the tokens that it takes.
 #[derive(Drop)]
 pub struct Body<'b, 'a> {
     pub cells: Vec<&'b [Token<'a>]>,
@@ -44,7 +44,7 @@ pub enum Turn {
 
 /// What was read last.
 #[derive(Clone, Copy)]
-pub enum Place {
+pub enum Position {
     BeforeRow,
     /// In a cell with so many cells after it in its row, which begins at an index.
     InCell(usize, usize),
@@ -53,29 +53,29 @@ pub enum Place {
 
 /// What one more token does.
 #[derive(Clone, Copy)]
-pub enum Step {
-    Go(Place),
+pub enum Transition {
+    Go(Position),
     Finish(Quantifier),
     Bad,
 }
 
 /// What a token is in a row.
 #[derive(Clone, Copy)]
-pub enum Part {
+pub enum CellToken {
     Plain,
     Bar,
     Semicolon,
     Strange,
 }
 
-fn part_of(token: Kind) -> Part
-    ensures { result ≡ part_of (kind_of token.entry) }
+fn cell_token_of(token: Kind) -> CellToken
+    ensures { result ≡ cell_token_of (kind_of token.entry) }
 {
     match token {
-        Kind::Sign(Mark::Bar) => Part::Bar,
-        Kind::Sign(Mark::Semicolon) => Part::Semicolon,
-        Kind::Strange => Part::Strange,
-        _ => Part::Plain,
+        Kind::Sign(Mark::Bar) => CellToken::Bar,
+        Kind::Sign(Mark::Semicolon) => CellToken::Semicolon,
+        Kind::Strange => CellToken::Strange,
+        _ => CellToken::Plain,
     }
 }
 
@@ -134,45 +134,45 @@ fn take_in_cell<'b, 'a>(
     start: usize,
     at: usize,
     token: Token<'a>,
-) -> Result<Step, AllocError>
+) -> Result<Transition, AllocError>
     requires order { start ≤ at }
     requires within { at < length tokens.now }
     requires item { slice_index_or tokens.now at token ≡ token }
     ensures value { IfOk result (λ s. move_of tokens.now (at + 1) cells.new.items s
         ≡ cell_next left (views (slice_range tokens.now start at)) (cells_of cells.old.items) (view token.entry)) }
-    ensures fine { IfOk result (IsFineStep (at + 1)) }
+    ensures fine { IfOk result (IsFineTransition (at + 1)) }
 {
-    match part_of(token.kind) {
-        Part::Bar => {
+    match cell_token_of(token.kind) {
+        CellToken::Bar => {
             if left == 0 {
-                return Ok(Step::Bad);
+                return Ok(Transition::Bad);
             }
             cells.push(&tokens[start..at])?;
-            Ok(Step::Go(Place::InCell(left - 1, at + 1)))
+            Ok(Transition::Go(Position::InCell(left - 1, at + 1)))
         }
-        Part::Semicolon => {
+        CellToken::Semicolon => {
             if left != 0 {
-                return Ok(Step::Bad);
+                return Ok(Transition::Bad);
             }
             cells.push(&tokens[start..at])?;
-            Ok(Step::Go(Place::BeforeRow))
+            Ok(Transition::Go(Position::BeforeRow))
         }
-        Part::Strange => Ok(Step::Bad),
-        Part::Plain => Ok(Step::Go(Place::InCell(left, start))),
+        CellToken::Strange => Ok(Transition::Bad),
+        CellToken::Plain => Ok(Transition::Go(Position::InCell(left, start))),
     }
 }
 
-impl From<Turn> for Step {
+impl From<Turn> for Transition {
     ghost use Rattle.std.specs.Prelude.{◌≡◌};
-    ghost use Rattle.fs_form.specs.Rows.{step_from};
+    ghost use Rattle.fs_form.specs.Rows.{transition_from};
 
-    ghost from_gives = { λ t s. s ≡ step_from t };
+    ghost from_gives = { λ t s. s ≡ transition_from t };
 
     fn from(turn: Turn) -> Self {
         match turn {
-            Turn::Go(tail) => Step::Go(Place::InTail(tail)),
-            Turn::Finish(quantifier) => Step::Finish(quantifier),
-            Turn::Bad => Step::Bad,
+            Turn::Go(tail) => Transition::Go(Position::InTail(tail)),
+            Turn::Finish(quantifier) => Transition::Finish(quantifier),
+            Turn::Bad => Transition::Bad,
         }
     }
 }
@@ -182,25 +182,25 @@ fn take<'b, 'a>(
     cells: &mut Vec<&'b [Token<'a>]>,
     tokens: &'b [Token<'a>],
     columns: usize,
-    place: Place,
+    position: Position,
     at: usize,
     token: Token<'a>,
-) -> Result<Step, AllocError>
+) -> Result<Transition, AllocError>
     requires some { 0 < columns }
     requires within { at < length tokens.now }
     requires item { slice_index_or tokens.now at token ≡ token }
-    requires fine { IsFine at place }
+    requires fine { IsFine at position }
     ensures value { IfOk result (λ s. move_of tokens.now (at + 1) cells.new.items s
-        ≡ next_in (columns - 1) (place_of tokens.now at place) (cells_of cells.old.items) (view token.entry)) }
-    ensures fine { IfOk result (IsFineStep (at + 1)) }
+        ≡ next_in (columns - 1) (position_of tokens.now at position) (cells_of cells.old.items) (view token.entry)) }
+    ensures fine { IfOk result (IsFineTransition (at + 1)) }
 {
-    match place {
-        Place::BeforeRow => match stop_rows(token.kind) {
+    match position {
+        Position::BeforeRow => match stop_rows(token.kind) {
             Some(turn) => Ok(turn.into()),
             None => Ok(take_in_cell(cells, tokens, columns - 1, at, at, token)?),
         },
-        Place::InCell(left, start) => Ok(take_in_cell(cells, tokens, left, start, at, token)?),
-        Place::InTail(tail) => Ok(take_after(tail, token.kind).into()),
+        Position::InCell(left, start) => Ok(take_in_cell(cells, tokens, left, start, at, token)?),
+        Position::InTail(tail) => Ok(take_after(tail, token.kind).into()),
     }
 }
 
@@ -222,14 +222,14 @@ pub fn read_body<'b, 'a>(
     ensures rest { IfOk result (λ x. IsEnd tokens.now x.1.now) }
 {
     let mut cells = Vec::new(alloc);
-    let mut place = Place::BeforeRow;
+    let mut position = Position::BeforeRow;
     for (i, token) in tokens.iter().enumerate() {
-        match take(&mut cells, tokens, columns, place, i, *token)? {
-            Step::Go(next) => place = next,
-            Step::Finish(quantifier) => {
+        match take(&mut cells, tokens, columns, position, i, *token)? {
+            Transition::Go(next) => position = next,
+            Transition::Finish(quantifier) => {
                 return Ok((Body { cells, quantifier }, &tokens[i + 1..]));
             }
-            Step::Bad => return Err(Stop::At(&tokens[i..])),
+            Transition::Bad => return Err(Stop::At(&tokens[i..])),
         }
     }
     Err(Stop::At(&tokens[tokens.len()..]))

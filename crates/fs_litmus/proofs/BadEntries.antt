@@ -7,11 +7,11 @@ use Rattle.std.proofs.lemmas.List.{map-append}
 use Rattle.std.proofs.lemmas.List.Folds.{list_any-append}
 use Rattle.std.proofs.Math.Bool.{or-false}
 use Rattle.fs_form.specs.Init.{Entry}
-use Rattle.fs_litmus.specs.declared.settings.Place.{Place}
-use Rattle.fs_litmus.specs.declared.settings.Place.TheVariants as place
+use Rattle.fs_litmus.specs.declared.settings.Holder.{Holder}
+use Rattle.fs_litmus.specs.declared.settings.Holder.TheVariants as holder
 use Rattle.fs_litmus.specs.declared.settings.Setting.{Setting}
 use Rattle.fs_litmus.specs.Locations.{Names}
-use Rattle.fs_litmus.specs.Settings.{entry_bindings, settings_after, setting_of, place_of, word_of, fresh, places, is_x0, same_place}
+use Rattle.fs_litmus.specs.Settings.{entry_bindings, settings_after, setting_of, holder_of, word_of, fresh, holders, is_x0, same_holder}
 use Rattle.fs_litmus.specs.Faults.{IsBadEntry, absent, zero, again}
 use Rattle.fs_litmus.specs.Checks.{IsEntryFault, entry}
 use Rattle.fs_litmus.specs.Rising.{Rising, entry_lines}
@@ -33,7 +33,7 @@ pub mapped_some : {A B : Type 0} (o : Option A) (f : A → B) (b : B) → option
 mapped_some None f b e = absurd (cc)
 mapped_some (Some a) f b e = (a, refl, cc)
 
--- ---- places
+-- ---- holders
 
 nat_same : (n : ℕ) → nat_eq n n ≡ true
 nat_same n = grind (arith, nat_tests)
@@ -45,27 +45,27 @@ both_true : (a b : Bool) → (a && b) ≡ true → (a ≡ true) × (b ≡ true)
 both_true true b e = (refl, e)
 both_true false b e = absurd (cc)
 
-pub same_itself : (p : Place) → same_place p p ≡ true
-same_itself (place.Register h r) = rw (nat_same h, nat_same r) refl
-same_itself (place.Location k) = nat_same k
+pub same_itself : (p : Holder) → same_holder p p ≡ true
+same_itself (holder.Register h r) = rw (nat_same h, nat_same r) refl
+same_itself (holder.Location k) = nat_same k
 
-pub same_is : (p q : Place) → same_place p q ≡ true → p ≡ q
-same_is (place.Register h r) (place.Register g q) e =
+pub same_is : (p q : Holder) → same_holder p q ≡ true → p ≡ q
+same_is (holder.Register h r) (holder.Register g q) e =
     let both = both_true (nat_eq h g) (nat_eq r q) e in
     let a = nat_is h g both.0 in
     let b = nat_is r q both.1 in
     cc
-same_is (place.Location k) (place.Location m) e = ap (λ n. place.Location n) (nat_is k m e)
-same_is (place.Register h r) (place.Location m) e = absurd (cc)
-same_is (place.Location k) (place.Register g q) e = absurd (cc)
+same_is (holder.Location k) (holder.Location m) e = ap (λ n. holder.Location n) (nat_is k m e)
+same_is (holder.Register h r) (holder.Location m) e = absurd (cc)
+same_is (holder.Location k) (holder.Register g q) e = absurd (cc)
 
-pub is_set : Place → List Setting → Bool
-is_set p ss = list_any (same_place p) (places ss)
+pub is_set : Holder → List Setting → Bool
+is_set p ss = list_any (same_holder p) (holders ss)
 
-set_more : (p : Place) (ss : List Setting) (s : Setting) → is_set p (ss ++ s ∷ []) ≡ (is_set p ss || same_place p s.place)
+set_more : (p : Holder) (ss : List Setting) (s : Setting) → is_set p (ss ++ s ∷ []) ≡ (is_set p ss || same_holder p s.holder)
 unfolding is_set
 set_more p ss s =
-    ap (list_any (same_place p)) (map-append (λ s. s.place) ss (s ∷ [])) ∙ list_any-append (same_place p) (places ss) (s.place ∷ []) ∙ ap (λ b. list_any (same_place p) (places ss) || b) (or-false (same_place p s.place))
+    ap (list_any (same_holder p)) (map-append (λ s. s.holder) ss (s ∷ [])) ∙ list_any-append (same_holder p) (holders ss) (s.holder ∷ []) ∙ ap (λ b. list_any (same_holder p) (holders ss) || b) (or-false (same_holder p s.holder))
 
 or_left : (a b : Bool) → a ≡ true → (a || b) ≡ true
 or_left a b e = rw e refl
@@ -86,7 +86,7 @@ neither false b e = (refl, e)
 
 -- what an entry sets after these settings
 abbrev pub fits : ℕ → Names → List Setting → Entry → Option Setting
-fits columns names ss e = option_and_then (fresh (places ss)) (setting_of columns names (e.target, e.value))
+fits columns names ss e = option_and_then (fresh (holders ss)) (setting_of columns names (e.target, e.value))
 
 chosen_some : (b : Bool) (t s : Setting) → cond b None (Some t) ≡ Some s → (b ≡ false) × (t ≡ s)
 chosen_some true t s e = absurd (cc)
@@ -96,29 +96,29 @@ chosen_none : (b : Bool) (t : Setting) → cond b None (Some t) ≡ None → b �
 chosen_none true t e = refl
 chosen_none false t e = absurd (cc)
 
--- the place of a setting is that of its target
-pub placed : (columns : ℕ) (names : Names) (e : Entry) (s : Setting) → setting_of columns names (e.target, e.value) ≡ Some s → place_of columns names e.target ≡ Some s.place
+-- the holder of a setting is that of its target
+pub placed : (columns : ℕ) (names : Names) (e : Entry) (s : Setting) → setting_of columns names (e.target, e.value) ≡ Some s → holder_of columns names e.target ≡ Some s.holder
 placed columns names e s h =
-    let p = both_some (place_of columns names e.target) (λ p. option_map (λ w. record { place = p; word = w }) (word_of names e.value)) s h in
-    let w = mapped_some (word_of names e.value) (λ w. record { place = p.0; word = w }) s p.2 in
-    p.1 ∙ ap (λ (t : Setting). Some t.place) w.2
+    let p = both_some (holder_of columns names e.target) (λ p. option_map (λ w. record { holder = p; word = w }) (word_of names e.value)) s h in
+    let w = mapped_some (word_of names e.value) (λ w. record { holder = p.0; word = w }) s p.2 in
+    p.1 ∙ ap (λ (t : Setting). Some t.holder) w.2
 
 -- what is set is no x0 and none of those before
 pub record Fits (columns : ℕ) (names : Names) (ss : List Setting) (e : Entry) (s : Setting) : Type 0 where
   pub there : setting_of columns names (e.target, e.value) ≡ Some s
-  pub no_x0 : is_x0 s.place ≡ false
-  pub new : is_set s.place ss ≡ false
+  pub no_x0 : is_x0 s.holder ≡ false
+  pub new : is_set s.holder ss ≡ false
 
 fitting : (columns : ℕ) (names : Names) (ss : List Setting) (e : Entry) (s : Setting) → fits columns names ss e ≡ Some s → Fits columns names ss e s
 unfolding is_set
 fitting columns names ss e s h =
-    let t = both_some (setting_of columns names (e.target, e.value)) (fresh (places ss)) s h in
-    let b = chosen_some (is_x0 t.0.place || list_any (same_place t.0.place) (places ss)) t.0 s t.2 in
-    let n = neither (is_x0 t.0.place) (list_any (same_place t.0.place) (places ss)) b.0 in
+    let t = both_some (setting_of columns names (e.target, e.value)) (fresh (holders ss)) s h in
+    let b = chosen_some (is_x0 t.0.holder || list_any (same_holder t.0.holder) (holders ss)) t.0 s t.2 in
+    let n = neither (is_x0 t.0.holder) (list_any (same_holder t.0.holder) (holders ss)) b.0 in
     record {
       there = t.1 ∙ ap (λ x. Some x) b.1;
-      no_x0 = sym (ap (λ (x : Setting). is_x0 x.place) b.1) ∙ n.0;
-      new = sym (ap (λ (x : Setting). list_any (same_place x.place) (places ss)) b.1) ∙ n.1;
+      no_x0 = sym (ap (λ (x : Setting). is_x0 x.holder) b.1) ∙ n.0;
+      new = sym (ap (λ (x : Setting). list_any (same_holder x.holder) (holders ss)) b.1) ∙ n.1;
     }
 
 -- ---- entries one after the other
@@ -129,37 +129,37 @@ after_append columns names ss (x ∷ xs) ys =
     assoc (fits columns names ss x) (λ s. settings_after columns names (ss ++ s ∷ []) (entry_bindings xs)) (λ r. settings_after columns names r (entry_bindings ys)) (λ s. settings_after columns names (ss ++ s ∷ []) (entry_bindings (xs ++ ys))) (λ s. after_append columns names (ss ++ s ∷ []) xs ys)
 
 -- what is set stays set
-keeps : (columns : ℕ) (names : Names) (ss r : List Setting) (xs : List Entry) (p : Place) → settings_after columns names ss (entry_bindings xs) ≡ Some r → is_set p ss ≡ true → is_set p r ≡ true
+keeps : (columns : ℕ) (names : Names) (ss r : List Setting) (xs : List Entry) (p : Holder) → settings_after columns names ss (entry_bindings xs) ≡ Some r → is_set p ss ≡ true → is_set p r ≡ true
 keeps columns names ss r [] p h e = let same : ss ≡ r = cc in subst (λ x. is_set p x ≡ true) same e
 keeps columns names ss r (x ∷ xs) p h e =
     let s = both_some (fits columns names ss x) (λ s. settings_after columns names (ss ++ s ∷ []) (entry_bindings xs)) r h in
     keeps columns names (ss ++ s.0 ∷ []) r xs p s.2 (set_more p ss s.0 ∙ or_left _ _ e)
 
--- the place of each entry is set from then on
-sets : (columns : ℕ) (names : Names) (ss r : List Setting) (xs ys : List Entry) (d : Entry) (p : Place) → settings_after columns names ss (entry_bindings (xs ++ d ∷ ys)) ≡ Some r → place_of columns names d.target ≡ Some p → is_set p r ≡ true
+-- the holder of each entry is set from then on
+sets : (columns : ℕ) (names : Names) (ss r : List Setting) (xs ys : List Entry) (d : Entry) (p : Holder) → settings_after columns names ss (entry_bindings (xs ++ d ∷ ys)) ≡ Some r → holder_of columns names d.target ≡ Some p → is_set p r ≡ true
 sets columns names ss r [] ys d p h e =
     let s = both_some (fits columns names ss d) (λ s. settings_after columns names (ss ++ s ∷ []) (entry_bindings ys)) r h in
     let f = fitting columns names ss d s.0 s.1 in
     let there = placed columns names d s.0 f.there in
-    let same : p ≡ s.0.place = cc in
-    keeps columns names (ss ++ s.0 ∷ []) r ys p s.2 (set_more p ss s.0 ∙ or_right _ _ (subst (λ q. same_place p q ≡ true) same (same_itself p)))
+    let same : p ≡ s.0.holder = cc in
+    keeps columns names (ss ++ s.0 ∷ []) r ys p s.2 (set_more p ss s.0 ∙ or_right _ _ (subst (λ q. same_holder p q ≡ true) same (same_itself p)))
 sets columns names ss r (x ∷ xs) ys d p h e =
     let s = both_some (fits columns names ss x) (λ s. settings_after columns names (ss ++ s ∷ []) (entry_bindings (xs ++ d ∷ ys))) r h in
     sets columns names (ss ++ s.0 ∷ []) r xs ys d p s.2 e
 
--- one of the entries has this place
-record Sets (columns : ℕ) (names : Names) (xs : List Entry) (p : Place) : Type 0 where
+-- one of the entries has this holder
+record Sets (columns : ℕ) (names : Names) (xs : List Entry) (p : Holder) : Type 0 where
   pub before : List Entry
   pub entry : Entry
   pub after : List Entry
   pub split : xs ≡ before ++ entry ∷ after
-  pub place : place_of columns names entry.target ≡ Some p
+  pub holder : holder_of columns names entry.target ≡ Some p
 
-later_sets : (columns : ℕ) (names : Names) (x : Entry) (xs : List Entry) (p : Place) → Sets columns names xs p → Sets columns names (x ∷ xs) p
-later_sets columns names x xs p h = record { before = x ∷ h.before; entry = h.entry; after = h.after; split = ap (λ l. x ∷ l) h.split; place = h.place }
+later_sets : (columns : ℕ) (names : Names) (x : Entry) (xs : List Entry) (p : Holder) → Sets columns names xs p → Sets columns names (x ∷ xs) p
+later_sets columns names x xs p h = record { before = x ∷ h.before; entry = h.entry; after = h.after; split = ap (λ l. x ∷ l) h.split; holder = h.holder }
 
 -- what is set was set before, or by an entry
-set_by : (columns : ℕ) (names : Names) (ss r : List Setting) (xs : List Entry) (p : Place) → settings_after columns names ss (entry_bindings xs) ≡ Some r → is_set p r ≡ true → (is_set p ss ≡ true) ⊎ Sets columns names xs p
+set_by : (columns : ℕ) (names : Names) (ss r : List Setting) (xs : List Entry) (p : Holder) → settings_after columns names ss (entry_bindings xs) ≡ Some r → is_set p r ≡ true → (is_set p ss ≡ true) ⊎ Sets columns names xs p
 set_by columns names ss r [] p h e = let same : r ≡ ss = cc in inl (subst (λ x. is_set p x ≡ true) same e)
 set_by columns names ss r (x ∷ xs) p h e =
     let s = both_some (fits columns names ss x) (λ s. settings_after columns names (ss ++ s ∷ []) (entry_bindings xs)) r h in
@@ -167,29 +167,29 @@ set_by columns names ss r (x ∷ xs) p h e =
     elim (set_by columns names (ss ++ s.0 ∷ []) r xs p s.2 e) as (λ _. (is_set p ss ≡ true) ⊎ Sets columns names (x ∷ xs) p) [
       | inl before ↦ elim (one_of _ _ (sym (set_more p ss s.0) ∙ before)) [
         | inl a ↦ inl a
-        | inr b ↦ let same = same_is p s.0.place b in inr (record { before = []; entry = x; after = xs; split = refl; place = there ∙ ap (λ q. Some q) (sym same) })
+        | inr b ↦ let same = same_is p s.0.holder b in inr (record { before = []; entry = x; after = xs; split = refl; holder = there ∙ ap (λ q. Some q) (sym same) })
       ]
       | inr later ↦ inr (later_sets columns names x xs p later)
     ]
 
-nothing_set : (columns : ℕ) (names : Names) (r : List Setting) (xs : List Entry) (p : Place) → settings_after columns names [] (entry_bindings xs) ≡ Some r → is_set p r ≡ true → Sets columns names xs p
+nothing_set : (columns : ℕ) (names : Names) (r : List Setting) (xs : List Entry) (p : Holder) → settings_after columns names [] (entry_bindings xs) ≡ Some r → is_set p r ≡ true → Sets columns names xs p
 unfolding is_set
 nothing_set columns names r xs p h e = elim (set_by columns names [] r xs p h e) [ inl a ↦ absurd (cc) | inr b ↦ b ]
 
 -- ---- bad entries
 
-again_at : (columns : ℕ) (names : Names) (before after : List Entry) (e : Entry) (p : Place) → Sets columns names before p → place_of columns names e.target ≡ Some p → IsBadEntry columns names (before ++ e ∷ after) e.line
+again_at : (columns : ℕ) (names : Names) (before after : List Entry) (e : Entry) (p : Holder) → Sets columns names before p → holder_of columns names e.target ≡ Some p → IsBadEntry columns names (before ++ e ∷ after) e.line
 again_at columns names before after e p h there =
-    again h.before h.after after h.entry e (ap (λ l. l ++ e ∷ after) h.split ∙ append_assoc h.before (h.entry ∷ h.after) (e ∷ after)) h.place there
+    again h.before h.after after h.entry e (ap (λ l. l ++ e ∷ after) h.split ∙ append_assoc h.before (h.entry ∷ h.after) (e ∷ after)) h.holder there
 
-bad_if : (columns : ℕ) (names : Names) (before after : List Entry) (e : Entry) (ss : List Setting) (o : Option Setting) → settings_after columns names [] (entry_bindings before) ≡ Some ss → setting_of columns names (e.target, e.value) ≡ o → option_and_then (fresh (places ss)) o ≡ None → IsBadEntry columns names (before ++ e ∷ after) e.line
+bad_if : (columns : ℕ) (names : Names) (before after : List Entry) (e : Entry) (ss : List Setting) (o : Option Setting) → settings_after columns names [] (entry_bindings before) ≡ Some ss → setting_of columns names (e.target, e.value) ≡ o → option_and_then (fresh (holders ss)) o ≡ None → IsBadEntry columns names (before ++ e ∷ after) e.line
 unfolding is_set
 bad_if columns names before after e ss None h is none = absent before after e refl is
 bad_if columns names before after e ss (Some s) h is none =
     let there = placed columns names e s is in
-    elim (one_of _ _ (chosen_none (is_x0 s.place || list_any (same_place s.place) (places ss)) s none)) [
+    elim (one_of _ _ (chosen_none (is_x0 s.holder || list_any (same_holder s.holder) (holders ss)) s none)) [
       | inl x0 ↦ zero before after e refl there x0
-      | inr set ↦ again_at columns names before after e s.place (nothing_set columns names ss before s.place h set) there
+      | inr set ↦ again_at columns names before after e s.holder (nothing_set columns names ss before s.holder h set) there
     ]
 
 -- An entry that sets nothing after the settings of those before is bad.
@@ -209,7 +209,7 @@ pub bad_at : (columns : ℕ) (names : Names) (entries : List Entry) (line : ℕ)
 bad_at columns names entries line (absent before after e split none) =
     record { before = before; entry = e; after = after; split = split; line_is = refl; no_fit = λ ss s h f. let a = f.there in cc }
 bad_at columns names entries line (zero before after e {p = p} split there x0) =
-    record { before = before; entry = e; after = after; split = split; line_is = refl; no_fit = λ ss s h f. let a = placed columns names e s f.there in let b = f.no_x0 in let same : p ≡ s.place = cc in let c = ap is_x0 same in cc }
+    record { before = before; entry = e; after = after; split = split; line_is = refl; no_fit = λ ss s h f. let a = placed columns names e s f.there in let b = f.no_x0 in let same : p ≡ s.holder = cc in let c = ap is_x0 same in cc }
 bad_at columns names entries line (again before between after d e {p = p} split first second) =
     record {
       before = before ++ d ∷ between;
@@ -219,7 +219,7 @@ bad_at columns names entries line (again before between after d e {p = p} split 
       line_is = refl;
       no_fit = λ ss s h f.
           let a = placed columns names e s f.there in
-          let same : p ≡ s.place = cc in
+          let same : p ≡ s.holder = cc in
           let set = sets columns names [] ss before between d p h first in
           let b = f.new in
           let c = ap (λ q. is_set q ss) same in

@@ -22,8 +22,8 @@ use Rattle.fs_litmus.specs.Settings.{entry_bindings, settings_after, setting_of}
 use Rattle.fs_litmus.specs.Starts.{starts_of, registers_of, AreLocations}
 use Rattle.fs_litmus.specs.Atoms.{condition_in, with_both, atom_at}
 use Rattle.fs_litmus.specs.Reads.{MeanTest, IsWithinLimits, IsOutcome, names_in, quantifier_of}
-use Rattle.fs_litmus.specs.declared.settings.Place.{Place}
-use Rattle.fs_litmus.specs.declared.settings.Place.TheVariants as place
+use Rattle.fs_litmus.specs.declared.settings.Holder.{Holder}
+use Rattle.fs_litmus.specs.declared.settings.Holder.TheVariants as holder
 use Rattle.fs_litmus.specs.declared.settings.Setting.{Setting}
 use Rattle.fs_litmus.proofs.Forward.{goes_forward}
 
@@ -88,13 +88,13 @@ pub deny_there : (a : Option Condition) (c : Condition) → option_map Deny a �
 deny_there None c e = absurd (cc)
 deny_there (Some x) c e = (x, refl, cc)
 
-atom_flat : (p : Place) (w : ℕ) → nesting (atom_at p w) ≡ 0
-atom_flat (place.Register h r) w = refl
-atom_flat (place.Location k) w = refl
+atom_flat : (p : Holder) (w : ℕ) → nesting (atom_at p w) ≡ 0
+atom_flat (holder.Register h r) w = refl
+atom_flat (holder.Location k) w = refl
 
-atom_nesting : (o : Option Setting) (c : Condition) → option_map (λ x. atom_at x.place x.word) o ≡ Some c → nesting c ≡ 0
+atom_nesting : (o : Option Setting) (c : Condition) → option_map (λ x. atom_at x.holder x.word) o ≡ Some c → nesting c ≡ 0
 atom_nesting None c e = absurd (cc)
-atom_nesting (Some x) c e = let same : atom_at x.place x.word ≡ c = cc in subst (λ y. nesting y ≡ 0) same (atom_flat x.place x.word)
+atom_nesting (Some x) c e = let same : atom_at x.holder x.word ≡ c = cc in subst (λ y. nesting y ≡ 0) same (atom_flat x.holder x.word)
 
 -- the condition is as deep as it is grouped
 pub nesting_same : (columns : ℕ) (names : Names) (w : meaning.Condition) (c : Condition) → condition_in columns names w ≡ Some c → nesting c ≡ grouped_depth w
@@ -132,7 +132,7 @@ forward columns cells codes h k d low =
 pub bounded : (f : Form) (s : Syntax) (t : Test) → IsMade f s t → IsBounded t
 bounded f s t h =
     let harts : length t.codes ≡ f.columns = ap length h.codes ∙ h.are_codes.count in
-    let places = located h.names h.settings t.locations h.locations in
+    let holders = located h.names h.settings t.locations h.locations in
     let nested = nesting_same f.columns h.names (meaning.condition_of s) (condition_of t.condition) h.condition.means in
     let deep = shallow s h.condition.depth in
     let most = h.harts in
@@ -140,10 +140,10 @@ bounded f s t h =
     record {
       starts = ap length h.starts ∙ length-map-range_with_len (registers_of h.settings) 0 f.columns ∙ sym harts;
       forward = subst (λ cs. All GoesForward cs) (sym h.codes) (forward f.columns (flatten f.rows) h.read h.are_codes);
-      atoms = subst (λ n. SpeaksOf n (length t.locations) (condition_of t.condition)) (sym harts) (subst (λ n. SpeaksOf f.columns n (condition_of t.condition)) (sym places) h.there);
+      atoms = subst (λ n. SpeaksOf n (length t.locations) (condition_of t.condition)) (sym harts) (subst (λ n. SpeaksOf f.columns n (condition_of t.condition)) (sym holders) h.there);
       harts = omega (arith, harts, most);
       lengths = subst (λ cs. All (λ code. length code ≤ 32) cs) (sym h.codes) h.within;
       accesses = h.accesses;
-      locations = omega (arith, places, few);
+      locations = omega (arith, holders, few);
       depth = omega (arith, nested, deep);
     }

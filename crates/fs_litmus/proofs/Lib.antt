@@ -4,7 +4,7 @@ pub mod Trimming
 pub mod Utf8Pieces
 pub mod Titles
 pub mod Naming
-pub mod Places
+pub mod Holders
 pub mod Settled
 pub mod Ranges
 pub mod Jumps

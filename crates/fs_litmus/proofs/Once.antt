@@ -8,7 +8,7 @@ use Rattle.fs_tokens.proofs.Reading.{tokens_only}
 use Rattle.fs_form.specs.Init as init
 use Rattle.fs_form.specs.Init.{Entry, IsInit}
 use Rattle.fs_form.specs.Header as header
-use Rattle.fs_form.specs.declared.header.Place.TheVariants.{BeforeWord}
+use Rattle.fs_form.specs.declared.header.Position.TheVariants.{BeforeWord}
 use Rattle.fs_form.specs.Header.{IsColumns, last, more, IsHeader}
 use Rattle.fs_form.specs.Body.{Body, IsBody}
 use Rattle.fs_form.specs.Rows as rows

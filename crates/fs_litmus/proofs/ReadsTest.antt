@@ -65,7 +65,7 @@ module _ (f : Form) (s : Syntax) (t : Test) (m : MeanTest f s t) (l : IsWithinLi
 
   bounded : IsBounded t
   bounded =
-      let places = located (names_in f s) m.settings t.locations m.locations in
+      let holders = located (names_in f s) m.settings t.locations m.locations in
       let nested = nesting_same f.columns (names_in f s) (meaning.condition_of s) (condition_of t.condition) m.condition in
       let deep = shallow s l.depth in
       let there = speaks f.columns (names_in f s) (meaning.condition_of s) (condition_of t.condition) m.condition in
@@ -75,11 +75,11 @@ module _ (f : Form) (s : Syntax) (t : Test) (m : MeanTest f s t) (l : IsWithinLi
       record {
         starts = ap length m.starts ∙ length-map-range_with_len (registers_of m.settings) 0 f.columns ∙ sym harts;
         forward = forward f.columns (flatten f.rows) t.codes m.codes;
-        atoms = subst (λ n. SpeaksOf n (length t.locations) (condition_of t.condition)) (sym harts) (subst (λ n. SpeaksOf f.columns n (condition_of t.condition)) (sym places) there);
+        atoms = subst (λ n. SpeaksOf n (length t.locations) (condition_of t.condition)) (sym harts) (subst (λ n. SpeaksOf f.columns n (condition_of t.condition)) (sym holders) there);
         harts = omega (arith, count, most);
         lengths = l.instructions;
         accesses = l.accesses;
-        locations = omega (arith, places, few);
+        locations = omega (arith, holders, few);
         depth = omega (arith, nested, deep);
       }
 

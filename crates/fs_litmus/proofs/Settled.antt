@@ -15,11 +15,11 @@ use Rattle.fs_condition.specs.Meaning as meaning
 use Rattle.fs_syntax.specs.Condition.{Condition, Always, Never, Deny, Both, Either, SpeaksOf}
 use Rattle.fs_syntax.specs.Test.{IsStart}
 use Rattle.fs_litmus.specs.Locations.{Names, Binding, number_of_location}
-use Rattle.fs_litmus.specs.Settings.{signed, address_word, word_of, register_place, place_of, setting_of, IsThere, is_x0, same_place, places, fresh, settings_after}
+use Rattle.fs_litmus.specs.Settings.{signed, address_word, word_of, register_holder, holder_of, setting_of, IsThere, is_x0, same_holder, holders, fresh, settings_after}
 use Rattle.fs_litmus.specs.Starts.{word_at, registers_of, starts_of}
 use Rattle.fs_litmus.specs.Atoms.{atom_at, condition_in}
-use Rattle.fs_litmus.specs.declared.settings.Place.{Place}
-use Rattle.fs_litmus.specs.declared.settings.Place.TheVariants as place
+use Rattle.fs_litmus.specs.declared.settings.Holder.{Holder}
+use Rattle.fs_litmus.specs.declared.settings.Holder.TheVariants as holder
 use Rattle.fs_litmus.specs.declared.settings.Setting.{Setting}
 use Rattle.fs_litmus.proofs.Bools.{both}
 
@@ -75,44 +75,44 @@ word_below names (Address name) w e =
     let k = map_found address_word (number_of_location names name) w e in
     subst (λ n. n < 2 ^ 32) k.holds (below_modulus (4096 + 16 * k.value))
 
--- ---- places
+-- ---- holders
 
-register_there : (columns names h r : ℕ) (p : Place) → r < 32 → register_place columns h r ≡ Some p → IsThere columns names p
+register_there : (columns names h r : ℕ) (p : Holder) → r < 32 → register_holder columns h r ≡ Some p → IsThere columns names p
 register_there columns names h r p low e =
-    let t = passed (nat_lt h columns) (place.Register h r) p e in
+    let t = passed (nat_lt h columns) (holder.Register h r) p e in
     subst (IsThere columns names) t.1 (ltb-true h columns t.0, low)
 
-pub place_there : (columns : ℕ) (names : Names) (t : Target) (p : Place) → place_of columns names t ≡ Some p → IsThere columns (length names) p
-place_there columns names (Register h r) p e =
-    let n = then_found (λ n. option_and_then (register_place columns n) (register_of r)) (number_of h) p e in
-    let k = then_found (register_place columns n.value) (register_of r) p n.holds in
+pub holder_there : (columns : ℕ) (names : Names) (t : Target) (p : Holder) → holder_of columns names t ≡ Some p → IsThere columns (length names) p
+holder_there columns names (Register h r) p e =
+    let n = then_found (λ n. option_and_then (register_holder columns n) (register_of r)) (number_of h) p e in
+    let k = then_found (register_holder columns n.value) (register_of r) p n.holds in
     register_there columns (length names) n.value k.value p (register_below r k.value k.is) k.holds
-place_there columns names (Location w) p e =
-    let k = map_found (λ k. place.Location k) (number_of_location names w) p e in
+holder_there columns names (Location w) p e =
+    let k = map_found (λ k. holder.Location k) (number_of_location names w) p e in
     subst (IsThere columns (length names)) k.holds (position-Some (bytes_eq w) names k.value [] k.is).0
 
 -- a setting of what is there, to a word of 32 bits
 pub record IsSettled (columns names : ℕ) (s : Setting) : Type 0 where
-  pub there : IsThere columns names s.place
+  pub there : IsThere columns names s.holder
   pub fits : s.word < 2 ^ 32
 
 pub settled : (columns : ℕ) (names : Names) (b : Binding) (s : Setting) → setting_of columns names b ≡ Some s → IsSettled columns (length names) s
 settled columns names b s e =
-    let p = then_found (λ p. option_map (λ w. record { place = p; word = w }) (word_of names b.1)) (place_of columns names b.0) s e in
-    let w = map_found (λ w. record { place = p.value; word = w }) (word_of names b.1) s p.holds in
-    subst (IsSettled columns (length names)) w.holds (record { there = place_there columns names b.0 p.value p.is; fits = word_below names b.1 w.value w.is })
+    let p = then_found (λ p. option_map (λ w. record { holder = p; word = w }) (word_of names b.1)) (holder_of columns names b.0) s e in
+    let w = map_found (λ w. record { holder = p.value; word = w }) (word_of names b.1) s p.holds in
+    subst (IsSettled columns (length names)) w.holds (record { there = holder_there columns names b.0 p.value p.is; fits = word_below names b.1 w.value w.is })
 
 -- ---- conditions
 
-atom_speaks : (columns names : ℕ) (p : Place) (w : ℕ) → IsThere columns names p → w < 2 ^ 32 → SpeaksOf columns names (atom_at p w)
-atom_speaks columns names (place.Register h r) w t l = (t.0, t.1, l)
-atom_speaks columns names (place.Location k) w t l = (t, l)
+atom_speaks : (columns names : ℕ) (p : Holder) (w : ℕ) → IsThere columns names p → w < 2 ^ 32 → SpeaksOf columns names (atom_at p w)
+atom_speaks columns names (holder.Register h r) w t l = (t.0, t.1, l)
+atom_speaks columns names (holder.Location k) w t l = (t, l)
 
 pub speaks : (columns : ℕ) (names : Names) (w : meaning.Condition) (c : Condition) → condition_in columns names w ≡ Some c → SpeaksOf columns (length names) c
 speaks columns names (meaning.Atom t v) c e =
-    let s = map_found (λ s. atom_at s.place s.word) (setting_of columns names (t, v)) c e in
+    let s = map_found (λ s. atom_at s.holder s.word) (setting_of columns names (t, v)) c e in
     let h = settled columns names (t, v) s.value s.is in
-    subst (SpeaksOf columns (length names)) s.holds (atom_speaks columns (length names) s.value.place s.value.word h.there h.fits)
+    subst (SpeaksOf columns (length names)) s.holds (atom_speaks columns (length names) s.value.holder s.value.word h.there h.fits)
 speaks columns names meaning.True c e = let same : Always ≡ c = cc in subst (SpeaksOf columns (length names)) same tt
 speaks columns names meaning.False c e = let same : Never ≡ c = cc in subst (SpeaksOf columns (length names)) same tt
 speaks columns names (meaning.Deny w) c e =
@@ -132,9 +132,9 @@ speaks columns names (meaning.Either a b) c e =
 -- words of 32 bits, of other registers than x0
 abbrev pub AreFine : List Setting → Type 0
 AreFine [] = Unit {0}
-AreFine (s ∷ ss) = (s.word < 2 ^ 32) × (is_x0 s.place ≡ false) × AreFine ss
+AreFine (s ∷ ss) = (s.word < 2 ^ 32) × (is_x0 s.holder ≡ false) × AreFine ss
 
-fine_push : (ss : List Setting) (s : Setting) → AreFine ss → s.word < 2 ^ 32 → is_x0 s.place ≡ false → AreFine (ss ++ s ∷ [])
+fine_push : (ss : List Setting) (s : Setting) → AreFine ss → s.word < 2 ^ 32 → is_x0 s.holder ≡ false → AreFine (ss ++ s ∷ [])
 fine_push [] s h l e = (l, e, tt)
 fine_push (x ∷ ss) s h l e = (h.0, h.1, fine_push ss s h.2 l e)
 
@@ -143,17 +143,17 @@ set_if true b s t e = absurd (cc)
 set_if false true s t e = absurd (cc)
 set_if false false s t e = (cc, refl)
 
-fresh_fine : (columns : ℕ) (names : Names) (ss : List Setting) (b : Binding) (s : Setting) → option_and_then (fresh (places ss)) (setting_of columns names b) ≡ Some s → (s.word < 2 ^ 32) × (is_x0 s.place ≡ false)
+fresh_fine : (columns : ℕ) (names : Names) (ss : List Setting) (b : Binding) (s : Setting) → option_and_then (fresh (holders ss)) (setting_of columns names b) ≡ Some s → (s.word < 2 ^ 32) × (is_x0 s.holder ≡ false)
 fresh_fine columns names ss b s e =
-    let x = then_found (fresh (places ss)) (setting_of columns names b) s e in
+    let x = then_found (fresh (holders ss)) (setting_of columns names b) s e in
     let h = settled columns names b x.value x.is in
-    let t = set_if (is_x0 x.value.place) (list_any (same_place x.value.place) (places ss)) x.value s x.holds in
-    subst (λ (z : Setting). (z.word < 2 ^ 32) × (is_x0 z.place ≡ false)) t.0 (h.fits, t.1)
+    let t = set_if (is_x0 x.value.holder) (list_any (same_holder x.value.holder) (holders ss)) x.value s x.holds in
+    subst (λ (z : Setting). (z.word < 2 ^ 32) × (is_x0 z.holder ≡ false)) t.0 (h.fits, t.1)
 
 pub settings_fine : (columns : ℕ) (names : Names) (ss all : List Setting) (bs : List Binding) → AreFine ss → settings_after columns names ss bs ≡ Some all → AreFine all
 settings_fine columns names ss all [] h e = let same : ss ≡ all = cc in subst AreFine same h
 settings_fine columns names ss all (b ∷ bs) h e =
-    let s = then_found (λ s. settings_after columns names (ss ++ s ∷ []) bs) (option_and_then (fresh (places ss)) (setting_of columns names b)) all e in
+    let s = then_found (λ s. settings_after columns names (ss ++ s ∷ []) bs) (option_and_then (fresh (holders ss)) (setting_of columns names b)) all e in
     let f = fresh_fine columns names ss b s.value s.is in
     settings_fine columns names (ss ++ s.value ∷ []) all bs (fine_push ss s.value h f.0 f.1) s.holds
 
@@ -161,30 +161,30 @@ either_word : (c : Bool) (a b : ℕ) → a < 2 ^ 32 → b < 2 ^ 32 → cond c a 
 either_word true a b h k = h
 either_word false a b h k = k
 
-pub word_at_below : (ss : List Setting) (p : Place) → AreFine ss → word_at ss p < 2 ^ 32
+pub word_at_below : (ss : List Setting) (p : Holder) → AreFine ss → word_at ss p < 2 ^ 32
 word_at_below [] p h = omega arith
-word_at_below (s ∷ ss) p h = either_word (same_place s.place p) s.word (word_at ss p) h.0 (word_at_below ss p h.2)
+word_at_below (s ∷ ss) p h = either_word (same_holder s.holder p) s.word (word_at ss p) h.0 (word_at_below ss p h.2)
 
-not_zero : (p : Place) (h : ℕ) → is_x0 p ≡ false → same_place p (place.Register h 0) ≡ false
-not_zero (place.Register g q) h e = none (g == h) (q == 0) e where
+not_zero : (p : Holder) (h : ℕ) → is_x0 p ≡ false → same_holder p (holder.Register h 0) ≡ false
+not_zero (holder.Register g q) h e = none (g == h) (q == 0) e where
   none : (a b : Bool) → b ≡ false → (a && b) ≡ false
   none true b e = e
   none false b e = refl
-not_zero (place.Location k) h e = refl
+not_zero (holder.Location k) h e = refl
 
-zero_word : (ss : List Setting) (h : ℕ) → AreFine ss → word_at ss (place.Register h 0) ≡ 0
+zero_word : (ss : List Setting) (h : ℕ) → AreFine ss → word_at ss (holder.Register h 0) ≡ 0
 zero_word [] h f = refl
-zero_word (s ∷ ss) h f = ap (λ c. cond c s.word (word_at ss (place.Register h 0))) (not_zero s.place h f.1) ∙ zero_word ss h f.2
+zero_word (s ∷ ss) h f = ap (λ c. cond c s.word (word_at ss (holder.Register h 0))) (not_zero s.holder h f.1) ∙ zero_word ss h f.2
 
 is_start : (ss : List Setting) (h : ℕ) → AreFine ss → IsStart (registers_of ss h)
 is_start ss h f = record {
-  registers = length-map-range_with_len (λ r. word_at ss (place.Register h r)) 0 32;
+  registers = length-map-range_with_len (λ r. word_at ss (holder.Register h r)) 0 32;
   zero_register = zero_word ss h f;
-  fit = All-map (λ w. w < 2 ^ 32) (λ r. word_at ss (place.Register h r)) (range_with_len 0 32) (λ k d low. word_at_below ss _ f);
+  fit = All-map (λ w. w < 2 ^ 32) (λ r. word_at ss (holder.Register h r)) (range_with_len 0 32) (λ k d low. word_at_below ss _ f);
 }
 
 pub are_starts : (columns : ℕ) (ss : List Setting) → AreFine ss → All IsStart (starts_of columns ss)
 are_starts columns ss f = All-map IsStart (registers_of ss) (range_with_len 0 columns) (λ k d low. is_start ss _ f)
 
-pub location_words : (n : ℕ) (ss : List Setting) → AreFine ss → All (λ w. w < 2 ^ 32) (map (λ k. word_at ss (place.Location k)) (range_with_len 0 n))
-location_words n ss f = All-map (λ w. w < 2 ^ 32) (λ k. word_at ss (place.Location k)) (range_with_len 0 n) (λ k d low. word_at_below ss _ f)
+pub location_words : (n : ℕ) (ss : List Setting) → AreFine ss → All (λ w. w < 2 ^ 32) (map (λ k. word_at ss (holder.Location k)) (range_with_len 0 n))
+location_words n ss f = All-map (λ w. w < 2 ^ 32) (λ k. word_at ss (holder.Location k)) (range_with_len 0 n) (λ k d low. word_at_below ss _ f)

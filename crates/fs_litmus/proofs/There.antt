@@ -29,9 +29,9 @@ module _ (columns : ℕ) (names : Names) where
   abbrev Is : Option Condition → Type 0
   Is o = (x : Condition) × (o ≡ Some x)
 
-  atom_is : (o : Option Setting) → (is_some o && true) ≡ true → Is (option_map (λ s. atom_at s.place s.word) o)
+  atom_is : (o : Option Setting) → (is_some o && true) ≡ true → Is (option_map (λ s. atom_at s.holder s.word) o)
   atom_is None e = absurd (cc)
-  atom_is (Some s) e = (atom_at s.place s.word, refl)
+  atom_is (Some s) e = (atom_at s.holder s.word, refl)
 
   deny_is : (o : Option Condition) → Is o → Is (option_map ours.Deny o)
   deny_is o h = (ours.Deny h.0, ap (option_map ours.Deny) h.1)

@@ -4,16 +4,16 @@ use Rattle.fs_condition.specs.Meaning as written
 use Rattle.fs_syntax.specs.Condition.{Condition, Always, Never, RegisterIs, LocationIs, Deny, Both, Either}
 use Rattle.fs_litmus.specs.Locations.{Names, Binding}
 use Rattle.fs_litmus.specs.Settings.{setting_of}
-use Rattle.fs_litmus.specs.declared.settings.Place.{Place}
-use Rattle.fs_litmus.specs.declared.settings.Place.TheVariants as place
+use Rattle.fs_litmus.specs.declared.settings.Holder.{Holder}
+use Rattle.fs_litmus.specs.declared.settings.Holder.TheVariants as holder
 
 -- the register or location has this word at the end
-abbrev pub atom_at : Place → ℕ → Condition
-atom_at (place.Register h r) word = RegisterIs h r word
-atom_at (place.Location k) word = LocationIs k word
+abbrev pub atom_at : Holder → ℕ → Condition
+atom_at (holder.Register h r) word = RegisterIs h r word
+atom_at (holder.Location k) word = LocationIs k word
 
 abbrev pub atom_of : ℕ → Names → Binding → Option Condition
-atom_of columns names b = option_map (λ s. atom_at s.place s.word) (setting_of columns names b)
+atom_of columns names b = option_map (λ s. atom_at s.holder s.word) (setting_of columns names b)
 
 abbrev pub with_both : (Condition → Condition → Condition) → Option Condition → Option Condition → Option Condition
 with_both f a b = option_and_then (λ x. option_map (λ y. f x y) b) a

@@ -21,9 +21,9 @@ use Rattle.fs_code.specs.Codes.{AreCodes, IsFault}
 use Rattle.fs_kinds.specs.FaultOrder.{IsFirst}
 use Rattle.fs_litmus.specs.Title.{after_line, last_line, HasTitle, IsBody}
 use Rattle.fs_litmus.specs.Locations.{Names}
-use Rattle.fs_litmus.specs.Settings.{place_of, setting_of, is_x0, are_there}
+use Rattle.fs_litmus.specs.Settings.{holder_of, setting_of, is_x0, are_there}
 use Rattle.fs_litmus.specs.Reads.{HasTokens, HasForm, names_in}
-use Rattle.fs_litmus.specs.declared.settings.Place.{Place}
+use Rattle.fs_litmus.specs.declared.settings.Holder.{Holder}
 
 -- ---- the form of the text
 
@@ -51,8 +51,8 @@ pub data IsBroken (bytes : List ℕ) : ℕ → Type 0 where
 -- range, x0, or what an earlier entry sets.
 pub data IsBadEntry (columns : ℕ) (names : Names) (entries : List Entry) : ℕ → Type 0 where
   absent : (before after : List Entry) (e : Entry) → entries ≡ before ++ e ∷ after → setting_of columns names (e.target, e.value) ≡ None → IsBadEntry columns names entries e.line
-  zero : (before after : List Entry) (e : Entry) {p : Place} → entries ≡ before ++ e ∷ after → place_of columns names e.target ≡ Some p → is_x0 p ≡ true → IsBadEntry columns names entries e.line
-  again : (before between after : List Entry) (d e : Entry) {p : Place} → entries ≡ before ++ (d ∷ between ++ e ∷ after) → place_of columns names d.target ≡ Some p → place_of columns names e.target ≡ Some p → IsBadEntry columns names entries e.line
+  zero : (before after : List Entry) (e : Entry) {p : Holder} → entries ≡ before ++ e ∷ after → holder_of columns names e.target ≡ Some p → is_x0 p ≡ true → IsBadEntry columns names entries e.line
+  again : (before between after : List Entry) (d e : Entry) {p : Holder} → entries ≡ before ++ (d ∷ between ++ e ∷ after) → holder_of columns names d.target ≡ Some p → holder_of columns names e.target ≡ Some p → IsBadEntry columns names entries e.line
 
 -- a limit that is passed
 pub data IsPassed (form : Form) (s : grammar.Syntax) : Limit → Type 0 where

@@ -8,23 +8,27 @@ ghost use Rattle.fs_litmus.specs.Settings.{setting_of, IsThere};
 ghost use Rattle.fs_litmus.specs.Atoms.{atom_at, condition_in};
 
 use crate::names::Names;
-use crate::settings::{Place, setting_of};
+use crate::settings::{Holder, setting_of};
 use fs_condition::Tree;
 use fs_instr::Reg;
 use fs_syntax::Outcome;
 use std::alloc::{AllocError, Global};
 
 // The register or location has the word at the end.
-fn outcome_at(columns: usize, names: &Names, place: Place, word: u32) -> Outcome
+fn outcome_at(columns: usize, names: &Names, holder: Holder, word: u32) -> Outcome
     requires harts { columns ≤ most_harts }
     requires locations { length names.now ≤ most_locations }
-    requires there { IsThere columns (length names.now) place }
-    ensures value { condition_of result ≡ atom_at place word }
+    requires there { IsThere columns (length names.now) holder }
+    ensures value { condition_of result ≡ atom_at holder word }
     ensures there { SpeaksOf columns (length names.now) (condition_of result) }
 {
-    match place {
-        Place::Register(hart, register) => Outcome::register_is(hart as u8, Reg::x(register), word),
-        Place::Location(location) => Outcome::LocationIs {
+    match holder {
+        Holder::Register(hart, register) => Outcome::register_is(
+            hart as u8,
+            Reg::x(register),
+            word,
+        ),
+        Holder::Location(location) => Outcome::LocationIs {
             location: location as u8,
             word,
         },
@@ -46,7 +50,7 @@ pub fn outcome_of(
 {
     match tree {
         Tree::Atom(atom) => match setting_of(columns, names, atom.target, atom.value) {
-            Some(setting) => Ok(Some(outcome_at(columns, names, setting.place, setting.word))),
+            Some(setting) => Ok(Some(outcome_at(columns, names, setting.holder, setting.word))),
             None => Ok(None),
         },
         Tree::True => Ok(Some(Outcome::Always)),

@@ -6,44 +6,44 @@ ghost use Rattle.fs_form.specs.Init.{entries_of};
 ghost use Rattle.fs_kinds.specs.FaultOrder.{IsFirst};
 ghost use Rattle.fs_litmus.specs.Checks.{IsEntryFault};
 ghost use Rattle.fs_litmus.specs.Rising.{Rising, entry_lines};
-ghost use Rattle.fs_litmus.specs.Settings.{entry_bindings, settings_after, is_x0, same_place, fresh};
+ghost use Rattle.fs_litmus.specs.Settings.{entry_bindings, settings_after, is_x0, same_holder, fresh};
 
 use crate::names::Names;
-use crate::settings::{Place, Setting, setting_of};
+use crate::settings::{Holder, Setting, setting_of};
 use fs_form::Entry;
 use fs_kinds::Fault;
 use indexmap::IndexSet;
 use std::alloc::{AllocError, Global};
 
-fn is_x0(place: Place) -> bool
-    ensures { result ≡ is_x0 place }
+fn is_x0(holder: Holder) -> bool
+    ensures { result ≡ is_x0 holder }
 {
-    match place {
-        Place::Register(_, register) => register == 0,
-        Place::Location(_) => false,
+    match holder {
+        Holder::Register(_, register) => register == 0,
+        Holder::Location(_) => false,
     }
 }
 
-// Is the place new? It is among those that were seen from then on.
-fn see(seen: &mut IndexSet<Place>, place: Place) -> Result<bool, AllocError>
-    ensures added { IfOk result (λ new. new ≡ not (list_any (same_place place) seen.old.keys)) }
-    ensures keys { IfOk result (λ new. IsTrue new → seen.new.keys ≡ seen.old.keys ++ place ∷ []) }
+// Is the holder new? It is among those that were seen from then on.
+fn see(seen: &mut IndexSet<Holder>, holder: Holder) -> Result<bool, AllocError>
+    ensures added { IfOk result (λ new. new ≡ not (list_any (same_holder holder) seen.old.keys)) }
+    ensures keys { IfOk result (λ new. IsTrue new → seen.new.keys ≡ seen.old.keys ++ holder ∷ []) }
 {
-    Ok(seen.insert(place)?)
+    Ok(seen.insert(holder)?)
 }
 
-// The setting, unless it is of x0 or of a place that was seen. Its place is among those that were seen from then on.
-fn fresh(seen: &mut IndexSet<Place>, found: Option<Setting>) -> Result<Option<Setting>, AllocError>
+// The setting, unless it is of x0 or of a holder that was seen. Its holder is among those that were seen from then on.
+fn fresh(seen: &mut IndexSet<Holder>, found: Option<Setting>) -> Result<Option<Setting>, AllocError>
     ensures value { IfOk result (λ s. s ≡ option_and_then (fresh seen.old.keys) found) }
-    ensures keys { IfOk result (λ r. IfSome r (λ s. seen.new.keys ≡ seen.old.keys ++ s.place ∷ [])) }
+    ensures keys { IfOk result (λ r. IfSome r (λ s. seen.new.keys ≡ seen.old.keys ++ s.holder ∷ [])) }
 {
     let Some(setting) = found else {
         return Ok(None);
     };
-    if is_x0(setting.place) {
+    if is_x0(setting.holder) {
         return Ok(None);
     }
-    if see(seen, setting.place)? {
+    if see(seen, setting.holder)? {
         Ok(Some(setting))
     } else {
         Ok(None)

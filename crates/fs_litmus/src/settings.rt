@@ -2,16 +2,16 @@
 
 ghost use Rattle.std.specs.Prelude.{◌≡◌, ℕ, IfSome, length};
 ghost use Rattle.fs_tokens.specs.Values.{target_of, value_of};
-ghost use Rattle.fs_litmus.specs.Settings.{signed, word_of, register_place, place_of, setting_of, IsThere};
+ghost use Rattle.fs_litmus.specs.Settings.{signed, word_of, register_holder, holder_of, setting_of, IsThere};
 
 use crate::names::Names;
 use fs_instr::Reg;
 use fs_syntax::Location;
 use fs_tokens::{Target, Value, number_of};
 
-/// A register of a hart, or a location by its number.
+/// What holds a word: a register of a hart, or a location by its number.
 #[derive(Clone, Copy, Debug, PartialEq, Eq, Hash)]
-pub enum Place {
+pub enum Holder {
     Register(u32, u8),
     Location(usize),
 }
@@ -19,7 +19,7 @@ pub enum Place {
 /// A register or location with a word.
 #[derive(Clone, Copy, Debug)]
 pub struct Setting {
-    pub place: Place,
+    pub holder: Holder,
     pub word: u32,
 }
 
@@ -46,12 +46,12 @@ pub fn word_of(names: &Names, value: Value) -> Option<u32>
     }
 }
 
-fn register_place(columns: usize, hart: u32, register: Reg) -> Option<Place>
-    ensures value { result ≡ register_place columns hart register }
+fn register_holder(columns: usize, hart: u32, register: Reg) -> Option<Holder>
+    ensures value { result ≡ register_holder columns hart register }
     ensures within { IfSome result (λ p. (locations : ℕ) → IsThere columns locations p) }
 {
     if (hart as usize) < columns {
-        Some(Place::Register(hart, register.number()))
+        Some(Holder::Register(hart, register.number()))
     } else {
         None
     }
@@ -59,24 +59,24 @@ fn register_place(columns: usize, hart: u32, register: Reg) -> Option<Place>
 
 /// The register or location that a target means; nothing for a hart without a column, for an unknown register, and for a
 /// name that isn't declared.
-pub fn place_of(columns: usize, names: &Names, target: Target) -> Option<Place>
-    ensures value { result ≡ place_of columns names.now (target_of target.entry) }
+pub fn holder_of(columns: usize, names: &Names, target: Target) -> Option<Holder>
+    ensures value { result ≡ holder_of columns names.now (target_of target.entry) }
     ensures within { IfSome result (λ p. IsThere columns (length names.now) p) }
 {
     match target {
         Target::Register { hart, register } => {
-            register_place(columns, number_of(hart)?, Reg::of(register)?)
+            register_holder(columns, number_of(hart)?, Reg::of(register)?)
         }
-        Target::Location(name) => Some(Place::Location(names.number_of(name)?)),
+        Target::Location(name) => Some(Holder::Location(names.number_of(name)?)),
     }
 }
 
 /// The register or location of a binding, and its word.
 pub fn setting_of(columns: usize, names: &Names, target: Target, value: Value) -> Option<Setting>
     ensures value { result ≡ setting_of columns names.now (target_of target.entry, value_of value.entry) }
-    ensures within { IfSome result (λ s. IsThere columns (length names.now) s.place) }
+    ensures within { IfSome result (λ s. IsThere columns (length names.now) s.holder) }
 {
-    let place = place_of(columns, names, target)?;
+    let holder = holder_of(columns, names, target)?;
     let word = word_of(names, value)?;
-    Some(Setting { place, word })
+    Some(Setting { holder, word })
 }

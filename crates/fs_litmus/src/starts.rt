@@ -3,37 +3,37 @@
 ghost use Rattle.std.specs.Prelude.{◌≡◌, map, IfOk};
 ghost use Rattle.std.specs.List.{range_with_len};
 ghost use Rattle.fs_litmus.specs.Starts.{word_at, registers_of, starts_of, AreLocations};
-ghost use Rattle.fs_litmus.specs.Settings.{same_place};
+ghost use Rattle.fs_litmus.specs.Settings.{same_holder};
 
 use crate::names::Names;
-use crate::settings::{Place, Setting};
+use crate::settings::{Holder, Setting};
 use fs_syntax::{Location, Locations, Name, Registers, Starts};
 use std::alloc::{AllocError, Global};
 
-fn is_register(place: Place, hart: u32, register: u8) -> bool
-    ensures { result ≡ same_place place (Place.Register hart register) }
+fn is_register(holder: Holder, hart: u32, register: u8) -> bool
+    ensures { result ≡ same_holder holder (Holder.Register hart register) }
 {
-    match place {
-        Place::Register(other, named) => other == hart && named == register,
-        Place::Location(_) => false,
+    match holder {
+        Holder::Register(other, named) => other == hart && named == register,
+        Holder::Location(_) => false,
     }
 }
 
-fn is_location(place: Place, location: usize) -> bool
-    ensures { result ≡ same_place place (Place.Location location) }
+fn is_location(holder: Holder, location: usize) -> bool
+    ensures { result ≡ same_holder holder (Holder.Location location) }
 {
-    match place {
-        Place::Register(_, _) => false,
-        Place::Location(other) => other == location,
+    match holder {
+        Holder::Register(_, _) => false,
+        Holder::Location(other) => other == location,
     }
 }
 
 // The word that is set for a register, and 0 where none is.
 fn register_word(settings: &[Setting], hart: u32, register: u8) -> u32
-    ensures { result ≡ word_at settings.now (Place.Register hart register) }
+    ensures { result ≡ word_at settings.now (Holder.Register hart register) }
 {
     for setting in settings {
-        if is_register(setting.place, hart, register) {
+        if is_register(setting.holder, hart, register) {
             return setting.word;
         }
     }
@@ -42,10 +42,10 @@ fn register_word(settings: &[Setting], hart: u32, register: u8) -> u32
 
 // The word that is set for a location, and 0 where none is.
 fn location_word(settings: &[Setting], location: usize) -> u32
-    ensures { result ≡ word_at settings.now (Place.Location location) }
+    ensures { result ≡ word_at settings.now (Holder.Location location) }
 {
     for setting in settings {
-        if is_location(setting.place, location) {
+        if is_location(setting.holder, location) {
             return setting.word;
         }
     }
@@ -59,7 +59,7 @@ fn words_of(
     hart: u32,
     count: u8,
 ) -> Result<Vec<u32>, AllocError>
-    ensures { IfOk result (λ v. v.items ≡ map (λ r. word_at settings.now (Place.Register hart r)) (range_with_len 0 count)) }
+    ensures { IfOk result (λ v. v.items ≡ map (λ r. word_at settings.now (Holder.Register hart r)) (range_with_len 0 count)) }
 {
     let mut words = Vec::new(alloc);
     for register in 0..count {

@@ -50,7 +50,7 @@ both_true true false e f = f
 both_true false b e f = e
 
 module _ (columns : ℕ) (names : Names) where
-  one_there : (o : Option Setting) (c : ours.Condition) → option_map (λ s. atom_at s.place s.word) o ≡ Some c → (is_some o && true) ≡ true
+  one_there : (o : Option Setting) (c : ours.Condition) → option_map (λ s. atom_at s.holder s.word) o ≡ Some c → (is_some o && true) ≡ true
   one_there None c e = absurd (cc)
   one_there (Some s) c e = refl
 

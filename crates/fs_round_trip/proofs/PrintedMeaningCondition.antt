@@ -13,8 +13,8 @@ use Rattle.fs_round_trip.proofs.PrintedMeaningValues.{register_set, location_ask
 pub condition_back : (columns : ℕ) (ls : List Location) (c : Condition) → AreApart ls → length ls ≤ 8 → columns ≤ 8 → SpeaksOf columns (length ls) c → condition_in columns (names_of ls) (meaning.condition_of (syntax_of ls c)) ≡ Some c
 condition_back columns ls condition.Always apart few harts h = refl
 condition_back columns ls condition.Never apart few harts h = refl
-condition_back columns ls (condition.RegisterIs hart reg w) apart few harts h = ap (option_map (λ s. atom_at s.place s.word)) (register_set columns ls hart reg w apart few h.0 harts h.1 h.2)
-condition_back columns ls (condition.LocationIs k w) apart few harts h = ap (option_map (λ s. atom_at s.place s.word)) (location_asked columns ls k w apart few h.0 h.1)
+condition_back columns ls (condition.RegisterIs hart reg w) apart few harts h = ap (option_map (λ s. atom_at s.holder s.word)) (register_set columns ls hart reg w apart few h.0 harts h.1 h.2)
+condition_back columns ls (condition.LocationIs k w) apart few harts h = ap (option_map (λ s. atom_at s.holder s.word)) (location_asked columns ls k w apart few h.0 h.1)
 condition_back columns ls (condition.Deny c) apart few harts h = ap (option_map condition.Deny) (condition_back columns ls c apart few harts h)
 condition_back columns ls (condition.Both c d) apart few harts h = ap₂ (with_both condition.Both) (condition_back columns ls c apart few harts h.0) (condition_back columns ls d apart few harts h.1)
 condition_back columns ls (condition.Either c d) apart few harts h = ap₂ (with_both condition.Either) (condition_back columns ls c apart few harts h.0) (condition_back columns ls d apart few harts h.1)

@@ -6,9 +6,9 @@ use Rattle.fs_instr.specs.Registers.{register_of}
 use Rattle.fs_instr.proofs.Printed.{number_back, register_back}
 use Rattle.fs_litmus.specs.Locations.{Names}
 use Rattle.fs_litmus.specs.Settings as settings
-use Rattle.fs_litmus.specs.Settings.{word_of, place_of, register_place, setting_of}
-use Rattle.fs_litmus.specs.declared.settings.Place.{Place}
-use Rattle.fs_litmus.specs.declared.settings.Place.TheVariants as place
+use Rattle.fs_litmus.specs.Settings.{word_of, holder_of, register_holder, setting_of}
+use Rattle.fs_litmus.specs.declared.settings.Holder.{Holder}
+use Rattle.fs_litmus.specs.declared.settings.Holder.TheVariants as holder
 use Rattle.fs_syntax.specs.Printed.{name_of}
 use Rattle.fs_syntax.specs.Test.{address_of}
 use Rattle.fs_syntax.specs.declared.test.Location as locations
@@ -54,41 +54,41 @@ value_word ls k (x ∷ rest) w apart few small h =
 pub written_word : (ls : List locations.Location) (w : ℕ) → AreApart ls → length ls ≤ 8 → w < 2 ^ 32 → word_of (names_of ls) (written_value ls w) ≡ Some w
 written_word ls w apart few small = value_word ls 0 ls w apart few small (λ j x e. let same : j ≡ 0 + j = omega arith in subst (λ n. slice_get ls n ≡ Some x) same e)
 
--- ---- places
+-- ---- holders
 
-register_there : (columns h r : ℕ) → h < columns → register_place columns h r ≡ Some (place.Register h r)
-register_there columns h r e = let t : ltb h columns ≡ true = grind (arith, nat_tests) in ap (λ b. cond b (Some (place.Register h r)) None) t
+register_there : (columns h r : ℕ) → h < columns → register_holder columns h r ≡ Some (holder.Register h r)
+register_there columns h r e = let t : ltb h columns ≡ true = grind (arith, nat_tests) in ap (λ b. cond b (Some (holder.Register h r)) None) t
 
-register_target : (columns : ℕ) (names : Names) (h r : ℕ) → h < columns → columns ≤ 8 → r < 32 → place_of columns names (Register (decimal h) (register_name r)) ≡ Some (place.Register h r)
+register_target : (columns : ℕ) (names : Names) (h r : ℕ) → h < columns → columns ≤ 8 → r < 32 → holder_of columns names (Register (decimal h) (register_name r)) ≡ Some (holder.Register h r)
 register_target columns names h r e few small =
-    ap (λ o. option_and_then (λ n. option_and_then (register_place columns n) (register_of (register_name r))) o) (number_back h (omega (arith, e, few)))
-    ∙ ap (λ o. option_and_then (register_place columns h) o) (register_back r small)
+    ap (λ o. option_and_then (λ n. option_and_then (register_holder columns n) (register_of (register_name r))) o) (number_back h (omega (arith, e, few)))
+    ∙ ap (λ o. option_and_then (register_holder columns h) o) (register_back r small)
     ∙ register_there columns h r e
 
-location_target : (columns : ℕ) (ls : List locations.Location) (k : ℕ) (x : locations.Location) → AreApart ls → slice_get ls k ≡ Some x → place_of columns (names_of ls) (Location x.name) ≡ Some (place.Location k)
-location_target columns ls k x apart e = ap (option_map (λ n. place.Location n)) (number_of_name ls k x apart e)
+location_target : (columns : ℕ) (ls : List locations.Location) (k : ℕ) (x : locations.Location) → AreApart ls → slice_get ls k ≡ Some x → holder_of columns (names_of ls) (Location x.name) ≡ Some (holder.Location k)
+location_target columns ls k x apart e = ap (option_map (λ n. holder.Location n)) (number_of_name ls k x apart e)
 
 -- ---- settings
 
-setting_from : (columns : ℕ) (names : Names) (t : Target) (v : Value) (p : Place) (w : ℕ) → place_of columns names t ≡ Some p → word_of names v ≡ Some w → setting_of columns names (t, v) ≡ Some (record { place = p; word = w })
+setting_from : (columns : ℕ) (names : Names) (t : Target) (v : Value) (p : Holder) (w : ℕ) → holder_of columns names t ≡ Some p → word_of names v ≡ Some w → setting_of columns names (t, v) ≡ Some (record { holder = p; word = w })
 setting_from columns names t v p w e f =
-    ap (λ o. option_and_then (λ q. option_map (λ x. record { place = q; word = x }) (word_of names v)) o) e
-    ∙ ap (λ o. option_map (λ x. record { place = p; word = x }) o) f
+    ap (λ o. option_and_then (λ q. option_map (λ x. record { holder = q; word = x }) (word_of names v)) o) e
+    ∙ ap (λ o. option_map (λ x. record { holder = p; word = x }) o) f
 
-pub register_set : (columns : ℕ) (ls : List locations.Location) (h r w : ℕ) → AreApart ls → length ls ≤ 8 → h < columns → columns ≤ 8 → r < 32 → w < 2 ^ 32 → setting_of columns (names_of ls) (register_binding ls h (r, w)) ≡ Some (record { place = place.Register h r; word = w })
+pub register_set : (columns : ℕ) (ls : List locations.Location) (h r w : ℕ) → AreApart ls → length ls ≤ 8 → h < columns → columns ≤ 8 → r < 32 → w < 2 ^ 32 → setting_of columns (names_of ls) (register_binding ls h (r, w)) ≡ Some (record { holder = holder.Register h r; word = w })
 register_set columns ls h r w apart few e harts low small =
-    setting_from columns (names_of ls) (Register (decimal h) (register_name r)) (written_value ls w) (place.Register h r) w (register_target columns (names_of ls) h r e harts low) (written_word ls w apart few small)
+    setting_from columns (names_of ls) (Register (decimal h) (register_name r)) (written_value ls w) (holder.Register h r) w (register_target columns (names_of ls) h r e harts low) (written_word ls w apart few small)
 
-pub location_set : (columns : ℕ) (ls : List locations.Location) (k : ℕ) (x : locations.Location) → AreApart ls → slice_get ls k ≡ Some x → x.word < 2 ^ 32 → setting_of columns (names_of ls) (location_binding x) ≡ Some (record { place = place.Location k; word = x.word })
+pub location_set : (columns : ℕ) (ls : List locations.Location) (k : ℕ) (x : locations.Location) → AreApart ls → slice_get ls k ≡ Some x → x.word < 2 ^ 32 → setting_of columns (names_of ls) (location_binding x) ≡ Some (record { holder = holder.Location k; word = x.word })
 location_set columns ls k x apart e small =
-    setting_from columns (names_of ls) (Location x.name) (Number false (decimal x.word)) (place.Location k) x.word (location_target columns ls k x apart e) (number_word (names_of ls) x.word small)
+    setting_from columns (names_of ls) (Location x.name) (Number false (decimal x.word)) (holder.Location k) x.word (location_target columns ls k x apart e) (number_word (names_of ls) x.word small)
 
 -- the atom of a location
-pub location_asked : (columns : ℕ) (ls : List locations.Location) (k w : ℕ) → AreApart ls → length ls ≤ 8 → k < length ls → w < 2 ^ 32 → setting_of columns (names_of ls) (Location (name_of ls k), written_value ls w) ≡ Some (record { place = place.Location k; word = w })
+pub location_asked : (columns : ℕ) (ls : List locations.Location) (k w : ℕ) → AreApart ls → length ls ≤ 8 → k < length ls → w < 2 ^ 32 → setting_of columns (names_of ls) (Location (name_of ls k), written_value ls w) ≡ Some (record { holder = holder.Location k; word = w })
 location_asked columns ls k w apart few inside small =
     let at = location_at ls k inside in
-    setting_from columns (names_of ls) (Location (name_of ls k)) (written_value ls w) (place.Location k) w
-    (subst (λ n. place_of columns (names_of ls) (Location n) ≡ Some (place.Location k)) (at.2) (location_target columns ls k at.0 apart at.1))
+    setting_from columns (names_of ls) (Location (name_of ls k)) (written_value ls w) (holder.Location k) w
+    (subst (λ n. holder_of columns (names_of ls) (Location n) ≡ Some (holder.Location k)) (at.2) (location_target columns ls k at.0 apart at.1))
     (written_word ls w apart few small)
   where
     location_at : (ls : List locations.Location) (k : ℕ) → k < length ls → (x : locations.Location) × (slice_get ls k ≡ Some x) × (x.name ≡ name_of ls k)

@@ -1,10 +1,11 @@
-use Rattle.std.proofs.Common.{◌≡◌, ◌≤◌, take}
-use Rattle.fs_code.specs.Cells.{items_of}
+use Rattle.std.proofs.Common.{◌≡◌, ◌≤◌, List, take}
+use Rattle.fs_instr.specs.declared.instr.Instr.{Instr}
+use Rattle.fs_code.specs.inner.Listings.{marked}
 use Rattle.fs_code.specs.Labels.{instruction_count}
 use Rattle.fs_code.proofs.branches.instruction_count.Given as goal
 
-abbrev pub invariant-loop-item : goal.invariant-loop-item
-invariant-loop-item l = record {
-  small : l.number ≤ l.item-index;
-  count : l.number ≡ instruction_count (items_of (take l.item-index l.listing));
+abbrev pub invariant-loop-mark : goal.invariant-loop-mark
+invariant-loop-mark l = record {
+  small : l.number ≤ l.mark-index;
+  count : (code : List Instr) → l.number ≡ instruction_count (marked code (take l.mark-index l.mark-items));
 }

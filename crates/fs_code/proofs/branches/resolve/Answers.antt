@@ -1,15 +1,16 @@
-use Rattle.std.proofs.Common.{append-nil, [], ◌∷◌, ◌++◌, ◌∙◌, sym, ap, take, option_map}
-use Rattle.fs_code.specs.Cells.{items_of}
+use Rattle.std.proofs.Common.{append-nil, option_map, [], ◌∷◌, ◌++◌, ◌∙◌, sym, ap, take}
+use Rattle.fs_code.specs.inner.Listings.{marked}
 use Rattle.fs_code.specs.Labels.{resolved, with_label}
 use Rattle.fs_code.proofs.LabelLemmas.{resolved_next}
+use Rattle.fs_code.proofs.ListingLemmas.{instruction_at}
 use Rattle.fs_code.proofs.branches.resolve.Goals as goal
 use Rattle.fs_code.proofs.branches.resolve.Goals.{in-Instruction+in_ok-push-in-Instruction, in-Label}
 
-pub loop-item-preserved : goal.loop-item-preserved
-loop-item-preserved c =
-    let hart = items_of c.args.listing.now in
-    let done = resolved hart (items_of (take c.loop-item.item-index c.args.listing.now)) in
-    elim c.match-item.branch [
-      | in-Instruction+in_ok-push-in-Instruction w ↦ ap (λ v. v.items) w.code-is ∙ w.in_ok-push-in-Instruction.ensures.items ∙ ap (λ l. l ++ w.with_label.result ∷ []) c.loop-item.invariant ∙ ap (λ i. done ++ i ∷ []) (w.with_label.ensures ∙ ap (λ j. with_label hart j (option_map (λ x. x.now) w.in-Instruction.target)) w.instr_of.ensures) ∙ sym (resolved_next hart c.args.listing.now c.loop-item.item-index _ _ c.loop-item-test.true w.in-Instruction.is)
-      | in-Label w ↦ ap (λ v. v.items) w.code-is ∙ c.loop-item.invariant ∙ sym (resolved_next hart c.args.listing.now c.loop-item.item-index _ _ c.loop-item-test.true w.in-Label.is ∙ append-nil done)
+pub loop-mark-preserved : goal.loop-mark-preserved
+loop-mark-preserved c =
+    let hart = c.args.listing.now in
+    let done = resolved hart (marked c.listing.inside.code.items (take c.loop-mark.mark-index c.deref-mark-items.result.now)) in
+    elim c.match-mark.branch [
+      | in-Instruction+in_ok-push-in-Instruction w ↦ ap (λ v. v.items) w.code-is ∙ w.in_ok-push-in-Instruction.ensures.items ∙ ap (λ l. l ++ w.with_label.result ∷ []) c.loop-mark.invariant ∙ ap (λ i. done ++ i ∷ []) (w.with_label.ensures ∙ ap (λ i. with_label hart i (option_map (λ x. x.now) w.in-Instruction.target)) (instruction_at _ _ _ _ _ _ _ _ _ c.listing.invariant c.deref-mark-items.ensures.value c.loop-mark-test.true w.in-Instruction.is w.index.ensures)) ∙ sym (resolved_next _ hart c.deref-mark-items.result.now c.loop-mark.mark-index _ _ c.loop-mark-test.true w.in-Instruction.is)
+      | in-Label w ↦ ap (λ v. v.items) w.code-is ∙ c.loop-mark.invariant ∙ sym (resolved_next _ hart c.deref-mark-items.result.now c.loop-mark.mark-index _ _ c.loop-mark-test.true w.in-Label.is ∙ append-nil done)
     ]

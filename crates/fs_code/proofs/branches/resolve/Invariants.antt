@@ -1,7 +1,7 @@
 use Rattle.std.proofs.Common.{◌≡◌, take}
-use Rattle.fs_code.specs.Cells.{items_of}
+use Rattle.fs_code.specs.inner.Listings.{marked}
 use Rattle.fs_code.specs.Labels.{resolved}
 use Rattle.fs_code.proofs.branches.resolve.Given as goal
 
-abbrev pub invariant-loop-item : goal.invariant-loop-item
-invariant-loop-item l = l.code.items ≡ resolved (items_of l.listing) (items_of (take l.item-index l.listing))
+abbrev pub invariant-loop-mark : goal.invariant-loop-mark
+invariant-loop-mark l = l.code.items ≡ resolved l.listing (marked l.listing-inside.code.items (take l.mark-index l.mark-items))

@@ -1,6 +1,5 @@
 use Rattle.std.proofs.Common.{[], ◌∷◌, ◌++◌, ◌∙◌, ap, append_assoc}
-use Rattle.std.proofs.lemmas.List.{map-append}
-use Rattle.fs_code.specs.Cells.{Label, item_of, items_of}
+use Rattle.fs_code.specs.Cells.{Label}
 use Rattle.fs_code.proofs.CellLemmas.{label_more, labels_end, room_after}
 use Rattle.fs_code.proofs.cell.read_labels.Goals as goal
 
@@ -10,7 +9,7 @@ loop-name-preserved c =
     record {
       room = room_after c.args.cell.now _ c.loop-name.taken c.skip.ensures c.in-Some.ensures.room c.loop-name.invariant.room;
       added = c.loop-name.invariant.added ++ new_label;
-      new_is = ap (λ l. items_of l) c.in_ok-push.ensures.items ∙ map-append item_of c.loop-name.listing.items _ ∙ ap (λ l. l ++ new_label) c.loop-name.invariant.new_is ∙ append_assoc (items_of c.args.listing.now.items) c.loop-name.invariant.added new_label;
+      new_is = c.in_ok-push_label.ensures ∙ ap (λ l. l ++ new_label) c.loop-name.invariant.new_is ∙ append_assoc c.args.listing.now c.loop-name.invariant.added new_label;
       labels = λ xs rest h. label_more c.args.cell.now _ c.loop-name.taken c.loop-name.invariant.added c.in-Some.name.now c.in-Some.line c.skip.ensures c.in-Some.ensures.value c.loop-name.invariant.labels xs rest h;
     }
 

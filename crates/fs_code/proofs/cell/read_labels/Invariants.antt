@@ -1,13 +1,13 @@
 use Rattle.std.proofs.Common.{◌≡◌, ◌≤◌, ◌-◌, ◌++◌, List, length, drop}
 use Rattle.fs_tokens.specs.Tokens.{Lined, views}
-use Rattle.fs_code.specs.Cells.{Item, items_of, AreLabels}
+use Rattle.fs_code.specs.Cells.{Item, AreLabels}
 use Rattle.fs_code.proofs.cell.read_labels.Given as goal
 
 abbrev pub invariant-loop-name : goal.invariant-loop-name
 invariant-loop-name l = record {
   room : l.taken ≤ length l.cell;
   added : List Item;
-  new_is : items_of l.listing.items ≡ items_of l.initial.listing.items ++ added;
+  new_is : l.listing ≡ l.initial.listing ++ added;
   labels : (xs : List Item) (rest : List Lined) → AreLabels (views (drop l.taken l.cell)) xs rest → AreLabels (views l.cell) (added ++ xs) rest;
 }
 

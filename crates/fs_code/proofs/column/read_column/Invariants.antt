@@ -1,6 +1,5 @@
 use Rattle.std.proofs.Common.{◌≡◌, ◌++◌, List, length}
 use Rattle.fs_tokens.specs.Tokens.{Lined}
-use Rattle.fs_code.specs.Cells.{items_of}
 use Rattle.fs_code.specs.Columns.{column, cells_of}
 use Rattle.fs_code.proofs.ColumnLemmas.{ColumnRead}
 use Rattle.fs_code.proofs.column.read_column.Given as goal
@@ -9,7 +8,7 @@ abbrev pub invariant-loop-cell : goal.invariant-loop-cell
 invariant-loop-cell l = record {
   seen : List (List Lined);
   split : column l.columns 0 (cells_of l.cells) ≡ seen ++ column l.columns 0 (cells_of l.rest);
-  read : ColumnRead seen (items_of l.listing.items) l.fault;
+  read : ColumnRead seen l.listing l.fault;
 }
 
 abbrev pub decreases-loop-cell : goal.decreases-loop-cell

@@ -8,7 +8,7 @@ use Rattle.fs_form.specs.Init.{entries_of, entry_of}
 use Rattle.fs_kinds.specs.FaultOrder.{IsFirst}
 use Rattle.fs_litmus.specs.declared.settings.Setting.{Setting}
 use Rattle.fs_litmus.specs.Locations.{Names}
-use Rattle.fs_litmus.specs.Settings.{entry_bindings, settings_after, places}
+use Rattle.fs_litmus.specs.Settings.{entry_bindings, settings_after, holders}
 use Rattle.fs_litmus.specs.Checks.{IsEntryFault}
 use Rattle.fs_litmus.specs.Rising.{Rising, entry_lines}
 use Rattle.fs_litmus.proofs.BadEntries.{fits, after_append, first_entry_fault}
@@ -32,5 +32,5 @@ pub stopped : (columns : ℕ) (names : Names) (ss : List Setting) (es : List Ent
 stopped columns names ss es i e h before none rising =
     first_entry_fault columns names (entries_of es) (entries_of (take i es)) (entries_of (drop (i + 1) es)) (entry_of (get_or es i e)) ss (split_at es i e h) before none rising
 
-pub places_pushed : (ss new : List Setting) (s : Setting) → new ≡ ss ++ s ∷ [] → places new ≡ places ss ++ s.place ∷ []
-places_pushed ss new s e = ap places e ∙ map-append (λ s. s.place) ss (s ∷ [])
+pub holders_pushed : (ss new : List Setting) (s : Setting) → new ≡ ss ++ s ∷ [] → holders new ≡ holders ss ++ s.holder ∷ []
+holders_pushed ss new s e = ap holders e ∙ map-append (λ s. s.holder) ss (s ∷ [])
