@@ -1,13 +1,13 @@
 -- No edge of the judged relation enters an initial store, and no order respects a cycle.
-use Rattle.std.proofs.Common.{◌≡◌, ℕ, ◌+◌, ◌<◌, ◌≤◌, ◌&&◌, not, Bool, true, Some, is_some, List, [], ◌∷◌, ◌++◌, take, drop, map, length, refl, sym, ◌∙◌, ap, arith}
+use Rattle.std.proofs.Common.{◌≡◌, ℕ, ◌+◌, ◌<◌, ◌≤◌, Bool, true, Some, is_some, List, [], ◌∷◌, ◌++◌, take, drop, map, length, refl, sym, ◌∙◌, ap, arith}
 use Rattle.std.specs.List.{list_all, zip}
 use Rattle.std.proofs.lemmas.Bool.{false≢true, and_parts, and_from, or_left, or_right}
 use Rattle.std.proofs.lemmas.List.{length-map}
 use Rattle.fs_kinds.specs.declared.placement.Entry.{Entry}
 use Rattle.fs_syntax.specs.declared.test.Test.{Test}
 use Rattle.fs_syntax.specs.Test.{address_of}
-use Rattle.fs_model.specs.Numbers.{is_same, stands_before}
-use Rattle.fs_model.specs.Operations.{accesses, operations, operation, same_hart}
+use Rattle.fs_model.specs.Numbers.{stands_before}
+use Rattle.fs_model.specs.Operations.{accesses, operations, operation}
 use Rattle.fs_model.specs.Source.{gmo}
 use Rattle.fs_model.specs.Preserved.{ppo, rule}
 use Rattle.fs_answer.specs.Candidates.{Candidate, IsRaw, runs_of, rf, co, stores_to}

@@ -1,0 +1,74 @@
+use Rattle.std.proofs.Common.{◌≡◌, ◌≢◌, ◌+◌, subst, sym, ◌∙◌, arith}
+use Rattle.fs_kinds.specs.declared.fault.Fault.TheVariants.{Memory}
+use Rattle.fs_model.specs.Values.{rounds}
+use Rattle.fs_model.specs.TooMany.{IsRunFault}
+use Rattle.fs_hart.specs.Listing.{IsOffered}
+use Rattle.fs_values.specs.Sets.{AreSets}
+use Rattle.fs_values.specs.Rounds.{IsInNext, HasNoFault, IsFirstHartFault}
+use Rattle.fs_values.proofs.Answered.{handed}
+use Rattle.fs_values.proofs.Finished.{AreCleanBefore, same_sets, grounded, no_run_fault, clean_more, next_round, run_fault, values_at_end, clean_to_end}
+use Rattle.fs_values.proofs.values.Values.of.Goals as goal
+
+pub loop-preserved : goal.loop-preserved
+loop-preserved c =
+    let t = c.args.test.now in
+    let n = c.loop.counter in
+    let sets = c.loop.values in
+    record {
+      sets = next_round t n sets c.loop.invariant.sets c.in_ok-more.more c.in_ok-more.ensures.ok;
+      clean = clean_more t n sets c.loop.invariant.sets c.loop.invariant.clean c.in_ok-more.ensures.clean;
+    }
+
+made : (c : goal.After-drop-more-inside) → AreSets c.args.test.now (IsInNext c.args.test.now (IsOffered c.loop.values)) c.loop.values
+made c =
+    let sets = c.loop.values in
+    same_sets c.in_ok-more.more sets c.as_slice.result.now c.as_slice-in-loop.result.now
+    (AreSets c.args.test.now (IsInNext c.args.test.now (IsOffered sets)))
+    (c.as_slice.ensures.value ∙ c.more.view_is) (c.as_slice-in-loop.ensures.value ∙ c.values.view_is)
+    (sym c.eq.ensures ∙ c.if-eq.true) c.in_ok-more.ensures.ok
+
+clean : (c : goal.After-drop-more-inside) → AreCleanBefore c.args.test.now (rounds c.args.test.now + 1)
+clean c =
+    clean_to_end c.args.test.now c.loop.counter c.loop.values c.loop.invariant.sets (made c) c.loop.invariant.clean c.in_ok-more.ensures.clean
+
+pub returns-then-eq-clause-ok : goal.returns-then-eq-clause-ok
+returns-then-eq-clause-ok c =
+    values_at_end c.args.test.now c.loop.counter c.loop.values c.loop.invariant.sets (made c)
+    (omega (arith, c.loop-test.true, c.rounds-most.ensures))
+
+pub returns-then-eq-clause-clean : goal.returns-then-eq-clause-clean
+returns-then-eq-clause-clean c = no_run_fault c.args.test.now (clean c)
+
+pub returns-then-eq-clause-grounded : goal.returns-then-eq-clause-grounded
+returns-then-eq-clause-grounded c = grounded c.args.test.now c.requires.test c.in_ok-values.ensures.words (clean c)
+
+pub returns-in_err-more-clause-err : goal.returns-in_err-more-clause-err
+returns-in_err-more-clause-err c =
+    let t = c.args.test.now in
+    let fault = c.in_err-more.field-0.0 in
+    handed c.from_residual-in_err-more.result fault (λ f. f ≢ Memory → IsRunFault t f) c.from_residual-in_err-more.ensures.1
+    (λ differs. run_fault t c.loop.counter c.loop.values c.loop.invariant.sets fault c.loop.invariant.clean
+    (omega (arith, c.loop-test.true, c.rounds-most.ensures)) (c.in_err-more.ensures.err differs))
+
+pub returns-in_err-stores_over-clause-err : goal.returns-in_err-stores_over-clause-err
+returns-in_err-stores_over-clause-err c =
+    let t = c.args.test.now in
+    let fault = c.in_err-stores_over.field-0.0 in
+    handed c.from_residual-in_err-stores_over.result fault (λ f. f ≢ Memory → IsRunFault t f) c.from_residual-in_err-stores_over.ensures.1
+    (λ differs. run_fault t c.loop.counter c.loop.values c.loop.invariant.sets fault c.loop.invariant.clean
+    (omega (arith, c.loop.auto.counter-end, c.rounds-most.ensures))
+    (subst (λ ss. IsFirstHartFault t (IsOffered ss) fault) (c.deref.ensures.value ∙ c.values-2.view_is) (c.in_err-stores_over.ensures.err differs)))
+
+clean_last : (c : goal.After-drop-branch) → AreCleanBefore c.args.test.now (rounds c.args.test.now + 1)
+clean_last c =
+    let t = c.args.test.now in
+    let last : c.loop.counter ≡ rounds t = omega (arith, c.loop-test.false, c.loop.auto.counter-end, c.rounds-most.ensures) in
+    subst (λ n. AreCleanBefore t (n + 1)) last
+    (clean_more t c.loop.counter c.loop.values c.loop.invariant.sets c.loop.invariant.clean
+    (subst (λ ss. HasNoFault t (IsOffered ss)) (c.deref.ensures.value ∙ c.values-2.view_is) c.in_ok-stores_over.ensures.clean))
+
+pub returns-clause-clean : goal.returns-clause-clean
+returns-clause-clean c = no_run_fault c.args.test.now (clean_last c)
+
+pub returns-clause-grounded : goal.returns-clause-grounded
+returns-clause-grounded c = grounded c.args.test.now c.requires.test c.in_ok-values.ensures.words (clean_last c)

@@ -1,0 +1,3 @@
+pub mod Sets
+pub mod Rounds
+pub mod inner

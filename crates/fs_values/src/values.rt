@@ -1,0 +1,111 @@
+//! The value sets of a test.
+
+ghost use Rattle.std.specs.Prelude.{◌≡◌, ◌≢◌, ◌<◌, [], All, length, IfOk, OnOk, IfErr};
+ghost use Rattle.std.specs.List.{slice_index_or};
+ghost use Rattle.std.specs.List.Sorted.{IsStrictlyIncreasing};
+ghost use Rattle.fs_kinds.specs.declared.fault.Fault.{Fault};
+ghost use Rattle.fs_kinds.specs.declared.fault.Fault.TheVariants.{Memory};
+ghost use Rattle.fs_syntax.specs.Test.{IsBounded, IsStart};
+ghost use Rattle.fs_model.specs.TooMany.{IsRunFault};
+ghost use Rattle.fs_model.specs.Values.{IsValueAfter};
+ghost use Rattle.fs_hart.specs.Listing.{IsOffered};
+ghost use Rattle.fs_thin_air.specs.ThinAir.{BeginsWithWords, IsAlwaysGrounded};
+ghost use Rattle.fs_values.specs.Sets.{AreSets, AreValues};
+ghost use Rattle.fs_values.specs.Rounds.{IsInNext, HasNoFault, IsFirstHartFault};
+
+use crate::rounds::rounds;
+use crate::stores::{stores_over, with_stores};
+use fs_hart::Words;
+use fs_kinds::Fault;
+use fs_syntax::{Location, Test};
+use std::alloc::{AllocError, Global};
+use std::marker::Model;
+
+/// For each location of a test the words that it can come to hold, as a set whose words rise. Contracts see the list of the sets.
+#[derive(Drop)]
+pub struct Values {
+    sets: Vec<Words>,
+}
+
+impl Model for Values {
+    ghost use Rattle.std.specs.Prelude.{ℕ, List};
+
+    ghost Value = { List (List ℕ) };
+
+    ghost view = { λ values. values.sets.items };
+}
+
+impl Values {
+    // The words that the locations begin with.
+    fn initial(alloc: Global, test: &Test) -> Result<Values, AllocError>
+        ensures sets { IfOk result (AreSets test.now (IsValueAfter test.now 0)) }
+        ensures words { OnOk result (BeginsWithWords test.now) }
+    {
+        let mut sets = Vec::new(alloc);
+        for declared in test.locations.as_slice() {
+            let word = declared.word;
+            sets.push(Words::new(Vec::from_slice(alloc, &[word])?))?;
+        }
+        Ok(Values { sets })
+    }
+
+    // These words, and those that are stored where loads take these.
+    fn next(&self, alloc: Global, test: &Test) -> Result<Values, Fault>
+        requires test { IsBounded test.now }
+        requires starts { All IsStart test.now.starts }
+        requires locations { length self.now ≡ length test.now.locations }
+        requires sets { All IsStrictlyIncreasing self.now }
+        ensures ok { IfOk result (AreSets test.now (IsInNext test.now (IsOffered self.now))) }
+        ensures clean { OnOk result (HasNoFault test.now (IsOffered self.now)) }
+        ensures err { IfErr result (λ fault. fault ≢ Memory → IsFirstHartFault test.now (IsOffered self.now) fault) }
+    {
+        let stores = stores_over(alloc, test, &self.sets)?;
+        let mut sets = Vec::new(alloc);
+        for (location, set) in self.sets.iter().enumerate() {
+            let address = Location::address(location as u8);
+            sets.push(with_stores(alloc, set.as_slice(), &stores, address)?)?;
+        }
+        Ok(Values { sets })
+    }
+
+    /// The value sets of the test, found in rounds: at first the initial words, and in each round also what a run stores whose
+    /// loads take words of the sets before. There are as many rounds as the test has instructions that store, and none after
+    /// one that adds nothing. The fault is the first that is met, round by round and hart by hart: F13 where more than 100,000
+    /// choice lists of the hart end over the sets, else F14; or F19. In a test with these sets every execution is grounded.
+    pub fn of(alloc: Global, test: &Test) -> Result<Values, Fault>
+        requires test { IsBounded test.now }
+        requires starts { All IsStart test.now.starts }
+        ensures ok { IfOk result (AreValues test.now) }
+        ensures clean { OnOk result ((f : Fault) → IsRunFault test.now f → ⊥) }
+        ensures err { IfErr result (λ f. f ≢ Memory → IsRunFault test.now f) }
+        ensures grounded { OnOk result (IsAlwaysGrounded test.now) }
+    {
+        let mut values = Values::initial(alloc, test)?;
+        let most = rounds(test);
+        for _ in 0..most {
+            let more = values.next(alloc, test)?;
+            if more.sets.as_slice() == values.sets.as_slice() {
+                return Ok(values);
+            }
+            values = more;
+        }
+        // What is stored over the last sets is not asked for, but these runs may have a fault.
+        stores_over(alloc, test, &values.sets)?;
+        Ok(values)
+    }
+
+    /// The words that the location can come to hold.
+    pub fn at(&self, location: u8) -> &[u32]
+        requires { location < length self.now }
+        ensures { result.now ≡ slice_index_or self.now location [] }
+    {
+        self.sets[usize::from(location)].as_slice()
+    }
+
+    /// The sets, from that of location 0 on.
+    pub fn as_slice(&self) -> &[Words]
+        ensures { result.now ≡ self.now }
+    {
+        self.sets.as_slice()
+    }
+}
