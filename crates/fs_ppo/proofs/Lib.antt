@@ -1,3 +1,4 @@
 pub mod Tests
 pub mod Made
 pub mod Between
+pub mod Groups

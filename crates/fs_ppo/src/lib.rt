@@ -6,5 +6,7 @@ mod dependencies;
 mod fences;
 mod operations;
 mod rules;
+mod unfenced;
 
 pub use rules::{fence_rule, rule};
+pub use unfenced::is_preserved;

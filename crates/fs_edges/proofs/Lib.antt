@@ -1,0 +1,5 @@
+pub mod Listed
+pub mod Below
+pub mod Orders
+pub mod StepSides
+pub mod Joined

@@ -1,0 +1,2 @@
+pub mod Fencing
+pub mod inner

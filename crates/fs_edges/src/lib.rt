@@ -1,0 +1,12 @@
+//! The judged relation of a candidate, and the edges of placed fences, as rows of bits.
+#![tactic(auto)]
+
+mod base;
+mod fences;
+mod judged;
+pub mod laws;
+mod points;
+
+pub use base::base_rows;
+pub use fences::fence_rows;
+pub use points::{Sides, sides_of};

@@ -1,0 +1,4 @@
+pub mod Edges
+pub mod Orders
+pub mod Judged
+pub mod inner
