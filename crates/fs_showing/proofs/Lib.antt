@@ -1,0 +1,14 @@
+pub mod Among
+pub mod Choosing
+pub mod Ordering
+pub mod Sources
+pub mod StoreOrders
+pub mod Raw
+pub mod Rising
+pub mod ShowingTests
+pub mod Listing
+pub mod Numbered
+pub mod Capped
+pub mod Unranked
+pub mod AllRuns
+pub mod Totals

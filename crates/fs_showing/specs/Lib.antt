@@ -1,0 +1,5 @@
+pub mod Ways
+pub mod RawCandidates
+pub mod ShowingTests
+pub mod inner
+pub mod Over
