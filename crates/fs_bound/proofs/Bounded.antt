@@ -21,7 +21,7 @@ use Rattle.fs_laws.proofs.Weakening.{execution-weaker}
 use Rattle.fs_bound.specs.Bounds.{slots_in_part, IsNoBetter}
 use Rattle.fs_bound.proofs.Breaks.{IsBroken, broken-no-better}
 
-slots_of-filled_with : (kind : Option Kind) (part : Part) → slots_of (filled_with kind part) ≡ slots_in_part part
+pub slots_of-filled_with : (kind : Option Kind) (part : Part) → slots_of (filled_with kind part) ≡ slots_in_part part
 slots_of-filled_with kind [] = refl
 slots_of-filled_with kind (d ∷ part) = ap (λ ss. d.slot ∷ ss) (slots_of-filled_with kind part)
 

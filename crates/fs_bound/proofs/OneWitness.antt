@@ -30,7 +30,7 @@ all-kept WriteRead = refl
 all-kept WriteWrite = refl
 
 -- where rw,rw fits, each kind does
-each-fits : (w : Width) (s : Slot) (kind : Option Kind) → fits w (entry_of s (Some RwRw)) ≡ true → fits w (entry_of s kind) ≡ true
+pub each-fits : (w : Width) (s : Slot) (kind : Option Kind) → fits w (entry_of s (Some RwRw)) ≡ true → fits w (entry_of s kind) ≡ true
 each-fits w s kind full =
     subset_from (pairs_kept kind) (w s) (λ pair kept. subset_at (pairs_kept (Some RwRw)) (w s) full pair (all-kept pair))
 

@@ -96,9 +96,9 @@ module _ (t : Test) (prices : PriceTable) where
   Lead old [] new = new ≡ old
   Lead old (entry ∷ entries) new = (next : Board) × Steps old entry.worker entry.event entry.reply next × Lead next entries new
 
-  -- A legal history, and the board that it leads to. That a finished board has an answer is still to be proved, and it needs a price
-  -- table that offers rw,rw: else each placement of offered kinds may allow the outcome, while rw,rw in every slot forbids it. Where a
-  -- finished board has no bound, its leaf over rw,rw everywhere is witnessed, or bounded by a list with a witness that no offered kind
-  -- breaks at a slot that the leaf leaves undecided.
+  -- A legal history, and the board that it leads to. A finished board has an answer, by a law of fs_tree, where the price table offers
+  -- rw,rw: else each placement of offered kinds may allow the outcome, while rw,rw in every slot forbids it. Where a finished board has
+  -- no bound, its leaf over rw,rw everywhere is witnessed, or bounded by a list with a witness that no offered kind breaks at a slot that
+  -- the leaf leaves undecided.
   abbrev pub IsHistory : (limit : ℕ) → List LogEntry → Board → Type 0
   IsHistory limit entries board = Lead (opening t limit) entries board

@@ -50,7 +50,7 @@ offered-filled prices kind [] offered = refl
 offered-filled prices kind (s ∷ ss) offered = and_from _ _ offered (offered-filled prices kind ss offered)
 
 -- the placement with rw,rw in every slot
-placement-filled : (t : Test) (prices : PriceTable) → IsPriceTable prices → IsPlacement t prices (all_with (Some RwRw) (slots t))
+pub placement-filled : (t : Test) (prices : PriceTable) → IsPriceTable prices → IsPlacement t prices (all_with (Some RwRw) (slots t))
 placement-filled t prices table = record {
   slots = slots_of-all_with (Some RwRw) (slots t);
   offered = offered-filled prices RwRw (slots t) table.top;

@@ -1,0 +1,11 @@
+pub mod Places
+pub mod PartsOfTests
+pub mod Children
+pub mod Moves
+pub mod Leaves
+pub mod Bettering
+pub mod Closed
+pub mod Final
+pub mod Growing
+pub mod Covering
+pub mod Splitting

@@ -1,0 +1,18 @@
+//! What a valid certificate shows.
+
+ghost use Rattle.std.specs.Prelude.{Option, List};
+ghost use Rattle.fs_kinds.specs.declared.placement.Entry.{Entry};
+ghost use Rattle.fs_kinds.specs.PriceTable.{PriceTable};
+ghost use Rattle.fs_syntax.specs.declared.test.Test.{Test};
+ghost use Rattle.fs_answer.specs.Certificate.{Certificate};
+ghost use Rattle.fs_answer.specs.Valid.{IsValid};
+ghost use Rattle.fs_thin_air.specs.ThinAir.{CanBeListed};
+ghost use Rattle.fs_tree.specs.Rightness.{IsRight};
+
+/// A law: where a test's runs can be listed, a valid certificate's answer is right. A placement forbids the outcome, by a cycle for
+/// each showing candidate, and by the tree every better placement allows it, or in the first version every cheaper one. None is right
+/// since even `rw,rw` in every slot allows the outcome.
+pub fn valid_is_right()
+    ensures { (t : Test) (prices : PriceTable) → CanBeListed t → (c : Certificate) (answer : Option (List Entry))
+        → IsValid t prices c answer → IsRight c.version t prices answer }
+{}

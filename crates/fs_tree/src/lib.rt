@@ -1,0 +1,10 @@
+//! Theorems on search trees: a board's, and a certificate's. The functions do nothing: each stands for the laws that it promises.
+#![tactic(auto)]
+
+mod certificates;
+mod histories;
+
+pub use certificates::valid_is_right;
+pub use histories::{
+    children_stand, closed_nodes_hold, finished_board_answers, nodes_fit, one_leaf,
+};
