@@ -1,0 +1,38 @@
+-- Lemmas on nodes that are held, and on children.
+use Rattle.std.proofs.Common.{◌≡◌, ℕ, zero, suc, ◌+◌, ◌<◌, ◌≤◌, Bool, true, false, Some, None, List, [], ◌∷◌, ◌++◌, length, map, refl, arith, sym, ◌∙◌, ap, length-append}
+use Rattle.std.specs.Prelude.{slice_get, drop, All, if◌then◌else◌, option_and_then, nat_lt, filter}
+use Rattle.std.proofs.lemmas.Bool.Decides.{nat_tests}
+use Rattle.std.proofs.lemmas.List.Elements.{All-nil, All-cons}
+use Rattle.fs_answer.specs.Parts.{Part}
+use Rattle.fs_history.specs.Board.{Board, Node, Status, Open, part_at}
+use Rattle.fs_board.specs.Growth.{open_node}
+
+pub map_drop : {A B : Type 0} (f : A → B) (n : ℕ) (xs : List A) → map f (drop n xs) ≡ drop n (map f xs)
+map_drop f zero xs = refl
+map_drop f (suc n) [] = refl
+map_drop f (suc n) (x ∷ xs) = map_drop f n xs
+
+pub length_map : {A B : Type 0} (f : A → B) (xs : List A) → length (map f xs) ≡ length xs
+length_map f [] = refl
+length_map f (x ∷ xs) = ap suc (length_map f xs)
+
+pub all_open : (parts : List Part) → All (λ (n : Node). n.status ≡ Open) (map open_node parts)
+all_open [] = All-nil (λ (n : Node). n.status ≡ Open)
+all_open (part ∷ parts) = All-cons (λ (n : Node). n.status ≡ Open) (open_node part) (map open_node parts) refl (all_open parts)
+
+pub not_less : (m n : ℕ) → n ≤ m → nat_lt m n ≡ false
+not_less m n le = grind (arith, nat_tests)
+
+found : (test : Status → Bool) (ns : List Node) (k : ℕ) (part : Part) → option_and_then (λ node. if test node.status then Some node.part else None) (slice_get ns k) ≡ Some part
+    → (n : Node) × (slice_get ns k ≡ Some n) × (n.part ≡ part)
+found test [] k part e = absurd (cc)
+found test (n ∷ ns) zero part e = elim (test n.status) as (λ b. (if b then Some n.part else None) ≡ Some part → (m : Node) × (slice_get (n ∷ ns) zero ≡ Some m) × (m.part ≡ part)) [
+  | true ↦ λ here. (n, refl, cc)
+  | false ↦ λ here. absurd (cc)
+] e
+found test (n ∷ ns) (suc k) part e = found test ns k part e
+
+-- a node with such a status is there, and this is its part
+pub node_with : (test : Status → Bool) (b : Board) (k : ℕ) (part : Part) → part_at test b k ≡ Some part
+    → (n : Node) × (slice_get b.nodes k ≡ Some n) × (n.part ≡ part)
+node_with test b k part e = found test b.nodes k part e

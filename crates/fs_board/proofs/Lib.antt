@@ -1,0 +1,4 @@
+pub mod Counts
+pub mod Replays
+pub mod Children
+pub mod Bests

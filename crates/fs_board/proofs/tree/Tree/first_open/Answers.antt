@@ -1,0 +1,13 @@
+use Rattle.std.proofs.Common.{◌<◌, ◌≤◌, length, arith}
+use Rattle.std.proofs.lemmas.Option.{slice_get_within}
+use Rattle.fs_history.specs.Board.{is_open}
+use Rattle.fs_board.proofs.Counts.{none_passes}
+use Rattle.fs_board.proofs.tree.Tree.first_open.Goals as goal
+
+pub returns-clause-none : goal.returns-clause-none
+returns-clause-none c =
+    let ns = c.loop-self.self-inside.nodes.items in
+    let len = c.len.ensures in
+    let past = c.loop-self-test.false in
+    let ok = c.loop-self.self-inside.nodes.ok in
+    none_passes is_open ns (λ k n at. c.loop-self.invariant.counted.passed k n (let w = slice_get_within ns k n at in omega arith) at)

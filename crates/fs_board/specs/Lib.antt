@@ -1,0 +1,4 @@
+pub mod Evidence
+pub mod View
+pub mod Counts
+pub mod Growth

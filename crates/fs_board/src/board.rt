@@ -1,0 +1,353 @@
+//! The board: the tree, and the log of all events.
+
+ghost use Rattle.std.specs.Prelude.{◌≡◌, ◌+◌, ◌<◌, ◌≤◌, length, [], ◌∷◌, ◌++◌, Some, IfSome, IfNone, IfOk, OnOk, OnErr, IsOkUnless, option_map, vec_len, slice_get, true, false, map, drop};
+ghost use Rattle.std.specs.Vec.{vec_capacity};
+ghost use Rattle.std.specs.Arc.{arc_value};
+ghost use Rattle.fs_syntax.specs.Test.{IsBounded};
+ghost use Rattle.fs_model.specs.Allows.{Allows};
+ghost use Rattle.fs_answer.specs.Valid.{HasCycles};
+ghost use Rattle.fs_history.specs.Board.{Node as NodeValue, Event as EventValue, Reply as ReplyValue, Take, Claim, Adopt, SplitAt, CutCost, Post, Peek, Given, Seen, Closed, Held, is_open, opening, with_status};
+ghost use Rattle.fs_history.specs.Histories.{Steps, IsHistory};
+ghost use Rattle.fs_board.specs.Counts.{count_of};
+ghost use Rattle.fs_board.specs.Growth.{is_best};
+ghost use Rattle.fs_board.specs.View.{Answers, status_of, event_of, reply_of, placement_in, witness_in};
+
+use crate::costs::is_better;
+use crate::event::{Event, LogEntry, Reply};
+use crate::evidence::{Forbidden, Witness};
+use crate::node::{OPTIONS, Status, children_of};
+use crate::part::Part;
+use crate::question::Question;
+use crate::tree::Tree;
+use fs_kinds::{Entry, Fault, Slot};
+use fs_list::List;
+use fs_syntax::slots;
+use std::alloc::{AllocError, Global};
+use std::marker::Model;
+use std::sync::Arc;
+
+/// The nodes of a search, with the log of all events. The log is a legal history, and leads to the nodes as they are.
+#[derive(Drop)]
+pub struct Board {
+    question: Arc<Question>,
+    tree: Tree,
+    log: Vec<LogEntry>,
+}
+
+impl Model for Board {
+    ghost use Rattle.std.specs.Arc.{arc_value};
+    ghost use Rattle.fs_board.specs.View.{Search, IsReplay};
+    ghost use Rattle.std.specs.Coded.{codes};
+    ghost use Rattle.fs_syntax.specs.contracts.outcome.Outcome as outcome;
+
+    ghost Value = { Search };
+
+    ghost view = { λ b. record { question = arc_value b.question; board = b.tree; log = b.log.items } };
+
+    ghost coded = { Prim.hlevel (codes, outcome.the_row.coded) };
+
+    ghost invariant = { λ b. IsReplay (record { question = arc_value b.question; board = b.tree; log = b.log.items }) };
+}
+
+/// Adds an item for which there is room.
+fn push_within<T: Drop>(list: &mut Vec<T>, item: T)
+    requires { vec_len list.old < vec_capacity list.old }
+    ensures { list.new.items ≡ list.old.items ++ item ∷ [] }
+{
+    match list.push(item) {
+        Ok(()) => {}
+        Err(_) => unreachable!(),
+    }
+}
+
+impl Board {
+    /// The board with one open node, which is wholly undecided, and an empty log. No node's number may pass the limit. F19.
+    pub fn new(alloc: Global, question: Arc<Question>, limit: usize) -> Result<Board, Fault>
+        requires bounded { IsBounded (arc_value question).test }
+        requires limit { limit ≤ 1000000 }
+        ensures ok { IfOk result (λ b. b ≡ record { question = arc_value question; board = opening (arc_value question).test limit; log = [] }) }
+        ensures err { IsOkUnless result Fault.Memory }
+    {
+        let places = slots(alloc, &question.test)?;
+        let root = Part::undecided(alloc, &places)?;
+        let tree = Tree::new(alloc, root, limit)?;
+        Ok(Board {
+            question,
+            tree,
+            log: Vec::new(alloc),
+        })
+    }
+
+    /// The test and the prices.
+    pub fn question(&self) -> &Arc<Question>
+        ensures { arc_value result.now ≡ self.now.question }
+    {
+        &self.question
+    }
+
+    /// The greatest number that a node may have.
+    pub fn limit(&self) -> usize
+        ensures { result ≡ self.now.board.limit }
+    {
+        self.tree.limit()
+    }
+
+    /// The best placement posted.
+    pub fn bound(&self) -> Option<&Arc<Forbidden>>
+        ensures { option_map (λ f. placement_in f.now) result ≡ self.now.board.bound }
+    {
+        self.tree.bound()
+    }
+
+    /// How many nodes are open.
+    pub fn open_count(&self) -> usize
+        ensures { result ≡ count_of is_open self.now.board.nodes }
+    {
+        self.tree.open_count()
+    }
+
+    /// All events with their replies, in order: a legal history that leads to the board.
+    pub fn log(&self) -> &[LogEntry]
+        ensures value { result.now ≡ self.now.log }
+        ensures legal { IsHistory self.now.question.test self.now.question.prices self.now.board.limit self.now.log self.now.board }
+    {
+        self.log.as_slice()
+    }
+
+    /// Logs an event that leaves the nodes as they are, with a second copy of its reply.
+    fn refuse(
+        &mut self,
+        worker: u8,
+        event: Event,
+        reply: Reply,
+        copy: Reply,
+    ) -> Result<Reply, AllocError>
+        requires step { Steps self.old.question.test self.old.question.prices self.old.board worker (event_of event) (reply_of reply) self.old.board }
+        requires copy { reply_of copy ≡ reply_of reply }
+        ensures step { IfOk result (λ r. Answers self.old self.new worker (event_of event) (reply_of r)) }
+        ensures err { OnErr result (self.new ≡ self.old) }
+    {
+        self.log.push(LogEntry::new(worker, event, copy))?;
+        Ok(reply)
+    }
+
+    /// Hands out a node.
+    fn hand_out(
+        &mut self,
+        worker: u8,
+        event: Event,
+        node: usize,
+        part: Arc<Part>,
+    ) -> Result<Reply, AllocError>
+        requires there { (n : NodeValue) × (slice_get self.old.board.nodes node ≡ Some n) × (n.part ≡ arc_value part) }
+        requires may { Steps self.old.question.test self.old.question.prices self.old.board worker (event_of event) (Given node (arc_value part)) (with_status (Held worker) node (arc_value part) self.old.board) }
+        ensures step { IfOk result (λ r. Answers self.old self.new worker (event_of event) (reply_of r)) }
+        ensures err { OnErr result (self.new ≡ self.old) }
+    {
+        let copy = Arc::try_clone(&part)?;
+        self.log.reserve(1)?;
+        self.tree.mark(node, Status::Held(worker));
+        let reply = Reply::Node(node, copy);
+        push_within(&mut self.log, LogEntry::new(worker, event, reply));
+        Ok(Reply::Node(node, part))
+    }
+
+    /// Closes a node so.
+    fn close(
+        &mut self,
+        worker: u8,
+        event: Event,
+        node: usize,
+        status: Status,
+    ) -> Result<Reply, AllocError>
+        requires closed { is_open (status_of status) ≡ false }
+        requires may { (n : NodeValue) × (slice_get self.old.board.nodes node ≡ Some n)
+            × Steps self.old.question.test self.old.question.prices self.old.board worker (event_of event) Closed (with_status (status_of status) node n.part self.old.board) }
+        ensures step { IfOk result (λ r. Answers self.old self.new worker (event_of event) (reply_of r)) }
+        ensures err { OnErr result (self.new ≡ self.old) }
+    {
+        self.log.reserve(1)?;
+        self.tree.mark(node, status);
+        push_within(&mut self.log, LogEntry::new(worker, event, Reply::Closed));
+        Ok(Reply::Closed)
+    }
+
+    /// Hands out any open node. Where none is open, `Idle` if some node is held, else `Done`.
+    pub fn take(&mut self, worker: u8) -> Result<Reply, AllocError>
+        ensures step { IfOk result (λ r. Answers self.old self.new worker Take (reply_of r)) }
+        ensures err { OnErr result (self.new ≡ self.old) }
+    {
+        let Some(node) = self.tree.first_open() else {
+            if self.tree.has_held() {
+                return self.refuse(worker, Event::Take, Reply::Idle, Reply::Idle);
+            }
+            return self.refuse(worker, Event::Take, Reply::Done, Reply::Done);
+        };
+        let part = Arc::try_clone(self.tree.part(node))?;
+        self.hand_out(worker, Event::Take, node, part)
+    }
+
+    /// Hands out this node where it is open, else `Gone`.
+    pub fn claim(&mut self, worker: u8, node: usize) -> Result<Reply, AllocError>
+        ensures step { IfOk result (λ r. Answers self.old self.new worker (Claim node) (reply_of r)) }
+        ensures err { OnErr result (self.new ≡ self.old) }
+    {
+        let Some(found) = self.tree.open_at(node) else {
+            return self.refuse(worker, Event::Claim(node), Reply::Gone, Reply::Gone);
+        };
+        let part = Arc::try_clone(found)?;
+        self.hand_out(worker, Event::Claim(node), node, part)
+    }
+
+    /// Hands over this node where anybody holds it, else `Gone`.
+    pub fn adopt(&mut self, worker: u8, node: usize) -> Result<Reply, AllocError>
+        ensures step { IfOk result (λ r. Answers self.old self.new worker (Adopt node) (reply_of r)) }
+        ensures err { OnErr result (self.new ≡ self.old) }
+    {
+        let Some(found) = self.tree.held_at(node) else {
+            return self.refuse(worker, Event::Adopt(node), Reply::Gone, Reply::Gone);
+        };
+        let part = Arc::try_clone(found)?;
+        self.hand_out(worker, Event::Adopt(node), node, part)
+    }
+
+    /// Splits a node at an undecided slot: one open child for none, and one for each offered kind, in table order. `NotYours`;
+    /// `Decided` where the slot is decided or none of the node's; `Full` where the last child's number would pass the limit.
+    pub fn split(
+        &mut self,
+        alloc: Global,
+        worker: u8,
+        node: usize,
+        slot: Slot,
+    ) -> Result<Reply, AllocError>
+        ensures step { IfOk result (λ r. Answers self.old self.new worker (SplitAt node slot) (reply_of r)) }
+        ensures err { OnErr result (self.new ≡ self.old) }
+    {
+        let Some(part) = self.tree.held_by(worker, node) else {
+            let event = Event::Split(node, slot);
+            return self.refuse(worker, event, Reply::NotYours, Reply::NotYours);
+        };
+        if !part.is_undecided(slot) {
+            let event = Event::Split(node, slot);
+            return self.refuse(worker, event, Reply::Decided, Reply::Decided);
+        }
+        let prices = &self.question.prices;
+        let children = children_of(alloc, prices, part, slot, &OPTIONS)?;
+        let first = self.tree.len();
+        let count = children.len();
+        if self.tree.limit() + 1 < first + count {
+            return self.refuse(worker, Event::Split(node, slot), Reply::Full, Reply::Full);
+        }
+        self.log.reserve(1)?;
+        self.tree.split(node, slot, children)?;
+        let event = Event::Split(node, slot);
+        let reply = Reply::Children(first, count);
+        push_within(&mut self.log, LogEntry::new(worker, event, reply));
+        Ok(Reply::Children(first, count))
+    }
+
+    /// Closes a node whose least placement is no better than the bound. `NotYours`; `Cheaper` where it is better, or there is no bound.
+    #[tactic(auto, using(crate::proofs::Bests::pruned_by_cost))]
+    pub fn cut_cost(&mut self, alloc: Global, worker: u8, node: usize) -> Result<Reply, AllocError>
+        ensures step { IfOk result (λ r. Answers self.old self.new worker (CutCost node) (reply_of r)) }
+        ensures err { OnErr result (self.new ≡ self.old) }
+    {
+        let Some(part) = self.tree.held_by(worker, node) else {
+            let event = Event::CutCost(node);
+            return self.refuse(worker, event, Reply::NotYours, Reply::NotYours);
+        };
+        let floor = part.floor(alloc)?;
+        if self.is_best(&floor) {
+            return self.refuse(worker, Event::CutCost(node), Reply::Cheaper, Reply::Cheaper);
+        }
+        self.close(worker, Event::CutCost(node), node, Status::Costly)
+    }
+
+    /// Closes a node whose least placement this is, and makes it the bound where it is better. `NotYours`; `Other` where it isn't the
+    /// node's least placement. The placement must forbid the outcome, as its cycles show.
+    pub fn post(
+        &mut self,
+        alloc: Global,
+        worker: u8,
+        node: usize,
+        forbidden: Arc<Forbidden>,
+    ) -> Result<Reply, AllocError>
+        requires cycles { HasCycles self.old.question.test (placement_in forbidden) (arc_value forbidden).cycles }
+        requires forbids { Allows self.old.question.test (placement_in forbidden) → ⊥ }
+        ensures step { IfOk result (λ r. Answers self.old self.new worker (Post node (placement_in forbidden)) (reply_of r)) }
+        ensures err { OnErr result (self.new ≡ self.old) }
+    {
+        let Some(part) = self.tree.held_by(worker, node) else {
+            let event = Event::Post(node, forbidden);
+            return self.refuse(worker, event, Reply::NotYours, Reply::NotYours);
+        };
+        let floor = part.floor(alloc)?;
+        if !forbidden.is_of(&floor) {
+            let event = Event::Post(node, forbidden);
+            return self.refuse(worker, event, Reply::Other, Reply::Other);
+        }
+        let better = self.is_best(&floor);
+        let kept = Arc::try_clone(&forbidden)?;
+        self.log.reserve(1)?;
+        self.tree.post(node, kept, better);
+        let event = Event::Post(node, forbidden);
+        push_within(&mut self.log, LogEntry::new(worker, event, Reply::Closed));
+        Ok(Reply::Closed)
+    }
+
+    /// Is the placement better than the bound, or is there no bound?
+    fn is_best(&self, placement: &[Entry]) -> bool
+        ensures { result ≡ is_best self.now.question.prices self.now.board.bound placement.now }
+    {
+        match self.tree.bound() {
+            None => true,
+            Some(bound) => is_better(&self.question.prices, placement, bound.placement.as_slice()),
+        }
+    }
+
+    /// Shows the bound, how many witnesses there are, and those from this number on.
+    pub fn peek(&mut self, alloc: Global, worker: u8, from: usize) -> Result<Reply, AllocError>
+        ensures step { IfOk result (λ r. Answers self.old self.new worker (Peek from) (reply_of r)) }
+        ensures err { OnErr result (self.new ≡ self.old) }
+    {
+        let reply = self.seen(alloc, from)?;
+        let copy = self.seen(alloc, from)?;
+        self.refuse(worker, Event::Peek(from), reply, copy)
+    }
+
+    /// What a peek shows.
+    fn seen(&self, alloc: Global, from: usize) -> Result<Reply, AllocError>
+        ensures { IfOk result (λ r. reply_of r ≡ Seen self.now.board.bound (length self.now.board.witnesses) (drop from self.now.board.witnesses)) }
+    {
+        let bound = match self.tree.bound() {
+            Some(bound) => Some(Arc::try_clone(bound)?),
+            None => None,
+        };
+        let witnesses = self.tree.witnesses();
+        let shown = share(alloc, from_on(witnesses, from))?;
+        Ok(Reply::Seen(bound, witnesses.len(), shown))
+    }
+}
+
+/// The witnesses from a number on, shared.
+fn share(alloc: Global, witnesses: &[Arc<Witness>]) -> Result<List<Arc<Witness>>, AllocError>
+    ensures { IfOk result (λ shared. map witness_in shared ≡ map witness_in witnesses.now) }
+{
+    let mut shared = Vec::new(alloc);
+    for witness in witnesses {
+        shared.push(Arc::try_clone(witness)?)?;
+    }
+    Ok(List::new(shared))
+}
+
+/// The witnesses from a number on: none where there is no such number.
+fn from_on(witnesses: &[Arc<Witness>], from: usize) -> &[Arc<Witness>]
+    ensures { map witness_in result.now ≡ drop from (map witness_in witnesses.now) }
+{
+    let count = witnesses.len();
+    if from < count {
+        &witnesses[from..]
+    } else {
+        &witnesses[count..]
+    }
+}

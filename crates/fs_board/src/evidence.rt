@@ -1,0 +1,101 @@
+//! What shows that a placement allows the outcome, or that it forbids it.
+
+ghost use Rattle.std.specs.Prelude.{◌≡◌, IsTrue};
+
+use crate::costs::is_same;
+use fs_answer::ChoiceLists;
+use fs_kinds::{Entry, OperationName, Placement};
+use fs_list::List;
+use std::marker::Model;
+
+/// A set of pairs of classes of operations, as one that an execution's order keeps at a slot.
+#[derive(Clone, Copy, Debug, PartialEq, Eq)]
+pub struct Pairs {
+    pub read_read: bool,
+    pub read_write: bool,
+    pub write_read: bool,
+    pub write_write: bool,
+}
+
+/// An execution by the choices of each hart and the names of the operations in their order, with the pairs that its order keeps at
+/// each slot of the test.
+#[derive(Drop)]
+pub struct Witness {
+    pub choices: ChoiceLists,
+    pub order: List<OperationName>,
+    pub widths: List<Pairs>,
+}
+
+impl Model for Witness {
+    ghost use Rattle.fs_board.specs.Evidence.{Shown};
+
+    ghost Value = { Shown };
+
+    ghost view = { λ w. record { witness = record { choices = w.choices; order = w.order }; widths = w.widths } };
+}
+
+/// Why an operation of a cycle comes before the next one: by a rule of preserved program order, or since the next one reads from it
+/// (rfe), comes later in coherence order (co), or overwrites what it read (fr).
+#[derive(Clone, Copy, Debug, PartialEq, Eq)]
+pub enum Cause {
+    Rule1,
+    Rule2,
+    Rule3,
+    Rule4,
+    Rule5,
+    Rule6,
+    Rule7,
+    Rule8,
+    Rule9,
+    Rule10,
+    Rule11,
+    Rule12,
+    Rule13,
+    ReadsFrom,
+    Coherence,
+    FromReads,
+}
+
+/// One step of a cycle: an operation, and why it comes before the next one.
+#[derive(Drop)]
+pub struct Link {
+    pub operation: OperationName,
+    pub cause: Cause,
+}
+
+impl Model for Link {
+    ghost use Rattle.fs_answer.specs.Certificate.{Link as LinkValue};
+    ghost use Rattle.fs_board.specs.View.{cause_of};
+
+    ghost Value = { LinkValue };
+
+    ghost view = { λ link. record { operation = link.operation; cause = cause_of link.cause } };
+}
+
+/// A cycle for each showing candidate execution, in their order.
+pub type Cycles = List<List<Link>>;
+
+/// A placement that forbids the outcome, with a cycle for each showing candidate execution.
+#[derive(Drop)]
+pub struct Forbidden {
+    pub placement: Placement,
+    pub cycles: Cycles,
+}
+
+impl Model for Forbidden {
+    ghost use Rattle.fs_board.specs.Evidence.{Refuted};
+
+    ghost Value = { Refuted };
+
+    ghost view = { λ f. record { placement = f.placement; cycles = f.cycles } };
+}
+
+impl Forbidden {
+    /// Is this its placement?
+    pub(crate) fn is_of(&self, placement: &[Entry]) -> bool
+        ensures yes { IsTrue result → self.now.placement ≡ placement.now }
+        ensures no { self.now.placement ≡ placement.now → IsTrue result }
+    {
+        is_same(self.placement.as_slice(), placement)
+    }
+}

@@ -1,0 +1,258 @@
+//! The nodes of the tree, the bound and the witnesses.
+
+ghost use Rattle.std.specs.Prelude.{◌≡◌, ◌<◌, ◌≤◌, ◌^◌, ◌+◌, ◌==◌, ◌++◌, ◌∷◌, [], length, map, true, false, not, Some, None, IfSome, IfNone, IfOk, OnOk, OnErr, All, option_map, slice_get, if◌then◌else◌};
+ghost use Rattle.std.specs.Arc.{arc_value};
+ghost use Rattle.fs_answer.specs.Parts.{Part as PartValue};
+ghost use Rattle.fs_history.specs.Board.{Node as NodeValue, Open, Split, Witnessed, Posted, is_open, is_held, is_held_by, has_node, part_at, with_status};
+ghost use Rattle.fs_history.specs.Histories.{with_witnesses};
+ghost use Rattle.fs_board.specs.Counts.{count_of};
+ghost use Rattle.fs_board.specs.Growth.{grown, with_bound, with_more};
+ghost use Rattle.fs_board.specs.View.{status_of, witness_in, placement_in};
+
+use crate::evidence::{Forbidden, Witness};
+use crate::node::{Node, Status, bit};
+use crate::part::Part;
+use fs_kinds::Slot;
+use std::alloc::{AllocError, Global};
+use std::marker::Model;
+use std::sync::Arc;
+
+/// The nodes by their numbers, the bound, the witnesses, and the greatest number that a node may have. It keeps count of its open and
+/// held nodes, and of how many nodes at the front are known not to be open.
+#[derive(Drop)]
+pub(crate) struct Tree {
+    nodes: Vec<Node>,
+    bound: Option<Arc<Forbidden>>,
+    witnesses: Vec<Arc<Witness>>,
+    limit: usize,
+    next: usize,
+    free: usize,
+    held: usize,
+}
+
+impl Model for Tree {
+    ghost use Rattle.fs_history.specs.Board.{Board};
+    ghost use Rattle.fs_board.specs.Counts.{IsCounted};
+    ghost use Rattle.fs_board.specs.View.{board_of};
+
+    ghost Value = { Board };
+
+    ghost view = { λ t. board_of t.nodes.items t.bound t.witnesses.items t.limit };
+
+    ghost invariant = { λ t. IsCounted t.nodes.items t.next t.free t.held };
+}
+
+impl Tree {
+    /// The tree of one open node.
+    pub(crate) fn new(alloc: Global, root: Part, limit: usize) -> Result<Tree, AllocError>
+        ensures { IfOk result (λ t. t ≡ record { nodes = record { part = root; status = Open } ∷ []; bound = None; witnesses = []; limit = limit }) }
+    {
+        let mut nodes = Vec::new(alloc);
+        nodes.push(Node::new(Arc::new(alloc, root)?, Status::Open))?;
+        Ok(Tree {
+            nodes,
+            bound: None,
+            witnesses: Vec::new(alloc),
+            limit,
+            next: 0,
+            free: 1,
+            held: 0,
+        })
+    }
+
+    /// How many nodes there are.
+    pub(crate) fn len(&self) -> usize
+        ensures len { result ≡ length self.now.nodes }
+        ensures small { result < 2 ^ 63 }
+    {
+        self.nodes.len()
+    }
+
+    /// The greatest number that a node may have.
+    pub(crate) fn limit(&self) -> usize
+        ensures { result ≡ self.now.limit }
+    {
+        self.limit
+    }
+
+    /// How many nodes are open.
+    pub(crate) fn open_count(&self) -> usize
+        ensures { result ≡ count_of is_open self.now.nodes }
+    {
+        self.free
+    }
+
+    /// Is some node held?
+    pub(crate) fn has_held(&self) -> bool
+        ensures { result ≡ has_node is_held self.now }
+    {
+        self.held != 0
+    }
+
+    /// An open node, where there is one. All calls together look at each node once.
+    pub(crate) fn first_open(&mut self) -> Option<usize>
+        ensures same { self.new ≡ self.old }
+        ensures there { IfSome result (λ k. k < length self.new.nodes) }
+        ensures some { IfSome result (λ k. (n : NodeValue) × (slice_get self.new.nodes k ≡ Some n) × (is_open n.status ≡ true)) }
+        ensures none { IfNone result (has_node is_open self.new ≡ false) }
+    {
+        while self.next < self.nodes.len() {
+            if self.nodes[self.next].status().is_open() {
+                return Some(self.next);
+            }
+            self.next += 1;
+        }
+        None
+    }
+
+    /// The part of a node that is there.
+    pub(crate) fn part(&self, node: usize) -> &Arc<Part>
+        requires { node < length self.now.nodes }
+        ensures { (n : NodeValue) → slice_get self.now.nodes node ≡ Some n → arc_value result.now ≡ n.part }
+    {
+        self.nodes[node].part()
+    }
+
+    /// The part of the node, where it is open.
+    pub(crate) fn open_at(&self, node: usize) -> Option<&Arc<Part>>
+        ensures { option_map (λ p. arc_value p.now) result ≡ part_at is_open self.now node }
+    {
+        let found = self.nodes.get(node)?;
+        if found.status().is_open() {
+            Some(found.part())
+        } else {
+            None
+        }
+    }
+
+    /// The part of the node, where it is held.
+    pub(crate) fn held_at(&self, node: usize) -> Option<&Arc<Part>>
+        ensures { option_map (λ p. arc_value p.now) result ≡ part_at is_held self.now node }
+    {
+        let found = self.nodes.get(node)?;
+        if found.status().is_held() {
+            Some(found.part())
+        } else {
+            None
+        }
+    }
+
+    /// The part of the node, where the worker holds it.
+    pub(crate) fn held_by(&self, worker: u8, node: usize) -> Option<&Arc<Part>>
+        ensures { option_map (λ p. arc_value p.now) result ≡ part_at (is_held_by worker) self.now node }
+    {
+        let found = self.nodes.get(node)?;
+        if found.status().is_held_by(worker) {
+            Some(found.part())
+        } else {
+            None
+        }
+    }
+
+    /// Gives a node another status, which isn't open.
+    pub(crate) fn mark(&mut self, node: usize, status: Status)
+        requires there { node < length self.old.nodes }
+        requires closed { is_open (status_of status) ≡ false }
+        ensures { (n : NodeValue) → slice_get self.old.nodes node ≡ Some n → self.new ≡ with_status (status_of status) node n.part self.old }
+    {
+        let place = &mut self.nodes[node];
+        let was = place.status();
+        place.mark(status);
+        let opened = bit(was.is_open());
+        let taken = bit(status.is_held());
+        let given = bit(was.is_held());
+        self.free -= opened;
+        self.held = self.held + taken - given;
+    }
+
+    /// The best placement posted.
+    pub(crate) fn bound(&self) -> Option<&Arc<Forbidden>>
+        ensures { option_map (λ f. placement_in f.now) result ≡ self.now.bound }
+    {
+        self.bound.as_ref()
+    }
+
+    /// What pruned nodes, in order.
+    pub(crate) fn witnesses(&self) -> &[Arc<Witness>]
+        ensures { map witness_in result.now ≡ self.now.witnesses }
+    {
+        self.witnesses.as_slice()
+    }
+
+    /// Adds open nodes at the end. At `Err` nothing is changed.
+    fn grow(&mut self, mut children: Vec<Node>) -> Result<(), AllocError>
+        requires { All (λ n. n.status ≡ Open) children.items }
+        ensures ok { OnOk result (self.new ≡ grown self.old children.items) }
+        ensures err { OnErr result (self.new ≡ self.old) }
+    {
+        let count = children.len();
+        self.nodes.append(&mut children)?;
+        self.free += count;
+        Ok(())
+    }
+
+    /// Splits the node at the slot into these open children. At `Err` nothing is changed.
+    pub(crate) fn split(
+        &mut self,
+        node: usize,
+        slot: Slot,
+        children: Vec<Node>,
+    ) -> Result<(), AllocError>
+        requires there { node < length self.old.nodes }
+        requires opened { All (λ n. n.status ≡ Open) children.items }
+        ensures ok { OnOk result ((n : NodeValue) → slice_get self.old.nodes node ≡ Some n → self.new ≡ grown (with_status (Split slot (length self.old.nodes)) node n.part self.old) children.items) }
+        ensures err { OnErr result (self.new ≡ self.old) }
+    {
+        let first = self.nodes.len();
+        self.grow(children)?;
+        self.mark(node, Status::Split(slot, first));
+        Ok(())
+    }
+
+    /// Adds a witness at the end. At `Err` nothing is changed.
+    fn add_witness(&mut self, witness: Arc<Witness>) -> Result<(), AllocError>
+        ensures ok { OnOk result (self.new ≡ with_more (witness_in witness ∷ []) self.old) }
+        ensures err { OnErr result (self.new ≡ self.old) }
+    {
+        self.witnesses.push(witness)?;
+        Ok(())
+    }
+
+    fn set_bound(&mut self, bound: Arc<Forbidden>)
+        ensures { self.new ≡ with_bound (Some (placement_in bound)) self.old }
+    {
+        self.bound = Some(bound);
+    }
+
+    /// Closes the node by a witness, which is the last one from now on. At `Err` nothing is changed.
+    pub(crate) fn cover(&mut self, node: usize, witness: Arc<Witness>) -> Result<(), AllocError>
+        requires { node < length self.old.nodes }
+        ensures ok { OnOk result ((n : NodeValue) → slice_get self.old.nodes node ≡ Some n → self.new ≡ with_witnesses (Witnessed (length self.old.witnesses)) node n.part (witness_in witness ∷ []) self.old) }
+        ensures err { OnErr result (self.new ≡ self.old) }
+    {
+        let number = self.witness_count();
+        self.add_witness(witness)?;
+        self.mark(node, Status::Witnessed(number));
+        Ok(())
+    }
+
+    /// How many witnesses there are.
+    pub(crate) fn witness_count(&self) -> usize
+        ensures { result ≡ length self.now.witnesses }
+    {
+        self.witnesses.len()
+    }
+
+    /// Closes the node as posted. Its placement is the bound from now on, where it is better.
+    pub(crate) fn post(&mut self, node: usize, forbidden: Arc<Forbidden>, better: bool)
+        requires { node < length self.old.nodes }
+        ensures { (n : NodeValue) → slice_get self.old.nodes node ≡ Some n → self.new ≡ with_bound (if better then Some (placement_in forbidden) else self.old.bound) (with_status Posted node n.part self.old) }
+    {
+        if !better {
+            self.mark(node, Status::Posted);
+            return;
+        }
+        self.set_bound(forbidden);
+        self.mark(node, Status::Posted);
+    }
+}
