@@ -1,4 +1,1 @@
-pub mod Faults
 pub mod OrderFaults
-pub mod Placements
-pub mod Written

@@ -14,9 +14,9 @@ use Rattle.fs_check.specs.declared.order.OrderVerdict.{OrderVerdict}
 use Rattle.fs_check.specs.declared.order.OrderVerdict.TheVariants.{Yes, No}
 use Rattle.fs_check.specs.Verdicts.{IsVerdict}
 use Rattle.fs_answer.specs.WitnessFile.{IsWitnessFile}
-use Rattle.fs_app.specs.declared.status.Status.{Status}
-use Rattle.fs_app.specs.declared.status.Status.TheVariants.{Success, Denied}
-use Rattle.fs_app.specs.Place.{IsBadFences}
+use Rattle.fs_io.specs.declared.status.Status.{Status}
+use Rattle.fs_io.specs.declared.status.Status.TheVariants.{Success, Denied}
+use Rattle.fs_place.specs.Place.{IsBadFences}
 
 abbrev pub verdict_line : OrderVerdict → List ℕ
 verdict_line Yes = codes "yes\n"

@@ -1,15 +1,10 @@
-//! The program without its `main`: reading and writing bytes, what each command answers, and the command line.
+//! The program without its `main`: what each command answers, and a run from the command line to the exit status.
 #![tactic(auto)]
 
-mod bytes;
-mod command;
 mod order;
-mod place;
 mod program;
-mod status;
 
-pub use bytes::{read_bytes, write_text};
+pub use fs_io::{Output, Status, read_bytes, write_text};
+pub use fs_place::run_place;
 pub use order::run_order;
-pub use place::run_place;
 pub use program::run;
-pub use status::{Output, Status};

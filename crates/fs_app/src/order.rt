@@ -6,8 +6,8 @@ ghost use Rattle.fs_syntax.specs.Test.{IsTest};
 ghost use Rattle.fs_litmus.specs.Reads.{Reads};
 ghost use Rattle.fs_app.specs.Order.{IsAnswered, IsFirstOrderFault, verdict_line, verdict_status};
 
-use crate::status::{Output, Status};
 use fs_check::{OrderVerdict, check_order};
+use fs_io::{Output, Status};
 use fs_kinds::{Fault, Placement};
 use fs_litmus::{Test, read_fences, read_test};
 use std::alloc::Global;

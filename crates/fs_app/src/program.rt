@@ -1,12 +1,11 @@
 //! A run of the program: from the words of its command line to what it prints and its exit status.
-use crate::bytes::{read_bytes, write_text};
-use crate::command::{Order, Place, Request, read_request};
 use crate::order::run_order;
-use crate::place::run_place;
-use crate::status::{Output, Status};
 use clap::Error;
 use clap::error::ErrorKind;
+use fs_command::{Order, Place, Request, read_request};
+use fs_io::{Output, Status, read_bytes, write_text};
 use fs_kinds::Fault;
+use fs_place::run_place;
 use std::fs::File;
 use std::process::ExitCode;
 use std::rt::{Env, Files};

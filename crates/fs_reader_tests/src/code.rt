@@ -5,7 +5,6 @@ use fs_instr::Instr;
 use fs_kinds::Fault;
 use fs_tokens::{Kind, Mark, Token, tokens};
 use std::alloc::{AllocError, Global};
-use std::process::Abort;
 use std::test::Fail;
 
 fn ends_cell(token: &Token<'_>) -> bool {
@@ -34,14 +33,10 @@ fn cells<'b, 'a>(
 }
 
 // The fault that rows give, and none where they give codes.
-fn fault_of(
-    rt: &(impl Abort + AllocGlobal),
-    columns: usize,
-    rows: &str,
-) -> Result<Option<Fault>, Fail> {
-    let (tokens, _) = tokens(rt.alloc(), rows.as_bytes(), 1)?;
-    let cells = cells(rt.alloc(), &tokens)?;
-    match read_codes(rt.alloc(), columns, &cells) {
+fn fault_of(alloc: Global, columns: usize, rows: &str) -> Result<Option<Fault>, AllocError> {
+    let (tokens, _) = tokens(alloc, rows.as_bytes(), 1)?;
+    let cells = cells(alloc, &tokens)?;
+    match read_codes(alloc, columns, &cells) {
         Ok(_) => Ok(None),
         Err(fault) => Ok(Some(fault)),
     }
@@ -101,24 +96,24 @@ fn a_long_hart_is_counted(rt: HostRuntime) -> Result<(), Fail> {
 }
 
 #[test]
-fn faults_of_cells(rt: HostRuntime) -> Result<(), Fail> {
-    let syntax = Some(Fault::Syntax { line: 2 });
-    assert!(rt; fault_of(&rt, 1, "foo , ;\n: ;")? == syntax);
-    assert!(rt; fault_of(&rt, 2, "foo , | ;\n a:\n: | : ;")? == syntax);
-    let annotation = Some(Fault::BadAnnotation { line: 2 });
-    assert!(rt; fault_of(&rt, 1, "a:\nlr.w.rl x5,(x6) ; j a ;")? == annotation);
-    let unknown = Some(Fault::UnknownInstr { line: 2 });
-    assert!(rt; fault_of(&rt, 1, "a:\nfoo , ;")? == unknown);
-    assert!(rt; fault_of(&rt, 1, "j a ;\n5: fence.tso ;")? == unknown);
-    Ok(())
-}
-
-#[test]
-fn faults_of_labels(rt: HostRuntime) -> Result<(), Fail> {
-    let label = Some(Fault::BadLabel { line: 2 });
-    assert!(rt; fault_of(&rt, 1, "fence.tso ;\nj a ;")? == label);
-    assert!(rt; fault_of(&rt, 1, "fence.tso ;\na: j a ;")? == label);
-    assert!(rt; fault_of(&rt, 1, "j a ; a: ;\na: ;")? == label);
-    assert!(rt; fault_of(&rt, 2, "a: | ;\n| j a ;\nj b | ;")? == label);
+fn faults_of_rows(rt: HostRuntime) -> Result<(), Fail> {
+    let syntax = Fault::Syntax { line: 2 };
+    let annotation = Fault::BadAnnotation { line: 2 };
+    let unknown = Fault::UnknownInstr { line: 2 };
+    let label = Fault::BadLabel { line: 2 };
+    for (columns, rows, wanted) in [
+        (1, "foo , ;\n: ;", syntax),
+        (2, "foo , | ;\n a:\n: | : ;", syntax),
+        (1, "a:\nlr.w.rl x5,(x6) ; j a ;", annotation),
+        (1, "a:\nfoo , ;", unknown),
+        (1, "j a ;\n5: fence.tso ;", unknown),
+        (1, "fence.tso ;\nj a ;", label),
+        (1, "fence.tso ;\na: j a ;", label),
+        (1, "j a ; a: ;\na: ;", label),
+        (2, "a: | ;\n| j a ;\nj b | ;", label),
+    ] {
+        let found = fault_of(rt.alloc(), columns, rows)?;
+        assert_eq!(rt; found, Some(wanted), "at {rows}");
+    }
     Ok(())
 }

@@ -5,7 +5,7 @@ use fs_tokens::{Stop, Target, Value, tokens};
 use std::alloc::{AllocError, Global};
 use std::test::Fail;
 
-fn push_target(out: &mut String, target: Target) -> Result<(), AllocError> {
+pub(crate) fn push_target(out: &mut String, target: Target) -> Result<(), AllocError> {
     match target {
         Target::Register { hart, register } => {
             out.push_str(hart)?;
@@ -16,7 +16,7 @@ fn push_target(out: &mut String, target: Target) -> Result<(), AllocError> {
     }
 }
 
-fn push_value(out: &mut String, value: Value) -> Result<(), AllocError> {
+pub(crate) fn push_value(out: &mut String, value: Value) -> Result<(), AllocError> {
     match value {
         Value::Number { negative, digits } => {
             if negative {
@@ -111,8 +111,9 @@ fn repeated(
     Ok(text)
 }
 
+/// How connectives bind and associate, which atoms there are, and that no word is reserved.
 #[test]
-fn binds_and_associates(rt: HostRuntime) -> Result<(), Fail> {
+fn reads_conditions(rt: HostRuntime) -> Result<(), Fail> {
     for (text, want) in [
         (
             "x=1 /\\ y=2 \\/ z=3 /\\ w=4",
@@ -127,15 +128,6 @@ fn binds_and_associates(rt: HostRuntime) -> Result<(), Fail> {
             "(~(x=1 /\\ y=2) \\/ z=3); x; y; z",
         ),
         ("((x=1))", "x=1; x"),
-    ] {
-        assert_eq!(rt; shown(rt.alloc(), text)?.as_str(), want);
-    }
-    Ok(())
-}
-
-#[test]
-fn reads_atoms(rt: HostRuntime) -> Result<(), Fail> {
-    for (text, want) in [
         ("1:x5=1", "1:x5=1; 1:x5"),
         ("0x1:t.0=-7", "0x1:t.0=-7; 0x1:t.0"),
         ("[x]=y", "x=&y; x"),
@@ -144,15 +136,6 @@ fn reads_atoms(rt: HostRuntime) -> Result<(), Fail> {
             "exists=1 /\\ int=forall",
             "(exists=1 /\\ int=&forall); exists; int",
         ),
-    ] {
-        assert_eq!(rt; shown(rt.alloc(), text)?.as_str(), want);
-    }
-    Ok(())
-}
-
-#[test]
-fn no_word_is_reserved(rt: HostRuntime) -> Result<(), Fail> {
-    for (text, want) in [
         ("true=1", "true=1; true"),
         ("not=1", "not=1; not"),
         ("false=true", "false=&true; false"),
@@ -164,7 +147,8 @@ fn no_word_is_reserved(rt: HostRuntime) -> Result<(), Fail> {
         ("~true=1", "~true=1; true"),
         ("(false) \\/ true", "(F \\/ T)"),
     ] {
-        assert_eq!(rt; shown(rt.alloc(), text)?.as_str(), want);
+        let found = shown(rt.alloc(), text)?;
+        assert_eq!(rt; found.as_str(), want, "in {text}");
     }
     Ok(())
 }
@@ -216,58 +200,22 @@ fn counts_the_depth(rt: HostRuntime) -> Result<(), Fail> {
     Ok(())
 }
 
+/// Hostile conditions are read to their end, or to the token where they break, and give no tree.
 #[test]
-fn reads_deep_parentheses(rt: HostRuntime) -> Result<(), Fail> {
-    let text = repeated(rt.alloc(), "(", "x=1", ")", 500_000)?;
-    assert_eq!(rt; counted(rt.alloc(), &text)?, (1, false));
-    Ok(())
-}
-
-#[test]
-fn reads_deep_denials(rt: HostRuntime) -> Result<(), Fail> {
-    let text = repeated(rt.alloc(), "~", "x=1", "", 1_000_000)?;
-    assert_eq!(rt; counted(rt.alloc(), &text)?, (1, false));
-    Ok(())
-}
-
-#[test]
-fn reads_deep_denied_groups(rt: HostRuntime) -> Result<(), Fail> {
-    let text = repeated(rt.alloc(), "~(", "x=1", ")", 300_000)?;
-    assert_eq!(rt; counted(rt.alloc(), &text)?, (1, false));
-    Ok(())
-}
-
-#[test]
-fn reads_open_parentheses(rt: HostRuntime) -> Result<(), Fail> {
-    let text = repeated(rt.alloc(), "(", "", "", 1_048_576)?;
-    assert_eq!(rt; counted(rt.alloc(), &text)?, (0, false));
-    Ok(())
-}
-
-#[test]
-fn reads_open_denials(rt: HostRuntime) -> Result<(), Fail> {
-    let text = repeated(rt.alloc(), "~", "", "", 1_048_576)?;
-    assert_eq!(rt; counted(rt.alloc(), &text)?, (0, false));
-    Ok(())
-}
-
-#[test]
-fn reads_long_chain(rt: HostRuntime) -> Result<(), Fail> {
-    let text = repeated(rt.alloc(), "", "x=1", "/\\x=1", 200_000)?;
-    assert_eq!(rt; counted(rt.alloc(), &text)?, (200_001, false));
-    Ok(())
-}
-
-#[test]
-fn reads_nested_chain(rt: HostRuntime) -> Result<(), Fail> {
-    let text = repeated(rt.alloc(), "(x=1/\\", "x=1", ")", 150_000)?;
-    assert_eq!(rt; counted(rt.alloc(), &text)?, (150_001, false));
-    Ok(())
-}
-
-#[test]
-fn stops_in_deep_parentheses(rt: HostRuntime) -> Result<(), Fail> {
-    let text = repeated(rt.alloc(), "(", "", ")", 500_000)?;
-    assert_eq!(rt; counted(rt.alloc(), &text)?, (500_000, false));
+fn reads_long_and_deep_conditions(rt: HostRuntime) -> Result<(), Fail> {
+    for (before, middle, after, n, wanted) in [
+        ("(", "x=1", ")", 500_000, 1),
+        ("~", "x=1", "", 1_000_000, 1),
+        ("~(", "x=1", ")", 300_000, 1),
+        ("(", "", "", 1_048_576, 0),
+        ("~", "", "", 1_048_576, 0),
+        ("", "x=1", "/\\x=1", 200_000, 200_001),
+        ("(x=1/\\", "x=1", ")", 150_000, 150_001),
+        ("(", "", ")", 500_000, 500_000),
+    ] {
+        let text = repeated(rt.alloc(), before, middle, after, n)?;
+        let found = counted(rt.alloc(), &text)?;
+        assert_eq!(rt; found, (wanted, false), "at {n} times {before} and {after}");
+    }
     Ok(())
 }

@@ -1,11 +1,12 @@
 //! Texts whose meaning, or whose first bad line, is told by the format.
 
-use fs_form::{Quantifier, read_form};
-use fs_tokens::{Stop, Target, Value, tokens};
+use crate::condition::{push_target, push_value};
+use fs_form::{Form, Quantifier, read_form};
+use fs_tokens::{Stop, tokens};
 use std::alloc::{AllocError, Global};
 
-const MP: &[u8] =
-    b"{\n0:x6=x; 0:x8=y;\n1:x6=y; 1:x8=x;\n}\n P0 | P1 ;\n ori x5,x0,1 | lw x5,0(x6) ;\n sw x5,0(x6) | ;\nexists (1:x5=1)\n";
+const MP: &str =
+    "{\n0:x6=x; 0:x8=y;\n1:x6=y; 1:x8=x;\n}\n P0 | P1 ;\n ori x5,x0,1 | lw x5,0(x6) ;\n sw x5,0(x6) | ;\nexists (1:x5=1)\n";
 
 // What becomes of a text whose first line is 1.
 #[derive(Clone, Copy, PartialEq, Eq, Debug)]
@@ -37,14 +38,9 @@ fn read_answer(alloc: Global, text: &[u8]) -> Result<Answer, AllocError> {
 }
 
 #[test]
-fn whole(rt: HostRuntime) -> Result<(), AllocError> {
-    assert_eq!(rt; read_answer(rt.alloc(), MP)?, Answer::Form(4, 2, 4, 7));
-    Ok(())
-}
-
-#[test]
 fn forms(rt: HostRuntime) -> Result<(), AllocError> {
     for (text, want) in [
+        (MP, Answer::Form(4, 2, 4, 7)),
         ("{} P0 ; exists", Answer::Form(0, 1, 0, 0)),
         (
             "{ int = 1; int int = 2; [int]=3; int32_t x = -0 } P0 ; ~ exists a",
@@ -86,13 +82,28 @@ fn forms(rt: HostRuntime) -> Result<(), AllocError> {
         ("{} P0 ; nop", Answer::TooSoon),
         ("", Answer::TooSoon),
     ] {
-        assert_eq!(rt;
-            read_answer(rt.alloc(), text.as_bytes())?,
-            want,
-            "at {text}"
-        );
+        let found = read_answer(rt.alloc(), text.as_bytes())?;
+        assert_eq!(rt; found, want, "at {text}");
     }
     Ok(())
+}
+
+// The entries with their lines, and then the quantifier.
+fn entries_text(alloc: Global, form: &Form) -> Result<String, AllocError> {
+    let mut out = String::new(alloc);
+    for entry in &form.entries {
+        write!(out, "{} ", entry.line)?;
+        push_target(&mut out, entry.target)?;
+        out.push_str("=")?;
+        push_value(&mut out, entry.value)?;
+        out.push_str("; ")?;
+    }
+    out.push_str(match form.quantifier {
+        Quantifier::Exists => "exists",
+        Quantifier::NotExists => "~exists",
+        Quantifier::Forall => "forall",
+    })?;
+    Ok(out)
 }
 
 // A word that may be a type or a name; and the line of an entry.
@@ -103,36 +114,13 @@ fn entries(rt: HostRuntime) -> Result<(), AllocError> {
         b"{ int\n= 1; int\nx = -7; int\n0:x5 = y }\nP0 ; ~ exists",
         1,
     )?;
-    let form = match read_form(rt.alloc(), all.as_slice()) {
-        Ok((form, _)) => form,
+    match read_form(rt.alloc(), all.as_slice()) {
+        Ok((form, _)) => assert_eq!(rt;
+            entries_text(rt.alloc(), &form)?.as_str(),
+            "1 int=1; 3 x=-7; 4 0:x5=&y; ~exists"
+        ),
         Err(_) => return Err(AllocError),
-    };
-    let [first, second, third] = form.entries.as_slice() else {
-        return Err(AllocError);
-    };
-    assert!(rt; matches!(first.target, Target::Location("int")));
-    assert!(rt; matches!(second.target, Target::Location("x")));
-    assert!(rt;
-        matches!(
-            third.target,
-            Target::Register {
-                hart: "0",
-                register: "x5"
-            }
-        )
-    );
-    assert!(rt;
-        matches!(
-            second.value,
-            Value::Number {
-                negative: true,
-                digits: "7"
-            }
-        )
-    );
-    assert!(rt; matches!(third.value, Value::Address("y")));
-    assert!(rt; (first.line, second.line, third.line) == (1, 3, 4));
-    assert!(rt; form.quantifier == Quantifier::NotExists);
+    }
     Ok(())
 }
 
@@ -156,23 +144,18 @@ fn many_rows(rt: HostRuntime) -> Result<(), AllocError> {
     Ok(())
 }
 
-// What each hart runs.
+// How many tokens the cells of each hart have.
 #[test]
 fn columns(rt: HostRuntime) -> Result<(), AllocError> {
     let (all, _) = tokens(rt.alloc(), b"{} P0 | P1 ; nop | ; | lw x5 ; exists", 1)?;
-    let form = match read_form(rt.alloc(), all.as_slice()) {
-        Ok((form, _)) => form,
-        Err(_) => return Err(AllocError),
-    };
-    if form.columns != 2 || form.cells.len() != 4 {
+    let Ok((form, _)) = read_form(rt.alloc(), all.as_slice()) else {
         return Err(AllocError);
-    }
-    for row in 0..2 {
-        for column in 0..2 {
-            let want = if row == column { 1 + column } else { 0 };
-            let cells = form.column(rt.alloc(), column)?;
-            assert!(rt; cells.len() == 2 && cells[row].len() == want);
-        }
+    };
+    assert_eq!(rt; form.columns, 2);
+    for (column, wanted) in [(0, [1, 0]), (1, [0, 2])] {
+        let cells = form.column(rt.alloc(), column)?;
+        let lengths: Vec<usize> = cells.iter().map(|cell| cell.len()).collect(rt.alloc())?;
+        assert_eq!(rt; lengths.as_slice(), wanted.as_slice());
     }
     Ok(())
 }

@@ -2,7 +2,7 @@
 use fs_kinds::{
     Fault, Kind, Limit, OperationName, Placement, Reason, Slot, read_fence, read_prices,
 };
-use std::alloc::Global;
+use std::alloc::{AllocError, Global};
 use std::fmt::Display;
 use std::test::Fail;
 
@@ -10,10 +10,15 @@ fn slot(hart: u8, at: u8) -> Slot {
     Slot { hart, at }
 }
 
-fn refusal(alloc: Global, json: &[u8]) -> Option<Fault> {
+const BAD: &str = "fault F10 BadPrices";
+
+const NO_TOP: &str = "fault F11 NoTop";
+
+/// The line of the fault that refuses the prices, or nothing.
+fn refusal(alloc: Global, json: &[u8]) -> Result<String, AllocError> {
     match read_prices(alloc, json) {
-        Ok(_) => None,
-        Err(fault) => Some(fault),
+        Ok(_) => Ok(String::new(alloc)),
+        Err(fault) => format!(in alloc; "{fault}"),
     }
 }
 
@@ -44,71 +49,48 @@ fn reasons_print_their_words(rt: HostRuntime) -> Result<(), Fail> {
     let alloc = rt.alloc();
     let first = OperationName { hart: 0, at: 1 };
     let second = OperationName { hart: 0, at: 2 };
-    let rule = Reason::Rule {
-        rule: 4,
-        first,
-        second,
-    };
-    assert_eq!(rt; rule.to_string(alloc)?.as_str(), "rule 4 P0:1 P0:2");
-    assert_eq!(rt;
-        Reason::Cycle { index: 3 }.to_string(alloc)?.as_str(),
-        "cycle 3"
-    );
-    assert_eq!(rt;
-        Reason::Astray { hart: 1, at: 2 }.to_string(alloc)?.as_str(),
-        "astray P1:2"
-    );
+    let reasons = [
+        (
+            Reason::Rule {
+                rule: 4,
+                first,
+                second,
+            },
+            "rule 4 P0:1 P0:2",
+        ),
+        (Reason::Cycle { index: 3 }, "cycle 3"),
+        (Reason::Astray { hart: 1, at: 2 }, "astray P1:2"),
+    ];
+    for (reason, words) in reasons {
+        let text = reason.to_string(alloc)?;
+        assert_eq!(rt; text.as_str(), words);
+    }
     Ok(())
 }
 
 #[test]
-fn prices_are_refused(rt: HostRuntime) {
-    let alloc = rt.alloc();
-    assert_eq!(rt; refusal(alloc, b"{\"w,w\":2}"), Some(Fault::NoTop));
-    assert_eq!(rt; refusal(alloc, b"{}"), Some(Fault::NoTop));
-    assert_eq!(rt; refusal(alloc, b"[]"), Some(Fault::BadPrices));
-    assert_eq!(rt;
-        refusal(alloc, b"{\"w,w\":0,\"rw,rw\":3}"),
-        Some(Fault::BadPrices)
-    );
-    assert_eq!(rt;
-        refusal(alloc, b"{\"w,w\":1000001,\"rw,rw\":1}"),
-        Some(Fault::BadPrices)
-    );
-    assert_eq!(rt;
-        refusal(alloc, b"{\"x,y\":1,\"rw,rw\":1}"),
-        Some(Fault::BadPrices)
-    );
-    assert_eq!(rt;
-        refusal(alloc, b"{\"w,w\":\"2\",\"rw,rw\":1}"),
-        Some(Fault::BadPrices)
-    );
-    assert_eq!(rt; refusal(alloc, b"\xff"), Some(Fault::BadPrices));
-    assert_eq!(rt; refusal(alloc, b"{\"w,w\":1000000,\"rw,rw\":1}"), None);
-}
-
-#[test]
-fn weights_are_refused(rt: HostRuntime) {
-    let alloc = rt.alloc();
-    assert_eq!(rt;
-        refusal(alloc, b"{\"rw,rw\":10,\"weights\":{\"P0:03\":1}}"),
-        Some(Fault::BadPrices)
-    );
-    assert_eq!(rt;
-        refusal(alloc, b"{\"rw,rw\":10,\"weights\":{\"P0:3\":1001}}"),
-        Some(Fault::BadPrices)
-    );
-    assert_eq!(rt;
-        refusal(alloc, b"{\"rw,rw\":10,\"weights\":[]}"),
-        Some(Fault::BadPrices)
-    );
-    assert_eq!(rt;
-        refusal(
-            alloc,
-            b"{\"rw,rw\":10,\"weights\":{\"P0:3\":1000,\"P7:9\":0}}"
-        ),
-        None
-    );
+fn prices_are_read_or_refused(rt: HostRuntime) -> Result<(), Fail> {
+    let rows: [(&[u8], &str); 14] = [
+        (b"{\"w,w\":2}", NO_TOP),
+        (b"{}", NO_TOP),
+        (b"[]", BAD),
+        (b"{\"w,w\":0,\"rw,rw\":3}", BAD),
+        (b"{\"w,w\":1000001,\"rw,rw\":1}", BAD),
+        (b"{\"x,y\":1,\"rw,rw\":1}", BAD),
+        (b"{\"w,w\":\"2\",\"rw,rw\":1}", BAD),
+        (b"\xff", BAD),
+        (b"{\"w,w\":1000000,\"rw,rw\":1}", ""),
+        (b"{\"rw,rw\":10,\"weights\":{\"P0:03\":1}}", BAD),
+        (b"{\"rw,rw\":10,\"weights\":{\"P0:3\":1001}}", BAD),
+        (b"{\"rw,rw\":10,\"weights\":[]}", BAD),
+        (b"{\"rw,rw\":10,\"weights\":{\"P0:3\":1000,\"P7:9\":0}}", ""),
+        (b"{\"rw,rw\":1,\"weights\":{\"P0:3\":1000}}", ""),
+    ];
+    for (prices, wanted) in rows {
+        let found = refusal(rt.alloc(), prices)?;
+        assert_eq!(rt; found.as_str(), wanted);
+    }
+    Ok(())
 }
 
 #[test]
@@ -132,10 +114,15 @@ fn placements_are_made(rt: HostRuntime) -> Result<(), Fail> {
 }
 
 #[test]
-fn words_name_fences(rt: HostRuntime) {
-    assert_eq!(rt; read_fence("P0:3=w,w"), Some((slot(0, 3), Kind::WW)));
-    assert_eq!(rt; read_fence("P0:3=w,q"), None);
-    assert_eq!(rt; read_fence("P0:03=w,w"), None);
-    assert_eq!(rt; Slot::of("P256:0"), None);
-    assert_eq!(rt; Slot::of("P+1:0"), None);
+fn words_name_fences_and_slots(rt: HostRuntime) {
+    for (word, wanted) in [
+        ("P0:3=w,w", Some((slot(0, 3), Kind::WW))),
+        ("P0:3=w,q", None),
+        ("P0:03=w,w", None),
+    ] {
+        assert_eq!(rt; read_fence(word), wanted);
+    }
+    for word in ["P256:0", "P+1:0"] {
+        assert_eq!(rt; Slot::of(word), None);
+    }
 }

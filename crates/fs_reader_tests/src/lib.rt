@@ -1,7 +1,9 @@
-//! Tests of the layers of the reader by themselves: on kinds and prices, sections, conditions, instructions, cells, and the printed form.
+//! Tests of the layers of the reader by themselves: on bytes, kinds and prices, sections, conditions, instructions, cells, and the printed form.
 //! They stand apart, so that no layer is proved twice for the sake of its tests.
 #![tactic(auto)]
 
+#[cfg(test)]
+mod bytes;
 #[cfg(test)]
 mod code;
 #[cfg(test)]

@@ -1,7 +1,8 @@
 //! What `order` answers.
-use crate::litmus::{MP, with_line};
-use crate::texts::{FORWARDED, LB, LBC, LBD, LRSC, LRSCF, MP11, POINTER, SB, SBF, SBX, SBXA};
 use fs_app::{Status, run_order};
+use fs_examples::{
+    FORWARDED, LB, LBC, LBD, LRSC, LRSCF, MP, MP11, POINTER, SB, SBF, SBX, SBXA, with_line,
+};
 use std::alloc::{AllocError, Global};
 use std::test::Fail;
 

@@ -1,6 +1,11 @@
 //! What `place` answers.
-use crate::litmus::{BACK, MP, MPB, PRICES, placed, with_line};
+use fs_app::run_place;
+use fs_examples::{BACK, MP, MPB, with_line};
+use std::alloc::{AllocError, Global};
 use std::test::Fail;
+
+/// Prices for six of the kinds.
+const PRICES: &str = r#"{"r,r":3,"r,w":3,"w,w":2,"w,r":9,"tso":5,"rw,rw":10}"#;
 
 /// MP with `w,w` in P0 and `r,r` in P1, by the rules of the printed form.
 const FENCED_MP: &str = "RISCV MP
@@ -31,6 +36,24 @@ ori x7,x0,1 | L2: fence r,r ;
 sw x7,0(x8) | lw x7,0(x8) ;
 exists (1:x5=1 /\\ 1:x7=0)
 ";
+
+/// What `place` prints, or the line of its fault.
+fn placed(
+    alloc: Global,
+    test: &[u8],
+    prices: Option<&str>,
+    fences: &[&str],
+) -> Result<String, AllocError> {
+    let mut words = Vec::new(alloc);
+    for fence in fences {
+        words.push(String::from_str(alloc, fence)?)?;
+    }
+    let prices = prices.map(|text| text.as_bytes());
+    match run_place(alloc, test, prices, &words) {
+        Ok(output) => Ok(output.text),
+        Err(fault) => format!(in alloc; "{fault}"),
+    }
+}
 
 #[test]
 fn prints_the_fenced_test(rt: HostRuntime) -> Result<(), Fail> {

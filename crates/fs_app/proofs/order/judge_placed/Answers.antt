@@ -1,5 +1,5 @@
 use Rattle.std.proofs.Common.{Err, ap}
-use Rattle.fs_app.proofs.Faults.{IfErr-handed}
+use Rattle.fs_place.proofs.Faults.{IfErr-handed}
 use Rattle.fs_app.proofs.OrderFaults.{order-memory, order-witness}
 use Rattle.fs_app.proofs.order.judge_placed.Goals as goal
 

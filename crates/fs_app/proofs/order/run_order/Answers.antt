@@ -1,4 +1,4 @@
-use Rattle.fs_app.proofs.Faults.{IfErr-handed}
+use Rattle.fs_place.proofs.Faults.{IfErr-handed}
 use Rattle.fs_app.proofs.OrderFaults.{order-test}
 use Rattle.fs_app.proofs.order.run_order.Goals as goal
 

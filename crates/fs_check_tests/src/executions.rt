@@ -1,0 +1,351 @@
+//! Whole executions: what `check_order` says of them, what a plain program says that computes the definition, and how many of
+//! them are known to show the outcome.
+ghost use Rattle.std.specs.Prelude.{◌≡◌, ◌≤◌, All, length};
+ghost use Rattle.std.specs.List.Sorted.{IsStrictlyIncreasing};
+ghost use Rattle.fs_syntax.specs.Test.{IsBounded, IsStart};
+ghost use Rattle.fs_cand.specs.Candidates.{AreShort};
+
+use fs_axioms::count_accesses;
+use fs_cand::Traces;
+use fs_check::{OrderVerdict, check_order};
+use fs_examples::{
+    ADD2, CO_RR, Digits, FORWARDED, LB, LBC, LBD, LRSC, LRSCF, MANY, MP, MP11, MPA, MPB, POINTER,
+    SB, SBF, SBX, SBXA, TWO_WRITES, order_of, picked, runs_of, runs_over, same_sets, with_line,
+};
+use fs_hart::{Operation, Steps, Trace, Words, operations};
+use fs_instr::Instr;
+use fs_kinds::{Fault, Placement};
+use fs_litmus::{Test, read_fences, read_test};
+use fs_plain::{allows_over, shows};
+use std::alloc::{AllocError, Global};
+use std::test::Fail;
+
+/// The choices of a run, as a witness file has them.
+fn choices_text(alloc: Global, run: &Trace) -> Result<String, AllocError> {
+    let mut text = String::from_str(alloc, "[")?;
+    for step in run.steps() {
+        let choice = match (step.instr, step.loaded) {
+            (Instr::Sc { .. }, _) if step.stored.is_some() => String::from_str(alloc, "true")?,
+            (Instr::Sc { .. }, _) => String::from_str(alloc, "false")?,
+            (_, Some(word)) => format!(in alloc; "{word}")?,
+            _ => continue,
+        };
+        if text.len() > 1 {
+            text.push_str(",")?;
+        }
+        text.push_str(choice.as_str())?;
+    }
+    text.push_str("]")?;
+    Ok(text)
+}
+
+/// The name of the operation, as a witness file has it.
+fn name_text(alloc: Global, traces: &[Trace], operation: &Operation) -> Result<String, AllocError> {
+    let hart = operation.hart.unwrap_or(255);
+    let at = match traces.get(usize::from(hart)) {
+        Some(trace) => trace
+            .steps()
+            .get(usize::from(operation.place))
+            .map_or(255, |step| step.at),
+        None => 255,
+    };
+    format!(in alloc; "\"P{hart}:{at}\"")
+}
+
+/// The witness file of the runs with this order of their operations.
+fn witness_text(
+    alloc: Global,
+    traces: &[Trace],
+    operations: &[Operation],
+    order: &[u8],
+) -> Result<String, AllocError> {
+    let mut choices = String::new(alloc);
+    for run in traces {
+        if !choices.is_empty() {
+            choices.push_str(",")?;
+        }
+        choices.push_str(choices_text(alloc, run)?.as_str())?;
+    }
+    let mut names = String::new(alloc);
+    for a in order {
+        if !names.is_empty() {
+            names.push_str(",")?;
+        }
+        if let Some(operation) = operations.get(usize::from(*a)) {
+            names.push_str(name_text(alloc, traces, operation)?.as_str())?;
+        }
+    }
+    format!(in alloc; "{{\"choices\":[{choices}],\"order\":[{names}]}}")
+}
+
+/// The steps of the runs.
+fn steps_of(alloc: Global, traces: &[Trace]) -> Result<Vec<Steps>, AllocError> {
+    let mut runs = Vec::new(alloc);
+    for trace in traces {
+        runs.push(Steps::new(Vec::from_slice(alloc, trace.steps())?))?;
+    }
+    Ok(runs)
+}
+
+/// What comparing has found.
+#[derive(Clone, Copy, Debug, PartialEq, Eq)]
+struct Count {
+    /// How many executions show the outcome.
+    showing: usize,
+    /// On how many orders the two differ.
+    differing: usize,
+}
+
+/// Compares on all orders of the operations of these runs.
+fn compare_orders(
+    alloc: Global,
+    test: &Test,
+    traces: &Traces,
+    placement: &Placement,
+    count: &mut Count,
+) -> Result<(), Fault>
+    requires test { IsBounded test.now }
+    requires starts { All IsStart test.now.starts }
+    requires harts { length traces.now ≤ 8 }
+    requires steps { AreShort traces.now }
+{
+    let traces = traces.as_slice();
+    let all = operations(alloc, test, traces)?;
+    let runs = steps_of(alloc, traces)?;
+    for number in 0..MANY {
+        let mut digits = Digits { rest: number };
+        let order = order_of(alloc, count_accesses(all.as_slice()), &mut digits)?;
+        if digits.rest > 0 {
+            return Ok(());
+        }
+        let witness = witness_text(alloc, traces, all.as_slice(), &order)?;
+        let verdict = check_order(alloc, test, placement, witness.as_bytes())?;
+        let is_shown = shows(alloc, test, &runs, placement, &order)?;
+        if is_shown {
+            count.showing = count.showing.saturating_add(1);
+        }
+        if is_shown != (verdict == OrderVerdict::Yes) {
+            count.differing = count.differing.saturating_add(1);
+        }
+    }
+    Ok(())
+}
+
+/// The placement that the words name.
+fn placement_of(alloc: Global, test: &Test, fences: &[&str]) -> Result<Placement, Fault>
+    requires { IsBounded test.now }
+{
+    let mut named = Vec::new(alloc);
+    for fence in fences {
+        named.push(String::from_str(alloc, fence)?)?;
+    }
+    read_fences(alloc, test, None, &named)
+}
+
+/// Compares on all these runs of the fenced test, a list for each hart, and all orders of their operations.
+fn compare_runs(
+    alloc: Global,
+    test: &Test,
+    runs: &[Vec<Trace>],
+    fences: &[&str],
+) -> Result<Count, Fault>
+    requires test { IsBounded test.now }
+    requires starts { All IsStart test.now.starts }
+{
+    let placement = placement_of(alloc, test, fences)?;
+    let mut count = Count {
+        showing: 0,
+        differing: 0,
+    };
+    for number in 0..MANY {
+        let mut digits = Digits { rest: number };
+        let traces = picked(alloc, runs, &mut digits)?;
+        if digits.rest > 0 {
+            return Ok(count);
+        }
+        compare_orders(alloc, test, &traces, &placement, &mut count)?;
+    }
+    Ok(count)
+}
+
+/// Compares on all runs of the fenced test in which loads take these words, which must rise, and all orders of their operations.
+fn compare(alloc: Global, text: &str, words: &[u32], fences: &[&str]) -> Result<Count, Fault>
+    requires { IsStrictlyIncreasing words.now }
+{
+    let test = read_test(alloc, text.as_bytes())?;
+    let runs = runs_of(alloc, &test, words)?;
+    compare_runs(alloc, &test, &runs, fences)
+}
+
+/// Of four operations, orders that must have two pairs in their sequence are a quarter of all 24: so many show SB, MP, LB and
+/// 2+2W. A third pair between them leaves one order, and a fourth one none.
+#[test]
+fn so_many_executions_show_the_outcome(rt: HostRuntime) -> Result<(), Fail> {
+    let rows = [
+        (SB, 6),
+        (MP, 6),
+        (LB, 6),
+        (TWO_WRITES, 6),
+        (MP11, 6),
+        (SBX, 6),
+        (MPB, 6),
+        (MPA, 1),
+        (SBXA, 0),
+        (CO_RR, 0),
+        (LBD, 0),
+        (LBC, 0),
+        (LRSC, 0),
+        (LRSCF, 1),
+        (ADD2, 0),
+        (FORWARDED, 2),
+    ];
+    for (text, wanted) in rows {
+        let count = compare(rt.alloc(), text, &[0, 1, 2], &[])?;
+        assert_eq!(rt;
+            count,
+            Count {
+                showing: wanted,
+                differing: 0
+            },
+            "in {text}"
+        );
+    }
+    Ok(())
+}
+
+#[test]
+fn fences_leave_fewer_executions(rt: HostRuntime) -> Result<(), Fail> {
+    let rows: [(&str, &[&str], usize); 10] = [
+        (SB, &["P0:2=w,r"], 1),
+        (SB, &["P0:2=tso", "P1:2=tso"], 6),
+        (SB, &["P0:2=w,r", "P1:2=w,r"], 0),
+        (MP, &["P0:3=w,w"], 1),
+        (MP, &["P0:3=w,w", "P1:1=r,r"], 0),
+        (LB, &["P0:2=r,w"], 1),
+        (LB, &["P0:2=r,w", "P1:2=tso"], 0),
+        (MPA, &["P0:3=w,w"], 0),
+        (TWO_WRITES, &["P0:3=w,w"], 1),
+        (SBX, &["P0:2=r,r", "P1:2=r,r"], 0),
+    ];
+    for (text, fences, wanted) in rows {
+        let count = compare(rt.alloc(), text, &[0, 1, 2], fences)?;
+        assert_eq!(rt;
+            count,
+            Count {
+                showing: wanted,
+                differing: 0
+            },
+            "in {text}"
+        );
+    }
+    Ok(())
+}
+
+/// A hart may load its own store before others see it, so the two loads of the outcome that return own stores bind nothing.
+#[test]
+fn forwarding_leaves_a_quarter_of_the_orders(rt: HostRuntime) -> Result<(), Fail> {
+    let count = compare(rt.alloc(), SBF, &[0, 1], &[])?;
+    assert_eq!(rt;
+        count,
+        Count {
+            showing: 180,
+            differing: 0
+        }
+    );
+    Ok(())
+}
+
+/// The loaded address binds the store behind the second load too: it may only be the last or the second one.
+#[test]
+fn an_address_comes_before_what_follows_it(rt: HostRuntime) -> Result<(), Fail> {
+    let alloc = rt.alloc();
+    let test = read_test(alloc, POINTER.as_bytes())?;
+    let sets = [
+        Words::new(Vec::from_slice(alloc, &[4128])?),
+        Words::new(Vec::from_slice(alloc, &[0])?),
+        Words::new(Vec::from_slice(alloc, &[0])?),
+    ];
+    let runs = runs_over(alloc, &test, &sets)?;
+    let count = compare_runs(alloc, &test, &runs, &[])?;
+    assert_eq!(rt;
+        count,
+        Count {
+            showing: 2,
+            differing: 0
+        }
+    );
+    Ok(())
+}
+
+/// Does the fenced test allow its outcome, where loads take these words, which must rise?
+fn is_allowed(alloc: Global, text: &str, words: &[u32], fences: &[&str]) -> Result<bool, Fault>
+    requires { IsStrictlyIncreasing words.now }
+{
+    let test = read_test(alloc, text.as_bytes())?;
+    let placement = placement_of(alloc, &test, fences)?;
+    let sets = same_sets(alloc, test.locations.as_slice().len(), words)?;
+    allows_over(alloc, &test, &placement, &sets)
+}
+
+#[test]
+fn known_tests_are_allowed_or_not(rt: HostRuntime) -> Result<(), Fail> {
+    let rows = [
+        (SB, true),
+        (MP, true),
+        (MPA, true),
+        (SBXA, false),
+        (CO_RR, false),
+        (LBD, false),
+        (LRSC, false),
+        (LRSCF, true),
+    ];
+    for (text, wanted) in rows {
+        let found = is_allowed(rt.alloc(), text, &[0, 1, 2], &[])?;
+        assert_eq!(rt; found, wanted, "in {text}");
+    }
+    Ok(())
+}
+
+#[test]
+fn known_fences_forbid_or_do_not(rt: HostRuntime) -> Result<(), Fail> {
+    let rows: [(&str, &[&str], bool); 15] = [
+        (SB, &["P0:2=rw,rw"], true),
+        (SB, &["P0:2=tso", "P1:2=tso"], true),
+        (SB, &["P0:2=w,r", "P1:2=w,r"], false),
+        (MP, &["P0:3=w,w"], true),
+        (MP, &["P1:1=r,r"], true),
+        (MP, &["P0:3=w,w", "P1:1=r,r"], false),
+        (MP11, &["P0:3=rw,rw", "P1:1=rw,rw"], true),
+        (LB, &["P0:2=r,w"], true),
+        (LB, &["P0:2=r,w", "P1:2=r,w"], false),
+        (MPA, &["P0:3=w,w"], false),
+        (MPB, &["P0:3=w,w"], true),
+        (MPB, &["P0:3=w,w", "P1:2=r,r"], false),
+        (TWO_WRITES, &["P0:3=w,w", "P1:3=w,w"], false),
+        (SBX, &["P0:2=r,r", "P1:2=r,r"], false),
+        (LRSCF, &["P0:1=rw,rw"], true),
+    ];
+    for (text, fences, wanted) in rows {
+        let found = is_allowed(rt.alloc(), text, &[0, 1, 2], fences)?;
+        assert_eq!(rt; found, wanted, "in {text}");
+    }
+    Ok(())
+}
+
+/// A test in which a run goes astray has no answer.
+#[test]
+fn listing_stops_at_a_run_that_goes_astray(rt: HostRuntime) -> Result<(), Fail> {
+    let alloc = rt.alloc();
+    let stray = with_line(alloc, MP, 4, "1:x6=5; 1:x8=x;")?;
+    let rows = [
+        (POINTER, Fault::Astray { hart: 0, at: 1 }),
+        (stray.as_str(), Fault::Astray { hart: 1, at: 0 }),
+    ];
+    for (text, wanted) in rows {
+        match is_allowed(alloc, text, &[0, 1], &[]) {
+            Ok(_) => assert!(rt; false),
+            Err(fault) => assert_eq!(rt; fault, wanted),
+        }
+    }
+    Ok(())
+}

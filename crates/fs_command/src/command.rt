@@ -1,0 +1,154 @@
+//! The command line: its words, and what each command's help says.
+use clap::{Arg, ArgMatches, Command, Error};
+use std::alloc::{AllocError, Global};
+
+const PLACE_ABOUT: &str = "Print a litmus test with fences placed in it";
+
+const PLACE_HELP: &str = "\
+Prints the test in a fixed layout, with the fences given. With prices, a last line
+gives the cost of the fences, as (* cost 5 *).
+
+A fence P0:3=w,w stands before instruction 3 of hart 0. Harts and instructions count
+from 0, labels don't count. It must be a memory instruction with an earlier one in
+its hart. Kinds: r,r r,w r,rw w,r w,w w,rw rw,r rw,w rw,rw tso.
+
+Exit status:
+  0  the fenced test is on standard output
+  2  a fault, one line on standard error as `fault F6 BadLabel line 5`, or a bad
+     command line
+  3  memory ran out (fault F19)
+A fault leaves standard output empty, unless standard output itself failed.";
+
+const ORDER_ABOUT: &str = "Is this an execution that the memory model allows?";
+
+const ORDER_HELP: &str = "\
+Prints `yes` where the witness is an execution of the fenced test under RVWMO that shows
+the outcome of its condition, else `no: ` and the first reason against it.
+
+A witness is a JSON file {\"choices\":[[1],[0]],\"order\":[\"P0:2\",\"P1:0\"]}: for each hart
+the words that its loads return, with true or false for an sc.w that succeeds or fails;
+and the memory operations, by hart and instruction, in the global memory order.
+
+Reasons:
+  choices P1, astray P1:2   the choices make no whole run of this hart
+  order                     not each operation once and nothing else
+  load P1:2                 the load's word isn't that of its source
+  rule 4 P0:1 P0:2          preserved program order, by the manual's rule, isn't kept
+  atomic P0:0 P0:1          another hart stores between the paired lr.w and sc.w
+  outcome                   the execution doesn't show the outcome
+
+Exit status:
+  0  yes
+  1  no
+  2  a fault, one line on standard error as `fault F17 BadWitness`, or a bad command line
+  3  memory ran out (fault F19)";
+
+const PROGRAM_HELP: &str = "\
+`rvfence <COMMAND> --help` says what a command answers.
+
+Exit status: 0 done or yes, 1 no, 2 a fault or a bad command line, 3 memory ran out.";
+
+const FILE_HELP: &str = "Litmus test in herd7's RISC-V format; `stdin` means standard input";
+
+const FENCE_HELP: &str = "Fence to place, as P0:3=w,w: hart, instruction (from 0) and kind";
+
+const WITNESS_HELP: &str = "JSON file with an execution: the choices of each hart, and the order";
+
+const PRICES_HELP: &str = "JSON file with the prices of the kinds that may be placed";
+
+/// What a command line asks for. Files go by their paths.
+#[derive(Debug, Drop)]
+pub enum Request<'a> {
+    Place(Place<'a>),
+    Order(Order<'a>),
+}
+
+/// What `place` was asked for.
+#[derive(Debug, Drop)]
+pub struct Place<'a> {
+    pub test: &'a str,
+    pub fences: Vec<String>,
+    pub prices: Option<&'a str>,
+}
+
+/// What `order` was asked for.
+#[derive(Debug, Drop)]
+pub struct Order<'a> {
+    pub test: &'a str,
+    pub witness: &'a str,
+    pub fences: Vec<String>,
+}
+
+/// The request that the words make, the program's name first. An error holds the text for the user, and help is one.
+pub fn read_request<'a>(alloc: Global, words: &'a [String]) -> Result<Request<'a>, Error> {
+    let matches = whole_command(alloc)?.try_get_matches_from(words)?;
+    if let Some(found) = matches.subcommand_matches("order") {
+        return Ok(Request::Order(order_of(alloc, found)?));
+    }
+    let place = match matches.subcommand_matches("place") {
+        Some(found) => place_of(alloc, found)?,
+        None => place_of(alloc, &matches)?,
+    };
+    Ok(Request::Place(place))
+}
+
+fn place_of<'a>(alloc: Global, found: &ArgMatches<'a>) -> Result<Place<'a>, AllocError> {
+    Ok(Place {
+        test: found.get_str("FILE").unwrap_or(""),
+        fences: fences_of(alloc, found)?,
+        prices: found.get_str("prices"),
+    })
+}
+
+fn order_of<'a>(alloc: Global, found: &ArgMatches<'a>) -> Result<Order<'a>, AllocError> {
+    Ok(Order {
+        test: found.get_str("FILE").unwrap_or(""),
+        witness: found.get_str("WITNESS").unwrap_or(""),
+        fences: fences_of(alloc, found)?,
+    })
+}
+
+fn fences_of(alloc: Global, found: &ArgMatches<'_>) -> Result<Vec<String>, AllocError> {
+    let mut fences = Vec::new(alloc);
+    for word in found.get_strs("FENCE").unwrap_or(&[]) {
+        fences.push(String::from_str(alloc, word)?)?;
+    }
+    Ok(fences)
+}
+
+fn whole_command<'a>(alloc: Global) -> Result<Command<'a>, AllocError> {
+    let program = Command::new(alloc, "rvfence")
+        .about("Fences for RISC-V litmus tests under RVWMO")
+        .after_help(PROGRAM_HELP)
+        .subcommand_required(true);
+    program
+        .subcommand(place_command(alloc)?)?
+        .subcommand(order_command(alloc)?)
+}
+
+fn place_command<'a>(alloc: Global) -> Result<Command<'a>, AllocError> {
+    let file = Arg::new(alloc, "FILE").help(FILE_HELP).required(true);
+    let fence = Arg::new(alloc, "FENCE").help(FENCE_HELP).num_args(0..);
+    let prices = Arg::new(alloc, "prices")
+        .long("prices")
+        .value_name("PRICES")
+        .help(PRICES_HELP);
+    Command::new(alloc, "place")
+        .about(PLACE_ABOUT)
+        .after_help(PLACE_HELP)
+        .arg(file)?
+        .arg(fence)?
+        .arg(prices)
+}
+
+fn order_command<'a>(alloc: Global) -> Result<Command<'a>, AllocError> {
+    let file = Arg::new(alloc, "FILE").help(FILE_HELP).required(true);
+    let witness = Arg::new(alloc, "WITNESS").help(WITNESS_HELP).required(true);
+    let fence = Arg::new(alloc, "FENCE").help(FENCE_HELP).num_args(0..);
+    Command::new(alloc, "order")
+        .about(ORDER_ABOUT)
+        .after_help(ORDER_HELP)
+        .arg(file)?
+        .arg(witness)?
+        .arg(fence)
+}

@@ -1,0 +1,6 @@
+//! The command line: which request its words make, and what each command's help says.
+#![tactic(auto)]
+
+mod command;
+
+pub use command::{Order, Place, Request, read_request};

@@ -1,0 +1,8 @@
+//! What a program reads and writes whole, and how it ends: bytes of a reader, text to a writer, the exit statuses.
+#![tactic(auto)]
+
+mod bytes;
+mod status;
+
+pub use bytes::{read_bytes, write_text};
+pub use status::{Output, Status};

@@ -1,0 +1,255 @@
+//! The rules of preserved program order and the dependencies, compared with a plain program that computes their definitions.
+ghost use Rattle.std.specs.Prelude.{◌<◌, ◌≤◌};
+ghost use Rattle.std.specs.List.Sorted.{IsStrictlyIncreasing};
+ghost use Rattle.fs_syntax.specs.Test.{IsBounded};
+
+use fs_cand::{Candidate, Sources, StoreOrder};
+use fs_deps::Deps;
+use fs_examples::{
+    ADD2, ANNOTATED, CO_RR, Digits, FENCED, FORWARDED, LB, LBC, LBD, LRSC, LRSCF, MANY, MP, MP11,
+    MPA, MPB, POINTER, SB, SBF, SBX, SBXA, TWO_WRITES, picked, placements_of, runs_of,
+};
+use fs_hart::{Operation, Trace, operations};
+use fs_kinds::{Fault, Placement};
+use fs_litmus::{Test, read_test};
+use fs_plain::{address_depends, control_depends, data_depends};
+use fs_ppo::{fence_rule, rule};
+use std::alloc::{AllocError, Global};
+use std::test::Fail;
+
+/// What comparing has found.
+#[derive(Drop)]
+struct Comparison {
+    /// Whether a rule has had a case, by its number.
+    seen: [bool; 14],
+    /// The first rule and pair of operations on which the two differ.
+    difference: Option<(u8, usize, usize)>,
+}
+
+impl Comparison {
+    fn new() -> Comparison {
+        Comparison {
+            seen: [false; 14],
+            difference: None,
+        }
+    }
+
+    /// Compares rule n on all pairs of operations, and with a number that is no operation's.
+    fn take_rule(&mut self, n: u8, candidate: &Candidate, placement: &Placement)
+        requires first { 1 ≤ n }
+        requires last { n < 14 }
+    {
+        let operations = candidate.operations.as_slice();
+        for a in 0..=operations.len() {
+            for b in 0..=operations.len() {
+                let found = if n == 4 {
+                    fence_rule(candidate, placement, a, b)
+                } else {
+                    rule(n, candidate, a, b)
+                };
+                let traces = candidate.traces.as_slice();
+                let sources = candidate.source.as_slice();
+                let wanted = fs_plain::rule(n, traces, operations, placement, sources, a, b);
+                if found != wanted {
+                    self.difference = self.difference.or(Some((n, a, b)));
+                }
+                if wanted {
+                    self.seen[usize::from(n)] = true;
+                }
+            }
+        }
+    }
+
+    /// Compares all rules, rule 4 under the first placement.
+    fn take(&mut self, candidate: &Candidate, placements: &[Placement]) {
+        if let Some(placement) = placements.first() {
+            for n in 1..14 {
+                self.take_rule(n, candidate, placement);
+            }
+        }
+    }
+
+    /// Compares rule 4 under each placement.
+    fn take_fences(&mut self, candidate: &Candidate, placements: &[Placement]) {
+        for placement in placements {
+            self.take_rule(4, candidate, placement);
+        }
+    }
+}
+
+/// Can the operation of the second number be what the first one loads?
+fn is_source(operations: &[Operation], load: usize, store: usize) -> bool {
+    match (operations.get(load), operations.get(store)) {
+        (Some(load_of), Some(store_of)) => {
+            load != store
+                && load_of.loaded.is_some()
+                && load_of.address == store_of.address
+                && load_of.loaded == store_of.stored
+        }
+        _ => false,
+    }
+}
+
+/// A source for each load that can have one, by a digit for each.
+fn sources_of(
+    alloc: Global,
+    operations: &[Operation],
+    digits: &mut Digits,
+) -> Result<Sources, AllocError> {
+    let mut sources = Vec::new(alloc);
+    for load in 0..operations.len() {
+        let stores: Vec<u8> = (0..64)
+            .filter(|store| is_source(operations, load, usize::from(*store)))
+            .collect(alloc)?;
+        sources.push(stores.get(digits.take(stores.len())).copied())?;
+    }
+    Ok(Sources::new(sources))
+}
+
+/// Compares on the runs of this number, with each choice of sources. False where there are no such runs.
+fn compare_runs(
+    alloc: Global,
+    test: &Test,
+    runs: &[Vec<Trace>],
+    number: usize,
+    placements: &[Placement],
+    comparison: &mut Comparison,
+) -> Result<bool, Fault>
+    requires { IsBounded test.now }
+{
+    for choice in 0..MANY {
+        let mut digits = Digits { rest: number };
+        let traces = picked(alloc, runs, &mut digits)?;
+        if digits.rest > 0 {
+            return Ok(false);
+        }
+        let all = operations(alloc, test, traces.as_slice())?;
+        let mut digits = Digits { rest: choice };
+        let sources = sources_of(alloc, all.as_slice(), &mut digits)?;
+        if digits.rest > 0 {
+            return Ok(true);
+        }
+        let no_order = StoreOrder::new(Vec::new(alloc));
+        let candidate = Candidate::new(alloc, test, traces, sources, no_order)?;
+        comparison.take(&candidate, placements);
+        if choice == 0 {
+            comparison.take_fences(&candidate, placements);
+        }
+    }
+    Ok(true)
+}
+
+/// Compares on all runs of the test in which loads take these words, which must rise.
+fn compare(
+    alloc: Global,
+    text: &str,
+    words: &[u32],
+    comparison: &mut Comparison,
+) -> Result<(), Fault>
+    requires { IsStrictlyIncreasing words.now }
+{
+    let test = read_test(alloc, text.as_bytes())?;
+    let runs = runs_of(alloc, &test, words)?;
+    let placements = placements_of(alloc, &test)?;
+    for number in 0..MANY {
+        if !compare_runs(alloc, &test, &runs, number, &placements, comparison)? {
+            return Ok(());
+        }
+    }
+    Ok(())
+}
+
+#[test]
+fn rules_agree_on_known_tests(rt: HostRuntime) -> Result<(), Fail> {
+    let texts = [
+        SB, MP, LB, MPA, SBX, SBXA, MPB, TWO_WRITES, CO_RR, MP11, LRSC, LRSCF, ADD2, LBD, LBC,
+        FORWARDED,
+    ];
+    for text in texts {
+        let mut comparison = Comparison::new();
+        compare(rt.alloc(), text, &[0, 1, 2], &mut comparison)?;
+        assert_eq!(rt; comparison.difference, None, "in {text}");
+    }
+    Ok(())
+}
+
+#[test]
+fn rules_agree_on_forwarding(rt: HostRuntime) -> Result<(), Fail> {
+    let mut comparison = Comparison::new();
+    compare(rt.alloc(), SBF, &[0, 1, 2], &mut comparison)?;
+    assert_eq!(rt; comparison.difference, None);
+    Ok(())
+}
+
+#[test]
+fn each_rule_has_a_case(rt: HostRuntime) -> Result<(), Fail> {
+    let mut comparison = Comparison::new();
+    for text in [ANNOTATED, FENCED, CO_RR, MPA, LBC, FORWARDED] {
+        compare(rt.alloc(), text, &[0, 1], &mut comparison)?;
+        assert_eq!(rt; comparison.difference, None, "in {text}");
+    }
+    compare(rt.alloc(), POINTER, &[4096, 4112, 4128], &mut comparison)?;
+    assert_eq!(rt; comparison.difference, None);
+    for n in 1..14 {
+        assert!(rt; comparison.seen[n], "rule {n} has no case");
+    }
+    Ok(())
+}
+
+/// The first pair of steps of the run on which the dependencies differ from the plain program's.
+fn dependency_difference(alloc: Global, run: &Trace) -> Result<Option<(usize, usize)>, Fault> {
+    let steps = run.steps();
+    if steps.len() > 32 {
+        return Ok(Some((steps.len(), 0)));
+    }
+    let deps = Deps::of(alloc, run)?;
+    for i in 0..steps.len() {
+        for j in 0..steps.len() {
+            if deps.addr(i, j) != address_depends(steps, i, j)
+                || deps.data(i, j) != data_depends(steps, i, j)
+                || deps.ctrl(i, j) != control_depends(steps, i, j)
+            {
+                return Ok(Some((i, j)));
+            }
+        }
+    }
+    Ok(None)
+}
+
+/// The first difference in the dependencies of the test's runs in which loads take these words, which must rise.
+fn first_difference(
+    alloc: Global,
+    text: &str,
+    words: &[u32],
+) -> Result<Option<(usize, usize)>, Fault>
+    requires { IsStrictlyIncreasing words.now }
+{
+    let test = read_test(alloc, text.as_bytes())?;
+    for runs_of_hart in &runs_of(alloc, &test, words)? {
+        for run in runs_of_hart {
+            let found = dependency_difference(alloc, run)?;
+            if found.is_some() {
+                return Ok(found);
+            }
+        }
+    }
+    Ok(None)
+}
+
+#[test]
+fn dependencies_agree(rt: HostRuntime) -> Result<(), Fail> {
+    let alloc = rt.alloc();
+    let texts = [
+        SB, MP, LB, MPA, SBX, SBXA, MPB, TWO_WRITES, CO_RR, MP11, LRSC, LRSCF, ADD2, LBD, SBF, LBC,
+        FORWARDED, ANNOTATED, FENCED,
+    ];
+    for text in texts {
+        let found = first_difference(alloc, text, &[0, 1, 2])?;
+        assert_eq!(rt; found, None, "in {text}");
+    }
+    assert_eq!(rt;
+        first_difference(alloc, POINTER, &[4096, 4112, 4128])?,
+        None
+    );
+    Ok(())
+}
