@@ -1,0 +1,1237 @@
+#!/usr/bin/env python3
+"""Checks a certificate of an answer, in plain Python.
+
+    scripts/check_certificate.py TEST PRICES CERTIFICATE
+
+It is written from docs/CERTIFICATE.md, docs/FORMAT.md and docs/MODEL.md alone, and shares no code with the program. The
+sections below name the part of these documents that they follow.
+
+It prints `yes` and the answer, status 0; or `no: ` and the first reason of docs/CERTIFICATE.md, section 5, status 1. Bytes
+that are no certificate are `fault F18 BadCertificate` on standard error, and any other file that can't be read is another
+line there; both have status 2. It takes it that the program accepts the test and the price list, and looks for no more faults
+in them than it stumbles over.
+"""
+
+import itertools
+import json
+import re
+import sys
+
+WORDS = 2 ** 32
+
+
+class Unreadable(Exception):
+    """A file isn't what it should be, or a test's runs can't be listed."""
+
+
+class NotACertificate(Exception):
+    """The bytes are no certificate file."""
+
+
+class Refused(Exception):
+    """The certificate isn't valid, for this reason."""
+
+
+# --- JSON as the formats ask for it --------------------------------------------------------------------------------------
+
+OTHER_NUMBER = object()
+"""Stands for each number that isn't a whole number from 0 to 2^64 - 1. No key takes it."""
+
+
+def whole_or_other(text):
+    """The whole number that JSON writes so. `-0` is none."""
+    if text.startswith('-') or len(text) > 20 or int(text) >= 2 ** 64:
+        return OTHER_NUMBER
+    return int(text)
+
+
+def no_constant(text):
+    """NaN and the infinities, which Python reads and JSON doesn't have."""
+    raise ValueError(text)
+
+
+def json_of(data):
+    """The value that these bytes write, RFC 8259 in UTF-8; of a doubled key the last one counts. Else a ValueError."""
+    return json.loads(data.decode('utf-8'), parse_int=whole_or_other, parse_float=lambda text: OTHER_NUMBER,
+                      parse_constant=no_constant)
+
+
+def is_whole(value, below=2 ** 64):
+    return type(value) is int and value < below
+
+
+def is_text(value):
+    return type(value) is str
+
+
+def is_list(value, is_entry):
+    return type(value) is list and all(is_entry(entry) for entry in value)
+
+
+def has_keys(value, keys):
+    """Is this an object with exactly these keys?"""
+    return type(value) is dict and set(value) == set(keys)
+
+
+# --- Kinds of fences (FORMAT 3, MODEL 7) ---------------------------------------------------------------------------------
+
+def product_of(before, after):
+    """The pairs of the fence `before,after`; its letters i and o order nothing here."""
+    return frozenset(p + s for p in before.upper() for s in after.upper() if p in 'RW' and s in 'RW')
+
+
+TSO = frozenset(['RR', 'RW', 'WW'])
+KINDS = ['r,r', 'r,w', 'r,rw', 'w,r', 'w,w', 'w,rw', 'rw,r', 'rw,w', 'rw,rw', 'tso']
+PAIRS = {kind: TSO if kind == 'tso' else product_of(*kind.split(',')) for kind in KINDS}
+ALL_PAIRS = ['RR', 'RW', 'WR', 'WW']
+
+
+# --- Tests (FORMAT 1 and 2) ----------------------------------------------------------------------------------------------
+
+REGISTER_NAMES = ['zero', 'ra', 'sp', 'gp', 'tp', 't0', 't1', 't2', 's0', 's1'] + ['a%d' % n for n in range(8)] \
+    + ['s%d' % n for n in range(2, 12)] + ['t%d' % n for n in range(3, 7)]
+REGISTERS = {name: number for number, name in enumerate(REGISTER_NAMES)}
+REGISTERS.update({'x%d' % number: number for number in range(32)})
+REGISTERS['fp'] = 8
+
+
+def signed(word):
+    return word - WORDS if word >= WORDS // 2 else word
+
+
+COMPUTES = {
+    'add': lambda a, b: a + b, 'sub': lambda a, b: a - b,
+    'xor': lambda a, b: a ^ b, 'or': lambda a, b: a | b, 'and': lambda a, b: a & b,
+    'sll': lambda a, b: a << (b & 31), 'srl': lambda a, b: a >> (b & 31), 'sra': lambda a, b: signed(a) >> (b & 31),
+    'slt': lambda a, b: int(signed(a) < signed(b)), 'sltu': lambda a, b: int(a < b),
+    'swap': lambda a, b: b,
+    'min': lambda a, b: min(a, b, key=signed), 'max': lambda a, b: max(a, b, key=signed), 'minu': min, 'maxu': max,
+}
+TWO_SOURCES = ['add', 'sub', 'xor', 'or', 'and', 'sll', 'srl', 'sra', 'slt', 'sltu']
+WITH_IMMEDIATE = {'addi': 'add', 'xori': 'xor', 'ori': 'or', 'andi': 'and', 'slti': 'slt', 'sltiu': 'sltu'}
+WITH_SHIFT = {'slli': 'sll', 'srli': 'srl', 'srai': 'sra'}
+BRANCHES = {
+    'beq': lambda a, b: a == b, 'bne': lambda a, b: a != b,
+    'blt': lambda a, b: signed(a) < signed(b), 'bge': lambda a, b: signed(a) >= signed(b),
+    'bltu': lambda a, b: a < b, 'bgeu': lambda a, b: a >= b,
+}
+AMOS = {'amo%s.w' % name: name for name in ['swap', 'add', 'xor', 'and', 'or', 'min', 'max', 'minu', 'maxu']}
+ANNOTATED = ['lr.w', 'sc.w'] + list(AMOS)
+ANNOTATIONS = {'': (False, False), '.aq': (True, False), '.rl': (False, True), '.aqrl': (True, True), '.aq.rl': (True, True)}
+
+
+class Instruction:
+    """An instruction with its roles: registers to read for the address, the data and plainly, and the one to write."""
+
+    def __init__(self, form, function=None, rd=0, plain=(), address=None, data=None, number=0, label=None, aq=False, rl=False,
+                 pairs=frozenset()):
+        self.form = form            # compute, load, store, lr, sc, amo, branch, jump or fence
+        self.function = function    # what is computed, or when the branch jumps
+        self.rd = rd
+        self.plain = plain
+        self.address = address
+        self.data = data
+        self.number = number        # immediate or offset
+        self.label = label          # where a branch goes: a name, and once all labels are known, a position
+        self.aq = aq
+        self.rl = rl
+        self.pairs = pairs          # what a written fence orders
+
+    def is_memory(self):
+        return self.address is not None
+
+    def carries(self):
+        return self.form == 'compute'
+
+    def sources(self):
+        """All registers that are read; x0 is never a source."""
+        return [register for register in self.plain + (self.address, self.data) if register]
+
+
+class Test:
+    """A test as read: code, words at the beginning, and the condition whose truth is the outcome."""
+
+    def __init__(self):
+        self.code = []              # of each hart its instructions
+        self.registers = []         # of each hart the words of its registers at the beginning
+        self.addresses = {}         # of each location, by name and in order
+        self.words = {}             # the word at each address at the beginning
+        self.outcome = ('constant', True)
+
+    def slots(self):
+        """Hart and instruction of each slot: before a memory instruction whose hart has an earlier one (FORMAT 3)."""
+        found = []
+        for hart, code in enumerate(self.code):
+            memory = [position for position, instruction in enumerate(code) if instruction.is_memory()]
+            found += [(hart, position) for position in memory[1:]]
+        return found
+
+
+TOKEN = re.compile(r'[ \t\r\n]+|[A-Za-z0-9_.]+|/\\|\\/|[{};|,:=()\[\]~-]')
+
+
+def tokens_of(text):
+    """The tokens of the part of a test from `{` on, without blanks and comments."""
+    found = []
+    at = 0
+    while at < len(text):
+        if text.startswith('(*', at):
+            end = text.find('*)', at + 2)
+            if end < 0:
+                raise Unreadable('a comment is not closed')
+            at = end + 2
+            continue
+        match = TOKEN.match(text, at)
+        if not match:
+            raise Unreadable('no token: %a' % text[at])
+        if match.group()[0] not in ' \t\r\n':
+            found.append(match.group())
+        at = match.end()
+    return found
+
+
+def number_of(token):
+    """The number that this word is, or None."""
+    if token and re.fullmatch('0x[0-9A-Fa-f]+', token):
+        digits, base = token[2:].lstrip('0') or '0', 16
+    elif token and re.fullmatch('[0-9]+', token):
+        digits, base = token.lstrip('0') or '0', 10
+    else:
+        return None
+    return int(digits, base) if len(digits) <= 20 else 10 ** 20
+
+
+def is_name(token):
+    return token is not None and re.fullmatch('[A-Za-z_][A-Za-z0-9_]*', token) is not None
+
+
+class TestReader:
+    """Reads the tokens of a test from first to last."""
+
+    def __init__(self, tokens):
+        self.tokens = tokens
+        self.at = 0
+        self.test = Test()
+        self.entries = []           # hart, register and word: harts are known after the header only
+
+    def peek(self, ahead=0):
+        return self.tokens[self.at + ahead] if self.at + ahead < len(self.tokens) else None
+
+    def take(self, *wanted):
+        """The next token, which is one of those wanted if there are any."""
+        token = self.peek()
+        if token is None or wanted and token not in wanted:
+            raise Unreadable('the test has %a at token %d' % (token, self.at))
+        self.at += 1
+        return token
+
+    def number(self):
+        number = number_of(self.take())
+        if number is None:
+            raise Unreadable('no number at token %d' % (self.at - 1))
+        return number
+
+    def signed_number(self, least, greatest):
+        minus = self.peek() == '-' and self.take() == '-'
+        number = -self.number() if minus else self.number()
+        if not least <= number <= greatest:
+            raise Unreadable('a number out of range at token %d' % (self.at - 1))
+        return number
+
+    def register(self):
+        token = self.take()
+        if token not in REGISTERS:
+            raise Unreadable('no register: %a' % token)
+        return REGISTERS[token]
+
+    def location(self):
+        """The address of the location of this name, which declares it where it is new."""
+        name = self.take()
+        if not is_name(name):
+            raise Unreadable('no name: %a' % name)
+        test = self.test
+        if name not in test.addresses:
+            address = 4096 + 16 * len(test.addresses)
+            test.addresses[name] = address
+            test.words[address] = 0
+        return test.addresses[name]
+
+    def value(self):
+        if is_name(self.peek()):
+            return self.location()
+        return self.signed_number(-2 ** 31, WORDS - 1) % WORDS
+
+    def target(self):
+        """A location's address, or hart and register: of an entry or of an atom."""
+        if self.peek() == '[':
+            self.take()
+            address = self.location()
+            self.take(']')
+            return address
+        if number_of(self.peek()) is not None:
+            hart = self.number()
+            self.take(':')
+            return hart, self.register()
+        return self.location()
+
+    def read(self):
+        self.initial_words()
+        self.header()
+        self.rows()
+        if self.peek() == 'locations':
+            self.take()
+            self.take('[')
+            while self.take() != ']':
+                pass
+        denied = self.quantifier() == 'forall'
+        condition = self.disjunction()
+        if self.peek() is not None:
+            raise Unreadable('the test goes on after its condition')
+        self.test.outcome = ('not', condition) if denied else condition
+        return self.test
+
+    def initial_words(self):
+        self.take('{')
+        while self.peek() != '}':
+            if self.peek() in ('int', 'int32_t', 'uint32_t') and self.peek(1) != '=':
+                self.take()
+            target = self.target()
+            self.take('=')
+            self.entries.append((target, self.value()))
+            if self.peek() != '}':
+                self.take(';')
+        self.take('}')
+
+    def header(self):
+        """The columns, and with them the registers at the beginning."""
+        harts = 0
+        while True:
+            self.take('P%d' % harts)
+            harts += 1
+            if self.take('|', ';') == ';':
+                break
+        test = self.test
+        test.registers = [[0] * 32 for _ in range(harts)]
+        for target, word in self.entries:
+            if type(target) is not tuple:
+                test.words[target] = word
+            elif target[0] < harts and target[1] != 0:
+                test.registers[target[0]][target[1]] = word
+            else:
+                raise Unreadable('an entry for a register that there is not')
+
+    def rows(self):
+        harts = len(self.test.registers)
+        test = self.test
+        test.code = [[] for _ in range(harts)]
+        labels = [{} for _ in range(harts)]
+        while self.peek() not in ('locations', 'exists', 'forall', '~', None):
+            for hart in range(harts):
+                while is_name(self.peek()) and self.peek(1) == ':':
+                    labels[hart][self.take()] = len(test.code[hart])
+                    self.take(':')
+                if self.peek() not in ('|', ';'):
+                    test.code[hart].append(self.instruction())
+                self.take(';' if hart == harts - 1 else '|')
+        for hart, code in enumerate(test.code):
+            for position, instruction in enumerate(code):
+                if instruction.label is not None:
+                    instruction.label = labels[hart].get(instruction.label, -1)
+                    if instruction.label <= position:
+                        raise Unreadable('a branch to no later label')
+
+    def instruction(self):
+        """One instruction of the table of FORMAT 2."""
+        word = self.take()
+        if word in TWO_SOURCES:
+            rd, rs1, rs2 = self.register(), self.next_register(), self.next_register()
+            return Instruction('compute', COMPUTES[word], rd, (rs1, rs2))
+        if word in WITH_IMMEDIATE or word in WITH_SHIFT:
+            rd, rs1 = self.register(), self.next_register()
+            self.take(',')
+            number = self.signed_number(-2048, 2047) if word in WITH_IMMEDIATE else self.signed_number(0, 31)
+            function = COMPUTES[WITH_IMMEDIATE.get(word) or WITH_SHIFT[word]]
+            return Instruction('compute', function, rd, (rs1,), number=number % WORDS)
+        if word in ('lui', 'li'):
+            rd = self.register()
+            self.take(',')
+            number = self.signed_number(0, 2 ** 20 - 1) * 4096 if word == 'lui' else self.signed_number(-2 ** 31, WORDS - 1)
+            return Instruction('compute', COMPUTES['add'], rd, (0,), number=number % WORDS)
+        if word == 'nop':
+            return Instruction('compute', COMPUTES['add'], 0, (0,))
+        if word == 'mv':
+            return Instruction('compute', COMPUTES['add'], self.register(), (self.next_register(),))
+        if word in ('lw', 'sw'):
+            register = self.register()
+            self.take(',')
+            offset = self.signed_number(-2048, 2047)
+            if word == 'lw':
+                return Instruction('load', rd=register, address=self.in_brackets(), number=offset)
+            return Instruction('store', data=register, address=self.in_brackets(), number=offset)
+        if word in BRANCHES:
+            return self.branch(word, self.register(), self.next_register())
+        if word in ('beqz', 'bnez'):
+            return self.branch(word[:3], self.register(), 0)
+        if word in ('jal', 'j'):
+            if word == 'jal':
+                if self.register() != 0:
+                    raise Unreadable('jal with another register than x0')
+                self.take(',')
+            return Instruction('jump', label=self.take())
+        if word == 'fence.tso':
+            return Instruction('fence', pairs=TSO)
+        if word == 'fence':
+            if self.peek() in ('|', ';'):
+                return Instruction('fence', pairs=product_of('iorw', 'iorw'))
+            before = self.fence_letters()
+            self.take(',')
+            return Instruction('fence', pairs=product_of(before, self.fence_letters()))
+        return self.annotated(word)
+
+    def next_register(self):
+        self.take(',')
+        return self.register()
+
+    def in_brackets(self):
+        self.take('(')
+        register = self.register()
+        self.take(')')
+        return register
+
+    def branch(self, word, rs1, rs2):
+        self.take(',')
+        return Instruction('branch', BRANCHES[word], plain=(rs1, rs2), label=self.take())
+
+    def fence_letters(self):
+        letters = self.take()
+        if not re.fullmatch('(?=.)i?o?r?w?', letters):
+            raise Unreadable('no fence: %a' % letters)
+        return letters
+
+    def annotated(self, word):
+        """lr.w, sc.w or an AMO, with the bits aq and rl."""
+        for base in ANNOTATED:
+            if word.startswith(base) and word[len(base):] in ANNOTATIONS:
+                break
+        else:
+            raise Unreadable('no instruction: %a' % word)
+        aq, rl = ANNOTATIONS[word[len(base):]]
+        rd = self.register()
+        data = None if base == 'lr.w' else self.next_register()
+        self.take(',')
+        if self.peek() != '(':
+            self.signed_number(0, 0)
+        form = {'lr.w': 'lr', 'sc.w': 'sc'}.get(base, 'amo')
+        function = COMPUTES[AMOS[base]] if base in AMOS else None
+        return Instruction(form, function, rd, address=self.in_brackets(), data=data, aq=aq, rl=rl)
+
+    def quantifier(self):
+        if self.peek() == '~':
+            self.take()
+            return self.take('exists')
+        return self.take('exists', 'forall')
+
+    def disjunction(self):
+        condition = self.conjunction()
+        while self.peek() == '\\/':
+            self.take()
+            condition = ('or', condition, self.conjunction())
+        return condition
+
+    def conjunction(self):
+        condition = self.unit()
+        while self.peek() == '/\\':
+            self.take()
+            condition = ('and', condition, self.unit())
+        return condition
+
+    def unit(self):
+        token = self.peek()
+        if token == '~' or token == 'not' and self.peek(1) != '=':
+            self.take()
+            return ('not', self.unit())
+        if token == '(':
+            self.take()
+            condition = self.disjunction()
+            self.take(')')
+            return condition
+        if token in ('true', 'false') and self.peek(1) != '=':
+            return ('constant', self.take() == 'true')
+        target = self.target()
+        self.take('=')
+        if type(target) is tuple and target[0] >= len(self.test.registers):
+            raise Unreadable('the condition speaks of a hart that there is not')
+        return ('word' if type(target) is int else 'register', target, self.value())
+
+
+def test_of(data):
+    """The test that these bytes are."""
+    lines = data.decode('utf-8').split('\n')
+    if not re.match(r'RISCV[ \t\r]+[^ \t\r]', lines[0]):
+        raise Unreadable('the first line is not RISCV and a name')
+    for at, line in enumerate(lines):
+        if at > 0 and line.lstrip(' \t\r').startswith('{'):
+            return TestReader(tokens_of('\n'.join(lines[at:]))).read()
+    raise Unreadable('the test has no {')
+
+
+def truth(condition, registers, words):
+    """Is the condition true of these registers of harts and words at addresses? None where a word that counts isn't known."""
+    form = condition[0]
+    if form == 'constant':
+        return condition[1]
+    if form == 'register':
+        hart, register = condition[1]
+        return registers[hart][register] == condition[2]
+    if form == 'word':
+        return words[condition[1]] == condition[2] if condition[1] in words else None
+    parts = [truth(part, registers, words) for part in condition[1:]]
+    if form == 'not':
+        return None if parts[0] is None else not parts[0]
+    decisive = form == 'or'
+    if decisive in parts:
+        return decisive
+    return None if None in parts else not decisive
+
+
+# --- Prices (FORMAT 4) ---------------------------------------------------------------------------------------------------
+
+NUMERAL = '(?:0|[1-9][0-9]*)'
+
+
+class Prices:
+    """The offered kinds in the order of the table, and what they cost at each slot."""
+
+    def __init__(self, price, weight):
+        self.price = price
+        self.weight = weight
+        self.offered = [kind for kind in KINDS if kind in price]
+
+    def at(self, slot, kind):
+        """What this kind costs at this slot."""
+        return self.price[kind] * self.weight.get('P%d:%d' % slot, 1)
+
+    def cost(self, slots, placement):
+        return sum(self.at(slot, kind) for slot, kind in zip(slots, placement) if kind is not None)
+
+
+def prices_of(data):
+    """The price list that these bytes are."""
+    value = json_of(data)
+    if type(value) is not dict:
+        raise Unreadable('the prices are no object')
+    weight = value.pop('weights', {})
+    if not all(kind in KINDS and is_whole(price, 1000001) and price > 0 for kind, price in value.items()):
+        raise Unreadable('the prices are not of the form')
+    if type(weight) is not dict or not all(re.fullmatch('P%s:%s' % (NUMERAL, NUMERAL), slot) and is_whole(number, 1001)
+                                           for slot, number in weight.items()):
+        raise Unreadable('the weights are not of the form')
+    if 'rw,rw' not in value:
+        raise Unreadable('rw,rw has no price')
+    return Prices(value, weight)
+
+
+# --- Runs (MODEL 1, 3 and 8) ---------------------------------------------------------------------------------------------
+
+class NoRun(Exception):
+    """Choices make no whole run."""
+
+
+class GoesAstray(NoRun):
+    """A run accesses an address of no location."""
+
+
+class ChoicesEnd(NoRun):
+    """The choices are too few: a word for a load at this address comes next, or else success or failure, as can be."""
+
+    def __init__(self, address, results):
+        super().__init__()
+        self.address = address
+        self.results = results
+
+
+class Step:
+    """One executed instruction and its access. `origins` has for each of its sources the steps on which it depends."""
+
+    def __init__(self, position, instruction):
+        self.position = position
+        self.instruction = instruction
+        self.address = None
+        self.loaded = None
+        self.stored = None
+        self.origins = {}
+
+    def depends(self, register, step):
+        """Does this step depend on that one (a number in the run) through this source?"""
+        return step in self.origins.get(register, ())
+
+
+class Run:
+    """The run of a hart that these choices make."""
+
+    def __init__(self, test, hart, choices):
+        self.test = test
+        self.hart = hart
+        self.choices = choices
+        self.steps = []
+        self.pairs = []             # lr.w and sc.w, as numbers of steps
+        self.registers = list(test.registers[hart])
+        self.origins = [frozenset()] * 32
+        self.used = 0
+        self.reserving = None       # the lr.w with which an sc.w here would be paired, as the number of its step
+        position = 0
+        while position < len(test.code[hart]):
+            position = self.execute(position)
+        if self.used < len(choices):
+            raise NoRun()
+
+    def execute(self, position):
+        """Makes one step, and gives the position of the next one."""
+        instruction = self.test.code[self.hart][position]
+        step = Step(position, instruction)
+        step.origins = {register: self.origins[register] for register in instruction.sources()}
+        result = None
+        goes_to = position + 1
+        operands = [self.registers[register] for register in instruction.plain]
+        if instruction.form == 'compute':
+            result = instruction.function(*(operands + [instruction.number])[:2]) % WORDS
+        elif instruction.form == 'jump' or instruction.form == 'branch' and instruction.function(*operands):
+            goes_to = instruction.label
+        elif instruction.is_memory():
+            result = self.access(step, instruction)
+        number = len(self.steps)
+        self.steps.append(step)
+        if result is not None and instruction.rd != 0:
+            self.registers[instruction.rd] = result
+            carried = step.origins.values() if instruction.carries() else ()
+            self.origins[instruction.rd] = frozenset([number]).union(*carried)
+        return goes_to
+
+    def access(self, step, instruction):
+        """Accesses memory, and gives the word for rd, if there is one."""
+        number = len(self.steps)
+        address = (self.registers[instruction.address] + instruction.number) % WORDS
+        data = self.registers[instruction.data] if instruction.data is not None else None
+        if instruction.form == 'sc':
+            return self.store_conditional(step, number, address, data)
+        if address not in self.test.words:
+            raise GoesAstray()
+        step.address = address
+        if instruction.form == 'store':
+            step.stored = data
+            return None
+        step.loaded = self.choose(address, ())
+        if type(step.loaded) is not int:
+            raise NoRun()
+        if instruction.form == 'amo':
+            step.stored = instruction.function(step.loaded, data) % WORDS
+        if instruction.form == 'lr':
+            self.reserving = number
+        return step.loaded
+
+    def store_conditional(self, step, number, address, data):
+        """An sc.w succeeds only where it is paired with an lr.w of its address, and may always fail."""
+        can_succeed = self.reserving is not None and self.steps[self.reserving].address == address
+        succeeds = self.choose(None, (True, False) if can_succeed else (False,))
+        if type(succeeds) is not bool or succeeds and not can_succeed:
+            raise NoRun()
+        if succeeds:
+            step.address = address
+            step.stored = data
+            self.pairs.append((self.reserving, number))
+        self.reserving = None
+        return 0 if succeeds else 1
+
+    def choose(self, address, results):
+        if self.used == len(self.choices):
+            raise ChoicesEnd(address, results)
+        self.used += 1
+        return self.choices[self.used - 1]
+
+
+def runs_over(test, hart, words, choices=()):
+    """The runs of a hart that load words of these sets alone, by their choices: words rising, success before failure."""
+    try:
+        yield Run(test, hart, choices)
+    except ChoicesEnd as end:
+        for choice in end.results or sorted(words[end.address]):
+            yield from runs_over(test, hart, words, choices + (choice,))
+
+
+def all_runs_over(test, words):
+    """Of each hart all its runs over these sets."""
+    try:
+        found = [list(itertools.islice(runs_over(test, hart, words), 100001)) for hart in range(len(test.code))]
+    except GoesAstray:
+        raise Unreadable('a run goes astray, so the candidates of the test are not listed')
+    if any(len(runs) > 100000 for runs in found):
+        raise Unreadable('a hart has too many runs')
+    return found
+
+
+def value_sets(test):
+    """The words that each location may come to hold, round by round (MODEL 11)."""
+    sets = {address: {word} for address, word in test.words.items()}
+    rounds = sum(instruction.form in ('store', 'sc', 'amo') for code in test.code for instruction in code)
+    for _ in range(rounds):
+        wider = {address: set(words) for address, words in sets.items()}
+        for runs in all_runs_over(test, sets):
+            for run in runs:
+                for step in run.steps:
+                    if step.stored is not None:
+                        wider[step.address].add(step.stored)
+        if wider == sets:
+            break
+        sets = wider
+    return sets
+
+
+# --- Operations (MODEL 2) ------------------------------------------------------------------------------------------------
+
+class Operation:
+    """A load, a store or both; of no hart where it is an initial store."""
+
+    def __init__(self, number, address, hart=None, at=None, step=None, stored=None):
+        self.number = number
+        self.address = address
+        self.hart = hart
+        self.at = at                # the number of its step in the run
+        self.step = step
+        self.loaded = step.loaded if step else None
+        self.stored = step.stored if step else stored
+        self.name = 'P%d:%d' % (hart, step.position) if step else None
+        self.classes = ('R' if self.loads() else '') + ('W' if self.stores() else '')
+
+    def loads(self):
+        return self.loaded is not None
+
+    def stores(self):
+        return self.stored is not None
+
+    def is_acquire(self):
+        """An AMO or lr.w with aq, or any of the three with both bits."""
+        instruction = self.step.instruction
+        return instruction.aq and (instruction.form != 'sc' or instruction.rl)
+
+    def is_release(self):
+        instruction = self.step.instruction
+        return instruction.rl and (instruction.form != 'lr' or instruction.aq)
+
+
+class Operations:
+    """All operations of the runs by number, and after them the initial stores by location."""
+
+    def __init__(self, test, runs):
+        self.test = test
+        self.runs = runs
+        self.all = []
+        for hart, run in enumerate(runs):
+            for at, step in enumerate(run.steps):
+                if step.loaded is not None or step.stored is not None:
+                    self.all.append(Operation(len(self.all), step.address, hart, at, step))
+        self.of_harts = list(self.all)
+        self.initial = {}
+        for address, word in test.words.items():
+            self.initial[address] = Operation(len(self.all), address, stored=word)
+            self.all.append(self.initial[address])
+        self.named = {operation.name: operation for operation in self.of_harts}
+        self.loads = [operation for operation in self.of_harts if operation.loads()]
+        at_step = {(operation.hart, operation.at): operation for operation in self.of_harts}
+        self.pairs = [(at_step[hart, first], at_step[hart, second])
+                      for hart, run in enumerate(runs) for first, second in run.pairs]
+
+    def stores_to(self, address):
+        """The harts' stores to this word, by number."""
+        return [operation for operation in self.of_harts if operation.stores() and operation.address == address]
+
+    def between(self, first, second):
+        """The harts' operations between these two in program order."""
+        return [operation for operation in self.of_harts if po(first, operation) and po(operation, second)]
+
+    def have_outcome(self, words):
+        """Is the outcome true at the end, with these words at addresses? None where the words don't say."""
+        return truth(self.test.outcome, [run.registers for run in self.runs], words)
+
+
+def po(a, b):
+    """Program order."""
+    return a.hart is not None and a.hart == b.hart and a.at < b.at
+
+
+def same_word(a, b):
+    return a.address == b.address
+
+
+# --- Preserved program order (MODEL 5 and 7) -----------------------------------------------------------------------------
+
+def orders(pairs, a, b):
+    """Does a fence with these pairs order a before b, where it stands between them?"""
+    return any(p + s in pairs for p in a.classes for s in b.classes)
+
+
+def runs_slot_between(run, slot, a, b):
+    """Does the run of their hart execute the slot's instruction after a and up to b, b included?"""
+    return a.hart == slot[0] and any(run.steps[at].position == slot[1] for at in range(a.at + 1, b.at + 1))
+
+
+class Preserved:
+    """The thirteen rules, for these operations, a source for each load (`rf`, by number) and a placement."""
+
+    def __init__(self, operations, rf, slots, placement):
+        self.operations = operations
+        self.rf = rf
+        self.placed = [(slot, PAIRS[kind]) for slot, kind in zip(slots, placement) if kind is not None]
+        self.rules = [self.rule_1, self.rule_2, self.rule_3, self.rule_4, self.rule_5, self.rule_6, self.rule_7,
+                      self.rule_8, self.rule_9, self.rule_10, self.rule_11, self.rule_12, self.rule_13]
+
+    def rule(self, number, a, b):
+        """Does this rule put a before b?"""
+        return po(a, b) and self.rules[number - 1](a, b)
+
+    def ppo(self, a, b):
+        return po(a, b) and any(rule(a, b) for rule in self.rules)
+
+    def steps_between(self, a, b):
+        return self.operations.runs[a.hart].steps[a.at + 1:b.at]
+
+    def rule_1(self, a, b):
+        """Overlapping addresses: a store comes after what accesses its word before."""
+        return b.stores() and same_word(a, b)
+
+    def rule_2(self, a, b):
+        """Two loads of a word, no store to it between them, from different sources."""
+        return (a.loads() and b.loads() and same_word(a, b) and self.rf[a.number] is not self.rf[b.number]
+                and not any(m.stores() and same_word(m, a) for m in self.operations.between(a, b)))
+
+    def rule_3(self, a, b):
+        """A load returns what an AMO or sc.w stored."""
+        return a.step.instruction.form in ('amo', 'sc') and b.loads() and self.rf[b.number] is a
+
+    def rule_4(self, a, b):
+        """A fence between them: a written one, or a placed one."""
+        written = any(step.instruction.form == 'fence' and orders(step.instruction.pairs, a, b)
+                      for step in self.steps_between(a, b))
+        run = self.operations.runs[a.hart]
+        return written or any(orders(pairs, a, b) and runs_slot_between(run, slot, a, b) for slot, pairs in self.placed)
+
+    def rule_5(self, a, b):
+        return a.is_acquire()
+
+    def rule_6(self, a, b):
+        return b.is_release()
+
+    def rule_7(self, a, b):
+        """Both have RCsc annotations."""
+        return (a.is_acquire() or a.is_release()) and (b.is_acquire() or b.is_release())
+
+    def rule_8(self, a, b):
+        """a is paired with b."""
+        return any(lr is a and sc is b for lr, sc in self.operations.pairs)
+
+    def address_dependency(self, a, step):
+        return step.depends(step.instruction.address, a.at)
+
+    def data_dependency(self, a, step):
+        return step.depends(step.instruction.data, a.at)
+
+    def rule_9(self, a, b):
+        return self.address_dependency(a, b.step)
+
+    def rule_10(self, a, b):
+        return self.data_dependency(a, b.step)
+
+    def rule_11(self, a, b):
+        """b is a store, and a conditional branch between them depends on a."""
+        return b.stores() and any(step.instruction.form == 'branch' and step.depends(register, a.at)
+                                  for step in self.steps_between(a, b) for register in step.instruction.plain)
+
+    def rule_12(self, a, b):
+        """b returns what a store m between them stored, and m depends on a by its address or data."""
+        if not b.loads():
+            return False
+        m = self.rf[b.number]
+        return po(a, m) and po(m, b) and (self.address_dependency(a, m.step) or self.data_dependency(a, m.step))
+
+    def rule_13(self, a, b):
+        """b is a store, and the address of an instruction between them depends on a."""
+        return b.stores() and any(self.address_dependency(a, step) for step in self.steps_between(a, b))
+
+
+# --- Candidates that show the outcome (MODEL 15) -------------------------------------------------------------------------
+
+class Candidate:
+    """Runs with a source for each load (`rf`) and a coherence order of each location's stores (`co`, by address)."""
+
+    def __init__(self, operations, rf, co):
+        self.operations = operations
+        self.rf = rf
+        self.place = {store.number: place for order in co.values() for place, store in enumerate(order)}
+
+    def co(self, a, b):
+        return a.stores() and b.stores() and same_word(a, b) and self.place[a.number] < self.place[b.number]
+
+    def rfe(self, a, b):
+        return b.loads() and self.rf[b.number] is a and a.hart != b.hart
+
+    def fr(self, a, b):
+        return a.loads() and b is not a and self.co(self.rf[a.number], b)
+
+    def is_edge(self, preserved, a, cause, b):
+        """Is a before b in the judged relation, for this cause?"""
+        if cause.startswith('p'):
+            return preserved.rule(int(cause[1:]), a, b)
+        return {'rf': self.rfe, 'co': self.co, 'fr': self.fr}[cause](a, b)
+
+
+def sources_of(operations, load):
+    """What may be the source of this load, the initial store first: other stores of the word there, `own` ones before it."""
+    stores = [operations.initial[load.address]] + operations.stores_to(load.address)
+    return [store for store in stores if store is not load and store.stored == load.loaded
+            and (store.hart != load.hart or po(store, load))]
+
+
+def coherence_orders(operations, rf, address):
+    """The orders of a location's stores, the initial one first, that keep `latest` and `atomic`."""
+    for order in itertools.permutations(operations.stores_to(address)):
+        order = (operations.initial[address],) + order
+        place = {store.number: at for at, store in enumerate(order)}
+        latest = all(place[store.number] <= place[rf[load.number].number]
+                     for load in operations.loads if load.address == address for store in order if po(store, load))
+        if latest and all(keeps_atomicity(order, rf[lr.number], sc) for lr, sc in operations.pairs if sc.address == address):
+            yield order
+
+
+def keeps_atomicity(order, source, sc):
+    """In this order of stores, is the source of the lr.w before the store of the sc.w, with no other hart's store between?"""
+    first, last = order.index(source), order.index(sc)
+    return first < last and all(store.hart == sc.hart for store in order[first + 1:last])
+
+
+def candidates(test):
+    """All candidates that show the outcome: by choices, then by sources, then by coherence orders."""
+    for runs in itertools.product(*all_runs_over(test, value_sets(test))):
+        operations = Operations(test, runs)
+        if operations.have_outcome({}) is False:
+            continue
+        for sources in itertools.product(*[sources_of(operations, load) for load in operations.loads]):
+            rf = {load.number: source for load, source in zip(operations.loads, sources)}
+            for orders in itertools.product(*[list(coherence_orders(operations, rf, address)) for address in test.words]):
+                if operations.have_outcome({order[-1].address: order[-1].stored for order in orders}):
+                    yield Candidate(operations, rf, {order[-1].address: order for order in orders})
+
+
+# --- Executions that witnesses give (MODEL 4, 6 and 14) ------------------------------------------------------------------
+
+class Execution:
+    """Runs and an order of the harts' operations. `gmo` is the global memory order, with the initial stores in front."""
+
+    def __init__(self, operations, order):
+        self.operations = operations
+        self.gmo = list(operations.initial.values()) + order
+        self.place = {operation.number: at for at, operation in enumerate(self.gmo)}
+        self.rf = {load.number: self.source(load) for load in operations.loads}
+
+    def before(self, a, b):
+        return self.place[a.number] < self.place[b.number]
+
+    def source(self, load):
+        """The latest among the stores to its word that precede the load in the order or in program order."""
+        may_be = [store for store in self.gmo if store.stores() and same_word(store, load) and store is not load
+                  and (self.before(store, load) or po(store, load))]
+        return may_be[-1]
+
+    def obeys_axioms(self, slots, placement):
+        """Preserved program order, load value and atomicity."""
+        operations = self.operations
+        preserved = Preserved(operations, self.rf, slots, placement)
+        return (all(self.before(a, b) for a in operations.of_harts for b in operations.of_harts if preserved.ppo(a, b))
+                and all(self.rf[load.number].stored == load.loaded for load in operations.loads)
+                and all(keeps_atomicity([store for store in self.gmo if store.stores() and same_word(store, sc)],
+                                        self.rf[lr.number], sc) for lr, sc in operations.pairs))
+
+    def has_outcome(self):
+        return self.operations.have_outcome({store.address: store.stored for store in self.gmo if store.stores()})
+
+    def width(self, slot):
+        """The pairs that a fence at this slot may have and order no two operations against this execution."""
+        return {pair for pair in ALL_PAIRS
+                if all(self.before(a, b) for a in self.operations.of_harts for b in self.operations.of_harts
+                       if po(a, b) and orders([pair], a, b) and runs_slot_between(self.operations.runs[a.hart], slot, a, b))}
+
+
+def execution_of(test, witness):
+    """The runs and the order that this witness gives, or None."""
+    if len(witness['choices']) != len(test.code):
+        return None
+    try:
+        runs = [Run(test, hart, choices) for hart, choices in enumerate(witness['choices'])]
+    except NoRun:
+        return None
+    operations = Operations(test, runs)
+    names = witness['order']
+    if sorted(names) != sorted(operations.named):
+        return None
+    return Execution(operations, [operations.named[name] for name in names])
+
+
+# --- The file (CERTIFICATE 1) --------------------------------------------------------------------------------------------
+
+NAME = 'P%s:%s' % (NUMERAL, NUMERAL)
+CAUSES = ['p%d' % rule for rule in range(1, 14)] + ['rf', 'co', 'fr']
+
+
+def is_name_of_operation(value):
+    return is_text(value) and re.fullmatch(NAME, value) is not None
+
+
+def is_answer(value):
+    return (value == 'none'
+            or has_keys(value, ['cost', 'fences']) and is_whole(value['cost']) and is_list(value['fences'], is_text))
+
+
+def is_link(value):
+    return type(value) is list and len(value) == 2 and is_name_of_operation(value[0]) and value[1] in CAUSES
+
+
+def is_cycle(value):
+    return is_list(value, is_link) and 1 <= len(value) <= 64
+
+
+def is_item(value, version):
+    """A split, or a leaf."""
+    if type(value) is not list:
+        return is_whole(value) or value == 'c'
+    if len(value) != 2:
+        return False
+    return (value[0] == 'w' and is_whole(value[1])
+            or version == 2 and value[0] == 'b' and is_list(value[1], is_whole) and value[1] != [])
+
+
+def is_choice(value):
+    return type(value) is bool or is_whole(value, WORDS)
+
+
+def is_witness(value):
+    return (has_keys(value, ['choices', 'order']) and is_list(value['choices'], lambda choices: is_list(choices, is_choice))
+            and is_list(value['order'], is_name_of_operation))
+
+
+def certificate_of(data):
+    """The certificate that these bytes are. What is nested deeper than Python reads counts as none."""
+    try:
+        value = json_of(data)
+    except (ValueError, RecursionError):
+        raise NotACertificate()
+    if not (has_keys(value, ['answer', 'cycles', 'tree', 'version', 'witnesses'])
+            and is_whole(value['version']) and value['version'] in (1, 2)
+            and is_answer(value['answer'])
+            and is_list(value['cycles'], is_cycle)
+            and is_list(value['tree'], lambda item: is_item(item, value['version']))
+            and is_list(value['witnesses'], is_witness)):
+        raise NotACertificate()
+    return value
+
+
+# --- What it must say (CERTIFICATE 2 to 5) -------------------------------------------------------------------------------
+
+UNDECIDED = '?'
+
+
+def completed(part, kind):
+    """A partial placement with this kind, or none, in each undecided slot."""
+    return tuple(kind if decision == UNDECIDED else decision for decision in part)
+
+
+def is_earlier(p, q):
+    """At the first slot where they differ, does p have none, or the kind that stands earlier in the table?"""
+    def ranks(placement):
+        return [-1 if kind is None else KINDS.index(kind) for kind in placement]
+    return ranks(p) < ranks(q)
+
+
+class Checker:
+    """A test, a price list and a certificate file. The checks raise Refused with the first reason."""
+
+    def __init__(self, test, prices, certificate):
+        self.test = test
+        self.prices = prices
+        self.slots = test.slots()
+        self.certificate = certificate
+        self.version = certificate['version']
+        self.executions = {}
+        self.verdicts = {}
+        self.answer = None
+        self.cost = None
+
+    def check(self):
+        if self.certificate['answer'] == 'none':
+            self.check_none()
+        else:
+            self.check_answer()
+            self.check_cycles()
+            self.check_tree()
+
+    def check_none(self):
+        """One witness, which shows the outcome with `rw,rw` in every slot."""
+        if self.certificate['cycles'] or self.certificate['tree'] or len(self.certificate['witnesses']) != 1:
+            raise Refused('answer')
+        self.shown(0, ('rw,rw',) * len(self.slots))
+
+    def check_answer(self):
+        """The fences are a placement of offered kinds, in slot order, and cost what is said."""
+        placement = [None] * len(self.slots)
+        last = -1
+        for text in self.certificate['answer']['fences']:
+            name, _, kind = text.partition('=')
+            names = ['P%d:%d' % slot for slot in self.slots]
+            if name not in names or names.index(name) <= last or kind not in self.prices.offered:
+                raise Refused('answer')
+            last = names.index(name)
+            placement[last] = kind
+        self.answer = tuple(placement)
+        self.cost = self.certificate['answer']['cost']
+        if self.prices.cost(self.slots, self.answer) != self.cost:
+            raise Refused('answer')
+
+    def check_cycles(self):
+        """One cycle for each candidate that shows the outcome, in the candidates' order."""
+        cycles = self.certificate['cycles']
+        # One more than there are cycles is enough to see that there are too few.
+        showing = list(itertools.islice(candidates(self.test), len(cycles) + 1))
+        if len(showing) != len(cycles):
+            raise Refused('cycles')
+        for number, (candidate, cycle) in enumerate(zip(showing, cycles)):
+            if not self.is_cycle_of(candidate, cycle):
+                raise Refused('cycle %d' % number)
+
+    def is_cycle_of(self, candidate, cycle):
+        """Is each operation before the next one, and the last before the first, under the answer and for its cause?"""
+        named = candidate.operations.named
+        if not all(name in named for name, _ in cycle):
+            return False
+        preserved = Preserved(candidate.operations, candidate.rf, self.slots, self.answer)
+        following = cycle[1:] + cycle[:1]
+        return all(candidate.is_edge(preserved, named[name], cause, named[next_name])
+                   for (name, cause), (next_name, _) in zip(cycle, following))
+
+    def check_tree(self):
+        """The items are one whole tree in preorder, and each leaf is closed."""
+        nodes = [(UNDECIDED,) * len(self.slots)]        # those still to come, the next one last
+        for number, item in enumerate(self.certificate['tree']):
+            if not nodes:
+                raise Refused('tree')
+            part = nodes.pop()
+            if type(item) is int:
+                nodes += reversed(self.children(part, item))
+            elif item == 'c':
+                if self.is_better(completed(part, None)):
+                    raise Refused('node %d' % number)
+            elif item[0] == 'w':
+                self.shown(item[1], completed(part, 'rw,rw'))
+            else:
+                executions = [self.shown(witness, completed(part, None)) for witness in item[1]]
+                if not self.bound(part, executions):
+                    raise Refused('node %d' % number)
+        if nodes:
+            raise Refused('tree')
+
+    def children(self, part, slot):
+        """The children of a node that is split at this slot: none first, and then the offered kinds."""
+        if slot >= len(part) or part[slot] != UNDECIDED:
+            raise Refused('tree')
+        return [part[:slot] + (decision,) + part[slot + 1:] for decision in [None] + self.prices.offered]
+
+    def is_better(self, floor):
+        """Is this placement better than the answer? In version 1: is it cheaper?"""
+        cost = self.prices.cost(self.slots, floor)
+        return cost < self.cost or self.version == 2 and cost == self.cost and is_earlier(floor, self.answer)
+
+    def shown(self, number, placement):
+        """The execution of this witness, which must show the outcome under this placement."""
+        if (number, placement) not in self.verdicts:
+            self.verdicts[number, placement] = self.shows(number, placement)
+        if not self.verdicts[number, placement]:
+            raise Refused('witness %d' % number)
+        return self.executions[number]
+
+    def shows(self, number, placement):
+        if number >= len(self.certificate['witnesses']):
+            return False
+        if number not in self.executions:
+            self.executions[number] = execution_of(self.test, self.certificate['witnesses'][number])
+        execution = self.executions[number]
+        return execution is not None and execution.obeys_axioms(self.slots, placement) and execution.has_outcome()
+
+    def breaks_of(self, part, execution):
+        """The breakable slots of a leaf and an execution, each with the least price of a kind that breaks it there."""
+        found = {}
+        for slot, decision in zip(self.slots, part):
+            if decision == UNDECIDED:
+                width = execution.width(slot)
+                prices = [self.prices.at(slot, kind) for kind in self.prices.offered if not PAIRS[kind] <= width]
+                if prices:
+                    found[slot] = min(prices)
+        return found
+
+    def bound(self, part, executions):
+        """Do these executions bound the leaf (CERTIFICATE 4)?"""
+        breaks = [self.breaks_of(part, execution) for execution in executions]
+        slots = [slot for each in breaks for slot in each]
+        if len(slots) != len(set(slots)):
+            return False
+        if not all(breaks):
+            return True
+        floor = completed(part, None)
+        lower_bound = self.prices.cost(self.slots, floor) + sum(min(each.values()) for each in breaks)
+        return lower_bound > self.cost or lower_bound == self.cost and not is_earlier(floor, self.answer)
+
+    def lines(self):
+        """The lines of the answer."""
+        if self.answer is None:
+            witness = self.certificate['witnesses'][0]
+            return ['none', json.dumps({'choices': witness['choices'], 'order': witness['order']}, separators=(',', ':'))]
+        filled = ['fence P%d %d %s' % (slot + (kind,)) for slot, kind in zip(self.slots, self.answer) if kind is not None]
+        return ['fenced %d' % self.cost] + filled
+
+
+# --- The command ---------------------------------------------------------------------------------------------------------
+
+def read(path, reader):
+    """What this reader makes of the file."""
+    try:
+        with open(path, 'rb') as file:
+            data = file.read()
+        return reader(data)
+    except (OSError, ValueError, RecursionError, MemoryError) as error:
+        raise Unreadable('%s can not be read: %s' % (path, error))
+    except Unreadable as error:
+        raise Unreadable('%s can not be read: %s' % (path, error))
+
+
+def main(arguments):
+    if len(arguments) != 3:
+        print('usage: check_certificate.py TEST PRICES CERTIFICATE', file=sys.stderr)
+        return 2
+    try:
+        test = read(arguments[0], test_of)
+        prices = read(arguments[1], prices_of)
+        checker = Checker(test, prices, read(arguments[2], certificate_of))
+        checker.check()
+        print('\n'.join(['yes'] + checker.lines()))
+        return 0
+    except Refused as reason:
+        print('no: %s' % reason)
+        return 1
+    except NotACertificate:
+        print('fault F18 BadCertificate', file=sys.stderr)
+        return 2
+    except Unreadable as error:
+        print(ascii(str(error))[1:-1], file=sys.stderr)
+        return 2
+    except (RecursionError, MemoryError):
+        print('the test is too big', file=sys.stderr)
+        return 2
+
+
+if __name__ == '__main__':
+    sys.exit(main(sys.argv[1:]))
