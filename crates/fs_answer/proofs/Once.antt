@@ -4,8 +4,9 @@ use Rattle.serde_json.specs.Data.{Data, Items, no_items, item}
 use Rattle.fs_kinds.specs.declared.reason.OperationName.{OperationName as Name}
 use Rattle.fs_model.specs.declared.step.Choice.{Choice}
 use Rattle.fs_model.specs.Witness.{Witness}
-use Rattle.fs_answer.specs.WitnessFile.{EachItem, IsArrayOf, IsChoice, Writes, IsOperationName, IsName, IsWitnessValue, IsWitnessFile}
-use Rattle.fs_answer.proofs.Spelling.{in_parts, no_colon}
+use Rattle.fs_answer.specs.WitnessFile.{EachItem, IsArrayOf, IsChoice, IsName, IsWitnessValue, IsWitnessFile}
+use Rattle.fs_kinds.specs.PlaceNames.{IsOperationName}
+use Rattle.fs_kinds.proofs.PlaceNames.{text-once}
 
 -- P holds of one value at most
 abbrev pub Once : {A : Type 0} → (Data → A → Type 0) → Type 0
@@ -29,32 +30,6 @@ array-once P once d xs ys left right =
 
 choice-once : Once IsChoice
 choice-once d x y left right = cc
-
--- a text has one cut at its first c
-cut-once : (c : ℕ) (xs us ys vs : List ℕ) → ((i : ℕ) → i < length xs → get_or xs i 0 ≢ c) → ((i : ℕ) → i < length us → get_or us i 0 ≢ c) → xs ++ (c ∷ ys) ≡ us ++ (c ∷ vs) → (xs ≡ us) × (ys ≡ vs)
-cut-once c [] [] ys vs left right e = (refl, cc)
-cut-once c [] (u ∷ us) ys vs left right e = let same : u ≡ c = cc in absurd (right 0 (omega arith) same)
-cut-once c (x ∷ xs) [] ys vs left right e = let same : x ≡ c = cc in absurd (left 0 (omega arith) same)
-cut-once c (x ∷ xs) (u ∷ us) ys vs left right e =
-    let first : x ≡ u = cc in
-    let rest : xs ++ (c ∷ ys) ≡ us ++ (c ∷ vs) = cc in
-    let same = cut-once c xs us ys vs (λ i low. left (suc i) (omega arith)) (λ i low. right (suc i) (omega arith)) rest in
-    let front : xs ≡ us = same.0 in
-    (cc, same.1)
-
-number-once : (text other : List ℕ) (m n : ℕ) → Writes text m → Writes other n → text ≡ other → m ≡ n
-number-once text other m n left right same = let l = left.value in let r = right.value in cc
-
-abbrev named : ℕ → ℕ → Name
-named hart at = record { hart = hart; at = at }
-
-text-once : (text : List ℕ) (x y : Name) → IsOperationName text x → IsOperationName text y → x ≡ y
-text-once text x y left right =
-    let parts : left.0 ++ (58 ∷ left.1) ≡ right.0 ++ (58 ∷ right.1) = (let l = left.2 ∙ in_parts left.0 left.1 in let r = right.2 ∙ in_parts right.0 right.1 in cc) in
-    let cut = cut-once 58 left.0 right.0 left.1 right.1 (no_colon left.0 x.hart left.3) (no_colon right.0 y.hart right.3) parts in
-    let hart : x.hart ≡ y.hart = number-once left.0 right.0 x.hart y.hart left.3 right.3 cut.0 in
-    let at : x.at ≡ y.at = number-once left.1 right.1 x.at y.at left.4 right.4 cut.1 in
-    ap (λ h. named h x.at) hart ∙ ap (named y.hart) at
 
 name-once : Once IsName
 name-once d x y left right =

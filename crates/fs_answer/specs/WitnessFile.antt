@@ -1,10 +1,7 @@
 -- Witness files: the JSON text (RFC 8259) of an object with two members. `choices` is an array with an array of choices for each
 -- hart, and `order` an array of operations' names.
 use Rattle.std.specs.Prelude.{◌≡◌, ℕ, List, [], ◌∷◌, ◌++◌, map, length, slice_index, codes, Bool, true, false, not, ◌==◌, nat_lt, ◌&&◌, if◌then◌else◌, Option, None, Some, option_map, ◌⊎◌}
-use Rattle.std.specs.Char.{is_ascii_digit}
-use Rattle.std.specs.List.{list_all}
 use Rattle.std.specs.Str.{IsUtf8}
-use Rattle.std.specs.Str.Parse.{digits_value}
 use Rattle.serde_json.specs.Data.{Data, Items, no_items, item}
 use Rattle.serde_json.specs.Events.{members_len}
 use Rattle.serde_json.specs.Find.{get, as_bool, as_str, as_array, as_object}
@@ -12,6 +9,7 @@ use Rattle.serde_json.specs.Read.{read}
 use Rattle.fs_kinds.specs.declared.fault.Fault.{Fault}
 use Rattle.fs_kinds.specs.declared.fault.Fault.TheVariants.{BadWitness, Memory}
 use Rattle.fs_kinds.specs.declared.reason.OperationName.{OperationName as Name}
+use Rattle.fs_kinds.specs.PlaceNames.{IsOperationName}
 use Rattle.fs_kinds.specs.PriceObject.{whole}
 use Rattle.fs_model.specs.declared.step.Choice.{Choice}
 use Rattle.fs_model.specs.declared.step.Choice.TheVariants.{Word, Success, Failure}
@@ -47,24 +45,7 @@ choice_in d = choice_from (as_bool d) (whole 0 most_word d)
 abbrev pub IsChoice : Data → Choice → Type 0
 IsChoice d choice = choice_in d ≡ Some choice
 
--- ---- names of operations: `P`, the hart's number, `:`, the instruction's number
-
--- a zero before something else
-abbrev pub is_padded : List ℕ → Bool
-is_padded text = nat_lt 1 (length text) && (slice_index text 0 == 48)
-
--- decimal digits, at least one, without leading zeros
-abbrev pub is_numeral : List ℕ → Bool
-is_numeral text = nat_lt 0 (length text) && not (is_padded text) && list_all is_ascii_digit text
-
--- the number, of any size, that the text writes
-pub record Writes (text : List ℕ) (n : ℕ) : Type 0 where
-  pub numeral : is_numeral text ≡ true
-  pub value : digits_value 10 text ≡ n
-
-abbrev pub IsOperationName : List ℕ → Name → Type 0
-IsOperationName text name =
-    (hart : List ℕ) × (at : List ℕ) × (text ≡ codes "P" ++ hart ++ codes ":" ++ at) × Writes hart name.hart × Writes at name.at
+-- ---- names of operations
 
 abbrev pub IsName : Data → Name → Type 0
 IsName d name = (text : List ℕ) × (as_str d ≡ Some text) × IsOperationName text name
@@ -94,10 +75,6 @@ pub record IsWitnessFile (harts : ℕ) (bytes : List ℕ) (w : Witness) : Type 0
   pub lists : length w.choices ≡ harts
 
 -- ---- what the reader keeps of it
-
--- a number of one byte
-abbrev pub byte_of : ℕ → Option ℕ
-byte_of n = if nat_lt n 256 then Some n else None
 
 -- the name where both numbers are of one byte: no operation has another
 abbrev pub in_range : Name → Option Name

@@ -4,7 +4,8 @@ ghost use Rattle.std.specs.Prelude.{◌≡◌, ◌<◌, ℕ, List};
 ghost use Rattle.fs_kinds.specs.declared.reason.OperationName.{OperationName};
 ghost use Rattle.fs_kinds.specs.ReasonText.{operation_name};
 ghost use Rattle.fs_model.specs.Witness.{Witness};
-ghost use Rattle.fs_answer.specs.WitnessFile.{IsWitnessFile, IsOperationName};
+ghost use Rattle.fs_kinds.specs.PlaceNames.{IsOperationName};
+ghost use Rattle.fs_answer.specs.WitnessFile.{IsWitnessFile};
 
 /// A law: a witness file says one witness at most.
 pub fn file_says_one_witness()

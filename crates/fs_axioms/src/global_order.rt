@@ -2,6 +2,7 @@
 
 ghost use Rattle.std.specs.Prelude.{◌≡◌, ◌≤◌, ◌-◌, ◌++◌, length, ◌<◌, IfOk, IsOkUnless};
 ghost use Rattle.std.specs.List.{range_with_len};
+ghost use Rattle.fs_kinds.specs.Limits.{most_numbered};
 ghost use Rattle.fs_kinds.specs.declared.fault.Fault.TheVariants.{Memory};
 ghost use Rattle.fs_model.specs.Numbers.{stands_before};
 ghost use Rattle.fs_model.specs.Operations.{PreExecution, operations as operations_of};
@@ -36,7 +37,7 @@ impl Model for GlobalOrder {
 impl GlobalOrder {
     /// The global memory order in which the harts' operations come in this order, of at most 256 operations. The error is F19.
     pub fn new(alloc: Global, operations: &[Operation], order: &[u8]) -> Result<GlobalOrder, Fault>
-        requires { length operations.now ≤ 256 }
+        requires { length operations.now ≤ most_numbered }
         ensures ok { (x : PreExecution) → operations.now ≡ operations_of x → IfOk result (λ made. made ≡ gmo x order.now) }
         ensures err { IsOkUnless result Memory }
     {
@@ -67,7 +68,7 @@ impl GlobalOrder {
 // The numbers from `count` up to `total`, and then the order.
 fn list(alloc: Global, count: usize, total: usize, order: &[u8]) -> Result<Vec<u8>, AllocError>
     requires from { count ≤ total }
-    requires to { total ≤ 256 }
+    requires to { total ≤ most_numbered }
     ensures { IfOk result (λ listed. listed.items ≡ range_with_len count (total - count) ++ order.now) }
 {
     let mut listed = Vec::new(alloc);

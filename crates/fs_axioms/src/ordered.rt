@@ -1,6 +1,7 @@
 //! Operations with an order of the harts' own: the sources that it gives, and the axioms as tests of one operation or of two.
 
 ghost use Rattle.std.specs.Prelude.{◌≡◌, ◌≤◌, ℕ, List, length, map, IfOk, IsOkUnless};
+ghost use Rattle.fs_kinds.specs.Limits.{most_numbered};
 ghost use Rattle.fs_kinds.specs.declared.fault.Fault.TheVariants.{Memory};
 ghost use Rattle.fs_model.specs.Numbers.{numbers_below, stands_before};
 ghost use Rattle.fs_model.specs.Operations.{PreExecution, operations as operations_of, accesses};
@@ -43,7 +44,7 @@ impl Model for Ordered {
 impl Ordered {
     /// The operations with this order of the harts' own, by their numbers. The error is F19.
     pub fn new(alloc: Global, operations: Operations, listed: &[u8]) -> Result<Ordered, Fault>
-        requires { length operations ≤ 256 }
+        requires { length operations ≤ most_numbered }
         ensures ok { IfOk result (λ made. made ≡ record { operations = operations; listed = listed.now }) }
         ensures err { IsOkUnless result Memory }
     {

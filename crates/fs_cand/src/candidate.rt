@@ -1,6 +1,7 @@
 //! Candidate executions.
 
 ghost use Rattle.std.specs.Prelude.{◌≡◌, ◌≤◌, length, IfOk, IsOkUnless};
+ghost use Rattle.fs_kinds.specs.Limits.{most_harts};
 ghost use Rattle.fs_kinds.specs.declared.fault.Fault.TheVariants.{Memory};
 ghost use Rattle.fs_syntax.specs.Test.{IsBounded};
 ghost use Rattle.fs_model.specs.Execution.{initial_words};
@@ -41,7 +42,7 @@ impl Candidate {
         store_order: StoreOrder,
     ) -> Result<Candidate, Fault>
         requires test { IsBounded test.now }
-        requires harts { length traces ≤ 8 }
+        requires harts { length traces ≤ most_harts }
         requires steps { AreShort traces }
         ensures made { IfOk result (λ candidate. IsMade (initial_words test.now) candidate) }
         ensures traces { IfOk result (λ candidate. candidate.traces ≡ traces) }

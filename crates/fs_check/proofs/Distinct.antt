@@ -12,7 +12,8 @@ use Rattle.fs_model.specs.Trace.{AreSteps, after_step, start_with}
 use Rattle.fs_model.specs.Operations.{PreExecution, accesses, operation, place, steps_of}
 use Rattle.fs_model.specs.Witness.{name_of}
 use Rattle.fs_model.proofs.OptionalNumbers.{same_from}
-use Rattle.fs_model.proofs.HartOperations.{in_list, access_is}
+use Rattle.fs_model.proofs.HartOperations.{in_list}
+pub use Rattle.fs_model.proofs.HartOperations.{has_name}
 use Rattle.fs_model.proofs.ProgramOrder.{below_po, po_place}
 use Rattle.fs_hart.proofs.Forward.{goes_on}
 
@@ -86,19 +87,3 @@ one_named x a b name runs e k = elim (cases_eq a b) [
     | inr high ↦ differ x b a name runs (omega (arith, high, ne)) (named x b name k) (named x a name e)
   ])
 ]
-
--- ---- each operation of a hart has a name
-
-pub has_name : (x : PreExecution) (a : ℕ) → a < length (accesses x) → (n : Name) × (name_of x a ≡ Some n)
-has_name x a low =
-    let access = access_is x a low in (
-      record { hart = access.hart; at = access.step.at },
-      name_from x.traces (place x a) (operation x a).hart access.hart access.step (ap (λ u. u.hart) access.is) access.there,
-    )
-  where
-    the_name : ℕ → Step → Name
-    the_name hart s = record { hart = hart; at = s.at }
-
-    name_from : (traces : List (List Step)) (k : ℕ) (u : Option ℕ) (hart : ℕ) (s : Step) → u ≡ Some hart → slice_get (steps_of traces hart) k ≡ Some s
-        → option_and_then (λ hart. option_map (the_name hart) (slice_get (unwrap_or (option_map (steps_of traces) u) []) k)) u ≡ Some (the_name hart s)
-    name_from traces k u hart s e r = rw (e, r) refl

@@ -31,7 +31,7 @@ use Rattle.fs_check.specs.inner.NamedOrder.{name_in, numbers_of}
 use Rattle.fs_check.specs.inner.Ordered.{IsOrdered, runs_in}
 use Rattle.fs_check.specs.Verdicts.{IsWholeFile, IsFoundOrder, IsArranged, IsJudgement, IsLoadReason, IsRuleReason, IsAtomicReason}
 use Rattle.fs_answer.specs.WitnessFile.{KeepsWitness, in_range}
-use Rattle.fs_check.proofs.Distinct.{has_name}
+use Rattle.fs_model.proofs.HartOperations.{has_name}
 use Rattle.fs_hart.proofs.Few.{few_operations}
 use Rattle.fs_check.proofs.FirstStops.{all_whole}
 use Rattle.fs_check.proofs.NamedOrder.{name_is, found_names, found_all, names_say}

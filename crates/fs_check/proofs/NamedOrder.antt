@@ -14,7 +14,8 @@ use Rattle.fs_model.specs.Witness.{name_of}
 use Rattle.fs_model.specs.Reasons.{HaveNames}
 use Rattle.fs_model.proofs.Ranges.{past_last}
 use Rattle.fs_answer.specs.WitnessFile.{in_range}
-use Rattle.fs_check.specs.inner.NamedOrder.{step_name, name_in, is_same_name, number_of, numbers_of}
+use Rattle.fs_model.specs.Witness.{step_name}
+use Rattle.fs_check.specs.inner.NamedOrder.{name_in, is_same_name, number_of, numbers_of}
 
 -- one name more
 pub one_more : (names : List (Option Name)) (wanted rest : List (Option Name)) (order : List ℕ) (name : Option Name) (a : ℕ) → wanted ≡ name ∷ rest → number_of names name ≡ Some a

@@ -1,6 +1,7 @@
 //! Operations by their names.
 
 ghost use Rattle.std.specs.Prelude.{◌≡◌, ◌≤◌, map, length, option_map, IfOk, IsOkUnless};
+ghost use Rattle.fs_kinds.specs.Limits.{most_numbered};
 ghost use Rattle.fs_kinds.specs.declared.fault.Fault.TheVariants.{Memory};
 ghost use Rattle.fs_check.specs.inner.NamedOrder.{name_in, is_same_name, number_of, numbers_of};
 
@@ -43,7 +44,7 @@ pub(crate) fn numbers(
     names: &[Option<Name>],
     wanted: &[Option<Name>],
 ) -> Result<Option<Vec<u8>>, Fault>
-    requires { length names.now ≤ 256 }
+    requires { length names.now ≤ most_numbered }
     ensures ok { IfOk result (λ found. option_map (λ order. order.items) found ≡ numbers_of names.now wanted.now) }
     ensures err { IsOkUnless result Memory }
 {
@@ -59,7 +60,7 @@ pub(crate) fn numbers(
 
 // The number of the operation with this name.
 fn number(names: &[Option<Name>], wanted: &Option<Name>) -> Option<u8>
-    requires { length names.now ≤ 256 }
+    requires { length names.now ≤ most_numbered }
     ensures { result ≡ number_of names.now wanted.now }
 {
     let index = index_of(names, wanted)?;

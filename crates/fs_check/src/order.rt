@@ -1,6 +1,7 @@
 //! Is a witness an execution that the memory model allows?
 
 ghost use Rattle.std.specs.Prelude.{◌≡◌, ◌<◌, ◌≤◌, [], All, IfOk, IfErr, IsErrOf, IfSome, IfNone, IsOkUnless, Some, length, option_map};
+ghost use Rattle.fs_kinds.specs.Limits.{most_harts, most_numbered};
 ghost use Rattle.fs_kinds.specs.declared.fault.Fault.TheVariants.{Memory};
 ghost use Rattle.fs_syntax.specs.Test.{IsBounded, IsStart};
 ghost use Rattle.fs_model.specs.Operations.{accesses};
@@ -83,7 +84,7 @@ fn judge_runs(
 // The candidate of these runs, before any order.
 fn candidate(alloc: Global, test: &Test, traces: Traces) -> Result<Candidate, Fault>
     requires test { IsBounded test.now }
-    requires harts { length traces ≤ 8 }
+    requires harts { length traces ≤ most_harts }
     requires steps { AreShort traces }
     ensures made { IfOk result (λ candidate. IsMade (initial_words test.now) candidate) }
     ensures traces { IfOk result (λ candidate. candidate.traces ≡ traces) }
@@ -128,7 +129,7 @@ fn arrange(
     listed: Vec<u8>,
 ) -> Result<OrderedCandidate, Fault>
     requires made { IsMade (initial_words test.now) candidate }
-    requires few { length candidate.operations ≤ 256 }
+    requires few { length candidate.operations ≤ most_numbered }
     ensures ordered { IfOk result (IsOrdered test.now) }
     ensures same { IfOk result (IsArranged candidate listed.items) }
     ensures err { IsOkUnless result Memory }

@@ -18,25 +18,12 @@ use Rattle.fs_answer.specs.Listings.{IsListing}
 use Rattle.fs_model.specs.Witness.{name_of, step_name}
 use Rattle.fs_answer.specs.Valid.{IsCycle, HasCycles, are_edges, most_links}
 use Rattle.fs_model.proofs.ListedNumbers.{has-here, has-later, has-cases, has-append}
-use Rattle.fs_model.proofs.HartOperations.{access_is}
+use Rattle.fs_model.proofs.HartOperations.{has_name}
 use Rattle.fs_decide.specs.Decide.{IsRound, ordered_by}
 use Rattle.fs_decide.proofs.Rules.{some_found, judged_by_causes}
 use Rattle.fs_decide.proofs.Edges.{edge_low}
 use Rattle.fs_decide.proofs.Sorting.{ordered_or_round}
 use Rattle.fs_decide.proofs.Forth.{executed}
-
--- ---- each operation of a hart has a name
-
-name_from : (traces : List (List Step)) (k : ℕ) (u : Option ℕ) (hart : ℕ) (s : Step) → u ≡ Some hart → slice_get (steps_of traces hart) k ≡ Some s
-    → option_and_then (λ hart. option_map (step_name hart) (slice_get (unwrap_or (option_map (steps_of traces) u) []) k)) u ≡ Some (step_name hart s)
-name_from traces k u hart s e r = rw (e, r) refl
-
-has_name : (x : PreExecution) (a : ℕ) → a < length (accesses x) → (n : Name) × (name_of x a ≡ Some n)
-has_name x a low =
-    let access = access_is x a low in (
-      step_name access.hart access.step,
-      name_from x.traces (place x a) (operation x a).hart access.hart access.step (ap (λ o. o.hart) access.is) access.there,
-    )
 
 -- ---- a round as links
 

@@ -18,8 +18,8 @@ ghost use Rattle.fs_decide.specs.Decide.{IsOrdered, IsExecuted, IsSorted, IsRoun
 
 /// A law: a showing candidate with an order that respects its judged relation is an execution that shows the outcome, by the
 /// candidate's sources and store orders. The order of each execution respects the judged relation of its own sources and store
-/// orders, and where it shows the outcome they are a showing candidate. So in a test whose runs can be
-/// listed the outcome is allowed exactly where some showing candidate has such an order.
+/// orders, and where it shows the outcome they are a showing candidate. So in a test whose runs can be listed the outcome is
+/// allowed exactly where some showing candidate has such an order.
 pub fn candidates_decide()
     ensures executed { (t : Test) (p : List Entry) (c : Candidate) (order : List ℕ) → IsShowing t c → IsOrdered t p c order
         → IsExecuted t p c order }

@@ -1,6 +1,7 @@
 //! The dependencies of a run, as bits.
 
 ghost use Rattle.std.specs.Prelude.{◌≡◌, ◌≤◌, length, IfOk, IsOkUnless};
+ghost use Rattle.fs_kinds.specs.Limits.{most_instructions};
 ghost use Rattle.fs_deps.specs.Masks.{is_set, has_address, has_data, has_control, IsDepsOf};
 
 use crate::tracker::Tracker;
@@ -47,7 +48,7 @@ impl Deps {
     /// "RVWMO Memory Consistency Model", section "Syntactic Dependencies"). Where memory runs out, the answer is
     /// `Fault::Memory`.
     pub fn of(alloc: Global, trace: &Trace) -> Result<Deps, Fault>
-        requires { length trace.now.steps ≤ 32 }
+        requires { length trace.now.steps ≤ most_instructions }
         ensures ok { IfOk result (λ d. IsDepsOf trace.now.steps d) }
         ensures err { IsOkUnless result Fault.Memory }
     {

@@ -1,6 +1,7 @@
 //! The memory operations of runs.
 
-ghost use Rattle.std.specs.Prelude.{◌≡◌, ◌<◌, ◌≤◌, ◌++◌, ℕ, List, All, length, IfOk, OnOk, IsOkUnless};
+ghost use Rattle.std.specs.Prelude.{◌+◌, ◌≡◌, ◌<◌, ◌≤◌, ◌++◌, ℕ, List, All, length, IfOk, OnOk, IsOkUnless};
+ghost use Rattle.fs_kinds.specs.Limits.{most_harts, most_instructions, most_accesses, most_locations};
 ghost use Rattle.fs_kinds.specs.declared.fault.Fault.TheVariants.{Memory};
 ghost use Rattle.fs_syntax.specs.declared.test.Test.{Test};
 ghost use Rattle.fs_syntax.specs.Test.{IsBounded};
@@ -47,7 +48,7 @@ fn initial_store(location: u8, word: u32) -> Operation
 
 // Puts the operations of a run of the hart behind those that are there.
 fn add_accesses(operations: &mut Vec<Operation>, hart: u8, steps: &[Step]) -> Result<(), AllocError>
-    requires { length steps.now ≤ 32 }
+    requires { length steps.now ≤ most_instructions }
     ensures { OnOk result (operations.new.items ≡ operations.old.items ++ accesses_of (hart, steps.now)) }
 {
     for (place, step) in steps.iter().enumerate() {
@@ -62,8 +63,8 @@ fn add_accesses(operations: &mut Vec<Operation>, hart: u8, steps: &[Step]) -> Re
 /// the initial stores. A run of a bounded test has at most 32 steps. The error is F19.
 pub fn operations(alloc: Global, test: &Test, traces: &[Trace]) -> Result<Operations, Fault>
     requires test { IsBounded test.now }
-    requires harts { length traces.now ≤ 8 }
-    requires steps { All (λ trace. length trace.steps ≤ 32) traces.now }
+    requires harts { length traces.now ≤ most_harts }
+    requires steps { All (λ trace. length trace.steps ≤ most_instructions) traces.now }
     ensures ok { IfOk result (λ all. all ≡ operations (pre_execution test.now (steps_in traces.now))) }
     ensures err { IsOkUnless result Memory }
 {
@@ -82,5 +83,5 @@ pub fn operations(alloc: Global, test: &Test, traces: &[Trace]) -> Result<Operat
 pub fn operations_are_few()
     ensures { (t : Test) (traces : List (List Step)) → IsBounded t → length traces ≡ length t.codes
         → ((hart : ℕ) → hart < length t.codes → IsTrace t hart (steps_of traces hart))
-        → length (operations (pre_execution t traces)) ≤ 56 }
+        → length (operations (pre_execution t traces)) ≤ most_accesses + most_locations }
 {}

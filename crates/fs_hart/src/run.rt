@@ -1,6 +1,7 @@
 //! What choices make of a hart.
 
 ghost use Rattle.std.specs.Prelude.{◌≡◌, ℕ, List, ◌<◌, ◌≤◌, All, length, slice_get, if◌then◌else◌, None, IfOk, IsOkUnless};
+ghost use Rattle.fs_kinds.specs.Limits.{most_instructions};
 ghost use Rattle.fs_kinds.specs.declared.fault.Fault.TheVariants.{Memory};
 ghost use Rattle.fs_syntax.specs.Test.{IsBounded, IsStart};
 ghost use Rattle.fs_model.specs.Choices.{is_choosing};
@@ -109,5 +110,5 @@ pub fn trace_of(alloc: Global, test: &Test, hart: u8, choices: &[Choice]) -> Res
 #[tactic(auto, using(crate::proofs::Forward::traces_short))]
 pub fn runs_are_short()
     ensures { (t : Test) (hart : ℕ) (steps : List Step) → IsBounded t → hart < length t.codes → IsTrace t hart steps
-        → length steps ≤ 32 }
+        → length steps ≤ most_instructions }
 {}

@@ -5,16 +5,16 @@ use Rattle.fs_instr.specs.Operands.{Filled}
 use Rattle.fs_instr.specs.Instructions.{parts_of}
 use Rattle.fs_instr.specs.Reading.{is_alone, is_empty}
 use Rattle.fs_instr.specs.Spelled.{IsNumber, plus, minus, IsPart, rd, first, second, x0, sign, imm, below, constant, no_offset, zero_offset, label, before, after, AreParts, none, next, Spells, spells, IsUnsupported, unsupported}
-use Rattle.fs_instr.specs.declared.names.Op.{Op}
-use Rattle.fs_instr.specs.declared.names.Op.TheVariants as op
+use Rattle.fs_mnemonics.specs.declared.names.Op.{Op}
+use Rattle.fs_mnemonics.specs.declared.names.Op.TheVariants as op
 use Rattle.fs_instr.specs.declared.instr.Instr.{Instr}
-use Rattle.fs_instr.specs.declared.operands.Part.{Part}
+use Rattle.fs_instr.specs.declared.operands.OperandPart.{OperandPart}
 
 number_length : {ts : List Tok} {m : Bool} {n : ℕ} {rest : List Tok} → IsNumber ts m n rest → length ts ≤ length rest + 2
 number_length (plus e) = omega arith
 number_length (minus e s) = omega arith
 
-part_length : {p : Part} {o : Filled} {ts : List Tok} {o1 : Filled} {rest : List Tok} → IsPart p o ts o1 rest → length ts ≤ length rest + 2
+part_length : {p : OperandPart} {o : Filled} {ts : List Tok} {o1 : Filled} {rest : List Tok} → IsPart p o ts o1 rest → length ts ≤ length rest + 2
 part_length (rd e) = omega arith
 part_length (first e) = omega arith
 part_length (second e) = omega arith
@@ -29,7 +29,7 @@ part_length (label e) = omega arith
 part_length (before e) = omega arith
 part_length (after e) = omega arith
 
-parts_length : {ps : List Part} {o : Filled} {ts : List Tok} {f : Filled} → AreParts ps o ts f → length ts ≤ 2 * length ps
+parts_length : {ps : List OperandPart} {o : Filled} {ts : List Tok} {f : Filled} → AreParts ps o ts f → length ts ≤ 2 * length ps
 parts_length none = omega arith
 parts_length (next h k) = omega (arith, part_length h, parts_length k)
 

@@ -8,4 +8,3 @@ pub mod ReadsBack
 pub mod OfTableLemmas
 pub mod PrintedWords
 pub mod PrintedParts
-pub mod DistinctNames

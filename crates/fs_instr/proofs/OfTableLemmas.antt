@@ -6,21 +6,21 @@ use Rattle.std.proofs.lemmas.Bool.Decides.{nat_tests}
 use Rattle.std.specs.Str.{bytes_eq}
 use Rattle.fs_tokens.specs.Tokens.{Tok}
 use Rattle.fs_tokens.specs.Numbers.{number_of, numeral}
-use Rattle.fs_instr.specs.Rows.{look_up}
+use Rattle.fs_mnemonics.specs.Rows.{look_up}
 use Rattle.std.specs.Option.{option_or}
 use Rattle.fs_instr.specs.Registers.{register_of, low_x, middle_x, high_x, first_names, arguments, last_names}
-use Rattle.fs_instr.specs.FenceLetters.{lettered, letters_of, letters_rows, letters_text}
+use Rattle.fs_mnemonics.specs.FenceLetters.{lettered, letters_of, letters_rows, letters_text}
 use Rattle.fs_instr.specs.Operands.{Filled, blank, immediate_of, below_of, constant_of}
 use Rattle.fs_instr.specs.Spelled.{IsNumber, plus, minus, IsPart, rd, first, second, x0, sign, imm, below, constant, no_offset, zero_offset, label, before, after, AreParts, none, next, Spells, spells, Answers}
 use Rattle.fs_instr.specs.Instructions.{parts_of, instr_of}
 use Rattle.fs_instr.specs.Reading.{is_refused, is_alone, is_empty, operands_in, outcome_of}
 use Rattle.fs_instr.specs.OfTable.{IsImmediate, HasLetter, IsOfTable}
-use Rattle.fs_instr.specs.declared.letters.Letters.{Letters}
-use Rattle.fs_instr.specs.declared.names.Op.{Op}
-use Rattle.fs_instr.specs.declared.names.ShiftOp.{ShiftOp}
-use Rattle.fs_instr.specs.declared.names.Op.TheVariants as op
-use Rattle.fs_instr.specs.declared.operands.Part.{Part}
-use Rattle.fs_instr.specs.declared.operands.Part.TheVariants as part
+use Rattle.fs_mnemonics.specs.declared.letters.Letters.{Letters}
+use Rattle.fs_mnemonics.specs.declared.names.Op.{Op}
+use Rattle.fs_mnemonics.specs.declared.names.ShiftOp.{ShiftOp}
+use Rattle.fs_mnemonics.specs.declared.names.Op.TheVariants as op
+use Rattle.fs_instr.specs.declared.operands.OperandPart.{OperandPart}
+use Rattle.fs_instr.specs.declared.operands.OperandPart.TheVariants as part
 use Rattle.fs_instr.specs.declared.instr.Instr.{Instr}
 use Rattle.fs_instr.specs.declared.reading.Parsed.{Parsed}
 use Rattle.fs_instr.specs.declared.reading.Refused.{Refused}
@@ -141,7 +141,7 @@ pub record InRange (o : Filled) : Type 0 where
   pub before : HasLetter o.before
   pub after : HasLetter o.after
 
-part_keeps : {p : Part} {o : Filled} {ts : List Tok} {o1 : Filled} {rest : List Tok} → IsPart p o ts o1 rest → InRange o → InRange o1
+part_keeps : {p : OperandPart} {o : Filled} {ts : List Tok} {o1 : Filled} {rest : List Tok} → IsPart p o ts o1 rest → InRange o → InRange o1
 part_keeps (rd {w = w} {r = r} e) h = record { rd = register_below w r e; first = h.first; second = h.second; imm = h.imm; constant = h.constant; target = h.target; before = h.before; after = h.after }
 part_keeps (first {w = w} {r = r} e) h = record { rd = h.rd; first = register_below w r e; second = h.second; imm = h.imm; constant = h.constant; target = h.target; before = h.before; after = h.after }
 part_keeps (second {w = w} {r = r} e) h = record { rd = h.rd; first = h.first; second = register_below w r e; imm = h.imm; constant = h.constant; target = h.target; before = h.before; after = h.after }
@@ -158,7 +158,7 @@ part_keeps (label e) h = record { rd = h.rd; first = h.first; second = h.second;
 part_keeps (before {w = w} {l = l} e) h = record { rd = h.rd; first = h.first; second = h.second; imm = h.imm; constant = h.constant; target = h.target; before = letters_have w l e; after = h.after }
 part_keeps (after {w = w} {l = l} e) h = record { rd = h.rd; first = h.first; second = h.second; imm = h.imm; constant = h.constant; target = h.target; before = h.before; after = letters_have w l e }
 
-parts_keep : {ps : List Part} {o : Filled} {ts : List Tok} {f : Filled} → AreParts ps o ts f → InRange o → InRange f
+parts_keep : {ps : List OperandPart} {o : Filled} {ts : List Tok} {f : Filled} → AreParts ps o ts f → InRange o → InRange f
 parts_keep none h = h
 parts_keep (next k ks) h = parts_keep ks (part_keeps k h)
 

@@ -5,13 +5,13 @@ use Rattle.fs_tokens.specs.Few.{are_plain}
 use Rattle.fs_instr.specs.Operands.{Filled}
 use Rattle.fs_instr.specs.Spelled.{IsNumber, plus, minus, IsPart, rd, first, second, x0, sign, imm, below, constant, no_offset, zero_offset, label, before, after, AreParts, none, next, Spells, spells, IsUnsupported, unsupported}
 use Rattle.fs_instr.specs.declared.instr.Instr.{Instr}
-use Rattle.fs_instr.specs.declared.operands.Part.{Part}
+use Rattle.fs_instr.specs.declared.operands.OperandPart.{OperandPart}
 
 number_plain : {ts : List Tok} {m : Bool} {n : ℕ} {rest : List Tok} → IsNumber ts m n rest → are_plain rest ≡ true → are_plain ts ≡ true
 number_plain (plus e) h = h
 number_plain (minus e s) h = h
 
-part_plain : {p : Part} {o : Filled} {ts : List Tok} {o1 : Filled} {rest : List Tok} → IsPart p o ts o1 rest → are_plain rest ≡ true → are_plain ts ≡ true
+part_plain : {p : OperandPart} {o : Filled} {ts : List Tok} {o1 : Filled} {rest : List Tok} → IsPart p o ts o1 rest → are_plain rest ≡ true → are_plain ts ≡ true
 part_plain (rd e) h = h
 part_plain (first e) h = h
 part_plain (second e) h = h
@@ -26,7 +26,7 @@ part_plain (label e) h = h
 part_plain (before e) h = h
 part_plain (after e) h = h
 
-parts_plain : {ps : List Part} {o : Filled} {ts : List Tok} {f : Filled} → AreParts ps o ts f → are_plain ts ≡ true
+parts_plain : {ps : List OperandPart} {o : Filled} {ts : List Tok} {f : Filled} → AreParts ps o ts f → are_plain ts ≡ true
 parts_plain none = refl
 parts_plain (next h k) = part_plain h (parts_plain k)
 

@@ -6,26 +6,26 @@ use Rattle.fs_tokens.specs.Bytes.{begins}
 use Rattle.fs_tokens.specs.Tokens.{Tok, Word, Lined, AreTokens, none, skip, token, word, without_lines}
 use Rattle.fs_tokens.specs.declared.word.Class.{Class}
 use Rattle.fs_tokens.specs.declared.token.Mark.TheVariants as mark
-use Rattle.fs_instr.specs.Rows.{look_up}
+use Rattle.fs_mnemonics.specs.Rows.{look_up}
 use Rattle.std.specs.Option.{option_or}
-use Rattle.fs_instr.specs.Names.{op_of, name_text, register_names, immediate_names, branch_names, single_names, plain_names, acquiring_names, releasing_names, both_names, both_apart_names}
-use Rattle.fs_instr.specs.FenceLetters.{letters_text}
+use Rattle.fs_mnemonics.specs.Names.{op_of, name_text, register_names, immediate_names, branch_names, single_names, plain_names, acquiring_names, releasing_names, both_names, both_apart_names}
+use Rattle.fs_mnemonics.specs.FenceLetters.{letters_text}
 use Rattle.fs_instr.specs.Instructions.{parts_of, op_of_instr, operands_of, targeted}
 use Rattle.fs_instr.specs.OfTable.{IsImmediate, HasLetter, IsOfTable}
 use Rattle.fs_instr.specs.Spelled.{Spells, spells}
 use Rattle.fs_instr.specs.Writing.{part_text, parts_text, row_text, instr_text}
 use Rattle.fs_instr.specs.PrintedTokens.{part_tokens, parts_tokens, instr_tokens, IsApart, in_line, label_of, HasPrintedTokens, TextReadsBack}
-use Rattle.fs_instr.specs.declared.names.Op.{Op}
+use Rattle.fs_mnemonics.specs.declared.names.Op.{Op}
 use Rattle.fs_instr.specs.declared.operands.Operands.{Operands}
-use Rattle.fs_instr.specs.declared.operands.Part.{Part}
-use Rattle.fs_instr.specs.declared.operands.Part.TheVariants as part
+use Rattle.fs_instr.specs.declared.operands.OperandPart.{OperandPart}
+use Rattle.fs_instr.specs.declared.operands.OperandPart.TheVariants as part
 use Rattle.fs_instr.specs.declared.instr.Instr.{Instr}
 use Rattle.fs_instr.specs.declared.instr.Instr.TheVariants as instr
 use Rattle.fs_instr.proofs.PrintedWords.{is_word, word_prints, decimal_word, lettered_word, found_word}
 use Rattle.fs_instr.proofs.ReadsBack.{reads_back}
 
 -- what a part asks of the operands
-abbrev Good : Part → Operands → Type 0
+abbrev Good : OperandPart → Operands → Type 0
 Good part.Rd o = o.rd < 32
 Good part.First o = o.first < 32
 Good part.Second o = o.second < 32
@@ -43,13 +43,13 @@ Good part.Before o = HasLetter o.before
 Good part.After o = HasLetter o.after
 
 -- what a part asks of the bytes after it
-abbrev Needs : Part → List ℕ → Type 0
+abbrev Needs : OperandPart → List ℕ → Type 0
 Needs part.NoOffset rest = Unit {0}
 Needs (part.Sign mark.OpenParen) rest = begins 42 rest ≡ false
 Needs (part.Sign _) rest = Unit {0}
 Needs _ rest = IsApart rest
 
-abbrev Fits : List Part → Operands → List ℕ → Type 0
+abbrev Fits : List OperandPart → Operands → List ℕ → Type 0
 Fits [] o rest = Unit {0}
 Fits (p ∷ ps) o rest = Good p o × Needs p (parts_text ps o ++ rest) × Fits ps o rest
 
@@ -79,7 +79,7 @@ module _ (o : Operands) (rest : List ℕ) (line : ℕ) (ts : List Lined) (closed
   register_prints : (r : ℕ) → r < 32 → IsApart rest → AreTokens ((120 ∷ decimal r) ++ rest) line ((word (120 ∷ decimal r), line) ∷ ts) closed
   register_prints r small apart = word_prints (120 ∷ decimal r) rest line ts closed (lettered_word 120 r refl (omega arith)) apart h
 
-  pub part_prints : (p : Part) → Good p o → Needs p rest → AreTokens (part_text p o ++ rest) line (in_line line (part_tokens p o) ++ ts) closed
+  pub part_prints : (p : OperandPart) → Good p o → Needs p rest → AreTokens (part_text p o ++ rest) line (in_line line (part_tokens p o) ++ ts) closed
   part_prints part.Rd good needs = register_prints o.rd good needs
   part_prints part.First good needs = register_prints o.first good needs
   part_prints part.Second good needs = register_prints o.second good needs
@@ -110,7 +110,7 @@ module _ (o : Operands) (rest : List ℕ) (line : ℕ) (ts : List Lined) (closed
 in_line-append : (line : ℕ) (a b : List Tok) (ts : List Lined) → in_line line a ++ (in_line line b ++ ts) ≡ in_line line (a ++ b) ++ ts
 in_line-append line a b ts = sym (append_assoc (in_line line a) (in_line line b) ts) ∙ ap (λ l. l ++ ts) (sym (map-append (λ (t : Tok). (t, line)) a b))
 
-parts_print : (ps : List Part) (o : Operands) (rest : List ℕ) (line : ℕ) (ts : List Lined) (closed : Bool) → Fits ps o rest → AreTokens rest line ts closed → AreTokens (parts_text ps o ++ rest) line (in_line line (parts_tokens ps o) ++ ts) closed
+parts_print : (ps : List OperandPart) (o : Operands) (rest : List ℕ) (line : ℕ) (ts : List Lined) (closed : Bool) → Fits ps o rest → AreTokens rest line ts closed → AreTokens (parts_text ps o ++ rest) line (in_line line (parts_tokens ps o) ++ ts) closed
 parts_print [] o rest line ts closed fits h = h
 parts_print (p ∷ ps) o rest line ts closed fits h =
     let later = parts_print ps o rest line ts closed fits.2 h in
@@ -119,7 +119,7 @@ parts_print (p ∷ ps) o rest line ts closed fits h =
     subst (λ b. AreTokens b line (in_line line (parts_tokens (p ∷ ps) o) ++ ts) closed) (sym (append_assoc (part_text p o) (parts_text ps o) rest)) joined
 
 -- a name, and the operands after a blank
-row_prints : (name : List ℕ) (ps : List Part) (o : Operands) (rest : List ℕ) (line : ℕ) (ts : List Lined) (closed : Bool) → is_word name ≡ true → Fits ps o rest → IsApart rest → AreTokens rest line ts closed → AreTokens (row_text name ps o ++ rest) line (in_line line (word name ∷ parts_tokens ps o) ++ ts) closed
+row_prints : (name : List ℕ) (ps : List OperandPart) (o : Operands) (rest : List ℕ) (line : ℕ) (ts : List Lined) (closed : Bool) → is_word name ≡ true → Fits ps o rest → IsApart rest → AreTokens rest line ts closed → AreTokens (row_text name ps o ++ rest) line (in_line line (word name ∷ parts_tokens ps o) ++ ts) closed
 row_prints name [] o rest line ts closed is fits apart h =
     subst (λ b. AreTokens (b ++ rest) line ((word name, line) ∷ ts) closed) (sym (append-nil (name ++ []) ∙ append-nil name)) (word_prints name rest line ts closed is apart h)
 row_prints name (p ∷ ps) o rest line ts closed is fits apart h =

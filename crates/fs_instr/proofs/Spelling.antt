@@ -8,20 +8,20 @@ use Rattle.fs_tokens.specs.declared.token.Mark.{Mark}
 use Rattle.fs_tokens.specs.declared.token.Mark.TheVariants as mark
 use Rattle.fs_instr.specs.Registers.{register_of}
 use Rattle.fs_tokens.specs.Numbers.{number_of}
-use Rattle.fs_instr.specs.FenceLetters.{letters_of}
+use Rattle.fs_mnemonics.specs.FenceLetters.{letters_of}
 use Rattle.fs_instr.specs.Operands.{Filled, blank, take_word, take_name, mark_number, is_mark, take_sign, take_register, take_letters, take_unsigned, take_number, signed, immediate_of, below_of, read_part, read_parts}
 use Rattle.fs_instr.specs.Spelled.{IsNumber, plus, minus, IsPart, rd, first, second, x0, sign, imm, below, constant, no_offset, zero_offset, label, before, after, AreParts, none, next, Spells, spells, IsUnsupported, unsupported, IsUnknown, unknown, Answers}
-use Rattle.fs_instr.specs.Names.{op_of}
+use Rattle.fs_mnemonics.specs.Names.{op_of}
 use Rattle.fs_instr.specs.Instructions.{parts_of}
 use Rattle.fs_instr.specs.Reading.{Outcome, is_refused, is_alone, is_empty, made, read_row, read_named, read_tokens}
-use Rattle.fs_instr.specs.declared.names.Op.{Op}
-use Rattle.fs_instr.specs.declared.names.Op.TheVariants as op
+use Rattle.fs_mnemonics.specs.declared.names.Op.{Op}
+use Rattle.fs_mnemonics.specs.declared.names.Op.TheVariants as op
 use Rattle.fs_instr.specs.declared.instr.Instr.{Instr}
 use Rattle.fs_instr.specs.declared.reading.Refused.TheVariants.{Form, Name, Suffix}
 use Rattle.std.specs.Option.{is_some}
-use Rattle.fs_instr.specs.declared.letters.Letters.{Letters}
-use Rattle.fs_instr.specs.declared.operands.Part.{Part}
-use Rattle.fs_instr.specs.declared.operands.Part.TheVariants as part
+use Rattle.fs_mnemonics.specs.declared.letters.Letters.{Letters}
+use Rattle.fs_instr.specs.declared.operands.OperandPart.{OperandPart}
+use Rattle.fs_instr.specs.declared.operands.OperandPart.TheVariants as part
 
 -- ---- options
 
@@ -191,7 +191,7 @@ no_offset_is o ts x (Some rest) m e =
     subst P pair (subst (λ l. IsPart part.NoOffset o l o l) (sym same) no_offset)
 
 -- what a part read is that part
-is_part : (p : Part) (o : Filled) (ts : List Tok) (x : Step) → read_part p o ts ≡ Some x → IsPart p o ts x.0 x.1
+is_part : (p : OperandPart) (o : Filled) (ts : List Tok) (x : Step) → read_part p o ts ≡ Some x → IsPart p o ts x.0 x.1
 is_part part.Rd o ts x e =
     let b = mapped _ (take_register ts) x e in
     let w = register_is ts b.value b.is in
@@ -262,7 +262,7 @@ zero_from o ts rest m n =
     let number = number_from ts m 0 rest n in
     rw (paren, number) refl
 
-part_from : {p : Part} {o : Filled} {ts : List Tok} {o1 : Filled} {rest : List Tok} → IsPart p o ts o1 rest → read_part p o ts ≡ Some (o1, rest)
+part_from : {p : OperandPart} {o : Filled} {ts : List Tok} {o1 : Filled} {rest : List Tok} → IsPart p o ts o1 rest → read_part p o ts ≡ Some (o1, rest)
 unfolding take_register take_letters take_word take_name take_sign
 part_from (rd e) = rw e refl
 part_from (first e) = rw e refl
@@ -278,11 +278,11 @@ part_from (label e) = rw e refl
 part_from (before e) = rw e refl
 part_from (after e) = rw e refl
 
-pub parts_from : {ps : List Part} {o : Filled} {ts : List Tok} {f : Filled} → AreParts ps o ts f → read_parts ps o ts ≡ Some f
+pub parts_from : {ps : List OperandPart} {o : Filled} {ts : List Tok} {f : Filled} → AreParts ps o ts f → read_parts ps o ts ≡ Some f
 parts_from none = refl
 parts_from (next h k) = rw (part_from h) (parts_from k)
 
-pub parts_is : (ps : List Part) (o : Filled) (ts : List Tok) (f : Filled) → read_parts ps o ts ≡ Some f → AreParts ps o ts f
+pub parts_is : (ps : List OperandPart) (o : Filled) (ts : List Tok) (f : Filled) → read_parts ps o ts ≡ Some f → AreParts ps o ts f
 parts_is [] o [] f e = let same : o ≡ f = cc in subst (λ y. AreParts [] o [] y) same none
 parts_is [] o (t ∷ ts) f e = absurd (cc)
 parts_is (p ∷ ps) o ts f e =

@@ -3,24 +3,24 @@ use Rattle.std.specs.Prelude.{ℕ, List, [], ◌∷◌, Option, Some, None, Bool
 use Rattle.fs_tokens.specs.declared.token.Mark.TheVariants.{Comma, OpenParen, CloseParen}
 use Rattle.fs_instr.specs.Registers.{named}
 use Rattle.fs_instr.specs.Operands.{all_letters}
-use Rattle.fs_instr.specs.declared.names.Op.{Op}
-use Rattle.fs_instr.specs.declared.names.Op.TheVariants as op
-use Rattle.fs_instr.specs.declared.names.ImmOp.TheVariants.{Addi}
+use Rattle.fs_mnemonics.specs.declared.names.Op.{Op}
+use Rattle.fs_mnemonics.specs.declared.names.Op.TheVariants as op
+use Rattle.fs_mnemonics.specs.declared.names.ImmOp.TheVariants.{Addi}
 use Rattle.fs_instr.specs.declared.operands.Operands.{Operands}
-use Rattle.fs_instr.specs.declared.operands.Part.{Part}
-use Rattle.fs_instr.specs.declared.operands.Part.TheVariants.{Rd, First, Second, Zero, Sign, Immediate, Below, Constant, NoOffset, Label, Before, After}
+use Rattle.fs_instr.specs.declared.operands.OperandPart.{OperandPart}
+use Rattle.fs_instr.specs.declared.operands.OperandPart.TheVariants.{Rd, First, Second, Zero, Sign, Immediate, Below, Constant, NoOffset, Label, Before, After}
 use Rattle.fs_instr.specs.declared.instr.Instr.{Instr}
 use Rattle.fs_instr.specs.declared.instr.Instr.TheVariants as instr
 use Rattle.fs_instr.specs.declared.instr.Roles.{Roles}
 
-abbrev pub comma : Part
+abbrev pub comma : OperandPart
 comma = Sign Comma
 
 -- ( register )
-abbrev pub at_first : List Part
+abbrev pub at_first : List OperandPart
 at_first = Sign OpenParen ∷ First ∷ Sign CloseParen ∷ []
 
-abbrev pub parts_of : Op → List Part
+abbrev pub parts_of : Op → List OperandPart
 parts_of (op.Register o) = Rd ∷ comma ∷ First ∷ comma ∷ Second ∷ []
 parts_of (op.Immediate o) = Rd ∷ comma ∷ First ∷ comma ∷ Immediate ∷ []
 parts_of (op.Shift o) = Rd ∷ comma ∷ First ∷ comma ∷ Below 32 ∷ []

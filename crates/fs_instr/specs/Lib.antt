@@ -1,7 +1,4 @@
-pub mod Rows
-pub mod Names
 pub mod Registers
-pub mod FenceLetters
 pub mod Operands
 pub mod Instructions
 pub mod Reading

@@ -8,11 +8,11 @@ use Rattle.fs_tokens.specs.declared.token.Mark.{Mark}
 use Rattle.fs_tokens.specs.declared.token.Mark.TheVariants as mark
 use Rattle.fs_instr.specs.Registers.{register_of}
 use Rattle.fs_tokens.specs.Numbers.{number_of}
-use Rattle.fs_instr.specs.FenceLetters.{letters_of}
-use Rattle.fs_instr.specs.declared.letters.Letters.{Letters}
+use Rattle.fs_mnemonics.specs.FenceLetters.{letters_of}
+use Rattle.fs_mnemonics.specs.declared.letters.Letters.{Letters}
 use Rattle.fs_instr.specs.declared.operands.Operands.{Operands}
-use Rattle.fs_instr.specs.declared.operands.Part.{Part}
-use Rattle.fs_instr.specs.declared.operands.Part.TheVariants as part
+use Rattle.fs_instr.specs.declared.operands.OperandPart.{OperandPart}
+use Rattle.fs_instr.specs.declared.operands.OperandPart.TheVariants as part
 
 -- what is read of the operands
 pub record Filled : Type 0 where
@@ -126,7 +126,7 @@ abbrev pub Read : Type 0
 Read = Option (Filled × List Tok)
 
 -- the tokens begin with this part; what it fills in, and the tokens after it
-abbrev pub read_part : Part → Filled → List Tok → Read
+abbrev pub read_part : OperandPart → Filled → List Tok → Read
 read_part part.Rd o ts = option_map (λ x. (record o { rd = x.0 }, x.1)) (take_register ts)
 read_part part.First o ts = option_map (λ x. (record o { first = x.0 }, x.1)) (take_register ts)
 read_part part.Second o ts = option_map (λ x. (record o { second = x.0 }, x.1)) (take_register ts)
@@ -145,6 +145,6 @@ whole [] o = Some o
 whole (t ∷ ts) o = None
 
 -- the tokens are these parts in order, and no more; what they fill in
-abbrev pub read_parts : List Part → Filled → List Tok → Option Filled
+abbrev pub read_parts : List OperandPart → Filled → List Tok → Option Filled
 read_parts [] o ts = whole ts o
 read_parts (p ∷ ps) o ts = option_and_then (λ x. read_parts ps x.0 x.1) (read_part p o ts)

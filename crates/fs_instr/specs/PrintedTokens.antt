@@ -4,16 +4,16 @@ use Rattle.std.specs.Fmt.{decimal}
 use Rattle.fs_tokens.specs.Bytes.{is_letter}
 use Rattle.fs_tokens.specs.Tokens.{Tok, Sign, Lined, AreTokens, word}
 use Rattle.fs_tokens.specs.declared.token.Mark.TheVariants.{Minus}
-use Rattle.fs_instr.specs.Names.{name_text}
-use Rattle.fs_instr.specs.FenceLetters.{letters_text}
+use Rattle.fs_mnemonics.specs.Names.{name_text}
+use Rattle.fs_mnemonics.specs.FenceLetters.{letters_text}
 use Rattle.fs_instr.specs.Instructions.{parts_of, op_of_instr, operands_of, targeted}
 use Rattle.fs_instr.specs.Spelled.{Spells}
 use Rattle.fs_instr.specs.Writing.{register_text, instr_text}
 use Rattle.fs_instr.specs.Texts.{SpellsText}
 use Rattle.fs_instr.specs.declared.operands.Operands.{Operands}
-use Rattle.fs_instr.specs.declared.operands.Part.{Part}
-use Rattle.fs_instr.specs.declared.operands.Part.TheVariants.{Rd, First, Second, Zero, Immediate, Below, Constant, NoOffset, Label, Before, After}
-use Rattle.fs_instr.specs.declared.operands.Part.TheVariants as part
+use Rattle.fs_instr.specs.declared.operands.OperandPart.{OperandPart}
+use Rattle.fs_instr.specs.declared.operands.OperandPart.TheVariants.{Rd, First, Second, Zero, Immediate, Below, Constant, NoOffset, Label, Before, After}
+use Rattle.fs_instr.specs.declared.operands.OperandPart.TheVariants as part
 use Rattle.fs_instr.specs.declared.instr.Instr.{Instr}
 use Rattle.fs_instr.specs.declared.instr.Instr.TheVariants as instr
 
@@ -21,7 +21,7 @@ abbrev pub number_tokens : ℤ → List Tok
 number_tokens (pos n) = word (decimal n) ∷ []
 number_tokens (negsuc n) = Sign Minus ∷ word (decimal (suc n)) ∷ []
 
-abbrev pub part_tokens : Part → Operands → List Tok
+abbrev pub part_tokens : OperandPart → Operands → List Tok
 part_tokens Rd o = word (register_text o.rd) ∷ []
 part_tokens First o = word (register_text o.first) ∷ []
 part_tokens Second o = word (register_text o.second) ∷ []
@@ -35,7 +35,7 @@ part_tokens Label o = word (codes "L" ++ decimal o.target) ∷ []
 part_tokens Before o = word (letters_text o.before) ∷ []
 part_tokens After o = word (letters_text o.after) ∷ []
 
-abbrev pub parts_tokens : List Part → Operands → List Tok
+abbrev pub parts_tokens : List OperandPart → Operands → List Tok
 parts_tokens [] o = []
 parts_tokens (p ∷ ps) o = part_tokens p o ++ parts_tokens ps o
 

@@ -5,19 +5,19 @@ use Rattle.fs_tokens.specs.Tokens.{Tok, Word, Sign}
 use Rattle.fs_tokens.specs.declared.word.Class.{Class}
 use Rattle.fs_tokens.specs.declared.token.Mark.{Mark}
 use Rattle.fs_tokens.specs.declared.token.Mark.TheVariants.{OpenParen, Minus}
-use Rattle.fs_instr.specs.Names.{op_of}
+use Rattle.fs_mnemonics.specs.Names.{op_of}
 use Rattle.fs_instr.specs.Registers.{register_of}
 use Rattle.fs_tokens.specs.Numbers.{number_of}
-use Rattle.fs_instr.specs.FenceLetters.{letters_of}
+use Rattle.fs_mnemonics.specs.FenceLetters.{letters_of}
 use Rattle.fs_instr.specs.Operands.{Filled, blank, immediate_of, below_of, constant_of}
 use Rattle.fs_instr.specs.Instructions.{parts_of, instr_of}
 use Rattle.fs_instr.specs.Reading.{is_refused, is_alone, is_empty, operands_in, Outcome}
 use Rattle.fs_instr.specs.declared.reading.Refused.TheVariants.{Form, Name, Suffix}
-use Rattle.fs_instr.specs.declared.letters.Letters.{Letters}
-use Rattle.fs_instr.specs.declared.names.Op.{Op}
+use Rattle.fs_mnemonics.specs.declared.letters.Letters.{Letters}
+use Rattle.fs_mnemonics.specs.declared.names.Op.{Op}
 use Rattle.fs_instr.specs.declared.instr.Instr.{Instr}
-use Rattle.fs_instr.specs.declared.operands.Part.{Part}
-use Rattle.fs_instr.specs.declared.operands.Part.TheVariants as part
+use Rattle.fs_instr.specs.declared.operands.OperandPart.{OperandPart}
+use Rattle.fs_instr.specs.declared.operands.OperandPart.TheVariants as part
 
 -- these tokens are a number, with a minus or without
 pub data IsNumber : List Tok → Bool → ℕ → List Tok → Type 0 where
@@ -25,7 +25,7 @@ pub data IsNumber : List Tok → Bool → ℕ → List Tok → Type 0 where
   minus : {c : Class} {w : List ℕ} {n : ℕ} {rest : List Tok} → number_of w ≡ Some n → n ≤ 2147483648 → IsNumber (Sign Minus ∷ Word c w ∷ rest) true n rest
 
 -- the first tokens are this part; what is filled in before and after it, and the tokens after it
-pub data IsPart : Part → Filled → List Tok → Filled → List Tok → Type 0 where
+pub data IsPart : OperandPart → Filled → List Tok → Filled → List Tok → Type 0 where
   rd : {o : Filled} {c : Class} {w : List ℕ} {r : ℕ} {rest : List Tok} → register_of w ≡ Some r → IsPart part.Rd o (Word c w ∷ rest) (record o { rd = r }) rest
   first : {o : Filled} {c : Class} {w : List ℕ} {r : ℕ} {rest : List Tok} → register_of w ≡ Some r → IsPart part.First o (Word c w ∷ rest) (record o { first = r }) rest
   second : {o : Filled} {c : Class} {w : List ℕ} {r : ℕ} {rest : List Tok} → register_of w ≡ Some r → IsPart part.Second o (Word c w ∷ rest) (record o { second = r }) rest
@@ -41,9 +41,9 @@ pub data IsPart : Part → Filled → List Tok → Filled → List Tok → Type 
   after : {o : Filled} {c : Class} {w : List ℕ} {l : Letters} {rest : List Tok} → letters_of w ≡ Some l → IsPart part.After o (Word c w ∷ rest) (record o { after = l }) rest
 
 -- the tokens are these parts in order, and no more
-pub data AreParts : List Part → Filled → List Tok → Filled → Type 0 where
+pub data AreParts : List OperandPart → Filled → List Tok → Filled → Type 0 where
   none : {o : Filled} → AreParts [] o [] o
-  next : {p : Part} {ps : List Part} {o o1 o2 : Filled} {ts rest : List Tok} → IsPart p o ts o1 rest → AreParts ps o1 rest o2 → AreParts (p ∷ ps) o ts o2
+  next : {p : OperandPart} {ps : List OperandPart} {o o1 o2 : Filled} {ts rest : List Tok} → IsPart p o ts o1 rest → AreParts ps o1 rest o2 → AreParts (p ∷ ps) o ts o2
 
 -- the tokens after the name of a row are its operands
 abbrev pub HasShape : Op → List Tok → Filled → Type 0

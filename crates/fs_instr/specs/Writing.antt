@@ -3,12 +3,12 @@ use Rattle.std.specs.Prelude.{ℕ, List, [], ◌∷◌, ◌++◌, codes}
 use Rattle.std.specs.Fmt.{decimal, signed_decimal}
 use Rattle.fs_tokens.specs.declared.token.Mark.{Mark}
 use Rattle.fs_tokens.specs.declared.token.Mark.TheVariants.{Comma, OpenParen, CloseParen}
-use Rattle.fs_instr.specs.Names.{name_text}
-use Rattle.fs_instr.specs.FenceLetters.{letters_text}
+use Rattle.fs_mnemonics.specs.Names.{name_text}
+use Rattle.fs_mnemonics.specs.FenceLetters.{letters_text}
 use Rattle.fs_instr.specs.Instructions.{parts_of, op_of_instr, operands_of}
 use Rattle.fs_instr.specs.declared.operands.Operands.{Operands}
-use Rattle.fs_instr.specs.declared.operands.Part.{Part}
-use Rattle.fs_instr.specs.declared.operands.Part.TheVariants.{Rd, First, Second, Zero, Sign, Immediate, Below, Constant, NoOffset, Label, Before, After}
+use Rattle.fs_instr.specs.declared.operands.OperandPart.{OperandPart}
+use Rattle.fs_instr.specs.declared.operands.OperandPart.TheVariants.{Rd, First, Second, Zero, Sign, Immediate, Below, Constant, NoOffset, Label, Before, After}
 use Rattle.fs_instr.specs.declared.instr.Instr.{Instr}
 
 -- a comma or a parenthesis
@@ -22,7 +22,7 @@ mark_text _ = []
 abbrev pub register_text : ℕ → List ℕ
 register_text r = codes "x" ++ decimal r
 
-abbrev pub part_text : Part → Operands → List ℕ
+abbrev pub part_text : OperandPart → Operands → List ℕ
 part_text Rd o = register_text o.rd
 part_text First o = register_text o.first
 part_text Second o = register_text o.second
@@ -36,16 +36,16 @@ part_text Label o = codes "L" ++ decimal o.target
 part_text Before o = letters_text o.before
 part_text After o = letters_text o.after
 
-abbrev pub parts_text : List Part → Operands → List ℕ
+abbrev pub parts_text : List OperandPart → Operands → List ℕ
 parts_text [] o = []
 parts_text (p ∷ ps) o = part_text p o ++ parts_text ps o
 
-abbrev pub space_text : List Part → List ℕ
+abbrev pub space_text : List OperandPart → List ℕ
 space_text [] = []
 space_text (p ∷ ps) = codes " "
 
 -- a name, a blank where there are operands, and the operands
-abbrev pub row_text : List ℕ → List Part → Operands → List ℕ
+abbrev pub row_text : List ℕ → List OperandPart → Operands → List ℕ
 row_text name parts o = name ++ space_text parts ++ parts_text parts o
 
 unfoldable pub instr_text : Instr → List ℕ

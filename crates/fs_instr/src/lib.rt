@@ -3,17 +3,16 @@
 #![tactic(auto)]
 
 mod instr;
-mod letters;
-mod names;
 mod operands;
 mod reading;
 mod reg;
 mod text;
 mod writing;
 
+pub use fs_mnemonics::{
+    AmoOp, Ann, BranchOp, ImmOp, Letters, Op, RegOp, ShiftOp, names_stand_once,
+};
 pub use instr::Instr;
-pub use letters::Letters;
-pub use names::{AmoOp, Ann, BranchOp, ImmOp, Op, RegOp, ShiftOp, names_stand_once};
 pub use reading::{Parsed, Refused, read_tokens};
 pub use reg::Reg;
 pub use text::read_instr;

@@ -3,13 +3,13 @@
 ghost use Rattle.std.specs.Prelude.{◌≡◌, option_map};
 ghost use Rattle.fs_instr.specs.Operands.{filled, toks, take_word, take_name, is_mark, take_sign, take_letters, take_unsigned, take_number, immediate_of, below_of, constant_of, read_part, read_parts, blank};
 
-use crate::letters::Letters;
 use crate::reg::Reg;
+use fs_mnemonics::Letters;
 use fs_tokens::{Kind, Mark, Token, number_of};
 
 /// A part of the operands, in the order of the text.
 #[derive(Clone, Copy, Debug, PartialEq, Eq)]
-pub enum Part {
+pub enum OperandPart {
     /// The destination.
     Rd,
     /// The first source.
@@ -198,7 +198,7 @@ fn constant_of(minus: bool, number: u32) -> u32
 
 #[tactic(auto, unfolding(crate::specs::Operands::take_register))]
 fn read_part<'b, 'a>(
-    part: Part,
+    part: OperandPart,
     operands: &mut Operands,
     label: Option<&'a str>,
     tokens: &'b [Token<'a>],
@@ -206,22 +206,22 @@ fn read_part<'b, 'a>(
     ensures { option_map (λ x. (filled operands.new x.0, toks x.1.now)) result ≡ read_part part (filled operands.old label.entry) (toks tokens.now) }
 {
     match part {
-        Part::Rd => {
+        OperandPart::Rd => {
             let (word, rest) = take_word(tokens)?;
             operands.rd = Reg::of(word)?;
             Some((label, rest))
         }
-        Part::First => {
+        OperandPart::First => {
             let (word, rest) = take_word(tokens)?;
             operands.first = Reg::of(word)?;
             Some((label, rest))
         }
-        Part::Second => {
+        OperandPart::Second => {
             let (word, rest) = take_word(tokens)?;
             operands.second = Reg::of(word)?;
             Some((label, rest))
         }
-        Part::Zero => {
+        OperandPart::Zero => {
             let (word, rest) = take_word(tokens)?;
             let register = Reg::of(word)?;
             if register.number() == 0 {
@@ -230,26 +230,26 @@ fn read_part<'b, 'a>(
                 None
             }
         }
-        Part::Sign(mark) => {
+        OperandPart::Sign(mark) => {
             let rest = take_sign(mark, tokens)?;
             Some((label, rest))
         }
-        Part::Immediate => {
+        OperandPart::Immediate => {
             let (minus, number, rest) = take_number(tokens)?;
             operands.imm = immediate_of(minus, number)?;
             Some((label, rest))
         }
-        Part::Below(limit) => {
+        OperandPart::Below(limit) => {
             let (minus, number, rest) = take_number(tokens)?;
             operands.constant = below_of(limit, minus, number)?;
             Some((label, rest))
         }
-        Part::Constant => {
+        OperandPart::Constant => {
             let (minus, number, rest) = take_number(tokens)?;
             operands.constant = constant_of(minus, number);
             Some((label, rest))
         }
-        Part::NoOffset => {
+        OperandPart::NoOffset => {
             if take_sign(Mark::OpenParen, tokens).is_some() {
                 return Some((label, tokens));
             }
@@ -260,16 +260,16 @@ fn read_part<'b, 'a>(
                 None
             }
         }
-        Part::Label => {
+        OperandPart::Label => {
             let (word, rest) = take_name(tokens)?;
             Some((Some(word), rest))
         }
-        Part::Before => {
+        OperandPart::Before => {
             let (letters, rest) = take_letters(tokens)?;
             operands.before = letters;
             Some((label, rest))
         }
-        Part::After => {
+        OperandPart::After => {
             let (letters, rest) = take_letters(tokens)?;
             operands.after = letters;
             Some((label, rest))
@@ -278,7 +278,7 @@ fn read_part<'b, 'a>(
 }
 
 fn read_all<'b, 'a>(
-    parts: &[Part],
+    parts: &[OperandPart],
     operands: &mut Operands,
     label: Option<&'a str>,
     tokens: &'b [Token<'a>],
@@ -295,7 +295,10 @@ fn read_all<'b, 'a>(
 }
 
 /// The operands and the label of tokens that are these parts in order, and no more.
-pub fn read_parts<'a>(parts: &[Part], tokens: &[Token<'a>]) -> Option<(Operands, Option<&'a str>)>
+pub fn read_parts<'a>(
+    parts: &[OperandPart],
+    tokens: &[Token<'a>],
+) -> Option<(Operands, Option<&'a str>)>
     ensures { option_map (λ x. filled x.0 x.1) result ≡ read_parts parts.now blank (toks tokens.now) }
 {
     let mut operands = Operands::BLANK;

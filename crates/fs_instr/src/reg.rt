@@ -1,7 +1,7 @@
 //! Registers, by number and by the names of the calling convention (the manual's assembly programmer's handbook).
 
 ghost use Rattle.std.specs.Prelude.{◌≡◌, ◌<◌};
-ghost use Rattle.fs_instr.specs.Rows.{look_up};
+ghost use Rattle.fs_mnemonics.specs.Rows.{look_up};
 ghost use Rattle.fs_instr.specs.Registers.{low_x, middle_x, high_x, first_names, arguments, last_names, named, register_of};
 
 use std::marker::Model;

@@ -6,25 +6,25 @@ ghost use Rattle.fs_instr.specs.OfTable.{IsOfTable};
 ghost use Rattle.fs_instr.specs.PrintedTokens.{ReadsBack, HasPrintedTokens, TextReadsBack};
 
 use crate::instr::{Instr, parts};
-use crate::operands::{Operands, Part};
+use crate::operands::{OperandPart, Operands};
 use fs_tokens::Mark;
 use std::alloc::AllocError;
 
-fn write_part(part: Part, operands: &Operands, line: &mut String) -> Result<(), AllocError>
+fn write_part(part: OperandPart, operands: &Operands, line: &mut String) -> Result<(), AllocError>
     ensures { OnOk result (string_bytes line.new ≡ string_bytes line.old ++ part_text part operands.now) }
 {
     match part {
-        Part::Rd => write!(line, "x{}", operands.rd.number()),
-        Part::First => write!(line, "x{}", operands.first.number()),
-        Part::Second => write!(line, "x{}", operands.second.number()),
-        Part::Zero => line.push_str("x0"),
-        Part::Sign(mark) => line.push_str(mark_text(mark)),
-        Part::Immediate => write!(line, "{}", operands.imm),
-        Part::Below(_) | Part::Constant => write!(line, "{}", operands.constant),
-        Part::NoOffset => Ok(()),
-        Part::Label => write!(line, "L{}", operands.target),
-        Part::Before => line.push_str(operands.before.text()),
-        Part::After => line.push_str(operands.after.text()),
+        OperandPart::Rd => write!(line, "x{}", operands.rd.number()),
+        OperandPart::First => write!(line, "x{}", operands.first.number()),
+        OperandPart::Second => write!(line, "x{}", operands.second.number()),
+        OperandPart::Zero => line.push_str("x0"),
+        OperandPart::Sign(mark) => line.push_str(mark_text(mark)),
+        OperandPart::Immediate => write!(line, "{}", operands.imm),
+        OperandPart::Below(_) | OperandPart::Constant => write!(line, "{}", operands.constant),
+        OperandPart::NoOffset => Ok(()),
+        OperandPart::Label => write!(line, "L{}", operands.target),
+        OperandPart::Before => line.push_str(operands.before.text()),
+        OperandPart::After => line.push_str(operands.after.text()),
     }
 }
 
@@ -39,7 +39,11 @@ fn mark_text(mark: Mark) -> &'static str
     }
 }
 
-fn write_parts(parts: &[Part], operands: &Operands, line: &mut String) -> Result<(), AllocError>
+fn write_parts(
+    parts: &[OperandPart],
+    operands: &Operands,
+    line: &mut String,
+) -> Result<(), AllocError>
     ensures { OnOk result (string_bytes line.new ≡ string_bytes line.old ++ parts_text parts.now operands.now) }
 {
     for part in parts {
@@ -50,7 +54,7 @@ fn write_parts(parts: &[Part], operands: &Operands, line: &mut String) -> Result
 
 fn write_row(
     name: &str,
-    parts: &[Part],
+    parts: &[OperandPart],
     operands: &Operands,
     line: &mut String,
 ) -> Result<(), AllocError>

@@ -4,7 +4,7 @@ use Rattle.std.specs.Fmt.{decimal}
 use Rattle.std.specs.Result.{result_ok}
 use Rattle.std.proofs.lemmas.Bool.Decides.{nat_tests}
 use Rattle.std.specs.Str.Parse.{ParsesUnsigned, AllDigits, digits_value}
-use Rattle.fs_kinds.specs.Slot.{is_padded, place_name, slot_name, IsSlot, fence_word}
+use Rattle.fs_kinds.specs.Slot.{place_name, slot_name, IsSlot, fence_word}
 use Rattle.std.proofs.lemmas.Str.Parse.{IsNumeralModel, numerals_by_value, tells_digits, parse_plain, not_in_digits, digit_at}
 use Rattle.std.proofs.lemmas.Str.Pattern.{IsSplitOnceResult, split_after}
 use Rattle.std.proofs.lemmas.Slice.Eq.{bytes_eq-Decides}
@@ -20,40 +20,6 @@ use Rattle.std.proofs.lemmas.Fmt.{decimal_is_IsNumeral, decimal-digits_value, fi
 pub own : IsNumeralModel (AllDigits 10) (digits_value 10)
 own = numerals_by_value (AllDigits 10) tells_digits
 
-not_plus : (bs : List ℕ) → is_padded bs ≡ false → get_or bs 0 0 ≢ 43
-not_plus bs plain is = grind arith
-
-one_zero : (bs : List ℕ) → is_padded bs ≡ false → 0 < length bs → get_or bs 0 0 ≡ 48 → length bs ≡ 1
-one_zero bs plain some is = grind (arith, nat_tests)
-
--- what `parse` reads of a text without a plus and without leading zeros
-pub number_some : {E : Type 0} (bs : List ℕ) (r : Result ℕ E) → ParsesUnsigned 8 10 bs r → is_padded bs ≡ false → IfSome (result_ok r) (λ n. bs ≡ decimal n)
-number_some {E} bs (Ok n) h plain =
-    let f = parse_plain own {E = E} 8 bs (Ok n) h (not_plus bs plain) in
-    rw f.1 (sym (decimal-digits_value own bs f.0.0 f.0.1 (one_zero bs plain f.0.1) (omega arith)))
-number_some bs (Err e) h plain = tt
-
-pub number_none : {E : Type 0} (bs : List ℕ) (r : Result ℕ E) → ParsesUnsigned 8 10 bs r → is_padded bs ≡ false → IfNone (result_ok r) ((n : ℕ) → n < 256 → bs ≢ decimal n)
-number_none bs (Ok n) h plain = tt
-number_none {E} bs (Err e) h plain = λ n low is.
-    let f = parse_plain own {E = E} 8 bs (Err e) h (not_plus bs plain) in
-    let small : n < 2 ^ 64 = omega arith in
-    let d = decimal_is_IsNumeral n small in
-    let low' : digits_value 10 (decimal n) < 2 ^ 8 = omega arith in
-    let P : List ℕ → Type 0 = λ ds. AllDigits 10 ds × 0 < length ds × digits_value 10 ds < 2 ^ 8 in
-    f (subst P (sym is) (d.0.1, d.0.0, low'))
-
-digit_first : (bs : List ℕ) → 48 < get_or bs 0 0 → get_or bs 0 0 ≤ 57 → is_padded bs ≡ false
-digit_first bs more less = grind (arith, nat_tests)
-
-pub decimal_not_padded : (n : ℕ) → n < 256 → is_padded (decimal n) ≡ false
-decimal_not_padded zero low = rw (decimal_digit 0 (omega arith)) refl
-decimal_not_padded (suc m) low =
-    let n : ℕ = suc m in
-    let small : n < 2 ^ 64 = omega arith in
-    let d = decimal_is_IsNumeral n small in
-    digit_first (decimal n) (first_decimal n (omega arith) small) (digit_at (decimal n) 0 d.0.1 d.0.0).1
-
 pub place_name-parts : (h a : ℕ) → place_name h a ≡ 80 ∷ (decimal h ++ (58 ∷ decimal a))
 place_name-parts h a = ap (λ bs. 80 ∷ bs) (append_assoc (decimal h) (58 ∷ []) (decimal a))
 
@@ -65,13 +31,6 @@ not_in_decimal n c low more i less =
 
 pub same_bytes : (xs ys : List ℕ) → bytes_eq xs ys ≡ true → xs ≡ ys
 same_bytes xs ys same = grind (arith, bytes_eq-Decides xs ys)
-
--- a slot's name is cut at its colon
-pub name_cut : (text rest : List ℕ) (r : Option (Bor (List ℕ) × Bor (List ℕ))) → text ≡ 80 ∷ rest → IsSplitOnceResult 58 rest r → (s : Slot) → IsSlot s → text ≡ slot_name s → MatchOption r ⊥ (λ x. (x.0.now ≡ decimal s.hart) × (x.1.now ≡ decimal s.at))
-name_cut text rest r begins cut s is named =
-    let parts = place_name-parts s.hart s.at in
-    let e : rest ≡ decimal s.hart ++ (58 ∷ decimal s.at) = cc in
-    split_after 58 rest (decimal s.hart) (decimal s.at) r cut (omega arith) e (not_in_decimal s.hart 58 is.0 (omega arith))
 
 -- no byte of the text is c
 lacks-append : (c : ℕ) (xs ys : List ℕ) → ((i : ℕ) → i < length xs → get_or xs i 0 ≢ c) → ((i : ℕ) → i < length ys → get_or ys i 0 ≢ c) → (i : ℕ) → i < length (xs ++ ys) → get_or (xs ++ ys) i 0 ≢ c
@@ -133,7 +92,7 @@ kind_unnamed text None is = λ kind named.
 kind_unnamed text (Some kind) is = tt
 
 -- a text has one cut at its first c
-cut-same : (c : ℕ) (xs us ys vs : List ℕ) → ((i : ℕ) → i < length xs → get_or xs i 0 ≢ c) → ((i : ℕ) → i < length us → get_or us i 0 ≢ c) → xs ++ (c ∷ ys) ≡ us ++ (c ∷ vs) → (xs ≡ us) × (ys ≡ vs)
+pub cut-same : (c : ℕ) (xs us ys vs : List ℕ) → ((i : ℕ) → i < length xs → get_or xs i 0 ≢ c) → ((i : ℕ) → i < length us → get_or us i 0 ≢ c) → xs ++ (c ∷ ys) ≡ us ++ (c ∷ vs) → (xs ≡ us) × (ys ≡ vs)
 cut-same c [] [] ys vs left right e = (refl, cc)
 cut-same c [] (u ∷ us) ys vs left right e = let same : u ≡ c = cc in absurd (right 0 (omega arith) same)
 cut-same c (x ∷ xs) [] ys vs left right e = let same : x ≡ c = cc in absurd (left 0 (omega arith) same)

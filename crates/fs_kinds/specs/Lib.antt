@@ -2,6 +2,7 @@ pub mod FaultLine
 pub mod FaultOrder
 pub mod Kind
 pub mod Limits
+pub mod PlaceNames
 pub mod Placement
 pub mod PriceObject
 pub mod PriceTable

@@ -9,6 +9,10 @@ most_harts = 8
 abbrev pub most_instructions : ℕ
 most_instructions = 32
 
+-- instructions of one hart, placed fences among them, and operations: their numbers are bytes
+abbrev pub most_numbered : ℕ
+most_numbered = 256
+
 -- memory instructions of all harts together
 abbrev pub most_accesses : ℕ
 most_accesses = 48

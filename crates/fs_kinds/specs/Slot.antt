@@ -1,5 +1,5 @@
 -- Slots: their names and their order.
-use Rattle.std.specs.Prelude.{ℕ, List, [], ◌∷◌, ◌++◌, Bool, true, ◌&&◌, ◌||◌, ◌==◌, nat_lt, ◌<◌, length, slice_index, codes}
+use Rattle.std.specs.Prelude.{ℕ, List, [], ◌∷◌, ◌++◌, Bool, true, ◌&&◌, ◌||◌, ◌==◌, nat_lt, ◌<◌, codes}
 use Rattle.std.specs.Fmt.{decimal}
 use Rattle.std.specs.List.{list_all}
 use Rattle.fs_kinds.specs.declared.kind.Kind.{Kind}
@@ -12,10 +12,6 @@ place_name hart at = codes "P" ++ decimal hart ++ codes ":" ++ decimal at
 
 abbrev pub slot_name : Slot → List ℕ
 slot_name s = place_name s.hart s.at
-
--- a plus first, or a zero before something else
-abbrev pub is_padded : List ℕ → Bool
-is_padded text = (slice_index text 0 == 43) || nat_lt 1 (length text) && (slice_index text 0 == 48)
 
 -- both numbers are of one byte
 abbrev pub IsSlot : Slot → Type 0

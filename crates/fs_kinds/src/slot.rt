@@ -1,11 +1,11 @@
 //! Places for a fence, and the words that name them.
-ghost use Rattle.std.specs.Prelude.{◌≡◌, ◌≢◌, ℕ, ◌<◌, IfSome, IfNone};
-ghost use Rattle.std.specs.Fmt.{decimal};
-ghost use Rattle.fs_kinds.specs.Slot.{IsSlot, fence_word, is_padded};
+ghost use Rattle.std.specs.Prelude.{◌≡◌, ◌≢◌, IfSome, IfNone};
+ghost use Rattle.fs_kinds.specs.Slot.{IsSlot, fence_word};
 ghost use Rattle.fs_kinds.specs.declared.slot.Slot.{Slot};
 ghost use Rattle.fs_kinds.specs.declared.kind.Kind.{Kind};
 
 use crate::kind::Kind;
+use crate::place::read_place;
 use std::fmt;
 
 /// A place for a fence: before the memory instruction number `at` of a hart, where an earlier memory
@@ -39,33 +39,11 @@ impl Slot {
         ensures in_range { IfSome result IsSlot }
         ensures none { IfNone result ((slot : Slot) → IsSlot slot → text.now ≢ slot_name slot) }
     {
-        let (hart, at) = text.strip_prefix('P')?.split_once(':')?;
+        let (hart, at) = read_place(text)?;
         Some(Slot {
-            hart: number(hart)?,
-            at: number(at)?,
+            hart: hart?,
+            at: at?,
         })
-    }
-}
-
-/// The number, up to 255, that the text writes in decimal without leading zeros.
-fn number(digits: &str) -> Option<u8>
-    ensures value { IfSome result (λ n. digits.now ≡ decimal n) }
-    ensures none { IfNone result ((n : ℕ) → n < 256 → digits.now ≢ decimal n) }
-{
-    if is_padded(digits) {
-        return None;
-    }
-    digits.parse().ok()
-}
-
-/// Does the text begin with a plus, or with a zero before something else?
-fn is_padded(digits: &str) -> bool
-    ensures { result ≡ is_padded digits.now }
-{
-    match digits.as_bytes() {
-        [first] => *first == b'+',
-        [first, ..] => *first == b'+' || *first == b'0',
-        [] => false,
     }
 }
 

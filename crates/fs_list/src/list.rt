@@ -1,11 +1,10 @@
 //! The list.
 
-ghost use Rattle.std.specs.Prelude.{◌≡◌, ◌^◌, ◌<◌, ◌==◌, length, IfOk};
+ghost use Rattle.std.specs.Prelude.{◌≡◌, ◌^◌, ◌<◌, ◌==◌, length};
 ghost use Rattle.std.specs.Cmp.Lexicographic.{pointwise, lists_per, lists_equiv};
 ghost use Rattle.std.specs.Iterator.Runs.{EveryRun, ItemsMapTo};
 ghost use Rattle.std.specs.Slice.Iter.{iter_rest, iter_steps};
 
-use std::alloc::{AllocError, Global};
 use std::marker::Model;
 use std::ops::DerefSlice;
 use std::slice;
@@ -55,17 +54,6 @@ impl<T> List<T> {
     }
 }
 
-impl<T: Copy> List<T> {
-    /// A list of copies of these items. The error is want of memory.
-    pub fn from_slice(alloc: Global, items: &[T]) -> Result<List<T>, AllocError>
-        ensures { IfOk result (λ list. list ≡ items.now) }
-    {
-        Ok(List {
-            items: Vec::from_slice(alloc, items)?,
-        })
-    }
-}
-
 impl<T> DerefSlice for List<T> {
     type Elem = T;
 
@@ -101,15 +89,4 @@ impl<T: PartialEq> PartialEq for List<T> {
 
 impl<T: Eq> Eq for List<T> {
     ghost laws = { lists_equiv T.Eq.laws };
-}
-
-impl<T: Drop> FromIterator<T> for List<T> {
-    type Alloc = Global;
-
-    ghost from_iter_gives = { λ items list. list ≡ items };
-
-    fn from_iter<I: IntoIterator<Item = T>>(alloc: Global, iter: I) -> Result<List<T>, AllocError> {
-        let items: Vec<T> = Vec::from_iter(alloc, iter)?;
-        Ok(List { items })
-    }
 }

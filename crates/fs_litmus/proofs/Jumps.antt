@@ -5,12 +5,12 @@ use Rattle.fs_instr.specs.Operands.{Filled, blank}
 use Rattle.fs_instr.specs.Instructions.{parts_of, instr_of, targeted}
 use Rattle.fs_instr.specs.Reading.{is_alone, is_empty, operands_in}
 use Rattle.fs_instr.specs.Spelled.{IsPart, AreParts, Spells, none, next, label, spells}
-use Rattle.fs_instr.specs.declared.names.Op.{Op}
-use Rattle.fs_instr.specs.declared.names.Op.TheVariants as op
+use Rattle.fs_mnemonics.specs.declared.names.Op.{Op}
+use Rattle.fs_mnemonics.specs.declared.names.Op.TheVariants as op
 use Rattle.fs_instr.specs.declared.instr.Instr.{Instr}
 use Rattle.fs_instr.specs.declared.instr.Instr.TheVariants as instr
-use Rattle.fs_instr.specs.declared.operands.Part.{Part}
-use Rattle.fs_instr.specs.declared.operands.Part.TheVariants as part
+use Rattle.fs_instr.specs.declared.operands.OperandPart.{OperandPart}
+use Rattle.fs_instr.specs.declared.operands.OperandPart.TheVariants as part
 use Rattle.fs_instr.specs.Instructions.{target_of}
 
 -- what is filled in by a label
@@ -20,16 +20,16 @@ part_label (label e) h = cc
 last_label : {before after : Filled} {ts : List Tok} → AreParts (part.Label ∷ []) before ts after → after.label ≡ None → ⊥
 last_label (next p none) h = part_label p h
 
-after_one : {p : Part} {before after : Filled} {ts : List Tok} → AreParts (p ∷ part.Label ∷ []) before ts after → after.label ≡ None → ⊥
+after_one : {p : OperandPart} {before after : Filled} {ts : List Tok} → AreParts (p ∷ part.Label ∷ []) before ts after → after.label ≡ None → ⊥
 after_one (next p rest) h = last_label rest h
 
-after_two : {p q : Part} {before after : Filled} {ts : List Tok} → AreParts (p ∷ q ∷ part.Label ∷ []) before ts after → after.label ≡ None → ⊥
+after_two : {p q : OperandPart} {before after : Filled} {ts : List Tok} → AreParts (p ∷ q ∷ part.Label ∷ []) before ts after → after.label ≡ None → ⊥
 after_two (next p rest) h = after_one rest h
 
-after_three : {p q r : Part} {before after : Filled} {ts : List Tok} → AreParts (p ∷ q ∷ r ∷ part.Label ∷ []) before ts after → after.label ≡ None → ⊥
+after_three : {p q r : OperandPart} {before after : Filled} {ts : List Tok} → AreParts (p ∷ q ∷ r ∷ part.Label ∷ []) before ts after → after.label ≡ None → ⊥
 after_three (next p rest) h = after_two rest h
 
-after_four : {p q r s : Part} {before after : Filled} {ts : List Tok} → AreParts (p ∷ q ∷ r ∷ s ∷ part.Label ∷ []) before ts after → after.label ≡ None → ⊥
+after_four : {p q r s : OperandPart} {before after : Filled} {ts : List Tok} → AreParts (p ∷ q ∷ r ∷ s ∷ part.Label ∷ []) before ts after → after.label ≡ None → ⊥
 after_four (next p rest) h = after_three rest h
 
 no_jump : (o : Op) (alone : Bool) (ts : List Tok) (x : Filled) → AreParts (parts_of (is_alone o alone)) blank ts x → x.label ≡ None → target_of (instr_of (is_alone o alone) (operands_in x)) ≡ None

@@ -1,13 +1,15 @@
 -- The operations of harts: they are numbered hart by hart and in the order of their runs, and each is a step of a run.
-use Rattle.std.proofs.Common.{◌≡◌, ℕ, zero, suc, ◌+◌, ◌<◌, ◌≤◌, ◌⊎◌, inl, inr, Bool, true, false, None, Some, is_some, List, [], ◌∷◌, ◌++◌, length, map, filter, get_or, refl, sym, ◌∙◌, ap, subst, arith, append_assoc}
+use Rattle.std.proofs.Common.{◌≡◌, ℕ, zero, suc, ◌+◌, ◌<◌, ◌≤◌, ◌⊎◌, inl, inr, Bool, true, false, None, Some, is_some, Option, option_map, option_and_then, unwrap_or, List, [], ◌∷◌, ◌++◌, length, map, filter, get_or, refl, sym, ◌∙◌, ap, subst, arith, append_assoc}
 use Rattle.std.specs.Prelude.{slice_get, if◌then◌else◌}
 use Rattle.std.specs.List.{AllByRecursion, enumerate_from, flat_map, slice_index_or}
 use Rattle.std.proofs.Math.ListN.{get_or-append}
 use Rattle.std.proofs.lemmas.List.{get_or_at, length-append}
 use Rattle.std.proofs.lemmas.List.Concat.{flat_map-cons}
+use Rattle.fs_kinds.specs.declared.reason.OperationName.{OperationName as Name}
 use Rattle.fs_model.specs.declared.operation.Operation.{Operation}
 use Rattle.fs_model.specs.declared.step.Step.{Step}
 use Rattle.fs_model.specs.Operations.{PreExecution, access_of, accesses_of, accesses, initial_store, operation, nothing, place, steps_of}
+use Rattle.fs_model.specs.Witness.{name_of, step_name}
 
 -- ---- operations by hart and place
 
@@ -157,3 +159,16 @@ access_is x a low =
       accessing = found.4;
       is = whole ∙ ap (λ k. access_of found.0 (k, found.2)) (sym here);
     }
+
+-- ---- each operation of a hart has a name
+
+name_from : (traces : List (List Step)) (k : ℕ) (u : Option ℕ) (hart : ℕ) (s : Step) → u ≡ Some hart → slice_get (steps_of traces hart) k ≡ Some s
+    → option_and_then (λ hart. option_map (step_name hart) (slice_get (unwrap_or (option_map (steps_of traces) u) []) k)) u ≡ Some (step_name hart s)
+name_from traces k u hart s e r = rw (e, r) refl
+
+pub has_name : (x : PreExecution) (a : ℕ) → a < length (accesses x) → (n : Name) × (name_of x a ≡ Some n)
+has_name x a low =
+    let access = access_is x a low in (
+      step_name access.hart access.step,
+      name_from x.traces (place x a) (operation x a).hart access.hart access.step (ap (λ o. o.hart) access.is) access.there,
+    )

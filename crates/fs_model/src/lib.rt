@@ -1,4 +1,4 @@
-//! operations.
+//! The memory model RVWMO: its definitions, the steps of one hart, and what is asked of single operations and of steps.
 #![tactic(auto)]
 
 mod arithmetic;

@@ -2,6 +2,7 @@
 
 ghost use Rattle.std.specs.Prelude.{◌≡◌, ◌≤◌, All, length, true, IfOk, IsOkUnless};
 ghost use Rattle.std.specs.List.{list_all};
+ghost use Rattle.fs_kinds.specs.Limits.{most_harts, most_instructions, most_numbered};
 ghost use Rattle.fs_kinds.specs.declared.fault.Fault.TheVariants.{Memory};
 ghost use Rattle.fs_syntax.specs.Test.{IsBounded};
 ghost use Rattle.fs_model.specs.Numbers.{numbers_below};
@@ -148,9 +149,9 @@ pub fn obeys_axioms(
     order: &[u8],
 ) -> Result<bool, Fault>
     requires test { IsBounded test.now }
-    requires harts { length traces.now ≤ 8 }
-    requires steps { All (λ trace. length trace.steps ≤ 32) traces.now }
-    requires few { length (operations_of (pre_execution_of test.now traces.now)) ≤ 256 }
+    requires harts { length traces.now ≤ most_harts }
+    requires steps { All (λ trace. length trace.steps ≤ most_instructions) traces.now }
+    requires few { length (operations_of (pre_execution_of test.now traces.now)) ≤ most_numbered }
     ensures ok { IfOk result (λ obeys. Decides obeys (ObeysAxioms (pre_execution_of test.now traces.now) placement.now order.now)) }
     ensures err { IsOkUnless result Memory }
 {

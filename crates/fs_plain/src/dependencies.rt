@@ -2,6 +2,7 @@
 
 ghost use Rattle.std.specs.Prelude.{◌≡◌, ◌<◌};
 ghost use Rattle.std.specs.List.{list_any};
+ghost use Rattle.fs_kinds.specs.Limits.{most_numbered};
 ghost use Rattle.fs_instr.specs.Instructions.{sources_of};
 ghost use Rattle.fs_model.specs.Numbers.{between};
 ghost use Rattle.fs_model.specs.Operations.{instr_at};
@@ -13,7 +14,7 @@ use fs_model::Step;
 
 // Does a step between i and j write the register?
 fn is_written_between(steps: &[Step], i: usize, j: usize, register: Option<u8>) -> bool
-    requires { i < 256 }
+    requires { i < most_numbered }
     ensures { result ≡ list_any (λ m. writes steps.now m register) (between i j) }
 {
     (i + 1..j).any(|m| writes(steps, m, register))
@@ -21,7 +22,7 @@ fn is_written_between(steps: &[Step], i: usize, j: usize, register: Option<u8>) 
 
 // Does step i write the register, and no step between i and j?
 fn writes_last(steps: &[Step], i: usize, j: usize, register: Option<u8>) -> bool
-    requires { i < 256 }
+    requires { i < most_numbered }
     ensures { result ≡ writes_last steps.now i j register }
 {
     writes(steps, i, register) && !is_written_between(steps, i, j, register)
@@ -38,9 +39,9 @@ fn leads_through(
     j: usize,
     register: Option<u8>,
 ) -> bool
-    requires first { i < 256 }
-    requires second { m < 256 }
-    requires third { j < 256 }
+    requires first { i < most_numbered }
+    requires second { m < most_numbered }
+    requires third { j < most_numbered }
     ensures { result ≡ leads_through distance steps.now i j register m }
 {
     if !instr_at(steps, m).carries() {
@@ -58,8 +59,8 @@ fn leads_through(
 // and no step between does, or a dependency leads through a step between.
 #[cycle(within)]
 fn depends_within(distance: usize, steps: &[Step], i: usize, j: usize, register: Option<u8>) -> bool
-    requires first { i < 256 }
-    requires second { j < 256 }
+    requires first { i < most_numbered }
+    requires second { j < most_numbered }
     ensures { result ≡ depends_within distance steps.now i j register }
 {
     if distance == 0 {
@@ -78,8 +79,8 @@ fn depends_within(distance: usize, steps: &[Step], i: usize, j: usize, register:
 
 // Does step j depend on step i through its source `register`?
 fn depends(steps: &[Step], i: usize, j: usize, register: Option<u8>) -> bool
-    requires first { i < 256 }
-    requires second { j < 256 }
+    requires first { i < most_numbered }
+    requires second { j < most_numbered }
     ensures { result ≡ depends steps.now i j register }
 {
     i < j && depends_within(j - i, steps, i, j, register)
@@ -87,8 +88,8 @@ fn depends(steps: &[Step], i: usize, j: usize, register: Option<u8>) -> bool
 
 /// Has step j an address dependency on step i? Steps count from 0. At worst exponential in the steps between.
 pub fn address_depends(steps: &[Step], i: usize, j: usize) -> bool
-    requires first { i < 256 }
-    requires second { j < 256 }
+    requires first { i < most_numbered }
+    requires second { j < most_numbered }
     ensures { result ≡ address_depends steps.now i j }
 {
     depends(steps, i, j, address_source(steps, j))
@@ -96,8 +97,8 @@ pub fn address_depends(steps: &[Step], i: usize, j: usize) -> bool
 
 /// Has step j a data dependency on step i? Steps count from 0. At worst exponential in the steps between.
 pub fn data_depends(steps: &[Step], i: usize, j: usize) -> bool
-    requires first { i < 256 }
-    requires second { j < 256 }
+    requires first { i < most_numbered }
+    requires second { j < most_numbered }
     ensures { result ≡ data_depends steps.now i j }
 {
     depends(steps, i, j, data_source(steps, j))
@@ -105,8 +106,8 @@ pub fn data_depends(steps: &[Step], i: usize, j: usize) -> bool
 
 // Does step j depend on step i through one of its sources?
 fn depends_through_any(steps: &[Step], i: usize, j: usize) -> bool
-    requires first { i < 256 }
-    requires second { j < 256 }
+    requires first { i < most_numbered }
+    requires second { j < most_numbered }
     ensures { result ≡ list_any (depends steps.now i j) (sources_of (instr_at steps.now j)) }
 {
     depends(steps, i, j, first_source(steps, j)) || depends(steps, i, j, second_source(steps, j))
@@ -115,8 +116,8 @@ fn depends_through_any(steps: &[Step], i: usize, j: usize) -> bool
 /// Has step j a control dependency on step i: does a branch between them depend on i? Steps count from 0. At worst exponential in
 /// the steps between.
 pub fn control_depends(steps: &[Step], i: usize, j: usize) -> bool
-    requires first { i < 256 }
-    requires second { j < 256 }
+    requires first { i < most_numbered }
+    requires second { j < most_numbered }
     ensures { result ≡ control_depends steps.now i j }
 {
     (i + 1..j).any(|m| instr_at(steps, m).is_conditional() && depends_through_any(steps, i, m))

@@ -60,15 +60,6 @@ fn whole_runs(alloc: Global, test: &Test, runs: &[Steps]) -> Result<Option<Vec<T
     Ok(Some(traces))
 }
 
-/// Are these lists of steps runs of the test's harts, one for each? The time is that of `is_run` for each hart.
-pub fn are_runs(alloc: Global, test: &Test, runs: &[Steps]) -> Result<bool, AllocError>
-    requires test { IsBounded test.now }
-    requires starts { All IsStart test.now.starts }
-    ensures { IfOk result (λ are. Decides are (AreRuns test.now runs.now)) }
-{
-    Ok(whole_runs(alloc, test, runs)?.is_some())
-}
-
 // Are these whole runs of the test's harts, with this order of their operations, an execution of the test with the placement's
 // fences, and does it show the outcome? It is as slow as `obeys_axioms`.
 pub(crate) fn traces_show(

@@ -2,6 +2,7 @@
 
 ghost use Rattle.std.specs.Prelude.{◌≡◌, ◌<◌, ◌≤◌};
 ghost use Rattle.std.specs.List.{list_any};
+ghost use Rattle.fs_kinds.specs.Limits.{most_numbered};
 ghost use Rattle.fs_model.specs.Numbers.{between};
 ghost use Rattle.fs_model.specs.Operations.{instr_at};
 ghost use Rattle.fs_model.specs.Fences.{instr_orders, kind_orders};
@@ -53,7 +54,7 @@ fn placed_at(placement: &Placement, hart: Option<u8>, steps: &[Step], k: usize) 
 
 // Does a fence of the test between steps i and j order operations of these classes?
 fn is_written_between(first: Classes, second: Classes, steps: &[Step], i: usize, j: usize) -> bool
-    requires { i < 256 }
+    requires { i < most_numbered }
     ensures { result ≡ list_any (λ k. instr_orders first second (instr_at steps.now k)) (between i j) }
 {
     (i + 1..j).any(|k| instr_orders(first, second, instr_at(steps, k)))
@@ -68,7 +69,7 @@ fn is_placed_between(
     i: usize,
     j: usize,
 ) -> bool
-    requires { i < 256 }
+    requires { i < most_numbered }
     ensures { result ≡ is_placed_between placement.now first.now second.now steps.now i j }
 {
     let hart = first.hart;

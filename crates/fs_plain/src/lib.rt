@@ -15,6 +15,6 @@ mod steps;
 pub use allowing::allows_over;
 pub use axioms::obeys_axioms;
 pub use dependencies::{address_depends, control_depends, data_depends};
-pub use executions::{are_runs, shows};
+pub use executions::shows;
 pub use rules::{ppo, rule};
 pub use runs::is_run;

@@ -2,6 +2,7 @@
 
 ghost use Rattle.std.specs.Prelude.{◌≡◌, ◌==◌, ◌≤◌, [], length, IfOk, OnOk, IsOkUnless};
 ghost use Rattle.std.specs.List.{list_any};
+ghost use Rattle.fs_kinds.specs.Limits.{most_numbered};
 ghost use Rattle.fs_kinds.specs.declared.fault.Fault.TheVariants.{Memory};
 ghost use Rattle.fs_syntax.specs.Test.{IsBounded};
 ghost use Rattle.fs_model.specs.Operations.{accesses};
@@ -36,7 +37,7 @@ fn shows_from(
     requires test { IsBounded test.now }
     requires whole { AreWhole test.now traces.now }
     requires count { count ≡ length (accesses (pre_execution test.now (steps_in traces.now))) }
-    requires few { count ≤ 256 }
+    requires few { count ≤ most_numbered }
     requires within { length order.old.items ≤ count }
     ensures order { OnOk result (order.new.items ≡ order.old.items) }
     ensures ok { IfOk result (λ shows. Decides shows (ShowsFrom test.now placement.now traces.now order.old.items)) }

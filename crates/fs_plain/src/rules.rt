@@ -1,6 +1,7 @@
 //! The rules of preserved program order (RISC-V Unprivileged ISA 20191213, section "Preserved Program Order").
 
 ghost use Rattle.std.specs.Prelude.{◌≡◌, ◌<◌, ◌≤◌};
+ghost use Rattle.fs_kinds.specs.Limits.{most_numbered};
 ghost use Rattle.fs_model.specs.Operations.{PreExecution, operations as operations_of, precedes};
 ghost use Rattle.fs_model.specs.Preserved.{ppo};
 ghost use Rattle.fs_hart.specs.Steps.{steps_in};
@@ -111,8 +112,8 @@ fn any_passes_on(
 
 // Has an instruction between steps i and j an address dependency on step i?
 fn any_address_between(steps: &[Step], i: usize, j: usize) -> bool
-    requires first { i < 256 }
-    requires second { j < 256 }
+    requires first { i < most_numbered }
+    requires second { j < most_numbered }
     ensures { result ≡ any_address_between steps.now i j }
 {
     (i + 1..j).any(|m| address_depends(steps, i, m))

@@ -3,6 +3,7 @@
 ghost use Rattle.std.specs.Prelude.{◌≡◌, ◌<◌, ◌||◌, option_and_then, slice_get, true, Some, ◌&&◌};
 ghost use Rattle.std.specs.Option.{option_copied};
 ghost use Rattle.std.specs.List.{list_any};
+ghost use Rattle.fs_kinds.specs.Limits.{most_numbered};
 ghost use Rattle.fs_deps.specs.Masks.{has_address, has_data, has_control};
 ghost use Rattle.fs_model.specs.Numbers.{between, is_same};
 ghost use Rattle.fs_model.specs.Operations.{po, place, is_store, any_between, paired};
@@ -54,7 +55,7 @@ fn has_control(candidate: &Candidate, hart: Option<u8>, i: usize, j: usize) -> b
 
 // Has a step between i and j an address dependency on step i?
 fn any_address(candidate: &Candidate, hart: Option<u8>, i: usize, j: usize) -> bool
-    requires { i < 256 }
+    requires { i < most_numbered }
     ensures { result ≡ list_any (has_address (deps_of candidate.now hart) i) (between i j) }
 {
     (i + 1..j).any(|m| has_address(candidate, hart, i, m))

@@ -2,6 +2,7 @@
 
 ghost use Rattle.std.specs.Prelude.{◌≡◌, ◌+◌, ◌<◌};
 ghost use Rattle.std.specs.List.{list_any};
+ghost use Rattle.fs_kinds.specs.Limits.{most_numbered};
 ghost use Rattle.fs_model.specs.Numbers.{between};
 ghost use Rattle.fs_model.specs.Operations.{classes, place, trace_of, instr_at};
 ghost use Rattle.fs_model.specs.Fences.{instr_orders, kind_orders, placed_before};
@@ -58,7 +59,7 @@ fn step_orders(steps: &[Step], k: usize, pair: Pair) -> bool
 
 // Does a FENCE between steps i and j order them?
 fn any_step_orders(steps: &[Step], i: usize, j: usize, pair: Pair) -> bool
-    requires { i < 256 }
+    requires { i < most_numbered }
     ensures { result ≡ list_any (λ k. instr_orders pair.first pair.second (instr_at steps.now k)) (between i j) }
 {
     (i + 1..j).any(|k| step_orders(steps, k, pair))
@@ -102,8 +103,8 @@ fn any_placed_orders(
     placement: &Placement,
     pair: Pair,
 ) -> bool
-    requires start { i < 256 }
-    requires end { j < 256 }
+    requires start { i < most_numbered }
+    requires end { j < most_numbered }
     ensures { result
         ≡ list_any (λ k. kind_orders pair.first pair.second (placed_at steps.now hart placement.now k)) (between i (j + 1)) }
 {

@@ -2,7 +2,7 @@
 
 ghost use Rattle.std.specs.Prelude.{◌≡◌, ◌≤◌, [], ◌∷◌, IfOk, pos};
 ghost use Rattle.fs_instr.specs.declared.instr.Instr.TheVariants.{Lw, Sw, Branch};
-ghost use Rattle.fs_instr.specs.declared.names.BranchOp.TheVariants.{Bne};
+ghost use Rattle.fs_mnemonics.specs.declared.names.BranchOp.TheVariants.{Bne};
 ghost use Rattle.fs_syntax.specs.Test.{IsBounded};
 
 use fs_instr::{BranchOp, Instr, Reg};

@@ -11,19 +11,19 @@ use Rattle.fs_tokens.specs.Tokens.{Tok, Word, Lined, without_lines}
 use Rattle.fs_tokens.specs.declared.word.Class.{Class}
 use Rattle.fs_tokens.specs.declared.token.Mark.{Mark}
 use Rattle.fs_tokens.specs.declared.token.Mark.TheVariants as mark
-use Rattle.fs_instr.specs.Rows.{look_up}
-use Rattle.fs_instr.specs.Names.{op_of, name_text, register_names, immediate_names, branch_names, single_names, plain_names, acquiring_names, releasing_names, both_names, both_apart_names}
-use Rattle.fs_instr.specs.FenceLetters.{letter, letters_text}
+use Rattle.fs_mnemonics.specs.Rows.{look_up}
+use Rattle.fs_mnemonics.specs.Names.{op_of, name_text, register_names, immediate_names, branch_names, single_names, plain_names, acquiring_names, releasing_names, both_names, both_apart_names}
+use Rattle.fs_mnemonics.specs.FenceLetters.{letter, letters_text}
 use Rattle.fs_instr.specs.Instructions.{parts_of, op_of_instr, operands_of}
 use Rattle.fs_instr.specs.OfTable.{IsImmediate, IsOfTable}
 use Rattle.fs_instr.specs.Spelled.{Spells, spells}
 use Rattle.fs_instr.specs.Writing.{mark_text, part_text, parts_text, space_text, instr_text}
 use Rattle.fs_instr.specs.PrintedTokens.{instr_tokens, in_line}
-use Rattle.fs_instr.specs.declared.letters.Letters.{Letters}
-use Rattle.fs_instr.specs.declared.names.Op.{Op}
+use Rattle.fs_mnemonics.specs.declared.letters.Letters.{Letters}
+use Rattle.fs_mnemonics.specs.declared.names.Op.{Op}
 use Rattle.fs_instr.specs.declared.operands.Operands.{Operands}
-use Rattle.fs_instr.specs.declared.operands.Part.{Part}
-use Rattle.fs_instr.specs.declared.operands.Part.TheVariants as part
+use Rattle.fs_instr.specs.declared.operands.OperandPart.{OperandPart}
+use Rattle.fs_instr.specs.declared.operands.OperandPart.TheVariants as part
 use Rattle.fs_instr.specs.declared.instr.Instr.{Instr}
 use Rattle.fs_instr.specs.declared.instr.Instr.TheVariants as instr
 use Rattle.fs_instr.proofs.PrintedWords.{is_word, found_word}
@@ -94,7 +94,7 @@ mark_ascii mark.OpenParen = tested_ascii (40 ∷ []) refl
 mark_ascii mark.CloseParen = tested_ascii (41 ∷ []) refl
 mark_ascii _ = nil_ascii
 
-part_ascii : (p : Part) (o : Operands) → AreSmall o → IsAscii (part_text p o)
+part_ascii : (p : OperandPart) (o : Operands) → AreSmall o → IsAscii (part_text p o)
 part_ascii part.Rd o s = lettered_ascii 120 o.rd (omega arith) s.rd
 part_ascii part.First o s = lettered_ascii 120 o.first (omega arith) s.first
 part_ascii part.Second o s = lettered_ascii 120 o.second (omega arith) s.second
@@ -108,11 +108,11 @@ part_ascii part.Label o s = lettered_ascii 76 o.target (omega arith) s.target
 part_ascii part.Before o s = letters_ascii o.before
 part_ascii part.After o s = letters_ascii o.after
 
-parts_ascii : (ps : List Part) (o : Operands) → AreSmall o → IsAscii (parts_text ps o)
+parts_ascii : (ps : List OperandPart) (o : Operands) → AreSmall o → IsAscii (parts_text ps o)
 parts_ascii [] o s = nil_ascii
 parts_ascii (p ∷ ps) o s = IsAscii-append (part_text p o) (parts_text ps o) (part_ascii p o s) (parts_ascii ps o s)
 
-space_ascii : (ps : List Part) → IsAscii (space_text ps)
+space_ascii : (ps : List OperandPart) → IsAscii (space_text ps)
 space_ascii [] = nil_ascii
 space_ascii (p ∷ ps) = tested_ascii (32 ∷ []) refl
 

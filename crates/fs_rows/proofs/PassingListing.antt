@@ -3,7 +3,7 @@ use Rattle.std.proofs.Common.{◌≡◌, ℕ, zero, suc, ◌+◌, ◌*◌, ◌<�
 use Rattle.std.specs.List.{Contains, slice_index_or}
 use Rattle.std.specs.declared.alloc.Global.{Global}
 use Rattle.std.proofs.lemmas.Bool.{and_from, and_parts, eqb-true, not-true, false≢true, both_ways}
-use Rattle.fs_instr.specs.declared.names.ImmOp.TheVariants.{Ori}
+use Rattle.fs_mnemonics.specs.declared.names.ImmOp.TheVariants.{Ori}
 use Rattle.fs_instr.specs.declared.instr.Instr.TheVariants.{Immediate, Lw, Sw}
 use Rattle.fs_syntax.proofs.Tested.{All-nil, All-cons}
 use Rattle.fs_syntax.specs.declared.test.Test.{Test}

@@ -7,7 +7,7 @@ use Rattle.fs_kinds.specs.declared.kind.Kind.{Kind}
 use Rattle.fs_kinds.specs.declared.kind.Kind.TheVariants.{WW, WRw, RwRw}
 use Rattle.fs_kinds.specs.declared.placement.Entry.{Entry}
 use Rattle.fs_kinds.specs.PriceTable.{PriceTable}
-use Rattle.fs_instr.specs.declared.names.ImmOp.TheVariants.{Ori}
+use Rattle.fs_mnemonics.specs.declared.names.ImmOp.TheVariants.{Ori}
 use Rattle.fs_instr.specs.declared.instr.Instr.{Instr}
 use Rattle.fs_instr.specs.declared.instr.Instr.TheVariants.{Immediate, Sw}
 use Rattle.fs_syntax.specs.declared.outcome.Outcome.TheVariants as outcome

@@ -3,7 +3,7 @@ use Rattle.std.proofs.Common.{◌≡◌, ℕ, ◌≤◌, List, [], ◌∷◌, tr
 use Rattle.std.proofs.lemmas.Bool.Decides.{nat_tests}
 use Rattle.fs_instr.specs.declared.instr.Instr.{Instr}
 use Rattle.fs_instr.specs.declared.instr.Instr.TheVariants.{Lw, Sw, Branch}
-use Rattle.fs_instr.specs.declared.names.BranchOp.TheVariants.{Bne}
+use Rattle.fs_mnemonics.specs.declared.names.BranchOp.TheVariants.{Bne}
 use Rattle.fs_syntax.specs.declared.test.Location.{Location}
 use Rattle.fs_syntax.specs.declared.test.Quantifier.TheVariants.{Exists}
 use Rattle.fs_syntax.specs.declared.outcome.Outcome.TheVariants.{Always}

@@ -2,6 +2,7 @@
 
 ghost use Rattle.std.specs.Prelude.{◌≡◌, ◌<◌, length, IfOk, IsOkUnless, IsTrue};
 ghost use Rattle.std.specs.List.{list_any};
+ghost use Rattle.fs_kinds.specs.Limits.{most_numbered};
 ghost use Rattle.fs_instr.specs.Instructions.{is_memory};
 ghost use Rattle.fs_kinds.specs.declared.fault.Fault.TheVariants.{Memory};
 ghost use Rattle.fs_kinds.specs.Slot.{is_rising};
@@ -31,7 +32,7 @@ pub fn slots(alloc: Global, test: &Test) -> Result<Vec<Slot>, Fault>
 
 /// The slots of one hart.
 fn slots_in(alloc: Global, hart: u8, code: &[Instr]) -> Result<Vec<Slot>, AllocError>
-    requires { length code.now < 256 }
+    requires { length code.now < most_numbered }
     ensures { IfOk result (λ found. found.items ≡ slots_in hart code.now) }
 {
     (0..code.len() as u8)

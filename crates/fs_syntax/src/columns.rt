@@ -1,6 +1,7 @@
 //! The columns of a printed test: a row for each instruction of the longest code.
 
 ghost use Rattle.std.specs.Prelude.{◌≡◌, ◌<◌, ◌++◌, All, length, map, string_bytes, IfOk, OnOk};
+ghost use Rattle.fs_kinds.specs.Limits.{most_numbered};
 ghost use Rattle.fs_instr.specs.Instructions.{target_of};
 ghost use Rattle.fs_syntax.specs.Printed.{goes_to, is_target, label, cell, column, header, row, height, rows_text};
 
@@ -47,7 +48,7 @@ impl Column {
 
 /// The column of each hart.
 pub fn columns(alloc: Global, codes: &[Code]) -> Result<Vec<Column>, AllocError>
-    requires { All (λ code. length code < 256) codes.now }
+    requires { All (λ code. length code < most_numbered) codes.now }
     ensures { IfOk result (λ columns. columns.items ≡ map column codes.now) }
 {
     let mut columns = Vec::new(alloc);
@@ -58,7 +59,7 @@ pub fn columns(alloc: Global, codes: &[Code]) -> Result<Vec<Column>, AllocError>
 }
 
 fn column_of(alloc: Global, code: &[Instr]) -> Result<Column, AllocError>
-    requires { length code.now < 256 }
+    requires { length code.now < most_numbered }
     ensures { IfOk result (λ made. made ≡ column code.now) }
 {
     let mut cells = Vec::new(alloc);

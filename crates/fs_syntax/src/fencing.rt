@@ -1,6 +1,7 @@
 //! The code of a test with a FENCE before each filled slot of a placement.
 
 ghost use Rattle.std.specs.Prelude.{◌≡◌, ◌≤◌, ℕ, All, Some, length, IfOk};
+ghost use Rattle.fs_kinds.specs.Limits.{most_harts, most_instructions};
 ghost use Rattle.fs_instr.specs.Instructions.{target_of};
 ghost use Rattle.fs_syntax.specs.Fenced.{fence_of, position, moved, fences, fenced_code, fenced_codes};
 ghost use Rattle.fs_syntax.specs.Test.{GoesForward};
@@ -17,8 +18,8 @@ pub fn fenced_codes(
     placement: &Placement,
     codes: &[Code],
 ) -> Result<Vec<Code>, AllocError>
-    requires harts { length codes.now ≤ 8 }
-    requires lengths { All (λ code. length code ≤ 32) codes.now }
+    requires harts { length codes.now ≤ most_harts }
+    requires lengths { All (λ code. length code ≤ most_instructions) codes.now }
     requires forward { All GoesForward codes.now }
     ensures { IfOk result (λ fenced. fenced.items ≡ fenced_codes placement.now codes.now) }
 {
@@ -35,7 +36,7 @@ fn fenced_code(
     hart: u8,
     code: &[Instr],
 ) -> Result<Code, AllocError>
-    requires lengths { length code.now ≤ 32 }
+    requires lengths { length code.now ≤ most_instructions }
     requires forward { GoesForward code.now }
     ensures { IfOk result (λ fenced. fenced ≡ fenced_code placement.now (hart, code.now)) }
 {
@@ -52,7 +53,7 @@ fn fenced_code(
 
 /// The instruction, going to where its label stands in the fenced code.
 fn moved(placement: &Placement, hart: u8, instr: &Instr) -> Instr
-    requires { (target : ℕ) → target_of instr.now ≡ Some target → target ≤ 32 }
+    requires { (target : ℕ) → target_of instr.now ≡ Some target → target ≤ most_instructions }
     ensures { result ≡ moved placement.now hart instr.now }
 {
     match instr.target() {
@@ -63,7 +64,7 @@ fn moved(placement: &Placement, hart: u8, instr: &Instr) -> Instr
 
 /// Where a label of instruction `at` stands in the fenced code of its hart.
 fn position(placement: &Placement, hart: u8, at: u8) -> u8
-    requires { at ≤ 32 }
+    requires { at ≤ most_instructions }
     ensures { result ≡ position placement.now hart at }
 {
     let mut position = at;

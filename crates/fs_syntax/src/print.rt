@@ -5,6 +5,7 @@ ghost use Rattle.fs_kinds.specs.declared.fault.Fault.TheVariants.{BadFence, Memo
 ghost use Rattle.fs_kinds.specs.Placement.{slots_of};
 ghost use Rattle.fs_kinds.specs.Slot.{is_same_slot};
 ghost use Rattle.std.specs.List.{list_all, zip};
+ghost use Rattle.fs_kinds.specs.Limits.{most_harts, most_locations, most_numbered};
 ghost use Rattle.fs_syntax.specs.Condition.{condition_of, SpeaksOf};
 ghost use Rattle.fs_syntax.specs.Fenced.{fenced};
 ghost use Rattle.fs_syntax.specs.Slots.{slots};
@@ -57,10 +58,10 @@ fn begin_alike(entries: &[Entry], slots: &[Slot]) -> bool
 
 /// The printed form of the test with these codes in place of its own.
 pub fn print_with(alloc: Global, test: &Test, codes: &[Code]) -> Result<String, AllocError>
-    requires locations { length test.now.locations ≤ 8 }
-    requires harts { length codes.now ≤ 8 }
-    requires lengths { All (λ code. length code < 256) codes.now }
-    requires starts { length test.now.starts ≤ 8 }
+    requires locations { length test.now.locations ≤ most_locations }
+    requires harts { length codes.now ≤ most_harts }
+    requires lengths { All (λ code. length code < most_numbered) codes.now }
+    requires starts { length test.now.starts ≤ most_harts }
     requires atoms { SpeaksOf (length codes.now) (length test.now.locations) (condition_of test.now.condition) }
     ensures { IfOk result (λ text. string_bytes text ≡ printed (record test.now { codes = codes.now })) }
 {
@@ -125,8 +126,8 @@ fn write_starts(
     starts: &[Registers],
     text: &mut String,
 ) -> Result<(), AllocError>
-    requires locations { length locations.now ≤ 8 }
-    requires harts { length starts.now ≤ 8 }
+    requires locations { length locations.now ≤ most_locations }
+    requires harts { length starts.now ≤ most_harts }
     ensures { OnOk result (string_bytes text.new ≡ string_bytes text.old ++ starts_text locations.now starts.now) }
 {
     for (hart, start) in starts.iter().enumerate() {
@@ -142,7 +143,7 @@ fn write_start(
     start: &[u32],
     text: &mut String,
 ) -> Result<(), AllocError>
-    requires { length locations.now ≤ 8 }
+    requires { length locations.now ≤ most_locations }
     ensures { OnOk result (string_bytes text.new ≡ string_bytes text.old ++ start_text locations.now (hart, start.now)) }
 {
     let mut pieces = Vec::new(alloc);
@@ -165,7 +166,7 @@ fn write_register_is(
     word: u32,
     text: &mut String,
 ) -> Result<(), AllocError>
-    requires { length locations.now ≤ 8 }
+    requires { length locations.now ≤ most_locations }
     ensures { OnOk result (string_bytes text.new ≡ string_bytes text.old ++ register_is locations.now hart (register, word)) }
 {
     write!(text, "{hart}:x{register}=")?;
@@ -174,7 +175,7 @@ fn write_register_is(
 
 /// Appends the name of the location whose address the word is, or else the word in decimal.
 fn write_value(locations: &[Location], word: u32, text: &mut String) -> Result<(), AllocError>
-    requires { length locations.now ≤ 8 }
+    requires { length locations.now ≤ most_locations }
     ensures { OnOk result (string_bytes text.new ≡ string_bytes text.old ++ value_text locations.now word) }
 {
     for (number, location) in locations.iter().enumerate() {
@@ -199,8 +200,8 @@ fn write_condition(
     locations: &[Location],
     text: &mut String,
 ) -> Result<(), AllocError>
-    requires locations { length locations.now ≤ 8 }
-    requires atoms { SpeaksOf 8 (length locations.now) (condition_of condition.now) }
+    requires locations { length locations.now ≤ most_locations }
+    requires atoms { SpeaksOf most_harts (length locations.now) (condition_of condition.now) }
     ensures { OnOk result (string_bytes text.new ≡ string_bytes text.old ++ condition_text locations.now (condition_of condition.now)) }
 {
     match condition {

@@ -4,9 +4,7 @@ use Rattle.fs_kinds.specs.declared.reason.OperationName.{OperationName as Name}
 use Rattle.fs_model.specs.declared.operation.Operation.{Operation}
 use Rattle.fs_model.specs.declared.step.Step.{Step}
 use Rattle.fs_model.specs.Operations.{steps_of}
-
-abbrev pub step_name : ℕ → Step → Name
-step_name hart s = record { hart = hart; at = s.at }
+use Rattle.fs_model.specs.Witness.{step_name}
 
 -- the name of the operation, in these runs
 abbrev pub name_in : List (List Step) → Operation → Option Name

@@ -1,5 +1,6 @@
 use Rattle.serde_json.specs.View.{view}
-use Rattle.fs_answer.specs.WitnessFile.{IsName, IsOperationName, in_range}
+use Rattle.fs_kinds.specs.PlaceNames.{IsOperationName}
+use Rattle.fs_answer.specs.WitnessFile.{IsName, in_range}
 use Rattle.std.proofs.Common.{◌≡◌, ◌++◌, ◌∷◌, [], sym, subst, arith}
 use Rattle.fs_answer.proofs.Items.{item_next, name_next, refused_item}
 use Rattle.fs_answer.proofs.witness.read_order.Goals as goal

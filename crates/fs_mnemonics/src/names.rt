@@ -2,8 +2,8 @@
 //! spelled out: a name is one of these texts, letter by letter.
 
 ghost use Rattle.std.specs.Prelude.{◌≡◌, Some};
-ghost use Rattle.fs_instr.specs.Rows.{look_up};
-ghost use Rattle.fs_instr.specs.Names.{register_names, immediate_names, branch_names, single_names, plain_names, acquiring_names, releasing_names, both_names, both_apart_names, register_text, immediate_text, branch_text, single_text, plain, acquiring, releasing, both, annotation_of, name_text, op_of, all_names};
+ghost use Rattle.fs_mnemonics.specs.Rows.{look_up};
+ghost use Rattle.fs_mnemonics.specs.Names.{register_names, immediate_names, branch_names, single_names, plain_names, acquiring_names, releasing_names, both_names, both_apart_names, register_text, immediate_text, branch_text, single_text, plain, acquiring, releasing, both, annotation_of, name_text, op_of, all_names};
 ghost use Rattle.std.specs.List.{IsDistinct};
 ghost use Rattle.std.specs.Str.{bytes_eq};
 

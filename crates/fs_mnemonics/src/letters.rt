@@ -1,7 +1,7 @@
 //! The letters of one side of a fence: i, o, r and w, in this order, each at most once (the manual's FENCE instruction).
 
 ghost use Rattle.std.specs.Prelude.{◌≡◌};
-ghost use Rattle.fs_instr.specs.FenceLetters.{letters_of, letters_text};
+ghost use Rattle.fs_mnemonics.specs.FenceLetters.{letters_of, letters_text};
 
 /// The letters of one side of a FENCE: device input (i) and output (o), memory reads (r) and writes (w).
 #[derive(Clone, Copy, Debug, PartialEq, Eq)]

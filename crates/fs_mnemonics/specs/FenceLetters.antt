@@ -1,7 +1,7 @@
 -- The letters of a fence.
 use Rattle.std.specs.Prelude.{ℕ, List, [], ◌∷◌, ◌++◌, Option, Some, None, Bool, true, false, codes, if◌then◌else◌}
 use Rattle.std.specs.Str.{bytes_eq}
-use Rattle.fs_instr.specs.declared.letters.Letters.{Letters}
+use Rattle.fs_mnemonics.specs.declared.letters.Letters.{Letters}
 
 abbrev pub letter : Bool → List ℕ → List ℕ
 letter true text = text

@@ -1,16 +1,16 @@
 -- The names of the instruction table.
 use Rattle.std.specs.Prelude.{ℕ, List, [], ◌∷◌, ◌++◌, Option, Some, None, Bool, true, false, codes, map}
-use Rattle.fs_instr.specs.Rows.{look_up}
+use Rattle.fs_mnemonics.specs.Rows.{look_up}
 use Rattle.std.specs.Option.{option_or}
-use Rattle.fs_instr.specs.declared.names.Ann.{Ann}
-use Rattle.fs_instr.specs.declared.names.AmoOp.{AmoOp}
-use Rattle.fs_instr.specs.declared.names.Op.{Op}
-use Rattle.fs_instr.specs.declared.names.Op.TheVariants.{Register, Immediate, Shift, Lui, Li, Lw, Sw, Lr, Sc, Amo, Branch, Jal, Fence, FenceTso, Nop, Mv, BranchZero, J, FenceAll}
-use Rattle.fs_instr.specs.declared.names.RegOp.TheVariants.{Add, Sub, Xor, Or, And, Sll, Srl, Sra, Slt, Sltu}
-use Rattle.fs_instr.specs.declared.names.ImmOp.TheVariants.{Addi, Xori, Ori, Andi, Slti, Sltiu}
-use Rattle.fs_instr.specs.declared.names.ShiftOp.TheVariants.{Slli, Srli, Srai}
-use Rattle.fs_instr.specs.declared.names.BranchOp.TheVariants.{Beq, Bne, Blt, Bge, Bltu, Bgeu}
-use Rattle.fs_instr.specs.declared.names.AmoOp.TheVariants as amo
+use Rattle.fs_mnemonics.specs.declared.names.Ann.{Ann}
+use Rattle.fs_mnemonics.specs.declared.names.AmoOp.{AmoOp}
+use Rattle.fs_mnemonics.specs.declared.names.Op.{Op}
+use Rattle.fs_mnemonics.specs.declared.names.Op.TheVariants.{Register, Immediate, Shift, Lui, Li, Lw, Sw, Lr, Sc, Amo, Branch, Jal, Fence, FenceTso, Nop, Mv, BranchZero, J, FenceAll}
+use Rattle.fs_mnemonics.specs.declared.names.RegOp.TheVariants.{Add, Sub, Xor, Or, And, Sll, Srl, Sra, Slt, Sltu}
+use Rattle.fs_mnemonics.specs.declared.names.ImmOp.TheVariants.{Addi, Xori, Ori, Andi, Slti, Sltiu}
+use Rattle.fs_mnemonics.specs.declared.names.ShiftOp.TheVariants.{Slli, Srli, Srai}
+use Rattle.fs_mnemonics.specs.declared.names.BranchOp.TheVariants.{Beq, Bne, Blt, Bge, Bltu, Bgeu}
+use Rattle.fs_mnemonics.specs.declared.names.AmoOp.TheVariants as amo
 
 abbrev pub plain : Ann
 plain = record { acquire = false; release = false }
