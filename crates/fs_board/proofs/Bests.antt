@@ -5,7 +5,6 @@ use Rattle.std.proofs.lemmas.Bool.Decides.{nat_tests}
 use Rattle.fs_kinds.specs.declared.placement.Entry.{Entry}
 use Rattle.fs_kinds.specs.Placement.{precedes}
 use Rattle.fs_kinds.specs.PriceTable.{PriceTable, cost}
-use Rattle.fs_model.specs.Allows.{is_better}
 use Rattle.fs_answer.specs.Parts.{Part, floor}
 use Rattle.fs_answer.specs.Pruning.{is_pruned}
 use Rattle.fs_history.specs.Board.{better_of}

@@ -1,6 +1,6 @@
 -- Lemmas on nodes that are held, and on children.
-use Rattle.std.proofs.Common.{◌≡◌, ℕ, zero, suc, ◌+◌, ◌<◌, ◌≤◌, Bool, true, false, Some, None, List, [], ◌∷◌, ◌++◌, length, map, refl, arith, sym, ◌∙◌, ap, length-append}
-use Rattle.std.specs.Prelude.{slice_get, drop, All, if◌then◌else◌, option_and_then, nat_lt, filter}
+use Rattle.std.proofs.Common.{◌≡◌, ℕ, zero, suc, ◌≤◌, Bool, true, false, Option, Some, None, List, [], ◌∷◌, length, map, refl, arith, ◌∙◌, ap}
+use Rattle.std.specs.Prelude.{IfSome, slice_get, drop, All, if◌then◌else◌, option_and_then, nat_lt}
 use Rattle.std.proofs.lemmas.Bool.Decides.{nat_tests}
 use Rattle.std.proofs.lemmas.List.Elements.{All-nil, All-cons}
 use Rattle.fs_answer.specs.Parts.{Part}
@@ -36,3 +36,12 @@ found test (n ∷ ns) (suc k) part e = found test ns k part e
 pub node_with : (test : Status → Bool) (b : Board) (k : ℕ) (part : Part) → part_at test b k ≡ Some part
     → (n : Node) × (slice_get b.nodes k ≡ Some n) × (n.part ≡ part)
 node_with test b k part e = found test b.nodes k part e
+
+-- and a node with such a status has a part there
+pub some_part : (test : Status → Bool) (b : Board) (r : Option ℕ)
+    → IfSome r (λ k. (n : Node) × (slice_get b.nodes k ≡ Some n) × (test n.status ≡ true))
+    → IfSome r (λ k. (p : Part) × (part_at test b k ≡ Some p))
+some_part test b None is = tt
+some_part test b (Some k) is =
+    let n : Node = is.0 in
+    (n.part, ap (option_and_then (λ node. if test node.status then Some node.part else None)) is.1 ∙ ap (λ c. if c then Some n.part else None) is.2)

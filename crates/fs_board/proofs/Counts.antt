@@ -1,5 +1,5 @@
 -- Counts of nodes by their status.
-use Rattle.std.proofs.Common.{◌≡◌, ℕ, zero, suc, ◌+◌, ◌-◌, ◌<◌, ◌≤◌, Some, List, [], ◌∷◌, ◌++◌, length, Bool, true, false, refl, arith, sym, ◌∙◌, ap, true≢false, inl, inr, ◌⊎◌, ⊎_elim, length-append}
+use Rattle.std.proofs.Common.{◌≡◌, ℕ, zero, suc, ◌+◌, ◌-◌, ◌<◌, ◌≤◌, Some, List, [], ◌∷◌, ◌++◌, length, Bool, true, false, refl, arith, sym, ◌∙◌, ap, inl, inr, ◌⊎◌, ⊎_elim, length-append}
 use Rattle.std.specs.Prelude.{slice_get, slice_set, All, if◌then◌else◌, not, ◌==◌, ◌||◌}
 use Rattle.std.specs.List.{list_any}
 use Rattle.std.proofs.lemmas.Bool.Decides.{nat_tests}

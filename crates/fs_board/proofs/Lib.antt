@@ -1,4 +1,10 @@
 pub mod Counts
+pub mod Filling
+pub mod Breaks
+pub mod Pruned
+pub mod Covered
+pub mod Backed
 pub mod Replays
 pub mod Children
+pub mod Cuts
 pub mod Bests

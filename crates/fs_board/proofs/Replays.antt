@@ -1,12 +1,11 @@
 -- One more step keeps the board the replay of its log.
-use Rattle.std.proofs.Common.{◌≡◌, ℕ, ◌+◌, ◌≤◌, List, [], ◌∷◌, ◌++◌, Some, length, refl, sym, ◌∙◌, ap, subst}
-use Rattle.std.specs.Prelude.{slice_get}
+use Rattle.std.proofs.Common.{◌≡◌, ℕ, ◌+◌, ◌≤◌, List, [], ◌∷◌, ◌++◌, length, refl, sym, ap, subst}
 use Rattle.fs_kinds.specs.PriceTable.{PriceTable}
 use Rattle.fs_syntax.specs.declared.test.Test.{Test}
 use Rattle.fs_answer.specs.Parts.{Part}
 use Rattle.fs_history.specs.Board.{Board, Status, Event, Reply, opening, with_status}
 use Rattle.fs_history.specs.Histories.{LogEntry, Steps, Lead}
-use Rattle.fs_board.specs.View.{Search, logged, entry_of, Answers, IsReplay}
+use Rattle.fs_board.specs.View.{Search, entry_of, Answers, IsReplay}
 use Rattle.fs_board.proofs.Counts.{length_set}
 
 pub lead_more : (t : Test) (prices : PriceTable) (old : Board) (entries : List LogEntry) (mid : Board) (entry : LogEntry) (new : Board)

@@ -1,23 +1,58 @@
--- What closing, splitting and posting make of the board.
-use Rattle.std.specs.Prelude.{Bool, true, Option, None, Some, List, ◌++◌}
+-- The tree with all that backs it, and what closing, splitting and posting make of it.
+use Rattle.std.specs.Prelude.{◌≡◌, ℕ, Bool, true, Option, None, Some, option_map, IfSome, List, ◌++◌, map, slice_get, slice_set}
 use Rattle.fs_kinds.specs.PriceTable.{PriceTable}
-use Rattle.fs_model.specs.Allows.{is_better}
 use Rattle.fs_kinds.specs.declared.placement.Entry.{Entry}
-use Rattle.fs_model.specs.Witness.{Witness}
+use Rattle.fs_syntax.specs.declared.test.Test.{Test}
+use Rattle.fs_model.specs.Allows.{is_better}
+use Rattle.fs_model.specs.Execution.{Execution}
 use Rattle.fs_answer.specs.Parts.{Part}
-use Rattle.fs_history.specs.Board.{Board, Node, Open}
+use Rattle.fs_answer.specs.Valid.{HasCycles}
+use Rattle.fs_history.specs.Board.{Board, Node, Status, Open}
+use Rattle.fs_evidence.specs.Evidence.{Shown, Refuted, IsWitnessFor}
+
+-- the nodes, the bound with its cycles, the witnesses with their widths, and the greatest number that a node may have
+pub record Tree : Type 0 where
+  pub nodes : List Node
+  pub bound : Option Refuted
+  pub witnesses : List Shown
+  pub limit : ℕ
+
+-- the board without cycles and widths
+abbrev pub board_of : Tree → Board
+board_of t = record {
+  nodes = t.nodes;
+  bound = option_map (λ f. f.placement) t.bound;
+  witnesses = map (λ w. w.witness) t.witnesses;
+  limit = t.limit;
+}
+
+-- the bound has a cycle for each showing candidate
+abbrev pub IsBound : Test → Refuted → Type 0
+IsBound t f = HasCycles t f.placement f.cycles
+
+-- each of them is the witness of an execution, with its widths
+abbrev pub AreWitnesses : Test → List Shown → Type 0
+AreWitnesses t shown = (k : ℕ) (w : Shown) → slice_get shown k ≡ Some w → (e : Execution) × IsWitnessFor t w e
+
+-- the bound and the witnesses are what they are taken for
+pub record IsBacked (t : Test) (best : Option Refuted) (shown : List Shown) : Type 0 where
+  pub bound : IfSome best (IsBound t)
+  pub witnesses : AreWitnesses t shown
 
 abbrev pub open_node : Part → Node
 open_node part = record { part = part; status = Open }
 
-abbrev pub grown : Board → List Node → Board
-grown b children = record b { nodes = b.nodes ++ children }
+abbrev pub marked : Status → ℕ → Part → Tree → Tree
+marked status k part t = record t { nodes = slice_set t.nodes k (record { part = part; status = status }) }
 
-abbrev pub with_bound : Option (List Entry) → Board → Board
-with_bound bound b = record b { bound = bound }
+abbrev pub grown : Tree → List Node → Tree
+grown t children = record t { nodes = t.nodes ++ children }
 
-abbrev pub with_more : List Witness → Board → Board
-with_more witnesses b = record b { witnesses = b.witnesses ++ witnesses }
+abbrev pub with_bound : Option Refuted → Tree → Tree
+with_bound bound t = record t { bound = bound }
+
+abbrev pub with_more : List Shown → Tree → Tree
+with_more witnesses t = record t { witnesses = t.witnesses ++ witnesses }
 
 -- the placement is better than the bound, or there is none
 abbrev pub is_best : PriceTable → (bound : Option (List Entry)) → List Entry → Bool

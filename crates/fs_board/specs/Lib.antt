@@ -1,4 +1,4 @@
-pub mod Evidence
+pub mod Growth
 pub mod View
 pub mod Counts
-pub mod Growth
+pub mod inner

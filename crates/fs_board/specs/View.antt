@@ -1,56 +1,17 @@
 -- Events, replies and the board as contracts see them: what is behind an `Arc` is its value.
-use Rattle.std.specs.Prelude.{◌≡◌, ℕ, ◌+◌, ◌≤◌, Option, option_map, List, [], ◌∷◌, ◌++◌, map, length}
-use Rattle.std.specs.declared.sync.Arc.{Arc}
-use Rattle.fs_kinds.specs.declared.placement.Entry.{Entry}
-use Rattle.fs_model.specs.Witness.{Witness}
-use Rattle.fs_model.specs.Preserved.{Rule1, Rule2, Rule3, Rule4, Rule5, Rule6, Rule7, Rule8, Rule9, Rule10, Rule11, Rule12, Rule13}
-use Rattle.fs_answer.specs.Judged.{Cause, Preserved, ReadsFrom, Coherence, FromReads}
-use Rattle.fs_answer.specs.Parts.{Part}
-use Rattle.fs_history.specs.Board.{Board, Node, Status, Open, Held, Split, Costly, Witnessed, Bounded, Posted, Event, Take, Claim, Adopt, SplitAt, CutCost, CutWitness, CutBound, Post, Peek, Reply, Given, Idle, Done, Gone, Children, NotYours, Decided, Full, Closed, Cheaper, NotCovered, Other, Seen}
+use Rattle.std.specs.Prelude.{◌≡◌, ℕ, ◌+◌, ◌≤◌, option_map, List, [], ◌∷◌, ◌++◌, map, length}
+use Rattle.std.specs.Arc.{arc_value}
+use Rattle.fs_syntax.specs.declared.test.Test.{Test}
+use Rattle.fs_history.specs.Board.{Board, Status, Open, Held, Split, Costly, Witnessed, Bounded, Posted, Event, Take, Claim, Adopt, SplitAt, CutCost, CutWitness, CutBound, Post, Peek, Reply, Given, Idle, Done, Gone, Children, NotYours, Decided, Full, Closed, Cheaper, NotCovered, Other, Seen}
 use Rattle.fs_history.specs.Histories.{LogEntry, Steps, IsHistory}
-use Rattle.fs_board.specs.declared.question.Question.{Question}
-use Rattle.fs_board.specs.declared.evidence.Cause.{Cause as CodeCause}
-use Rattle.fs_board.specs.declared.evidence.Cause.TheVariants as cause
 use Rattle.fs_board.specs.declared.node.Status.{Status as CodeStatus}
 use Rattle.fs_board.specs.declared.node.Status.TheVariants as status
 use Rattle.fs_board.specs.declared.event.Event.{Event as CodeEvent}
 use Rattle.fs_board.specs.declared.event.Event.TheVariants as event
 use Rattle.fs_board.specs.declared.event.Reply.{Reply as CodeReply}
 use Rattle.fs_board.specs.declared.event.Reply.TheVariants as reply
-use Rattle.fs_board.specs.Evidence.{Shown, Refuted}
-
-module _ {A : Type 0} where
-  abbrev pub witness_in : Arc Shown A → Witness
-  witness_in w = w.value.witness
-
-  abbrev pub placement_in : Arc Refuted A → List Entry
-  placement_in f = f.value.placement
-
-abbrev pub board_of : {A : Type 0} → List Node → Option (Arc Refuted A) → List (Arc Shown A) → (limit : ℕ) → Board
-board_of nodes bound witnesses limit = record {
-  nodes = nodes;
-  bound = option_map placement_in bound;
-  witnesses = map witness_in witnesses;
-  limit = limit;
-}
-
-abbrev pub cause_of : CodeCause → Cause
-cause_of cause.Rule1 = Preserved Rule1
-cause_of cause.Rule2 = Preserved Rule2
-cause_of cause.Rule3 = Preserved Rule3
-cause_of cause.Rule4 = Preserved Rule4
-cause_of cause.Rule5 = Preserved Rule5
-cause_of cause.Rule6 = Preserved Rule6
-cause_of cause.Rule7 = Preserved Rule7
-cause_of cause.Rule8 = Preserved Rule8
-cause_of cause.Rule9 = Preserved Rule9
-cause_of cause.Rule10 = Preserved Rule10
-cause_of cause.Rule11 = Preserved Rule11
-cause_of cause.Rule12 = Preserved Rule12
-cause_of cause.Rule13 = Preserved Rule13
-cause_of cause.ReadsFrom = ReadsFrom
-cause_of cause.Coherence = Coherence
-cause_of cause.FromReads = FromReads
+use Rattle.fs_evidence.specs.Evidence.{Question, placement_in, witness_in}
+use Rattle.fs_board.specs.Growth.{Tree, board_of, IsBacked}
 
 abbrev pub status_of : CodeStatus → Status
 status_of status.Open = Open
@@ -104,8 +65,18 @@ pub record Answers (old new : Search) (worker : ℕ) (event : Event) (reply : Re
   pub step : Steps old.question.test old.question.prices old.board worker event reply new.board
   pub rest : new ≡ logged old new.board (entry_of worker event reply)
 
+-- what a peek shows is the witnesses of executions, and a placement with its cycles; no other reply shows any
+abbrev pub IsSeen : Test → CodeReply → Type 0
+IsSeen t (reply.Seen bound upto witnesses) = IsBacked t (option_map arc_value bound) (map arc_value witnesses)
+IsSeen t reply = Unit {0}
+
 -- the log is a legal history that leads to the board, and no node's number passes the limit
 pub record IsReplay (s : Search) : Type 0 where
   pub history : IsHistory s.question.test s.question.prices s.board.limit s.log s.board
   pub room : length s.board.nodes ≤ s.board.limit + 1
   pub limit : s.board.limit ≤ 1000000
+
+-- and the tree is backed
+pub record IsSound (question : Question) (tree : Tree) (log : List LogEntry) : Type 0 where
+  pub replay : IsReplay (record { question = question; board = board_of tree; log = log })
+  pub backed : IsBacked question.test tree.bound tree.witnesses

@@ -1,32 +1,38 @@
 //! The board: the tree, and the log of all events.
 
-ghost use Rattle.std.specs.Prelude.{◌≡◌, ◌+◌, ◌<◌, ◌≤◌, length, [], ◌∷◌, ◌++◌, Some, IfSome, IfNone, IfOk, OnOk, OnErr, IsOkUnless, option_map, vec_len, slice_get, true, false, map, drop};
+ghost use Rattle.std.specs.Prelude.{◌≡◌, ℕ, ◌+◌, ◌<◌, ◌≤◌, length, [], ◌∷◌, ◌++◌, Some, IfSome, IfNone, IfOk, OnOk, OnErr, IsOkUnless, option_map, vec_len, slice_get, true, false, map, drop};
 ghost use Rattle.std.specs.Vec.{vec_capacity};
 ghost use Rattle.std.specs.Arc.{arc_value};
 ghost use Rattle.fs_syntax.specs.Test.{IsBounded};
 ghost use Rattle.fs_model.specs.Allows.{Allows};
+ghost use Rattle.fs_model.specs.Execution.{Execution};
+ghost use Rattle.fs_answer.specs.Parts.{Part as PartValue, floor};
+ghost use Rattle.fs_answer.specs.Pruning.{is_no_better};
 ghost use Rattle.fs_answer.specs.Valid.{HasCycles};
-ghost use Rattle.fs_history.specs.Board.{Node as NodeValue, Event as EventValue, Reply as ReplyValue, Take, Claim, Adopt, SplitAt, CutCost, Post, Peek, Given, Seen, Closed, Held, is_open, opening, with_status};
-ghost use Rattle.fs_history.specs.Histories.{Steps, IsHistory};
+ghost use Rattle.fs_history.specs.Board.{Node as NodeValue, Event as EventValue, Reply as ReplyValue, Take, Claim, Adopt, SplitAt, CutCost, CutWitness, CutBound, Post, Peek, Given, Seen, Closed, Held, is_open, is_held, has_node, part_at, opening, with_status};
+ghost use Rattle.fs_history.specs.Histories.{Steps, IsHistory, with_witnesses};
 ghost use Rattle.fs_board.specs.Counts.{count_of};
-ghost use Rattle.fs_board.specs.Growth.{is_best};
-ghost use Rattle.fs_board.specs.View.{Answers, status_of, event_of, reply_of, placement_in, witness_in};
+ghost use Rattle.fs_evidence.specs.Evidence.{Shown, IsWitnessFor, witness_in, placement_in};
+ghost use Rattle.fs_board.specs.Growth.{IsBound, AreWitnesses, is_best};
+ghost use Rattle.fs_board.specs.View.{Answers, IsSeen, status_of, event_of, reply_of};
+ghost use Rattle.fs_board.specs.inner.Breaks.{is_bounded, widths_in};
 
-use crate::costs::is_better;
+use crate::bounds::{are_kept, bound_of, break_apart, is_kept};
+use crate::costs::{cost, is_better, is_same, precedes};
 use crate::event::{Event, LogEntry, Reply};
-use crate::evidence::{Forbidden, Witness};
 use crate::node::{OPTIONS, Status, children_of};
-use crate::part::Part;
-use crate::question::Question;
+use crate::part::{Decision, Part};
 use crate::tree::Tree;
-use fs_kinds::{Entry, Fault, Slot};
+use fs_evidence::{Forbidden, Question, Witness};
+use fs_kinds::{Entry, Fault, Kind, Prices, Slot};
 use fs_list::List;
 use fs_syntax::slots;
 use std::alloc::{AllocError, Global};
 use std::marker::Model;
 use std::sync::Arc;
 
-/// The nodes of a search, with the log of all events. The log is a legal history, and leads to the nodes as they are.
+/// The nodes of a search, with the log of all events. The log is a legal history, and leads to the nodes as they are. The bound has a
+/// cycle for each showing candidate, and each witness is one of an execution of the test, with its widths.
 #[derive(Drop)]
 pub struct Board {
     question: Arc<Question>,
@@ -36,17 +42,18 @@ pub struct Board {
 
 impl Model for Board {
     ghost use Rattle.std.specs.Arc.{arc_value};
-    ghost use Rattle.fs_board.specs.View.{Search, IsReplay};
+    ghost use Rattle.fs_board.specs.Growth.{board_of};
+    ghost use Rattle.fs_board.specs.View.{Search, IsSound};
     ghost use Rattle.std.specs.Coded.{codes};
     ghost use Rattle.fs_syntax.specs.contracts.outcome.Outcome as outcome;
 
     ghost Value = { Search };
 
-    ghost view = { λ b. record { question = arc_value b.question; board = b.tree; log = b.log.items } };
+    ghost view = { λ b. record { question = arc_value b.question; board = board_of b.tree; log = b.log.items } };
 
     ghost coded = { Prim.hlevel (codes, outcome.the_row.coded) };
 
-    ghost invariant = { λ b. IsReplay (record { question = arc_value b.question; board = b.tree; log = b.log.items }) };
+    ghost invariant = { λ b. IsSound (arc_value b.question) b.tree b.log.items };
 }
 
 /// Adds an item for which there is room.
@@ -78,6 +85,13 @@ impl Board {
         })
     }
 
+    /// The prices.
+    fn prices(&self) -> &Prices
+        ensures { result.now ≡ self.now.question.prices }
+    {
+        &self.question.prices
+    }
+
     /// The test and the prices.
     pub fn question(&self) -> &Arc<Question>
         ensures { arc_value result.now ≡ self.now.question }
@@ -92,11 +106,42 @@ impl Board {
         self.tree.limit()
     }
 
-    /// The best placement posted.
+    /// How many nodes there are.
+    pub fn len(&self) -> usize
+        ensures { result ≡ length self.now.board.nodes }
+    {
+        self.tree.len()
+    }
+
+    /// What became of the node of this number, where there is one.
+    pub fn status(&self, node: usize) -> Option<Status>
+        ensures { option_map status_of result ≡ option_map (λ n. n.status) (slice_get self.now.board.nodes node) }
+    {
+        self.tree.status(node)
+    }
+
+    /// The first node that a worker holds, where there is one. It looks at the nodes in turn.
+    pub fn first_held(&self) -> Option<usize>
+        ensures some { IfSome result (λ k. (p : PartValue) × (part_at is_held self.now.board k ≡ Some p)) }
+        ensures none { IfNone result (has_node is_held self.now.board ≡ false) }
+    {
+        self.tree.first_held()
+    }
+
+    /// The best placement posted, with a cycle for each showing candidate.
     pub fn bound(&self) -> Option<&Arc<Forbidden>>
-        ensures { option_map (λ f. placement_in f.now) result ≡ self.now.board.bound }
+        ensures value { option_map (λ f. placement_in f.now) result ≡ self.now.board.bound }
+        ensures cycles { IfSome result (λ f. IsBound self.now.question.test (arc_value f.now)) }
     {
         self.tree.bound()
+    }
+
+    /// What closed nodes, in order, each with its execution's widths.
+    pub fn witnesses(&self) -> &[Arc<Witness>]
+        ensures value { map witness_in result.now ≡ self.now.board.witnesses }
+        ensures widths { AreWitnesses self.now.question.test (map arc_value result.now) }
+    {
+        self.tree.witnesses()
     }
 
     /// How many nodes are open.
@@ -124,6 +169,7 @@ impl Board {
     ) -> Result<Reply, AllocError>
         requires step { Steps self.old.question.test self.old.question.prices self.old.board worker (event_of event) (reply_of reply) self.old.board }
         requires copy { reply_of copy ≡ reply_of reply }
+        ensures given { IfOk result (λ r. r ≡ reply) }
         ensures step { IfOk result (λ r. Answers self.old self.new worker (event_of event) (reply_of r)) }
         ensures err { OnErr result (self.new ≡ self.old) }
     {
@@ -168,6 +214,28 @@ impl Board {
     {
         self.log.reserve(1)?;
         self.tree.mark(node, status);
+        push_within(&mut self.log, LogEntry::new(worker, event, Reply::Closed));
+        Ok(Reply::Closed)
+    }
+
+    /// Closes a node so, by witnesses that go last in the list.
+    fn cover(
+        &mut self,
+        worker: u8,
+        event: Event,
+        node: usize,
+        status: Status,
+        witnesses: Vec<Arc<Witness>>,
+    ) -> Result<Reply, AllocError>
+        requires closed { is_open (status_of status) ≡ false }
+        requires widths { AreWitnesses self.old.question.test (map arc_value witnesses.items) }
+        requires may { (n : NodeValue) × (slice_get self.old.board.nodes node ≡ Some n)
+            × Steps self.old.question.test self.old.question.prices self.old.board worker (event_of event) Closed (with_witnesses (status_of status) node n.part (map witness_in witnesses.items) self.old.board) }
+        ensures step { IfOk result (λ r. Answers self.old self.new worker (event_of event) (reply_of r)) }
+        ensures err { OnErr result (self.new ≡ self.old) }
+    {
+        self.log.reserve(1)?;
+        self.tree.cover(node, status, witnesses)?;
         push_within(&mut self.log, LogEntry::new(worker, event, Reply::Closed));
         Ok(Reply::Closed)
     }
@@ -231,8 +299,7 @@ impl Board {
             let event = Event::Split(node, slot);
             return self.refuse(worker, event, Reply::Decided, Reply::Decided);
         }
-        let prices = &self.question.prices;
-        let children = children_of(alloc, prices, part, slot, &OPTIONS)?;
+        let children = children_of(alloc, self.prices(), part, slot, &OPTIONS)?;
         let first = self.tree.len();
         let count = children.len();
         if self.tree.limit() + 1 < first + count {
@@ -256,11 +323,116 @@ impl Board {
             let event = Event::CutCost(node);
             return self.refuse(worker, event, Reply::NotYours, Reply::NotYours);
         };
-        let floor = part.floor(alloc)?;
+        let floor = part.least(alloc)?;
         if self.is_best(&floor) {
             return self.refuse(worker, Event::CutCost(node), Reply::Cheaper, Reply::Cheaper);
         }
         self.close(worker, Event::CutCost(node), node, Status::Costly)
+    }
+
+    /// Closes a node by a witness that shows the outcome with `rw,rw` at each undecided slot, and so under each placement below the
+    /// node. `NotYours`; `NotCovered` where it doesn't. The witness must be one of the test, with its widths. It takes time of slots.
+    pub fn cut_witness(
+        &mut self,
+        alloc: Global,
+        worker: u8,
+        node: usize,
+        witness: Arc<Witness>,
+    ) -> Result<Reply, AllocError>
+        requires { (e : Execution) × IsWitnessFor self.old.question.test (arc_value witness) e }
+        ensures step { IfOk result (λ r. Answers self.old self.new worker (CutWitness node (witness_in witness)) (reply_of r)) }
+        ensures err { OnErr result (self.new ≡ self.old) }
+    {
+        let Some(part) = self.tree.held_by(worker, node) else {
+            let event = Event::CutWitness(node, witness);
+            return self.refuse(worker, event, Reply::NotYours, Reply::NotYours);
+        };
+        if !is_kept(part.as_slice(), &witness.widths, Some(Kind::RwRw)) {
+            let event = Event::CutWitness(node, witness);
+            return self.refuse(worker, event, Reply::NotCovered, Reply::NotCovered);
+        }
+        let one = single(alloc, &witness)?;
+        let status = Status::Witnessed(self.tree.witness_count());
+        let event = Event::CutWitness(node, witness);
+        self.cover(worker, event, node, status, one)
+    }
+
+    /// Closes a node by witnesses that show the outcome under its least placement: what forbids the outcome under the node costs no
+    /// less than that placement and breaking each of them, which is no better than the bound. `NotYours`; `NotCovered` where one of
+    /// them doesn't show it; `Cheaper` where two of them can be broken at one slot, or something under the node may be better than
+    /// the bound. The witnesses must be ones of the test, with their widths. It takes time of slots times kinds times witnesses.
+    pub fn cut_bound(
+        &mut self,
+        alloc: Global,
+        worker: u8,
+        node: usize,
+        witnesses: &[Arc<Witness>],
+    ) -> Result<Reply, AllocError>
+        requires { (k : ℕ) (w : Shown) → slice_get (map arc_value witnesses.now) k ≡ Some w → (e : Execution) × IsWitnessFor self.old.question.test w e }
+        ensures step { IfOk result (λ r. Answers self.old self.new worker (CutBound node (map witness_in witnesses.now)) (reply_of r)) }
+        ensures err { OnErr result (self.new ≡ self.old) }
+    {
+        let listed = List::new(share(alloc, witnesses)?);
+        self.bound_by(alloc, worker, node, listed)
+    }
+
+    /// Closes a node by these witnesses, which go into the log as they are.
+    fn bound_by(
+        &mut self,
+        alloc: Global,
+        worker: u8,
+        node: usize,
+        witnesses: List<Arc<Witness>>,
+    ) -> Result<Reply, AllocError>
+        requires { AreWitnesses self.old.question.test (map arc_value witnesses) }
+        ensures step { IfOk result (λ r. Answers self.old self.new worker (CutBound node (map witness_in witnesses)) (reply_of r)) }
+        ensures err { OnErr result (self.new ≡ self.old) }
+    {
+        let Some(part) = self.tree.held_by(worker, node) else {
+            let event = Event::CutBound(node, witnesses);
+            return self.refuse(worker, event, Reply::NotYours, Reply::NotYours);
+        };
+        if !are_kept(part.as_slice(), witnesses.as_slice(), None) {
+            let event = Event::CutBound(node, witnesses);
+            return self.refuse(worker, event, Reply::NotCovered, Reply::NotCovered);
+        }
+        let floor = part.least(alloc)?;
+        if !self.is_bounded(part.as_slice(), &floor, witnesses.as_slice()) {
+            let event = Event::CutBound(node, witnesses);
+            return self.refuse(worker, event, Reply::Cheaper, Reply::Cheaper);
+        }
+        let shared = share(alloc, witnesses.as_slice())?;
+        let status = Status::Bounded(self.tree.witness_count(), witnesses.len());
+        let event = Event::CutBound(node, witnesses);
+        self.cover(worker, event, node, status, shared)
+    }
+
+    /// Do the witnesses break at slots of their own, and is the floor with what breaking them costs no better than the bound?
+    fn is_bounded(&self, part: &[Decision], entries: &[Entry], witnesses: &[Arc<Witness>]) -> bool
+        requires { entries.now ≡ floor part.now }
+        ensures { result ≡ is_bounded self.now.question.prices self.now.board.bound part.now (map widths_in witnesses.now) }
+    {
+        let prices = &self.question.prices;
+        if !break_apart(prices, part, witnesses) {
+            return false;
+        }
+        self.is_no_better(entries, bound_of(prices, part, entries, witnesses))
+    }
+
+    /// Is what costs at least so much, and isn't before these entries of a floor, no better than the bound? So it is where nothing forbids the
+    /// outcome, and then there is no cost.
+    fn is_no_better(&self, entries: &[Entry], least: Option<u128>) -> bool
+        ensures { (part : PartValue) → entries.now ≡ floor part → result ≡ is_no_better self.now.question.prices self.now.board.bound part least }
+    {
+        let Some(least) = least else {
+            return true;
+        };
+        let Some(bound) = self.tree.bound() else {
+            return false;
+        };
+        let placement = bound.placement.as_slice();
+        let cost = cost(&self.question.prices, placement);
+        cost < least || cost == least && !precedes(entries, placement)
     }
 
     /// Closes a node whose least placement this is, and makes it the bound where it is better. `NotYours`; `Other` where it isn't the
@@ -281,8 +453,8 @@ impl Board {
             let event = Event::Post(node, forbidden);
             return self.refuse(worker, event, Reply::NotYours, Reply::NotYours);
         };
-        let floor = part.floor(alloc)?;
-        if !forbidden.is_of(&floor) {
+        let floor = part.least(alloc)?;
+        if !is_same(forbidden.placement.as_slice(), &floor) {
             let event = Event::Post(node, forbidden);
             return self.refuse(worker, event, Reply::Other, Reply::Other);
         }
@@ -305,8 +477,9 @@ impl Board {
         }
     }
 
-    /// Shows the bound, how many witnesses there are, and those from this number on.
+    /// Shows the bound with its cycles, how many witnesses there are, and those from this number on with their widths.
     pub fn peek(&mut self, alloc: Global, worker: u8, from: usize) -> Result<Reply, AllocError>
+        ensures backed { IfOk result (IsSeen self.old.question.test) }
         ensures step { IfOk result (λ r. Answers self.old self.new worker (Peek from) (reply_of r)) }
         ensures err { OnErr result (self.new ≡ self.old) }
     {
@@ -317,32 +490,39 @@ impl Board {
 
     /// What a peek shows.
     fn seen(&self, alloc: Global, from: usize) -> Result<Reply, AllocError>
-        ensures { IfOk result (λ r. reply_of r ≡ Seen self.now.board.bound (length self.now.board.witnesses) (drop from self.now.board.witnesses)) }
+        ensures backed { IfOk result (IsSeen self.now.question.test) }
+        ensures value { IfOk result (λ r. reply_of r ≡ Seen self.now.board.bound (length self.now.board.witnesses) (drop from self.now.board.witnesses)) }
     {
-        let bound = match self.tree.bound() {
-            Some(bound) => Some(Arc::try_clone(bound)?),
-            None => None,
-        };
+        let bound = self.tree.share_bound()?;
         let witnesses = self.tree.witnesses();
-        let shown = share(alloc, from_on(witnesses, from))?;
+        let shown = List::new(share(alloc, from_on(witnesses, from))?);
         Ok(Reply::Seen(bound, witnesses.len(), shown))
     }
 }
 
-/// The witnesses from a number on, shared.
-fn share(alloc: Global, witnesses: &[Arc<Witness>]) -> Result<List<Arc<Witness>>, AllocError>
-    ensures { IfOk result (λ shared. map witness_in shared ≡ map witness_in witnesses.now) }
+/// The witnesses, shared.
+fn share(alloc: Global, witnesses: &[Arc<Witness>]) -> Result<Vec<Arc<Witness>>, AllocError>
+    ensures { IfOk result (λ shared. map arc_value shared.items ≡ map arc_value witnesses.now) }
 {
     let mut shared = Vec::new(alloc);
     for witness in witnesses {
         shared.push(Arc::try_clone(witness)?)?;
     }
-    Ok(List::new(shared))
+    Ok(shared)
+}
+
+/// The witness by itself, shared.
+fn single(alloc: Global, witness: &Arc<Witness>) -> Result<Vec<Arc<Witness>>, AllocError>
+    ensures { IfOk result (λ shared. map arc_value shared.items ≡ arc_value witness.now ∷ []) }
+{
+    let mut shared = Vec::new(alloc);
+    shared.push(Arc::try_clone(witness)?)?;
+    Ok(shared)
 }
 
 /// The witnesses from a number on: none where there is no such number.
 fn from_on(witnesses: &[Arc<Witness>], from: usize) -> &[Arc<Witness>]
-    ensures { map witness_in result.now ≡ drop from (map witness_in witnesses.now) }
+    ensures { map arc_value result.now ≡ drop from (map arc_value witnesses.now) }
 {
     let count = witnesses.len();
     if from < count {

@@ -1,6 +1,6 @@
 //! Costs of placements, and which of two is better.
 
-ghost use Rattle.std.specs.Prelude.{◌≡◌, ◌≤◌, IsTrue, IfOk};
+ghost use Rattle.std.specs.Prelude.{◌≡◌, ◌≤◌, ◌*◌, IsTrue, length};
 ghost use Rattle.fs_kinds.specs.Placement.{rank, precedes};
 ghost use Rattle.fs_kinds.specs.PriceTable.{entry_cost, cost};
 ghost use Rattle.fs_model.specs.Allows.{is_better};
@@ -21,7 +21,8 @@ fn entry_cost(prices: &Prices, entry: Entry) -> u128
 
 /// What the placement costs.
 pub(crate) fn cost(prices: &Prices, placement: &[Entry]) -> u128
-    ensures { result ≡ cost prices.now placement.now }
+    ensures value { result ≡ cost prices.now placement.now }
+    ensures most { result ≤ 1000000000 * length placement.now }
 {
     let mut total = 0;
     for entry in placement {
@@ -39,7 +40,7 @@ fn rank(kind: Option<Kind>) -> usize
 
 /// Is the placement before the other one in the order of those of equal cost? It calls itself once for each slot, of which a test has
 /// 48 at most.
-fn precedes(placement: &[Entry], other: &[Entry]) -> bool
+pub(crate) fn precedes(placement: &[Entry], other: &[Entry]) -> bool
     ensures { result ≡ precedes placement.now other.now }
 {
     let [entry, placement @ ..] = placement else {

@@ -3,8 +3,8 @@
 ghost use Rattle.std.specs.Prelude.{◌≡◌};
 ghost use Rattle.fs_board.specs.View.{event_of, reply_of, entry_of};
 
-use crate::evidence::{Forbidden, Witness};
 use crate::part::Part;
+use fs_evidence::{Forbidden, Witness};
 use fs_kinds::Slot;
 use fs_list::List;
 use std::marker::Model;

@@ -2,17 +2,14 @@
 #![tactic(auto)]
 
 mod board;
+mod bounds;
 mod costs;
 mod event;
-mod evidence;
 mod node;
 mod part;
-mod question;
 mod tree;
 
 pub use board::Board;
 pub use event::{Event, LogEntry, Reply};
-pub use evidence::{Cause, Cycles, Forbidden, Link, Pairs, Witness};
 pub use node::{Node, Status};
 pub use part::{Decision, Part};
-pub use question::Question;

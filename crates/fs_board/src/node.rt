@@ -129,7 +129,7 @@ pub(crate) const OPTIONS: [Option<Kind>; 11] = [
 ];
 
 /// Is the slot left empty, or the kind offered?
-fn is_offered(prices: &Prices, kind: Option<Kind>) -> bool
+pub(crate) fn is_offered(prices: &Prices, kind: Option<Kind>) -> bool
     ensures { result ≡ is_offered prices.now kind }
 {
     match kind {

@@ -1,11 +1,15 @@
 //! Partial placements.
 
-ghost use Rattle.std.specs.Prelude.{◌≡◌, IfOk, map, ◌&&◌, is_none, unwrap_or, Some, None, if◌then◌else◌};
+ghost use Rattle.std.specs.Prelude.{◌≡◌, IsTrue, IfOk, IfSome, IfNone, true, false, map, filter, ◌&&◌, is_none, unwrap_or, Some, None, if◌then◌else◌};
+ghost use Rattle.std.specs.List.{list_any};
 ghost use Rattle.fs_kinds.specs.declared.slot.Slot.{Slot};
-ghost use Rattle.fs_kinds.specs.Slot.{is_same_slot};
-ghost use Rattle.fs_answer.specs.Parts.{is_undecided, decide, floor};
+ghost use Rattle.fs_kinds.specs.Placement.{all_with};
+ghost use Rattle.fs_kinds.specs.Slot.{is_same_slot, is_rising};
+ghost use Rattle.fs_answer.specs.Parts.{is_undecided, decide, filled_with, floor, filled};
+ghost use Rattle.fs_bound.specs.Bounds.{slots_in_part};
+ghost use Rattle.fs_board.specs.inner.Fills.{put_at};
 
-use fs_kinds::{Entry, Kind, Slot};
+use fs_kinds::{Entry, Kind, Placement, Slot};
 use std::alloc::{AllocError, Global};
 use std::marker::Model;
 
@@ -32,10 +36,15 @@ pub struct Part {
 
 impl Model for Part {
     ghost use Rattle.fs_answer.specs.Parts.{Part as PartValue};
+    ghost use Rattle.std.specs.Prelude.{IsTrue};
+    ghost use Rattle.fs_kinds.specs.Slot.{is_rising};
+    ghost use Rattle.fs_bound.specs.Bounds.{slots_in_part};
 
     ghost Value = { PartValue };
 
     ghost view = { λ p. p.decisions.items };
+
+    ghost invariant = { λ p. IsTrue (is_rising (slots_in_part p.decisions.items)) };
 }
 
 impl Decision {
@@ -57,6 +66,25 @@ impl Decision {
             slot: self.slot,
             kind: self.decided.unwrap_or(None),
         }
+    }
+
+    /// Puts what is decided into the placement. Nothing changes where the slot is undecided or none of the placement's.
+    #[tactic(auto, using(crate::proofs::Filling::put_nowhere))]
+    fn put_into(&self, placement: &mut Placement)
+        ensures { placement.new ≡ put_at self.now placement.old }
+    {
+        if let Some(kind) = self.decided {
+            match placement.with(self.slot, kind) {
+                Ok(()) | Err(_) => {}
+            }
+        }
+    }
+
+    /// Is it undecided?
+    pub(crate) fn is_free(&self) -> bool
+        ensures { result ≡ is_none self.now.decided }
+    {
+        self.decided.is_none()
     }
 
     /// Is it this slot's, and undecided?
@@ -83,8 +111,9 @@ impl Decision {
 }
 
 impl Part {
-    /// No slot of these is decided.
+    /// No slot of these is decided. The slots must rise.
     pub fn undecided(alloc: Global, slots: &[Slot]) -> Result<Part, AllocError>
+        requires { IsTrue (is_rising slots.now) }
         ensures { IfOk result (λ p. p ≡ map (λ slot. record { slot = slot; decided = None }) slots.now) }
     {
         let mut decisions = Vec::new(alloc);
@@ -114,8 +143,8 @@ impl Part {
         Ok(Part { decisions })
     }
 
-    /// The least completion: what is decided, and none elsewhere.
-    pub(crate) fn floor(&self, alloc: Global) -> Result<Vec<Entry>, AllocError>
+    /// The entries of the least completion: what is decided, and none elsewhere.
+    pub(crate) fn least(&self, alloc: Global) -> Result<Vec<Entry>, AllocError>
         ensures { IfOk result (λ entries. entries.items ≡ floor self.now) }
     {
         let mut entries = Vec::new(alloc);
@@ -125,9 +154,83 @@ impl Part {
         Ok(entries)
     }
 
+    /// The least completion: what is decided, and none elsewhere.
+    pub fn floor(&self, alloc: Global) -> Result<Placement, AllocError>
+        ensures { IfOk result (λ p. p ≡ floor self.now) }
+    {
+        let slots = self.slots(alloc)?;
+        let Ok(bottom) = Placement::bottom(alloc, &slots) else {
+            return Err(AllocError);
+        };
+        Ok(self.filled_with(bottom, None))
+    }
+
+    /// The strongest completion: what is decided, and `rw,rw` elsewhere.
+    pub fn filled(&self, alloc: Global) -> Result<Placement, AllocError>
+        ensures { IfOk result (λ p. p ≡ filled self.now) }
+    {
+        let slots = self.slots(alloc)?;
+        let Ok(top) = Placement::top(alloc, &slots) else {
+            return Err(AllocError);
+        };
+        Ok(self.filled_with(top, Some(Kind::RwRw)))
+    }
+
+    /// What is decided, put into a placement that has this kind or none at each of the slots.
+    #[tactic(auto, using(crate::proofs::Filling::put_drop))]
+    fn filled_with(&self, uniform: Placement, kind: Option<Kind>) -> Placement
+        requires { uniform ≡ all_with kind (slots_in_part self.now) }
+        ensures { result ≡ filled_with kind self.now }
+    {
+        let mut placement = uniform;
+        for decision in self.as_slice() {
+            decision.put_into(&mut placement);
+        }
+        placement
+    }
+
+    /// The slots.
+    fn slots(&self, alloc: Global) -> Result<Vec<Slot>, AllocError>
+        ensures value { IfOk result (λ slots. slots.items ≡ slots_in_part self.now) }
+        ensures rising { IsTrue (is_rising (slots_in_part self.now)) }
+    {
+        let mut slots = Vec::new(alloc);
+        for decision in self.as_slice() {
+            slots.push(decision.slot)?;
+        }
+        Ok(slots)
+    }
+
+    /// The first slot that is undecided.
+    pub fn first_undecided(&self) -> Option<Slot>
+        ensures some { IfSome result (λ s. is_undecided s self.now ≡ true) }
+        ensures none { IfNone result (list_any (λ d. is_none d.decided) self.now ≡ false) }
+    {
+        for decision in self.as_slice() {
+            if decision.is_free() {
+                return Some(decision.slot);
+            }
+        }
+        None
+    }
+
+    /// The slots that are undecided, in order.
+    pub fn undecided_slots(&self, alloc: Global) -> Result<Vec<Slot>, AllocError>
+        ensures { IfOk result (λ slots. slots.items ≡ map (λ d. d.slot) (filter (λ d. is_none d.decided) self.now)) }
+    {
+        let mut slots = Vec::new(alloc);
+        for decision in self.as_slice() {
+            if decision.is_free() {
+                slots.push(decision.slot)?;
+            }
+        }
+        Ok(slots)
+    }
+
     /// The slots in order, each with its decision.
     pub fn as_slice(&self) -> &[Decision]
-        ensures { result.now ≡ self.now }
+        ensures value { result.now ≡ self.now }
+        ensures rising { IsTrue (is_rising (slots_in_part self.now)) }
     {
         self.decisions.as_slice()
     }

@@ -2,16 +2,14 @@
 
 ghost use Rattle.std.specs.Prelude.{◌≡◌, ◌<◌, ◌≤◌, ◌^◌, ◌+◌, ◌==◌, ◌++◌, ◌∷◌, [], length, map, true, false, not, Some, None, IfSome, IfNone, IfOk, OnOk, OnErr, All, option_map, slice_get, if◌then◌else◌};
 ghost use Rattle.std.specs.Arc.{arc_value};
-ghost use Rattle.fs_answer.specs.Parts.{Part as PartValue};
-ghost use Rattle.fs_history.specs.Board.{Node as NodeValue, Open, Split, Witnessed, Posted, is_open, is_held, is_held_by, has_node, part_at, with_status};
-ghost use Rattle.fs_history.specs.Histories.{with_witnesses};
+ghost use Rattle.fs_history.specs.Board.{Node as NodeValue, Open, Split, Witnessed, Bounded, Posted, is_open, is_held, is_held_by, has_node, part_at};
 ghost use Rattle.fs_board.specs.Counts.{count_of};
-ghost use Rattle.fs_board.specs.Growth.{grown, with_bound, with_more};
-ghost use Rattle.fs_board.specs.View.{status_of, witness_in, placement_in};
+ghost use Rattle.fs_board.specs.Growth.{board_of, marked, grown, with_bound, with_more};
+ghost use Rattle.fs_board.specs.View.{status_of};
 
-use crate::evidence::{Forbidden, Witness};
 use crate::node::{Node, Status, bit};
 use crate::part::Part;
+use fs_evidence::{Forbidden, Witness};
 use fs_kinds::Slot;
 use std::alloc::{AllocError, Global};
 use std::marker::Model;
@@ -31,13 +29,14 @@ pub(crate) struct Tree {
 }
 
 impl Model for Tree {
-    ghost use Rattle.fs_history.specs.Board.{Board};
+    ghost use Rattle.std.specs.Prelude.{option_map, map};
+    ghost use Rattle.std.specs.Arc.{arc_value};
     ghost use Rattle.fs_board.specs.Counts.{IsCounted};
-    ghost use Rattle.fs_board.specs.View.{board_of};
+    ghost use Rattle.fs_board.specs.Growth.{Tree as TreeValue};
 
-    ghost Value = { Board };
+    ghost Value = { TreeValue };
 
-    ghost view = { λ t. board_of t.nodes.items t.bound t.witnesses.items t.limit };
+    ghost view = { λ t. record { nodes = t.nodes.items; bound = option_map arc_value t.bound; witnesses = map arc_value t.witnesses.items; limit = t.limit } };
 
     ghost invariant = { λ t. IsCounted t.nodes.items t.next t.free t.held };
 }
@@ -68,6 +67,26 @@ impl Tree {
         self.nodes.len()
     }
 
+    /// What became of the node, where there is one.
+    pub(crate) fn status(&self, node: usize) -> Option<Status>
+        ensures { option_map status_of result ≡ option_map (λ n. n.status) (slice_get self.now.nodes node) }
+    {
+        Some(self.nodes.get(node)?.status())
+    }
+
+    /// The first node that a worker holds, where there is one.
+    pub(crate) fn first_held(&self) -> Option<usize>
+        ensures some { IfSome result (λ k. (n : NodeValue) × (slice_get self.now.nodes k ≡ Some n) × (is_held n.status ≡ true)) }
+        ensures none { IfNone result (has_node is_held (board_of self.now) ≡ false) }
+    {
+        for k in 0..self.nodes.len() {
+            if self.nodes[k].status().is_held() {
+                return Some(k);
+            }
+        }
+        None
+    }
+
     /// The greatest number that a node may have.
     pub(crate) fn limit(&self) -> usize
         ensures { result ≡ self.now.limit }
@@ -84,7 +103,7 @@ impl Tree {
 
     /// Is some node held?
     pub(crate) fn has_held(&self) -> bool
-        ensures { result ≡ has_node is_held self.now }
+        ensures { result ≡ has_node is_held (board_of self.now) }
     {
         self.held != 0
     }
@@ -94,7 +113,7 @@ impl Tree {
         ensures same { self.new ≡ self.old }
         ensures there { IfSome result (λ k. k < length self.new.nodes) }
         ensures some { IfSome result (λ k. (n : NodeValue) × (slice_get self.new.nodes k ≡ Some n) × (is_open n.status ≡ true)) }
-        ensures none { IfNone result (has_node is_open self.new ≡ false) }
+        ensures none { IfNone result (has_node is_open (board_of self.new) ≡ false) }
     {
         while self.next < self.nodes.len() {
             if self.nodes[self.next].status().is_open() {
@@ -115,7 +134,7 @@ impl Tree {
 
     /// The part of the node, where it is open.
     pub(crate) fn open_at(&self, node: usize) -> Option<&Arc<Part>>
-        ensures { option_map (λ p. arc_value p.now) result ≡ part_at is_open self.now node }
+        ensures { option_map (λ p. arc_value p.now) result ≡ part_at is_open (board_of self.now) node }
     {
         let found = self.nodes.get(node)?;
         if found.status().is_open() {
@@ -127,7 +146,7 @@ impl Tree {
 
     /// The part of the node, where it is held.
     pub(crate) fn held_at(&self, node: usize) -> Option<&Arc<Part>>
-        ensures { option_map (λ p. arc_value p.now) result ≡ part_at is_held self.now node }
+        ensures { option_map (λ p. arc_value p.now) result ≡ part_at is_held (board_of self.now) node }
     {
         let found = self.nodes.get(node)?;
         if found.status().is_held() {
@@ -139,7 +158,7 @@ impl Tree {
 
     /// The part of the node, where the worker holds it.
     pub(crate) fn held_by(&self, worker: u8, node: usize) -> Option<&Arc<Part>>
-        ensures { option_map (λ p. arc_value p.now) result ≡ part_at (is_held_by worker) self.now node }
+        ensures { option_map (λ p. arc_value p.now) result ≡ part_at (is_held_by worker) (board_of self.now) node }
     {
         let found = self.nodes.get(node)?;
         if found.status().is_held_by(worker) {
@@ -153,7 +172,7 @@ impl Tree {
     pub(crate) fn mark(&mut self, node: usize, status: Status)
         requires there { node < length self.old.nodes }
         requires closed { is_open (status_of status) ≡ false }
-        ensures { (n : NodeValue) → slice_get self.old.nodes node ≡ Some n → self.new ≡ with_status (status_of status) node n.part self.old }
+        ensures { (n : NodeValue) → slice_get self.old.nodes node ≡ Some n → self.new ≡ marked (status_of status) node n.part self.old }
     {
         let place = &mut self.nodes[node];
         let was = place.status();
@@ -167,14 +186,24 @@ impl Tree {
 
     /// The best placement posted.
     pub(crate) fn bound(&self) -> Option<&Arc<Forbidden>>
-        ensures { option_map (λ f. placement_in f.now) result ≡ self.now.bound }
+        ensures { option_map (λ f. arc_value f.now) result ≡ self.now.bound }
     {
         self.bound.as_ref()
     }
 
-    /// What pruned nodes, in order.
+    /// The best placement posted, shared.
+    pub(crate) fn share_bound(&self) -> Result<Option<Arc<Forbidden>>, AllocError>
+        ensures { IfOk result (λ f. option_map arc_value f ≡ self.now.bound) }
+    {
+        match &self.bound {
+            Some(bound) => Ok(Some(Arc::try_clone(bound)?)),
+            None => Ok(None),
+        }
+    }
+
+    /// What closed nodes, in order.
     pub(crate) fn witnesses(&self) -> &[Arc<Witness>]
-        ensures { map witness_in result.now ≡ self.now.witnesses }
+        ensures { map arc_value result.now ≡ self.now.witnesses }
     {
         self.witnesses.as_slice()
     }
@@ -200,7 +229,7 @@ impl Tree {
     ) -> Result<(), AllocError>
         requires there { node < length self.old.nodes }
         requires opened { All (λ n. n.status ≡ Open) children.items }
-        ensures ok { OnOk result ((n : NodeValue) → slice_get self.old.nodes node ≡ Some n → self.new ≡ grown (with_status (Split slot (length self.old.nodes)) node n.part self.old) children.items) }
+        ensures ok { OnOk result ((n : NodeValue) → slice_get self.old.nodes node ≡ Some n → self.new ≡ grown (marked (Split slot (length self.old.nodes)) node n.part self.old) children.items) }
         ensures err { OnErr result (self.new ≡ self.old) }
     {
         let first = self.nodes.len();
@@ -209,36 +238,41 @@ impl Tree {
         Ok(())
     }
 
-    /// Adds a witness at the end. At `Err` nothing is changed.
-    fn add_witness(&mut self, witness: Arc<Witness>) -> Result<(), AllocError>
-        ensures ok { OnOk result (self.new ≡ with_more (witness_in witness ∷ []) self.old) }
+    /// Adds witnesses at the end. At `Err` nothing is changed.
+    fn add_witnesses(&mut self, mut witnesses: Vec<Arc<Witness>>) -> Result<(), AllocError>
+        ensures ok { OnOk result (self.new ≡ with_more (map arc_value witnesses.items) self.old) }
         ensures err { OnErr result (self.new ≡ self.old) }
     {
-        self.witnesses.push(witness)?;
+        self.witnesses.append(&mut witnesses)?;
         Ok(())
     }
 
     fn set_bound(&mut self, bound: Arc<Forbidden>)
-        ensures { self.new ≡ with_bound (Some (placement_in bound)) self.old }
+        ensures { self.new ≡ with_bound (Some (arc_value bound)) self.old }
     {
         self.bound = Some(bound);
     }
 
-    /// Closes the node by a witness, which is the last one from now on. At `Err` nothing is changed.
-    pub(crate) fn cover(&mut self, node: usize, witness: Arc<Witness>) -> Result<(), AllocError>
-        requires { node < length self.old.nodes }
-        ensures ok { OnOk result ((n : NodeValue) → slice_get self.old.nodes node ≡ Some n → self.new ≡ with_witnesses (Witnessed (length self.old.witnesses)) node n.part (witness_in witness ∷ []) self.old) }
+    /// Closes the node so, by witnesses that are the last ones from now on. At `Err` nothing is changed.
+    pub(crate) fn cover(
+        &mut self,
+        node: usize,
+        status: Status,
+        witnesses: Vec<Arc<Witness>>,
+    ) -> Result<(), AllocError>
+        requires there { node < length self.old.nodes }
+        requires closed { is_open (status_of status) ≡ false }
+        ensures ok { OnOk result ((n : NodeValue) → slice_get self.old.nodes node ≡ Some n → self.new ≡ with_more (map arc_value witnesses.items) (marked (status_of status) node n.part self.old)) }
         ensures err { OnErr result (self.new ≡ self.old) }
     {
-        let number = self.witness_count();
-        self.add_witness(witness)?;
-        self.mark(node, Status::Witnessed(number));
+        self.add_witnesses(witnesses)?;
+        self.mark(node, status);
         Ok(())
     }
 
     /// How many witnesses there are.
     pub(crate) fn witness_count(&self) -> usize
-        ensures { result ≡ length self.now.witnesses }
+        ensures { result ≡ length (board_of self.now).witnesses }
     {
         self.witnesses.len()
     }
@@ -246,7 +280,7 @@ impl Tree {
     /// Closes the node as posted. Its placement is the bound from now on, where it is better.
     pub(crate) fn post(&mut self, node: usize, forbidden: Arc<Forbidden>, better: bool)
         requires { node < length self.old.nodes }
-        ensures { (n : NodeValue) → slice_get self.old.nodes node ≡ Some n → self.new ≡ with_bound (if better then Some (placement_in forbidden) else self.old.bound) (with_status Posted node n.part self.old) }
+        ensures { (n : NodeValue) → slice_get self.old.nodes node ≡ Some n → self.new ≡ with_bound (if better then Some (arc_value forbidden) else self.old.bound) (marked Posted node n.part self.old) }
     {
         if !better {
             self.mark(node, Status::Posted);

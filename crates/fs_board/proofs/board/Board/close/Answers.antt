@@ -1,13 +1,15 @@
 use Rattle.std.proofs.Common.{◌≡◌, ◌++◌, ◌∷◌, [], Some, refl, sym, ◌∙◌, ap, subst}
 use Rattle.std.specs.Prelude.{slice_get}
 use Rattle.fs_history.specs.Board.{Board, Node, Status, Closed, with_status}
+use Rattle.fs_board.specs.Growth.{Tree, board_of, marked}
 use Rattle.fs_board.specs.View.{Search, entry_of, event_of, status_of}
 use Rattle.fs_board.proofs.Replays.{StepsFrom, replays, answered, room_marked}
 use Rattle.fs_board.proofs.board.Board.close.Goals as goal
 
 pub invariant_of-self-2 : goal.invariant_of-self-2
 invariant_of-self-2 c =
-    let s : Search = record { question = c.self.inside.question.value; board = c.self.inside.tree; log = c.self.inside.log.items } in
+    let s : Search = record { question = c.self.inside.question.value; board = board_of c.self.inside.tree; log = c.self.inside.log.items } in
+    let was = c.self.invariant.replay in
     let e = event_of c.args.event in
     let n : Node = c.requires.may.0 in
     let z : Status = status_of c.args.status in
@@ -17,12 +19,14 @@ invariant_of-self-2 c =
     let there : slice_get s.board.nodes c.args.node ≡ Some n = subst (λ (x : Search). slice_get x.board.nodes c.args.node ≡ Some n) (sym c.self.view_is) c.requires.may.1 in
     let log : c.push_within.new.list.items ≡ s.log ++ entry_of c.args.worker e Closed ∷ [] =
     c.push_within.ensures ∙ (ap (λ l. l ++ c.new.result ∷ []) c.in_ok-reserve.ensures.items ∙ ap (λ x. s.log ++ x ∷ []) c.new.ensures) in
-    let marked : c.mark.new.self ≡ new = c.mark.ensures n there in
-    rw marked (replays s new c.push_within.new.list.items c.args.worker e Closed c.self.invariant step refl (room_marked s z c.args.node n.part c.self.invariant) log)
+    let now : Tree = marked z c.args.node n.part c.self.inside.tree in
+    let closed : c.mark.new.self ≡ now = c.mark.ensures n there in
+    rw closed (record { replay = replays s new c.push_within.new.list.items c.args.worker e Closed was step refl (room_marked s z c.args.node n.part was) log; backed = c.self.invariant.backed })
 
 pub returns-clause-step : goal.returns-clause-step
 returns-clause-step c =
-    let s : Search = record { question = c.self.inside.question.value; board = c.self.inside.tree; log = c.self.inside.log.items } in
+    let s : Search = record { question = c.self.inside.question.value; board = board_of c.self.inside.tree; log = c.self.inside.log.items } in
+    let was = c.self.invariant.replay in
     let e = event_of c.args.event in
     let n : Node = c.requires.may.0 in
     let z : Status = status_of c.args.status in
@@ -32,5 +36,6 @@ returns-clause-step c =
     let there : slice_get s.board.nodes c.args.node ≡ Some n = subst (λ (x : Search). slice_get x.board.nodes c.args.node ≡ Some n) (sym c.self.view_is) c.requires.may.1 in
     let log : c.push_within.new.list.items ≡ s.log ++ entry_of c.args.worker e Closed ∷ [] =
     c.push_within.ensures ∙ (ap (λ l. l ++ c.new.result ∷ []) c.in_ok-reserve.ensures.items ∙ ap (λ x. s.log ++ x ∷ []) c.new.ensures) in
-    let marked : c.mark.new.self ≡ new = c.mark.ensures n there in
-    rw marked (answered c.args.self.now s new c.push_within.new.list.items c.args.worker e Closed c.self.view_is step log)
+    let now : Tree = marked z c.args.node n.part c.self.inside.tree in
+    let closed : c.mark.new.self ≡ now = c.mark.ensures n there in
+    rw closed (answered c.args.self.now s new c.push_within.new.list.items c.args.worker e Closed c.self.view_is step log)

@@ -2,8 +2,8 @@ use Rattle.std.proofs.Common.{◌≡◌, ◌+◌, ◌≤◌, ◌++◌, ◌∷◌
 use Rattle.std.specs.Prelude.{slice_set, All}
 use Rattle.fs_answer.specs.Parts.{Part, is_undecided, decide, options, child_parts}
 use Rattle.fs_history.specs.Board.{Board, Node, Status, Open, Split, Event, Reply, SplitAt, Children, is_held_by, part_at, is_full, with_open, with_status}
-use Rattle.fs_board.specs.declared.question.Question.{Question}
-use Rattle.fs_board.specs.Growth.{open_node, grown}
+use Rattle.fs_kinds.specs.PriceTable.{PriceTable}
+use Rattle.fs_board.specs.Growth.{Tree, open_node, board_of, marked, grown}
 use Rattle.fs_board.specs.View.{Search, entry_of}
 use Rattle.fs_board.proofs.Children.{node_with, length_map, not_less, all_open}
 use Rattle.fs_board.proofs.Counts.{length_set}
@@ -12,23 +12,24 @@ use Rattle.fs_board.proofs.board.Board.split.Goals as goal
 
 pub split-requires-clause-opened : goal.split-requires-clause-opened
 split-requires-clause-opened c =
-    let part = c.deref-3.result.now in
-    let prices = c.deref-2.result.now.prices in
+    let part = c.deref-2.result.now in
+    let prices = c.prices.result.now in
     subst (All (λ (n : Node). n.status ≡ Open)) (sym c.in_ok-children.ensures) (all_open (child_parts prices c.args.slot part))
 
 pub invariant_of-self-2 : goal.invariant_of-self-2
 invariant_of-self-2 c =
-    let s : Search = record { question = c.self.inside.question.value; board = c.self.inside.tree; log = c.self.inside.log.items } in
+    let s : Search = record { question = c.self.inside.question.value; board = board_of c.self.inside.tree; log = c.self.inside.log.items } in
+    let was = c.self.invariant.replay in
     let prices = s.question.prices in
     let part : Part = c.in-Some.part.now.value in
     let held : part_at (is_held_by c.args.worker) s.board c.args.node ≡ Some part = sym c.in-Some.ensures in
     let n = node_with (is_held_by c.args.worker) s.board c.args.node part held in
     let d1 : c.deref.result.now ≡ part = c.deref.ensures in
-    let d2 : c.deref-2.result.now ≡ s.question = c.deref-2.ensures in
-    let d3 : c.deref-3.result.now ≡ part = c.deref-3.ensures in
+    let d2 : c.prices.result.now ≡ prices = c.prices.ensures ∙ ap (λ (x : Search). x.question.prices) (sym c.self.view_is) in
+    let d3 : c.deref-2.result.now ≡ part = c.deref-2.ensures in
     let kids : List Node = map open_node (child_parts prices c.args.slot part) in
     let born : c.in_ok-children.children.items ≡ kids =
-    c.in_ok-children.ensures ∙ (ap (λ (q : Part). map open_node (map (decide c.args.slot q) (options c.deref-2.result.now.prices))) d3 ∙ ap (λ (q : Question). map open_node (child_parts q.prices c.args.slot part)) d2) in
+    c.in_ok-children.ensures ∙ (ap (λ (q : Part). map open_node (map (decide c.args.slot q) (options c.prices.result.now))) d3 ∙ ap (λ (q : PriceTable). map open_node (child_parts q c.args.slot part)) d2) in
     let free : is_undecided c.args.slot part ≡ true = ap (is_undecided c.args.slot) (sym d1) ∙ (sym c.is_undecided.ensures ∙ c.if-not-is_undecided.false) in
     let first : c.len-first.result ≡ length s.board.nodes = c.len-first.ensures.len in
     let many : length kids ≡ length (options prices) = length_map open_node (child_parts prices c.args.slot part) ∙ length_map (decide c.args.slot part) (options prices) in
@@ -44,25 +45,27 @@ invariant_of-self-2 c =
     let step : StepsFrom s c.args.worker e r new = (part, held, free, full, first, count, refl) in
     let log : c.push_within.new.list.items ≡ s.log ++ entry_of c.args.worker e r ∷ [] =
     c.push_within.ensures ∙ (ap (λ l. l ++ c.new.result ∷ []) c.in_ok-reserve.ensures.items ∙ ap (λ x. s.log ++ x ∷ []) c.new.ensures) in
-    let split : c.split.new.self ≡ new = c.in_ok-split.ensures.ok n.0 n.1
-    ∙ (ap (λ p. grown (with_status z c.args.node p s.board) c.in_ok-children.children.items) n.2 ∙ ap (grown (with_status z c.args.node part s.board)) born) in
+    let now : Tree = grown (marked z c.args.node part c.self.inside.tree) kids in
+    let split : c.split.new.self ≡ now = c.in_ok-split.ensures.ok n.0 n.1
+    ∙ (ap (λ p. grown (marked z c.args.node p c.self.inside.tree) c.in_ok-children.children.items) n.2 ∙ ap (grown (marked z c.args.node part c.self.inside.tree)) born) in
     let same = length_set s.board.nodes c.args.node (record { part = part; status = z }) in
     let room : length new.nodes ≤ s.board.limit + 1 = omega (arith, length-append (slice_set s.board.nodes c.args.node (record { part = part; status = z })) kids) in
-    rw split (replays s new c.push_within.new.list.items c.args.worker e r c.self.invariant step refl room log)
+    rw split (record { replay = replays s new c.push_within.new.list.items c.args.worker e r was step refl room log; backed = c.self.invariant.backed })
 
 pub returns-clause-step : goal.returns-clause-step
 returns-clause-step c =
-    let s : Search = record { question = c.self.inside.question.value; board = c.self.inside.tree; log = c.self.inside.log.items } in
+    let s : Search = record { question = c.self.inside.question.value; board = board_of c.self.inside.tree; log = c.self.inside.log.items } in
+    let was = c.self.invariant.replay in
     let prices = s.question.prices in
     let part : Part = c.in-Some.part.now.value in
     let held : part_at (is_held_by c.args.worker) s.board c.args.node ≡ Some part = sym c.in-Some.ensures in
     let n = node_with (is_held_by c.args.worker) s.board c.args.node part held in
     let d1 : c.deref.result.now ≡ part = c.deref.ensures in
-    let d2 : c.deref-2.result.now ≡ s.question = c.deref-2.ensures in
-    let d3 : c.deref-3.result.now ≡ part = c.deref-3.ensures in
+    let d2 : c.prices.result.now ≡ prices = c.prices.ensures ∙ ap (λ (x : Search). x.question.prices) (sym c.self.view_is) in
+    let d3 : c.deref-2.result.now ≡ part = c.deref-2.ensures in
     let kids : List Node = map open_node (child_parts prices c.args.slot part) in
     let born : c.in_ok-children.children.items ≡ kids =
-    c.in_ok-children.ensures ∙ (ap (λ (q : Part). map open_node (map (decide c.args.slot q) (options c.deref-2.result.now.prices))) d3 ∙ ap (λ (q : Question). map open_node (child_parts q.prices c.args.slot part)) d2) in
+    c.in_ok-children.ensures ∙ (ap (λ (q : Part). map open_node (map (decide c.args.slot q) (options c.prices.result.now))) d3 ∙ ap (λ (q : PriceTable). map open_node (child_parts q c.args.slot part)) d2) in
     let free : is_undecided c.args.slot part ≡ true = ap (is_undecided c.args.slot) (sym d1) ∙ (sym c.is_undecided.ensures ∙ c.if-not-is_undecided.false) in
     let first : c.len-first.result ≡ length s.board.nodes = c.len-first.ensures.len in
     let many : length kids ≡ length (options prices) = length_map open_node (child_parts prices c.args.slot part) ∙ length_map (decide c.args.slot part) (options prices) in
@@ -78,6 +81,7 @@ returns-clause-step c =
     let step : StepsFrom s c.args.worker e r new = (part, held, free, full, first, count, refl) in
     let log : c.push_within.new.list.items ≡ s.log ++ entry_of c.args.worker e r ∷ [] =
     c.push_within.ensures ∙ (ap (λ l. l ++ c.new.result ∷ []) c.in_ok-reserve.ensures.items ∙ ap (λ x. s.log ++ x ∷ []) c.new.ensures) in
-    let split : c.split.new.self ≡ new = c.in_ok-split.ensures.ok n.0 n.1
-    ∙ (ap (λ p. grown (with_status z c.args.node p s.board) c.in_ok-children.children.items) n.2 ∙ ap (grown (with_status z c.args.node part s.board)) born) in
+    let now : Tree = grown (marked z c.args.node part c.self.inside.tree) kids in
+    let split : c.split.new.self ≡ now = c.in_ok-split.ensures.ok n.0 n.1
+    ∙ (ap (λ p. grown (marked z c.args.node p c.self.inside.tree) c.in_ok-children.children.items) n.2 ∙ ap (grown (marked z c.args.node part c.self.inside.tree)) born) in
     rw split (answered c.args.self.now s new c.push_within.new.list.items c.args.worker e r c.self.view_is step log)

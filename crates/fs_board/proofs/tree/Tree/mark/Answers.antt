@@ -1,8 +1,11 @@
-use Rattle.std.proofs.Common.{◌≡◌, ◌<◌, length, Some, slice_get, slice_set, sym, ◌∙◌, ap, arith, subst, refl}
+use Rattle.std.proofs.Common.{◌≡◌, ◌<◌, List, length, Some, slice_get, slice_set, sym, ◌∙◌, ap, arith, subst, refl}
 use Rattle.std.proofs.lemmas.Option.{slice_get_read, same_Some}
-use Rattle.fs_history.specs.Board.{Board, Node, Status, is_open, is_held, with_status}
-use Rattle.fs_board.specs.View.{board_of, status_of}
-use Rattle.fs_board.proofs.Counts.{Marks, marks, one}
+use Rattle.fs_history.specs.Board.{Node, is_open, is_held}
+use Rattle.std.specs.Arc.{arc_value}
+use Rattle.std.specs.Prelude.{option_map, map}
+use Rattle.fs_board.specs.Growth.{Tree, marked}
+use Rattle.fs_board.specs.View.{status_of}
+use Rattle.fs_board.proofs.Counts.{marks, one}
 use Rattle.fs_board.proofs.tree.Tree.mark.Goals as goal
 
 pub overflow_sub-self : goal.overflow_sub-self
@@ -63,8 +66,9 @@ returns c was' i =
     let n = c.index_mut-place.result.now in
     let there : c.args.node < length ns = subst (λ s. c.args.node < length s.nodes) (sym c.self.view_is) c.requires.there in
     let at = slice_get_read ns (length ns) c.args.node n refl there c.index_mut-place.ensures.value in
-    let i' : slice_get ns c.args.node ≡ Some was' = subst (λ (s : Board). slice_get s.nodes c.args.node ≡ Some was') (sym c.self.view_is) i in
+    let i' : slice_get ns c.args.node ≡ Some was' = subst (λ (s : Tree). slice_get s.nodes c.args.node ≡ Some was') (sym c.self.view_is) i in
     let e : n ≡ was' = same_Some n was' (sym at ∙ i') in
     let m : c.mark.new.self ≡ record { part = was'.part; status = status_of c.args.status } = c.mark.ensures ∙ ap (λ (x : Node). let y : Node = record { part = x.part; status = status_of c.args.status } in y) e in
-    subst (λ (s : Board). board_of (slice_set ns c.args.node c.mark.new.self) c.self.inside.bound c.self.inside.witnesses.items c.self.inside.limit ≡ with_status (status_of c.args.status) c.args.node was'.part s) c.self.view_is
-    (ap (λ x. board_of (slice_set ns c.args.node x) c.self.inside.bound c.self.inside.witnesses.items c.self.inside.limit) m)
+    let tree : List Node → Tree = λ nodes. record { nodes = nodes; bound = option_map arc_value c.self.inside.bound; witnesses = map arc_value c.self.inside.witnesses.items; limit = c.self.inside.limit } in
+    subst (λ (s : Tree). tree (slice_set ns c.args.node c.mark.new.self) ≡ marked (status_of c.args.status) c.args.node was'.part s) c.self.view_is
+    (ap (λ x. tree (slice_set ns c.args.node x)) m)

@@ -1,10 +1,7 @@
 //! What shows that a placement allows the outcome, or that it forbids it.
 
-ghost use Rattle.std.specs.Prelude.{◌≡◌, IsTrue};
-
-use crate::costs::is_same;
 use fs_answer::ChoiceLists;
-use fs_kinds::{Entry, OperationName, Placement};
+use fs_kinds::{OperationName, Placement};
 use fs_list::List;
 use std::marker::Model;
 
@@ -27,7 +24,7 @@ pub struct Witness {
 }
 
 impl Model for Witness {
-    ghost use Rattle.fs_board.specs.Evidence.{Shown};
+    ghost use Rattle.fs_evidence.specs.Evidence.{Shown};
 
     ghost Value = { Shown };
 
@@ -65,7 +62,7 @@ pub struct Link {
 
 impl Model for Link {
     ghost use Rattle.fs_answer.specs.Certificate.{Link as LinkValue};
-    ghost use Rattle.fs_board.specs.View.{cause_of};
+    ghost use Rattle.fs_evidence.specs.Evidence.{cause_of};
 
     ghost Value = { LinkValue };
 
@@ -83,19 +80,9 @@ pub struct Forbidden {
 }
 
 impl Model for Forbidden {
-    ghost use Rattle.fs_board.specs.Evidence.{Refuted};
+    ghost use Rattle.fs_evidence.specs.Evidence.{Refuted};
 
     ghost Value = { Refuted };
 
     ghost view = { λ f. record { placement = f.placement; cycles = f.cycles } };
-}
-
-impl Forbidden {
-    /// Is this its placement?
-    pub(crate) fn is_of(&self, placement: &[Entry]) -> bool
-        ensures yes { IsTrue result → self.now.placement ≡ placement.now }
-        ensures no { self.now.placement ≡ placement.now → IsTrue result }
-    {
-        is_same(self.placement.as_slice(), placement)
-    }
 }

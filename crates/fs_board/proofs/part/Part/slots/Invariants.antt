@@ -1,0 +1,6 @@
+use Rattle.std.proofs.Common.{◌≡◌, take}
+use Rattle.fs_bound.specs.Bounds.{slots_in_part}
+use Rattle.fs_board.proofs.part.Part.slots.Given as goal
+
+abbrev pub invariant-loop-decision : goal.invariant-loop-decision
+invariant-loop-decision l = l.slots.items ≡ slots_in_part (take l.decision-index l.self)

@@ -1,0 +1,10 @@
+use Rattle.std.proofs.Common.{◌≤◌, length, arith}
+use Rattle.fs_board.proofs.Filling.{rising_undecided}
+use Rattle.fs_board.proofs.part.Part.undecided.Goals as goal
+
+pub invariant_of-result : goal.invariant_of-result
+invariant_of-result c =
+    let slots = c.args.slots.now in
+    let test = c.loop-slot-test.false in
+    let past : length slots ≤ c.loop-slot.slot-index = omega arith in
+    rising_undecided slots c.loop-slot.decisions.items c.loop-slot.slot-index c.loop-slot.invariant past c.requires

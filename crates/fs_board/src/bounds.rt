@@ -1,0 +1,225 @@
+//! What a witness shows of a part, by its widths: whether it is within them, and what it costs to break it.
+
+ghost use Rattle.std.specs.Prelude.{◌≡◌, ℕ, ◌≤◌, IfSome, map};
+ghost use Rattle.std.specs.List.{list_any, list_all};
+ghost use Rattle.fs_kinds.specs.PriceTable.{kind_cost};
+ghost use Rattle.fs_answer.specs.Parts.{floor};
+ghost use Rattle.fs_answer.specs.Pruning.{is_breakable};
+ghost use Rattle.fs_board.specs.inner.Breaks.{fits, is_kept, is_break, break_cost, everywhere, lesser_of, least_of, least_at, least_in, is_breakable_at, breaks_one, break_apart, bound_of, widths_in};
+
+use crate::costs::cost;
+use crate::node::{OPTIONS, is_offered};
+use crate::part::Decision;
+use fs_evidence::{Pairs, Witness};
+use fs_kinds::{Entry, Kind, Prices};
+use std::sync::Arc;
+
+/// Does the kind, or none, order only these pairs?
+pub(crate) fn fits(pairs: Pairs, kind: Option<Kind>) -> bool
+    ensures { result ≡ fits pairs kind }
+{
+    let Some(kind) = kind else {
+        return true;
+    };
+    match kind {
+        Kind::RR => pairs.read_read,
+        Kind::RW => pairs.read_write,
+        Kind::RRw => pairs.read_read && pairs.read_write,
+        Kind::WR => pairs.write_read,
+        Kind::WW => pairs.write_write,
+        Kind::WRw => pairs.write_read && pairs.write_write,
+        Kind::RwR => pairs.read_read && pairs.write_read,
+        Kind::RwW => pairs.read_write && pairs.write_write,
+        Kind::RwRw => {
+            pairs.read_read && pairs.read_write && pairs.write_read && pairs.write_write
+        }
+        Kind::Tso => pairs.read_read && pairs.read_write && pairs.write_write,
+    }
+}
+
+/// Does each slot of the part order only what is kept there, where undecided slots have this kind or none? It calls itself once for
+/// each slot, of which a test has 48 at most.
+pub(crate) fn is_kept(part: &[Decision], widths: &[Pairs], kind: Option<Kind>) -> bool
+    ensures { result ≡ is_kept kind part.now widths.now }
+{
+    let [decision, part @ ..] = part else {
+        return true;
+    };
+    let [pairs, widths @ ..] = widths else {
+        return true;
+    };
+    fits(*pairs, decision.decided.unwrap_or(kind)) && is_kept(part, widths, kind)
+}
+
+/// Is the kind offered, and does it order a pair that isn't kept?
+fn is_break(prices: &Prices, pairs: Pairs, kind: Option<Kind>) -> bool
+    ensures { result ≡ is_break prices.now pairs kind }
+{
+    is_offered(prices, kind) && !fits(pairs, kind)
+}
+
+/// Is one of the kinds offered, and does it order a pair that isn't kept?
+fn has_break(prices: &Prices, pairs: Pairs, kinds: &[Option<Kind>]) -> bool
+    ensures { result ≡ list_any (is_break prices.now pairs) kinds.now }
+{
+    kinds.iter().any(|kind| is_break(prices, pairs, *kind))
+}
+
+/// Does a fence that may still be put at the slot order a pair that isn't kept there?
+pub(crate) fn is_breakable(prices: &Prices, pairs: Pairs, decision: &Decision) -> bool
+    ensures { result ≡ is_breakable prices.now (everywhere pairs) decision.now }
+{
+    decision.is_free() && has_break(prices, pairs, &OPTIONS)
+}
+
+/// The lesser of two costs, where there are any.
+fn lesser(first: Option<u64>, second: Option<u64>) -> Option<u64>
+    ensures value { result ≡ lesser_of first second }
+    ensures most { (k : ℕ) → IfSome first (λ n. n ≤ k) → IfSome second (λ n. n ≤ k) → IfSome result (λ n. n ≤ k) }
+{
+    match (first, second) {
+        (None, _) => second,
+        (_, None) => first,
+        (Some(first), Some(second)) => Some(if first < second { first } else { second }),
+    }
+}
+
+/// What a kind costs where it is offered, and none costs nothing.
+fn kind_cost(prices: &Prices, kind: Option<Kind>) -> u32
+    ensures value { result ≡ kind_cost prices.now kind }
+    ensures most { result ≤ 1000000 }
+{
+    match kind {
+        None => 0,
+        Some(kind) => prices.of(kind).unwrap_or(0),
+    }
+}
+
+/// What the kind costs at a slot of this weight, where it is offered and orders a pair that isn't kept.
+fn break_cost(prices: &Prices, pairs: Pairs, weight: u32, kind: Option<Kind>) -> Option<u64>
+    requires { weight ≤ 1000 }
+    ensures value { result ≡ break_cost prices.now pairs weight kind }
+    ensures most { IfSome result (λ n. n ≤ 1000000000) }
+{
+    if is_break(prices, pairs, kind) {
+        Some(u64::from(kind_cost(prices, kind)) * u64::from(weight))
+    } else {
+        None
+    }
+}
+
+/// What the cheapest of these kinds costs at a slot of this weight that is offered and orders a pair that isn't kept.
+#[tactic(auto, using(crate::proofs::Breaks::least_more))]
+fn least_of(prices: &Prices, pairs: Pairs, weight: u32, kinds: &[Option<Kind>]) -> Option<u64>
+    requires { weight ≤ 1000 }
+    ensures value { result ≡ least_of (break_cost prices.now pairs weight) kinds.now }
+    ensures most { IfSome result (λ n. n ≤ 1000000000) }
+{
+    let mut least = None;
+    for kind in kinds {
+        least = lesser(least, break_cost(prices, pairs, weight, *kind));
+    }
+    least
+}
+
+/// What the cheapest fence costs that may still be put at the slot and orders a pair that isn't kept there.
+fn least_at(prices: &Prices, pairs: Pairs, decision: &Decision) -> Option<u64>
+    ensures value { result ≡ least_at prices.now pairs decision.now }
+    ensures most { IfSome result (λ n. n ≤ 1000000000) }
+{
+    if decision.is_free() {
+        let weight = prices.weight(decision.slot);
+        least_of(prices, pairs, weight, &OPTIONS)
+    } else {
+        None
+    }
+}
+
+/// What the cheapest fence costs that may still be put at a slot of the part and orders a pair that isn't kept there. It calls itself
+/// once for each slot.
+pub(crate) fn least_in(prices: &Prices, part: &[Decision], widths: &[Pairs]) -> Option<u64>
+    ensures value { result ≡ least_in prices.now part.now widths.now }
+    ensures most { IfSome result (λ n. n ≤ 1000000000) }
+{
+    let [decision, part @ ..] = part else {
+        return None;
+    };
+    let [pairs, widths @ ..] = widths else {
+        return None;
+    };
+    lesser(
+        least_at(prices, *pairs, decision),
+        least_in(prices, part, widths),
+    )
+}
+
+/// Is slot number k breakable for the witness?
+fn is_breakable_at(prices: &Prices, k: usize, decision: &Decision, witness: &Witness) -> bool
+    ensures { result ≡ is_breakable_at prices.now k decision.now witness.now.widths }
+{
+    match witness.widths.get(k) {
+        None => false,
+        Some(pairs) => is_breakable(prices, *pairs, decision),
+    }
+}
+
+/// Is slot number k breakable for one of the witnesses at most?
+#[tactic(auto, using(crate::proofs::Pruned::count_widths))]
+fn breaks_one(prices: &Prices, k: usize, decision: &Decision, witnesses: &[Arc<Witness>]) -> bool
+    ensures { result ≡ breaks_one prices.now k decision.now (map widths_in witnesses.now) }
+{
+    let mut count: usize = 0;
+    for witness in witnesses {
+        if is_breakable_at(prices, k, decision, witness) {
+            count += 1;
+        }
+    }
+    count < 2
+}
+
+/// Do no two of the witnesses share a breakable slot of the part? It takes time of slots times kinds times witnesses.
+pub(crate) fn break_apart(prices: &Prices, part: &[Decision], witnesses: &[Arc<Witness>]) -> bool
+    ensures { result ≡ break_apart prices.now 0 part.now (map widths_in witnesses.now) }
+{
+    part.iter()
+        .enumerate()
+        .all(|(k, decision)| breaks_one(prices, k, decision, witnesses))
+}
+
+/// What the cheapest fence costs that may still be put at a slot of the part and breaks the witness.
+fn least_break(prices: &Prices, part: &[Decision], witness: &Witness) -> Option<u64>
+    ensures value { result ≡ least_in prices.now part.now witness.now.widths }
+    ensures most { IfSome result (λ n. n ≤ 1000000000) }
+{
+    least_in(prices, part, &witness.widths)
+}
+
+/// What the floor costs, and breaking each of the witnesses. Nothing where one of them can't be broken. It takes time of slots times
+/// kinds times witnesses.
+pub(crate) fn bound_of(
+    prices: &Prices,
+    part: &[Decision],
+    entries: &[Entry],
+    witnesses: &[Arc<Witness>],
+) -> Option<u128>
+    requires { entries.now ≡ floor part.now }
+    ensures { result ≡ bound_of prices.now part.now (map widths_in witnesses.now) }
+{
+    let mut total = cost(prices, entries);
+    for witness in witnesses {
+        let Some(least) = least_break(prices, part, witness) else {
+            return None;
+        };
+        total += u128::from(least);
+    }
+    Some(total)
+}
+
+/// Are all the witnesses within the part, where undecided slots have this kind or none?
+pub(crate) fn are_kept(part: &[Decision], witnesses: &[Arc<Witness>], kind: Option<Kind>) -> bool
+    ensures { result ≡ list_all (λ w. is_kept kind part.now (widths_in w)) witnesses.now }
+{
+    witnesses
+        .iter()
+        .all(|witness| is_kept(part, &witness.widths, kind))
+}
