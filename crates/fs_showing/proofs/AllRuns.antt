@@ -18,7 +18,9 @@ use Rattle.fs_hart.specs.declared.trace.Trace.{Trace}
 use Rattle.fs_hart.specs.Listing.{End, EndsSo, IsEnd, IsEarlier, IsOffered, IsTraceFault, AreTraces, trace_at}
 use Rattle.fs_hart.specs.Steps.{steps_in}
 use Rattle.fs_showing.specs.RawCandidates.{AreAllRuns}
-use Rattle.fs_showing.specs.Over.{AreValueSets, AreListed, HasNoHartFault}
+use Rattle.fs_values.specs.Sets.{AreValues}
+use Rattle.fs_values.specs.Rounds.{HasNoFault}
+use Rattle.fs_showing.specs.Over.{AreListed}
 use Rattle.fs_showing.proofs.Among.{among-map, map-among, ascends-map, pairs_ascend}
 use Rattle.fs_showing.proofs.Raw.{among_from, contains_from}
 use Rattle.fs_showing.proofs.Rising.{ascends_pairs}
@@ -27,7 +29,7 @@ map_same : (t : Test) (hart : ℕ) (ends : List End) → steps_in (map (trace_at
 map_same t hart [] = refl
 map_same t hart (e ∷ es) = ap (λ ss. e.steps ∷ ss) (map_same t hart es)
 
-module _ (t : Test) (sets : List (List ℕ)) (values : AreValueSets t sets) where
+module _ (t : Test) (sets : List (List ℕ)) (values : AreValues t sets) where
   loads_offered : (steps : List Step) → LoadsFrom (IsValue t) steps → LoadsFrom (IsOffered sets) steps
   loads_offered steps h =
       All-weaker (LoadsOne (IsValue t)) (LoadsOne (IsOffered sets)) (λ s l k word at loaded. (values.words k word).1 (l k word at loaded)) steps h
@@ -93,6 +95,6 @@ only_memory t sets hart (fault.Astray g at) h none = absurd (none h)
 only_memory t sets hart _ h none = absurd (none h)
 
 pub no_fault_but_memory : {T : Type 0} (t : Test) (sets : List (List ℕ)) (hart : ℕ) (f : Fault) (r : Result T Fault)
-    → IsErrAnd r (λ g. g ≡ f) → HasNoHartFault t sets → hart < length t.codes → IsTraceFault t hart sets f → IsOkUnless r fault.Memory
+    → IsErrAnd r (λ g. g ≡ f) → HasNoFault t (IsOffered sets) → hart < length t.codes → IsTraceFault t hart sets f → IsOkUnless r fault.Memory
 no_fault_but_memory t sets hart f (Ok x) h clean low is = tt
 no_fault_but_memory t sets hart f (Err g) h clean low is = h ∙ only_memory t sets hart f is (clean hart f low)

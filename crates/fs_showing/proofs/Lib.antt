@@ -12,3 +12,11 @@ pub mod Capped
 pub mod Unranked
 pub mod AllRuns
 pub mod Totals
+pub mod Stepwise
+pub mod Kept
+pub mod Finals
+pub mod Given
+pub mod AllKept
+pub mod Composed
+pub mod Registers
+pub mod Pairs

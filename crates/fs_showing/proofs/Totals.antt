@@ -86,7 +86,7 @@ module _ (t : Test) (lists : List (List Trace)) (bounded : IsBounded t) (all : A
       same : get_or (products (map steps_in lists)) n (get_or (products (map steps_in lists)) n []) ≡ get_or (products (map steps_in lists)) n []
       same = let long = length-runs lists in get_or_default (products (map steps_in lists)) n _ _ (omega (arith, low, long))
 
-  harts_are : length runs ≡ length t.codes
+  pub harts_are : length runs ≡ length t.codes
   harts_are = sym (length-map runs (λ (trace : Trace). trace.steps)) ∙ over_values.harts
 
   pub few_harts : length runs ≤ 8
@@ -99,22 +99,25 @@ module _ (t : Test) (lists : List (List Trace)) (bounded : IsBounded t) (all : A
       subst (λ (steps : List Step). length steps ≤ 32) (get_or-map (λ (trace : Trace). trace.steps) runs hart d [] within)
       (traces_short t hart (steps_of (steps_in runs) hart) bounded there (over_values.runs hart there))
 
-  pub few_here : (os : List Operation) → os ≡ operations (pre_execution t (steps_in runs)) → length os ≤ 256
-  few_here os e =
+  pub fewer_here : (os : List Operation) → os ≡ operations (pre_execution t (steps_in runs)) → length os ≤ 56
+  fewer_here os e =
       let few = few_operations t (steps_in runs) bounded over_values.harts over_values.runs in
       let same = ap length e in
       omega (arith, few, same)
 
+  pub few_here : (os : List Operation) → os ≡ operations (pre_execution t (steps_in runs)) → length os ≤ 256
+  few_here os e = let few = fewer_here os e in omega (arith, few)
+
 -- ---- how many raw candidates
 
-orders_long : (x : PreExecution) (locations : ℕ) (ns : List ℕ) → ((k : ℕ) → length (store_orders x k) ≡ number_of_orders (own_stores x k))
+pub orders_long : (x : PreExecution) (locations : ℕ) (ns : List ℕ) → ((k : ℕ) → length (store_orders x k) ≡ number_of_orders (own_stores x k))
     → product_of_lengths (map (store_orders x) ns) ≡ product_by number_of_orders (map (own_stores x) ns)
 orders_long x locations [] each = refl
 orders_long x locations (k ∷ ns) each =
     ap (λ m. m * product_of_lengths (map (store_orders x) ns)) (each k)
     ∙ ap (λ m. number_of_orders (own_stores x k) * m) (orders_long x locations ns each)
 
-order_long : (x : PreExecution) (k : ℕ) → length (store_orders x k) ≡ number_of_orders (own_stores x k)
+pub order_long : (x : PreExecution) (k : ℕ) → length (store_orders x k) ≡ number_of_orders (own_stores x k)
 order_long x k =
     length-map (orders (own_stores x k)) (λ stores. (length (accesses x) + k) ∷ stores)
     ∙ length-orders (length (own_stores x k)) (own_stores x k)

@@ -58,7 +58,7 @@ factor_low a b n low = by_case a b (both_some a b n low).0
 
 -- ---- the runs of a number, list by list
 
-on_ok : {T E : Type 0} (P Q : Type 0) (r : Result T E) → (P → Q) → OnOk r P → OnOk r Q
+pub on_ok : {T E : Type 0} (P Q : Type 0) (r : Result T E) → (P → Q) → OnOk r P → OnOk r Q
 on_ok P Q (Ok x) f p = f p
 on_ok P Q (Err e) f p = tt
 

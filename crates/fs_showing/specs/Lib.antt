@@ -1,5 +1,6 @@
 pub mod Ways
 pub mod RawCandidates
 pub mod ShowingTests
+pub mod Showing
 pub mod inner
 pub mod Over

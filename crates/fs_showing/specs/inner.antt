@@ -2,3 +2,6 @@
 pub mod Listed
 pub mod Chosen
 pub mod Totals
+pub mod Tested
+pub mod Places
+pub mod Ordered

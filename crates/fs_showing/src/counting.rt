@@ -34,7 +34,7 @@ pub(crate) fn times(count: u32, factor: usize) -> u32
 }
 
 // How many orders so many stores have.
-fn count_orders(stores: usize) -> u32
+pub(crate) fn count_orders(stores: usize) -> u32
     ensures exact { result ≡ capped (factorial stores) }
     ensures most { result ≤ most_candidates + 1 }
 {
@@ -58,7 +58,7 @@ pub(crate) fn count_choices<T>(lists: &[List<T>]) -> u32
 }
 
 // The product of the numbers of orders.
-fn count_store_orders(stores: &[List<u8>]) -> u32
+pub(crate) fn count_store_orders(stores: &[List<u8>]) -> u32
     ensures exact { result ≡ capped (product_by number_of_orders stores.now) }
     ensures most { result ≤ most_candidates + 1 }
 {
@@ -70,14 +70,27 @@ fn count_store_orders(stores: &[List<u8>]) -> u32
 }
 
 impl Choices {
+    // How many ways there are to choose the sources, or one more than there may be.
+    pub(crate) fn count_sources(&self) -> u32
+        ensures exact { result ≡ capped (product_of_lengths self.now.sources.items) }
+        ensures most { result ≤ most_candidates + 1 }
+    {
+        count_choices(&self.sources)
+    }
+
+    // How many ways there are to order the stores, or one more than there may be.
+    pub(crate) fn count_orders(&self) -> u32
+        ensures exact { result ≡ capped (product_by number_of_orders self.now.stores.items) }
+        ensures most { result ≤ most_candidates + 1 }
+    {
+        count_store_orders(&self.stores)
+    }
+
     // How many candidates the choices make, or one more than there may be.
     pub(crate) fn count(&self) -> u32
         ensures exact { result ≡ capped (product_of_lengths self.now.sources.items * product_by number_of_orders self.now.stores.items) }
         ensures most { result ≤ most_candidates + 1 }
     {
-        times(
-            count_choices(&self.sources),
-            count_store_orders(&self.stores) as usize,
-        )
+        times(self.count_sources(), self.count_orders() as usize)
     }
 }

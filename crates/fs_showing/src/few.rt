@@ -4,7 +4,9 @@ ghost use Rattle.std.specs.Prelude.{◌≡◌, ◌≢◌, All, IfErr, OnOk};
 ghost use Rattle.fs_kinds.specs.declared.fault.Fault.TheVariants.{Memory, TooManyCandidates};
 ghost use Rattle.fs_syntax.specs.Test.{IsBounded, IsStart};
 ghost use Rattle.fs_answer.specs.CandidateFaults.{HasTooMany};
-ghost use Rattle.fs_showing.specs.Over.{AreValueSets, HasNoHartFault};
+ghost use Rattle.fs_hart.specs.Listing.{IsOffered};
+ghost use Rattle.fs_values.specs.Sets.{AreValues};
+ghost use Rattle.fs_values.specs.Rounds.{HasNoFault};
 
 use crate::runs::runs_over;
 use crate::total::check_few;
@@ -22,8 +24,8 @@ use std::alloc::Global;
 pub fn check_candidates(alloc: Global, test: &Test, sets: &[Words]) -> Result<(), Fault>
     requires test { IsBounded test.now }
     requires starts { All IsStart test.now.starts }
-    requires sets { AreValueSets test.now sets.now }
-    requires clean { HasNoHartFault test.now sets.now }
+    requires sets { AreValues test.now sets.now }
+    requires clean { HasNoFault test.now (IsOffered sets.now) }
     ensures clean { OnOk result (HasTooMany test.now → ⊥) }
     ensures err { IfErr result (λ fault. fault ≢ Memory → (fault ≡ TooManyCandidates) × HasTooMany test.now) }
 {

@@ -1,12 +1,21 @@
-//! The candidate executions of a test that show its outcome, each once and in their order: which they are, and how many raw ones
-//! there are, without listing them.
+//! The candidate executions of a test that show its outcome, each once and in their order: which they are, as one list, and how
+//! many raw ones there are, without listing them.
 #![tactic(auto)]
 
+mod atomicity;
+mod by_number;
 mod choices;
+mod coherence;
 mod counting;
 mod few;
+mod going;
 pub mod laws;
+mod outcome;
+mod place;
+mod prepared;
 mod runs;
+mod showing;
 mod total;
 
 pub use few::check_candidates;
+pub use showing::Showing;

@@ -6,7 +6,9 @@ ghost use Rattle.std.specs.List.Sorted.{IsStrictlyIncreasing};
 ghost use Rattle.fs_kinds.specs.declared.fault.Fault.TheVariants.{Memory};
 ghost use Rattle.fs_syntax.specs.Test.{IsBounded, IsStart};
 ghost use Rattle.fs_answer.specs.CandidateFaults.{most_candidates};
-ghost use Rattle.fs_showing.specs.Over.{HasNoHartFault, AreListed};
+ghost use Rattle.fs_hart.specs.Listing.{IsOffered};
+ghost use Rattle.fs_values.specs.Rounds.{HasNoFault};
+ghost use Rattle.fs_showing.specs.Over.{AreListed};
 ghost use Rattle.fs_showing.specs.Ways.{products, product_of_lengths};
 
 use crate::counting::count_choices;
@@ -33,7 +35,7 @@ pub(crate) fn runs_over(
     requires test { IsBounded test.now }
     requires starts { All IsStart test.now.starts }
     requires sets { All IsStrictlyIncreasing sets.now }
-    requires clean { HasNoHartFault test.now sets.now }
+    requires clean { HasNoFault test.now (IsOffered sets.now) }
     ensures harts { IfOk result (λ lists. length lists.items ≡ length test.now.codes) }
     ensures ok { IfOk result (λ lists. AreListed test.now sets.now lists.items) }
     ensures err { IsOkUnless result Memory }

@@ -5,14 +5,14 @@ ghost use Rattle.fs_kinds.specs.declared.fault.Fault.TheVariants.{Memory, TooMan
 ghost use Rattle.fs_syntax.specs.Test.{IsBounded};
 ghost use Rattle.fs_answer.specs.CandidateFaults.{most_candidates, HasTooMany};
 ghost use Rattle.fs_hart.specs.Steps.{steps_in};
+ghost use Rattle.fs_showing.specs.Over.{HaveFinal};
 ghost use Rattle.fs_showing.specs.RawCandidates.{AreAllRuns};
 ghost use Rattle.fs_showing.specs.Ways.{product_of_lengths};
 ghost use Rattle.fs_showing.specs.inner.Totals.{capped_with};
 
-use crate::choices::Choices;
 use crate::counting::{MOST_CANDIDATES, count_choices};
-use crate::runs::push_runs;
-use fs_hart::{Trace, operations};
+use crate::prepared::Prepared;
+use fs_hart::Trace;
 use fs_kinds::Fault;
 use fs_list::List;
 use fs_syntax::Test;
@@ -22,17 +22,15 @@ use std::alloc::Global;
 fn count_with(alloc: Global, test: &Test, lists: &[List<Trace>], number: u32) -> Result<u32, Fault>
     requires test { IsBounded test.now }
     requires runs { AreAllRuns test.now (map steps_in lists.now) }
+    requires registers { HaveFinal test.now lists.now }
     requires few { product_of_lengths lists.now ≤ most_candidates }
     requires number { number < product_of_lengths lists.now }
     ensures ok { IfOk result (λ count. count ≡ capped_with test.now lists.now number) }
     ensures most { IfOk result (λ count. count ≤ most_candidates + 1) }
     ensures err { IsOkUnless result Memory }
 {
-    let mut traces = Vec::new(alloc);
-    push_runs(alloc, lists, number, &mut traces)?;
-    let operations = operations(alloc, test, &traces)?;
-    let locations = test.locations.as_slice().len() as u8;
-    Ok(Choices::of(alloc, operations.as_slice(), locations)?.count())
+    let prepared = Prepared::of(alloc, test, lists, number)?;
+    Ok(prepared.choices.count())
 }
 
 /// Goes over the lists of runs, where these are all runs of each hart over the value sets, and counts the raw candidates, as far as
@@ -41,6 +39,7 @@ fn count_with(alloc: Global, test: &Test, lists: &[List<Trace>], number: u32) ->
 pub(crate) fn check_few(alloc: Global, test: &Test, lists: &[List<Trace>]) -> Result<(), Fault>
     requires test { IsBounded test.now }
     requires runs { AreAllRuns test.now (map steps_in lists.now) }
+    requires registers { HaveFinal test.now lists.now }
     ensures clean { OnOk result (HasTooMany test.now → ⊥) }
     ensures err { IfErr result (λ fault. fault ≢ Memory → (fault ≡ TooManyCandidates) × HasTooMany test.now) }
 {

@@ -79,6 +79,7 @@ impl Values {
         ensures clean { OnOk result ((f : Fault) → IsRunFault test.now f → ⊥) }
         ensures err { IfErr result (λ f. f ≢ Memory → IsRunFault test.now f) }
         ensures grounded { OnOk result (IsAlwaysGrounded test.now) }
+        ensures no_fault { IfOk result (λ values. HasNoFault test.now (IsOffered values)) }
     {
         let mut values = Values::initial(alloc, test)?;
         let most = rounds(test);

@@ -19,6 +19,9 @@ loop-preserved c =
       clean = clean_more t n sets c.loop.invariant.sets c.loop.invariant.clean c.in_ok-more.ensures.clean;
     }
 
+pub returns-then-eq-clause-no_fault : goal.returns-then-eq-clause-no_fault
+returns-then-eq-clause-no_fault c = c.in_ok-more.ensures.clean
+
 made : (c : goal.After-drop-more-inside) → AreSets c.args.test.now (IsInNext c.args.test.now (IsOffered c.loop.values)) c.loop.values
 made c =
     let sets = c.loop.values in
@@ -72,3 +75,7 @@ returns-clause-clean c = no_run_fault c.args.test.now (clean_last c)
 
 pub returns-clause-grounded : goal.returns-clause-grounded
 returns-clause-grounded c = grounded c.args.test.now c.requires.test c.in_ok-values.ensures.words (clean_last c)
+
+pub returns-clause-no_fault : goal.returns-clause-no_fault
+returns-clause-no_fault c =
+    subst (λ ss. HasNoFault c.args.test.now (IsOffered ss)) (c.deref.ensures.value ∙ c.values-2.view_is) c.in_ok-stores_over.ensures.clean

@@ -1,0 +1,37 @@
+use Rattle.std.proofs.Common.{◌≡◌, ◌∙◌, ◌≤◌, ℕ, not, ◌==◌, List, [], map, length, refl, ap, inl, inr, arith}
+use Rattle.std.specs.List.{slice_index_or}
+use Rattle.std.proofs.lemmas.Bool.{cases_lt}
+use Rattle.std.proofs.Math.ListN.{get_or-eq_default}
+use Rattle.std.proofs.lemmas.List.{length-map}
+use Rattle.fs_syntax.specs.declared.test.Test.{Test}
+use Rattle.fs_syntax.specs.Condition.{Condition, condition_of, Always, Never, RegisterIs, LocationIs, Deny, Both, Either}
+use Rattle.fs_model.specs.declared.operation.Operation.{Operation}
+use Rattle.fs_model.specs.Execute.{read}
+use Rattle.fs_model.specs.Trace.{start_with, hart_after}
+use Rattle.fs_model.specs.Operations.{operations, steps_of}
+use Rattle.fs_model.specs.Execution.{registers_of}
+use Rattle.fs_model.specs.Shows.{holds, is_outcome, final_register}
+use Rattle.fs_hart.specs.declared.trace.Trace.{Trace}
+use Rattle.fs_hart.specs.Steps.{steps_in}
+use Rattle.fs_axioms.specs.Final.{register_in, AreFinal}
+use Rattle.fs_answer.specs.Candidates.{Candidate, last_word, runs_of}
+use Rattle.fs_showing.specs.RawCandidates.{candidate}
+use Rattle.fs_showing.specs.inner.Tested.{word_among}
+use Rattle.fs_showing.proofs.Registers.{holds_same, same_register}
+use Rattle.fs_showing.proofs.outcome.has_outcome.Goals as goal
+
+same_word : (t : Test) (c : Candidate) (os : List Operation) → os ≡ operations (runs_of t c) → (location : ℕ)
+    → word_among os c.store_order location ≡ last_word t c location
+same_word t c os e location = rw e refl
+
+pub returns : goal.returns
+returns c = λ sources e.
+    let test : Test = c.args.test.now in
+    let traces : List Trace = c.args.traces.now in
+    let made : Candidate = candidate (steps_in traces) sources c.args.orders.now in
+    c.is_outcome.ensures
+    ∙ ap (is_outcome test.quantifier)
+    (c.holds.ensures
+    ∙ holds_same (register_in traces) (final_register test (steps_in traces)) (word_among c.args.operations.now c.args.orders.now)
+    (last_word test made) (same_register test traces c.requires) (same_word test made c.args.operations.now e)
+    (condition_of test.condition))

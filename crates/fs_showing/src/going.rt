@@ -1,0 +1,124 @@
+//! Going over the raw candidates of given runs.
+
+ghost use Rattle.std.specs.Prelude.{◌≡◌, ◌≤◌, ◌<◌, ◌*◌, ◌++◌, [], map, length, IfOk, OnOk, IsOkUnless};
+ghost use Rattle.std.specs.List.{slice_index_or};
+ghost use Rattle.fs_kinds.specs.declared.fault.Fault.TheVariants.{Memory};
+ghost use Rattle.fs_syntax.specs.Test.{IsBounded};
+ghost use Rattle.fs_model.specs.Execution.{initial_words, pre_execution};
+ghost use Rattle.fs_hart.specs.Steps.{steps_in};
+ghost use Rattle.fs_answer.specs.CandidateFaults.{most_candidates};
+ghost use Rattle.fs_cand.specs.Candidates.{candidate_of, IsMade};
+ghost use Rattle.fs_showing.specs.Ways.{products, product_of_lengths, product_by};
+ghost use Rattle.fs_showing.specs.RawCandidates.{all_orders};
+ghost use Rattle.fs_showing.specs.inner.Listed.{number_of_orders};
+ghost use Rattle.fs_showing.specs.inner.Places.{place, count_with, numbered_with, showing_from, IsPrepared};
+
+use crate::by_number::{push_orders, push_sources};
+use crate::outcome::may_show;
+use crate::place::Place;
+use crate::prepared::Prepared;
+use fs_cand::{Candidate, StoreOrder};
+use fs_kinds::Fault;
+use fs_list::List;
+use fs_syntax::Test;
+use std::alloc::{AllocError, Global};
+
+impl Prepared {
+    // The store orders of this number.
+    fn orders(&self, alloc: Global, test: &Test, number: u32) -> Result<Vec<List<u8>>, AllocError>
+        requires prepared { IsPrepared test.now self.now }
+        requires few { product_by number_of_orders self.now.choices.stores.items ≤ most_candidates }
+        requires number { number < product_by number_of_orders self.now.choices.stores.items }
+        ensures { IfOk result (λ orders. orders.items
+            ≡ slice_index_or (products (all_orders test.now (pre_execution test.now (steps_in self.now.traces)))) number []) }
+    {
+        let mut orders = Vec::new(alloc);
+        let first = self.choices.count as u8;
+        push_orders(alloc, first, &self.choices.stores, number, &mut orders)?;
+        Ok(orders)
+    }
+
+    // Puts the numbers of those raw candidates with these sources that show the outcome behind the others. The sources have the
+    // number `first`.
+    fn add_with(
+        &self,
+        alloc: Global,
+        test: &Test,
+        runs: u32,
+        first: u32,
+        sources: &[Option<u8>],
+        kept: &mut Vec<Place>,
+    ) -> Result<(), AllocError>
+        requires prepared { IsPrepared test.now self.now }
+        requires few { count_with test.now self.now.traces ≤ most_candidates }
+        requires first { first < product_of_lengths self.now.choices.sources.items }
+        requires sources { sources.now ≡ slice_index_or (products self.now.choices.sources.items) first [] }
+        ensures { OnOk result (kept.new.items ≡ kept.old.items ++ map (place runs) (showing_from test.now self.now.traces
+            (first * product_by number_of_orders self.now.choices.stores.items) (product_by number_of_orders self.now.choices.stores.items))) }
+    {
+        let count = self.choices.count_orders();
+        for second in 0..count {
+            let orders = self.orders(alloc, test, second)?;
+            if self.shows(test, sources, &orders) {
+                let chosen = first * count + second;
+                kept.push(Place { runs, chosen })?;
+            }
+        }
+        Ok(())
+    }
+
+    // Puts the numbers of the raw candidates that show the outcome behind the others.
+    pub(crate) fn add_showing(
+        &self,
+        alloc: Global,
+        test: &Test,
+        runs: u32,
+        kept: &mut Vec<Place>,
+    ) -> Result<(), AllocError>
+        requires prepared { IsPrepared test.now self.now }
+        requires few { count_with test.now self.now.traces ≤ most_candidates }
+        ensures { OnOk result (kept.new.items ≡ kept.old.items
+            ++ map (place runs) (showing_from test.now self.now.traces 0 (count_with test.now self.now.traces))) }
+    {
+        if !may_show(test, self.traces.as_slice()) {
+            return Ok(());
+        }
+        let mut sources = Vec::new(alloc);
+        for first in 0..self.choices.count_sources() {
+            sources.clear();
+            push_sources(&self.choices.sources, first, &mut sources)?;
+            self.add_with(alloc, test, runs, first, &sources, kept)?;
+        }
+        Ok(())
+    }
+
+    // The raw candidate of this number.
+    pub(crate) fn candidate(
+        self,
+        alloc: Global,
+        test: &Test,
+        chosen: u32,
+    ) -> Result<Candidate, Fault>
+        requires bounded { IsBounded test.now }
+        requires prepared { IsPrepared test.now self }
+        requires few { count_with test.now self.traces ≤ most_candidates }
+        requires chosen { chosen < count_with test.now self.traces }
+        ensures ok { IfOk result (λ c. candidate_of c ≡ numbered_with test.now self.traces chosen) }
+        ensures made { IfOk result (IsMade (initial_words test.now)) }
+        ensures harts { IfOk result (λ c. length c.traces ≤ 8) }
+        ensures operations { IfOk result (λ c. length c.operations ≤ 64) }
+        ensures err { IsOkUnless result Memory }
+    {
+        let count = self.choices.count_orders();
+        let mut sources = Vec::new(alloc);
+        push_sources(&self.choices.sources, chosen / count, &mut sources)?;
+        let orders = self.orders(alloc, test, chosen % count)?;
+        Candidate::new(
+            alloc,
+            test,
+            self.traces,
+            List::new(sources),
+            StoreOrder::new(orders),
+        )
+    }
+}

@@ -1,0 +1,5 @@
+//! Tests of the listing of candidates, on litmus tests as text.
+#![tactic(auto)]
+
+#[cfg(test)]
+mod listings;
