@@ -1,0 +1,4 @@
+-- What only inner functions and proofs need.
+pub mod Keeping
+pub mod Reading
+pub mod Widening
