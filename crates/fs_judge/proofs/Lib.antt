@@ -1,0 +1,4 @@
+pub mod Caused
+pub mod Linked
+pub mod Listed
+pub mod Prepared

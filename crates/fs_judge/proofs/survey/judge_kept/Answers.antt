@@ -1,0 +1,45 @@
+use Rattle.std.proofs.Common.{◌≡◌, ℕ, List, Some, length, refl, sym, ◌∙◌, ap, subst, arith}
+use Rattle.std.specs.Prelude.{slice_get}
+use Rattle.std.proofs.lemmas.Option.{slice_get_read}
+use Rattle.fs_syntax.specs.declared.test.Test.{Test}
+use Rattle.fs_model.specs.Execution.{initial_words}
+use Rattle.fs_cand.specs.Candidates.{candidate_of, IsMade}
+use Rattle.fs_relation.specs.Edges.{has_edge}
+use Rattle.fs_relation.specs.Orders.{IsOrderBelow}
+use Rattle.fs_judge.specs.inner.Bases.{IsBase}
+use Rattle.fs_judge.proofs.Prepared.{showing_at, item_at}
+use Rattle.fs_judge.proofs.survey.judge_kept.Goals as goal
+
+pub has_order-requires : goal.has_order-requires
+has_order-requires c =
+    let found = c.in-Some.ensures.lookup in
+    let low = found.3.0 in
+    let there : slice_get c.args.bases.now c.args.number ≡ Some c.in-Some.base.now =
+    slice_get_read c.args.bases.now (length c.args.bases.now) c.args.number c.in-Some.base.now refl low found.1 in
+    let within = c.requires.bases.within in
+    let here = item_at c.args.showing.now.candidates c.args.number (omega (arith, low, within)) in
+    (c.requires.bases.each c.args.number c.in-Some.base.now there here.0 here.1).few
+
+pub widest_witness-requires-clause-showing : goal.widest_witness-requires-clause-showing
+widest_witness-requires-clause-showing c =
+    showing_at c.args.test.now c.args.showing.now.candidates c.args.number (candidate_of c.in_ok-candidate.candidate) c.requires.listing c.in_ok-candidate.ensures.ok
+
+pub widest_witness-requires-clause-rows : goal.widest_witness-requires-clause-rows
+widest_witness-requires-clause-rows c =
+    let found = c.in-Some.ensures.lookup in
+    let there : slice_get c.args.bases.now c.args.number ≡ Some c.in-Some.base.now =
+    slice_get_read c.args.bases.now (length c.args.bases.now) c.args.number c.in-Some.base.now refl found.3.0 found.1 in
+    let candidate = candidate_of c.in_ok-candidate.candidate in
+    c.under-rows.ensures c.args.test.now candidate (c.requires.bases.each c.args.number c.in-Some.base.now there candidate c.in_ok-candidate.ensures.ok)
+
+pub widest_witness-requires-clause-order : goal.widest_witness-requires-clause-order
+widest_witness-requires-clause-order c =
+    let found = c.in-Some.ensures.lookup in
+    let there : slice_get c.args.bases.now c.args.number ≡ Some c.in-Some.base.now =
+    slice_get_read c.args.bases.now (length c.args.bases.now) c.args.number c.in-Some.base.now refl found.3.0 found.1 in
+    let candidate = c.in_ok-candidate.candidate in
+    let base : IsBase c.args.test.now (candidate_of candidate) c.in-Some.base.now =
+    c.requires.bases.each c.args.number c.in-Some.base.now there (candidate_of candidate) c.in_ok-candidate.ensures.ok in
+    let made : IsMade (initial_words c.args.test.now) candidate = subst (λ (u : Test). IsMade (initial_words u) candidate) c.requires.same c.in_ok-candidate.ensures.made in
+    let long : c.in-Some.base.now.len ≡ length candidate.operations = base.long ∙ sym (ap length made.operations) in
+    subst (λ (n : ℕ). (numbers : List ℕ) × IsOrderBelow (has_edge c.under-rows.result) n numbers) long (c.has_order.ensures.ordered c.if-not-has_order.false)

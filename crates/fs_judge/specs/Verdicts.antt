@@ -1,0 +1,19 @@
+-- What is said of a placement.
+use Rattle.std.specs.Prelude.{◌≡◌, List}
+use Rattle.fs_kinds.specs.declared.placement.Entry.{Entry}
+use Rattle.fs_syntax.specs.declared.test.Test.{Test}
+use Rattle.fs_model.specs.Execution.{Execution}
+use Rattle.fs_model.specs.Allows.{Shows, Allows}
+use Rattle.fs_answer.specs.Valid.{HasCycles}
+use Rattle.fs_evidence.specs.Evidence.{Shown, IsWitnessFor}
+use Rattle.fs_judge.specs.declared.verdict.Verdict.{Verdict}
+use Rattle.fs_judge.specs.declared.verdict.Verdict.TheVariants.{Allowed, Forbids}
+
+-- the witness gives an execution that shows the outcome with the placed fences too
+abbrev pub IsShownWith : Test → List Entry → Shown → Type 0
+IsShownWith t p witness = (e : Execution) × IsWitnessFor t witness e × Shows t p e
+
+-- a witness that the outcome is allowed; or the placement, with a cycle for each showing candidate, and the outcome is forbidden
+abbrev pub IsVerdict : Test → List Entry → Verdict → Type 0
+IsVerdict t p (Allowed witness) = IsShownWith t p witness
+IsVerdict t p (Forbids f) = (f.placement ≡ p) × HasCycles t p f.cycles × (Allows t p → ⊥)

@@ -1,0 +1,15 @@
+//! Judging placements: which candidates a placement leaves, with a witness or with a cycle for each.
+#![tactic(auto)]
+
+mod base;
+mod causes;
+mod edges;
+mod judging;
+mod links;
+mod prepare;
+mod problem;
+mod survey;
+mod verdict;
+
+pub use problem::Problem;
+pub use verdict::Verdict;

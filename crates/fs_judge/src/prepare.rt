@@ -1,0 +1,103 @@
+//! What is made once for a test, before any placement.
+
+ghost use Rattle.std.specs.Prelude.{◌≡◌, ◌≢◌, ◌≤◌, ◌<◌, ◌^◌, ℕ, All, Some, slice_get, IfOk, OnOk, IfErr, IsOkUnless};
+ghost use Rattle.fs_kinds.specs.declared.fault.Fault.{Fault as RunFault};
+ghost use Rattle.fs_kinds.specs.declared.fault.Fault.TheVariants.{Memory};
+ghost use Rattle.fs_syntax.specs.Test.{IsBounded, IsStart};
+ghost use Rattle.fs_answer.specs.CandidateFaults.{IsCandidateFault};
+ghost use Rattle.fs_answer.specs.Listings.{IsListing};
+ghost use Rattle.fs_thin_air.specs.ThinAir.{BeginsWithWords, CanBeListed};
+ghost use Rattle.fs_judge.specs.declared.base.Base.{Base as Kept};
+ghost use Rattle.fs_judge.specs.inner.Bases.{AreBases};
+
+use crate::base::Base;
+use fs_evidence::Question;
+use fs_kinds::Fault;
+use fs_showing::Showing;
+use fs_syntax::Test;
+use fs_values::Values;
+use std::alloc::Global;
+use std::sync::Arc;
+
+/// How many bases are kept at most. Of further candidates they are made anew each time.
+const MOST_BASES: usize = 65_536;
+
+/// How many places for fences the bases have at most, so that they take no more than some 100 megabytes.
+const MOST_PLACES: usize = 2_097_152;
+
+// A law: a word of 32 bits is one.
+fn is_word(_word: u32)
+    ensures { _word < 2 ^ 32 }
+{}
+
+// A law: the words that the locations of a test begin with are words of 32 bits.
+pub(crate) fn begins_with_words(test: &Test)
+    ensures { BeginsWithWords test.now }
+{
+    for declared in test.locations.as_slice() {
+        is_word(declared.word);
+    }
+}
+
+// The test of the question.
+pub(crate) fn test_of(question: &Question) -> &Test
+    ensures { result.now ≡ question.now.test }
+{
+    &question.test
+}
+
+// The showing candidates of the question's test, whose runs can be listed. The fault is the first of its value sets, else F15; or F19.
+pub(crate) fn showing_of(alloc: Global, question: &Question) -> Result<Showing, Fault>
+    requires test { IsBounded question.now.test }
+    requires starts { All IsStart question.now.test.starts }
+    ensures test { IfOk result (λ showing. showing.test ≡ question.now.test) }
+    ensures listing { IfOk result (λ showing. IsListing showing.test showing.candidates) }
+    ensures listable { OnOk result (CanBeListed question.now.test) }
+    ensures clean { OnOk result ((f : RunFault) → IsCandidateFault question.now.test f → ⊥) }
+    ensures err { IfErr result (λ f. f ≢ Memory → IsCandidateFault question.now.test f) }
+{
+    let test = Arc::try_clone(&question.test)?;
+    let values = Values::of(alloc, &test)?;
+    begins_with_words(&test);
+    Showing::of(alloc, test, &values)
+}
+
+// How many bases are kept for a test: no run has more steps than its hart has instructions.
+fn most_bases(test: &Test) -> usize
+    ensures { result ≤ 65536 }
+{
+    let mut steps: usize = 0;
+    for code in test.codes.as_slice() {
+        steps = steps.saturating_add(code.len());
+    }
+    (MOST_PLACES / steps.max(1)).min(MOST_BASES)
+}
+
+// The bases of the first showing candidates.
+pub(crate) fn bases_of(alloc: Global, showing: &Showing) -> Result<Vec<Base>, Fault>
+    requires { IsListing showing.now.test showing.now.candidates }
+    ensures ok { IfOk result (λ bases. AreBases showing.now.test showing.now.candidates bases.items) }
+    ensures err { IsOkUnless result Memory }
+{
+    let mut bases = Vec::new(alloc);
+    let most = showing.len().min(most_bases(showing.test()));
+    for number in 0..most {
+        let candidate = showing.get(alloc, number)?;
+        bases.push(Base::of(alloc, &candidate)?)?;
+    }
+    Ok(bases)
+}
+
+// The numbers of the live ones.
+pub(crate) fn live_among(alloc: Global, bases: &[Base]) -> Result<Vec<usize>, Fault>
+    requires { (k : ℕ) (base : Kept) → slice_get bases.now k ≡ Some base → base.len ≤ 64 }
+    ensures { IsOkUnless result Memory }
+{
+    let mut live = Vec::new(alloc);
+    for number in 0..bases.len() {
+        if bases[number].is_live() {
+            live.push(number)?;
+        }
+    }
+    Ok(live)
+}

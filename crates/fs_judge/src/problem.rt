@@ -1,0 +1,167 @@
+//! A question that is ready to be judged.
+
+ghost use Rattle.std.specs.Prelude.{◌≡◌, ◌≢◌, All, IfOk, OnOk, IfErr, IfSome, IsOkUnless};
+ghost use Rattle.std.specs.Arc.{arc_value};
+ghost use Rattle.fs_kinds.specs.declared.fault.Fault.{Fault};
+ghost use Rattle.fs_kinds.specs.declared.fault.Fault.TheVariants.{Memory};
+ghost use Rattle.fs_kinds.specs.Placement.{slots_of};
+ghost use Rattle.fs_syntax.specs.Slots.{slots};
+ghost use Rattle.fs_syntax.specs.Test.{IsBounded, IsStart};
+ghost use Rattle.fs_answer.specs.CandidateFaults.{IsCandidateFault};
+ghost use Rattle.fs_judge.specs.Verdicts.{IsShownWith, IsVerdict};
+ghost use Rattle.fs_judge.specs.inner.Findings.{IsSurvey};
+
+use crate::base::Base;
+use crate::prepare::{bases_of, live_among, showing_of, test_of};
+use crate::survey::{Survey, Survivor, first_survivor, judge_all};
+use crate::verdict::Verdict;
+use fs_evidence::{Forbidden, Question, Witness};
+use fs_kinds::{Fault, Placement, Slot};
+use fs_showing::Showing;
+use std::alloc::Global;
+use std::marker::Model;
+use std::sync::Arc;
+
+/// A test and prices, with all that judging a placement takes: the showing candidates; of the first 65,536, or of fewer where the
+/// harts have many instructions, the judged relation without placed fences and the places where fences may stand; and which of these
+/// are live, as they have no cycle without placed fences. Contracts see the question.
+#[derive(Drop)]
+pub struct Problem {
+    question: Arc<Question>,
+    showing: Showing,
+    bases: Vec<Base>,
+    live: Vec<usize>,
+    last: usize,
+}
+
+impl Model for Problem {
+    ghost use Rattle.std.specs.Arc.{arc_value};
+    ghost use Rattle.std.specs.Coded.{codes};
+    ghost use Rattle.fs_syntax.specs.contracts.outcome.Outcome as outcome;
+    ghost use Rattle.fs_evidence.specs.Evidence.{Question as Asked};
+    ghost use Rattle.fs_judge.specs.inner.Bases.{IsPrepared};
+
+    ghost Value = { Asked };
+
+    ghost view = { λ p. arc_value p.question };
+
+    ghost coded = { Prim.hlevel (codes, outcome.the_row.coded) };
+
+    ghost invariant = { λ p. IsPrepared (arc_value p.question).test p.showing p.bases.items };
+}
+
+impl Problem {
+    /// Finds the value sets of the test, its showing candidates, and what is kept of the first ones. The test is bounded, and its
+    /// harts start with whole registers. The fault is F13 or F14 where a hart's runs can't be listed, else F15 where there are too
+    /// many candidates or lists of runs; or F19.
+    pub fn new(alloc: Global, question: Arc<Question>) -> Result<Problem, Fault>
+        requires test { IsBounded (arc_value question).test }
+        requires starts { All IsStart (arc_value question).test.starts }
+        ensures value { IfOk result (λ p. p ≡ arc_value question) }
+        ensures clean { OnOk result ((f : Fault) → IsCandidateFault (arc_value question).test f → ⊥) }
+        ensures err { IfErr result (λ f. f ≢ Memory → IsCandidateFault (arc_value question).test f) }
+    {
+        let showing = showing_of(alloc, &question)?;
+        let bases = bases_of(alloc, &showing)?;
+        let live = live_among(alloc, &bases)?;
+        Ok(Problem {
+            question,
+            showing,
+            bases,
+            live,
+            last: 0,
+        })
+    }
+
+    /// The test and the prices.
+    pub fn question(&self) -> &Arc<Question>
+        ensures { arc_value result.now ≡ self.now }
+    {
+        &self.question
+    }
+
+    /// A quick look for an execution that shows the outcome with the placed fences: among the live candidates that are kept, the
+    /// last one found first. Its witness is widened at the first slots before the others. No witness promises nothing. The cost: for
+    /// each candidate the steps of its runs times the slots, and for the witness that of `widest_witness`. The error is F19.
+    pub fn look(
+        &mut self,
+        alloc: Global,
+        placement: &Placement,
+        first: &[Slot],
+    ) -> Result<Option<Witness>, Fault>
+        ensures value { self.new ≡ self.old }
+        ensures ok { IfOk result (λ found. IfSome found (IsShownWith self.old.test placement.now)) }
+        ensures err { IsOkUnless result Memory }
+    {
+        let found = self.found(alloc, placement, first)?;
+        match found {
+            Some(survivor) => {
+                self.last = survivor.number;
+                Ok(Some(survivor.witness))
+            }
+            None => Ok(None),
+        }
+    }
+
+    // A live candidate without a cycle, the last one found before the others.
+    fn found(
+        &self,
+        alloc: Global,
+        placement: &Placement,
+        first: &[Slot],
+    ) -> Result<Option<Survivor>, Fault>
+        ensures ok { IfOk result (λ found. IfSome found (λ survivor. IsShownWith self.now.test placement.now survivor.witness)) }
+        ensures err { IsOkUnless result Memory }
+    {
+        let test = test_of(&self.question);
+        let showing = &self.showing;
+        let bases = self.bases.as_slice();
+        let last = [self.last];
+        let again = first_survivor(alloc, test, showing, bases, &last, placement, first)?;
+        if again.is_some() {
+            return Ok(again);
+        }
+        first_survivor(alloc, test, showing, bases, &self.live, placement, first)
+    }
+
+    /// Whether the placement, one of the test's slots, forbids the outcome: judges all showing candidates in their order. The one
+    /// without a cycle has a witness, widened at the first slots before the others; where there is none, there is a cycle for each.
+    /// The cost: for each candidate the steps of its runs times the slots, and its operations times the causes' tests for a cycle.
+    /// The error is F19.
+    pub fn verdict(
+        &mut self,
+        alloc: Global,
+        placement: &Placement,
+        first: &[Slot],
+    ) -> Result<Verdict, Fault>
+        requires { slots_of placement.now ≡ slots self.old.test }
+        ensures value { self.new ≡ self.old }
+        ensures ok { IfOk result (IsVerdict self.old.test placement.now) }
+        ensures err { IsOkUnless result Memory }
+    {
+        match self.surveyed(alloc, placement, first)? {
+            Survey::Survives(survivor) => {
+                self.last = survivor.number;
+                Ok(Verdict::Allowed(survivor.witness))
+            }
+            Survey::Cycles(cycles) => {
+                let placement = placement.copy()?;
+                Ok(Verdict::Forbids(Forbidden { placement, cycles }))
+            }
+        }
+    }
+
+    // What is found of all showing candidates.
+    fn surveyed(
+        &self,
+        alloc: Global,
+        placement: &Placement,
+        first: &[Slot],
+    ) -> Result<Survey, Fault>
+        ensures ok { IfOk result (IsSurvey self.now.test placement.now) }
+        ensures err { IsOkUnless result Memory }
+    {
+        let test = test_of(&self.question);
+        judge_all(alloc, test, &self.showing, &self.bases, placement, first)
+    }
+}
