@@ -1,0 +1,105 @@
+-- The least and the greatest placement as answers, what a finished board's bound says, and which fault is handed on.
+use Rattle.std.proofs.Common.{◌≡◌, ◌≢◌, ℕ, ◌<◌, true, false, Option, Some, None, Result, Ok, Err, IfErr, List, [], ◌∷◌, map, length, refl, sym, ap, ap₂, subst, ◌∙◌, arith, inl, inr, ◌⊎◌}
+use Rattle.std.specs.Result.{IsErrAnd}
+use Rattle.std.proofs.lemmas.Bool.{and_from, false≢true}
+use Rattle.fs_kinds.specs.declared.fault.Fault.{Fault}
+use Rattle.fs_kinds.specs.declared.fault.Fault.TheVariants.{Memory, NodeLimit}
+use Rattle.fs_kinds.specs.declared.kind.Kind.TheVariants.{RwRw}
+use Rattle.fs_kinds.specs.declared.placement.Entry.{Entry}
+use Rattle.fs_kinds.specs.declared.slot.Slot.{Slot}
+use Rattle.fs_kinds.specs.Placement.{slots_of, all_with}
+use Rattle.fs_kinds.specs.PriceTable.{PriceTable, IsPriceTable, are_offered, cost}
+use Rattle.fs_kinds.proofs.Entries.{slots_of-all_with}
+use Rattle.fs_syntax.specs.declared.test.Test.{Test}
+use Rattle.fs_syntax.specs.Slots.{slots}
+use Rattle.fs_model.specs.Execution.{Execution}
+use Rattle.fs_model.specs.Allows.{Allows, IsCheapest, is_better}
+use Rattle.fs_answer.specs.CandidateFaults.{IsCandidateFault}
+use Rattle.fs_answer.specs.Parts.{Part, floor, filled, undecided}
+use Rattle.fs_history.specs.Board.{Board, is_finished}
+use Rattle.fs_history.specs.Histories.{IsHistory}
+use Rattle.fs_history.specs.Sizes.{IsNodeLimit, tree_size}
+use Rattle.fs_tree.specs.Closing.{IsFinalAnswer}
+use Rattle.fs_tree.proofs.PartsOfTests.{under-root}
+use Rattle.fs_tree.proofs.Final.{final}
+use Rattle.fs_bound.proofs.Floors.{floor-best}
+use Rattle.fs_evidence.specs.Evidence.{Question, Shown}
+use Rattle.fs_board.specs.View.{Search}
+use Rattle.fs_search.specs.Answers.{IsSolveFault}
+
+-- ---- no fence at all
+
+offered-none : (prices : PriceTable) (ss : List Slot) → are_offered prices (all_with None ss) ≡ true
+offered-none prices [] = refl
+offered-none prices (s ∷ ss) = and_from _ _ refl (offered-none prices ss)
+
+floor-undecided : (ss : List Slot) → floor (map (λ slot. record { slot = slot; decided = None }) ss) ≡ all_with None ss
+floor-undecided [] = refl
+floor-undecided (s ∷ ss) = ap (λ (p : List Entry). record { slot = s; kind = None } ∷ p) (floor-undecided ss)
+
+pub none-offered : (t : Test) (prices : PriceTable) (p : List Entry) → p ≡ all_with None (slots t) → are_offered prices p ≡ true
+none-offered t prices p is = ap (are_offered prices) is ∙ offered-none prices (slots t)
+
+-- where it forbids the outcome it is the answer
+pub none-cheapest : (t : Test) (prices : PriceTable) (p : List Entry) → p ≡ all_with None (slots t) → (Allows t p → ⊥) → IsCheapest t prices p
+none-cheapest t prices p is forbids = record {
+  placement = record { slots = ap slots_of is ∙ slots_of-all_with None (slots t); offered = none-offered t prices p is };
+  forbids = forbids;
+  better = λ q placement better.
+      let worse = floor-best prices (undecided t) q (under-root t prices q placement) in
+      let same : is_better prices q (floor (undecided t)) ≡ is_better prices q p = ap (is_better prices q) (floor-undecided (slots t) ∙ sym is) in
+      absurd (false≢true (sym worse ∙ (same ∙ better)));
+}
+
+-- ---- a finished board
+
+-- the bound is the answer
+pub bound-cheapest : (s : Search) (q : Question) (p : List Entry) → s.question ≡ q → IsPriceTable q.prices
+    → IsHistory s.question.test s.question.prices s.board.limit s.log s.board → is_finished s.board ≡ true → Some p ≡ s.board.bound
+    → IsCheapest q.test q.prices p
+bound-cheapest s q p same table history finished is =
+    let table_there = subst (λ (x : Question). IsPriceTable x.prices) (sym same) table in
+    let answer = final s.question.test s.question.prices s.board.limit s.log s.board table_there history finished in
+    let cheapest : IsCheapest s.question.test s.question.prices p =
+    subst (IsFinalAnswer s.question.test s.question.prices s.board.witnesses) (sym is) answer in
+    subst (λ (x : Question). IsCheapest x.test x.prices p) same cheapest
+
+-- with no bound rw,rw in every slot allows the outcome
+pub all-allowed : (s : Search) (q : Question) → s.question ≡ q → IsPriceTable q.prices
+    → IsHistory s.question.test s.question.prices s.board.limit s.log s.board → is_finished s.board ≡ true → None ≡ s.board.bound
+    → Allows q.test (all_with (Some RwRw) (slots q.test))
+all-allowed s q same table history finished is =
+    let table_there = subst (λ (x : Question). IsPriceTable x.prices) (sym same) table in
+    let answer = final s.question.test s.question.prices s.board.limit s.log s.board table_there history finished in
+    let refuted = subst (IsFinalAnswer s.question.test s.question.prices s.board.witnesses) (sym is) answer in
+    let shown : Allows s.question.test (all_with (Some RwRw) (slots s.question.test)) =
+    (refuted.1.0, refuted.1.1.2.1) in
+    subst (λ (x : Question). Allows x.test (all_with (Some RwRw) (slots x.test))) same shown
+
+-- ---- faults
+
+-- what holds of the error handed on holds of the result
+pub handed : {T : Type 0} (r : Result T Fault) (fault : Fault) (P : Fault → Type 0) → IsErrAnd r (λ f. f ≡ fault) → P fault → IfErr r P
+handed (Ok x) fault P h p = tt
+handed (Err f) fault P h p = subst P (sym h) p
+
+-- the limit is due where the candidates can be listed, and the least and the greatest placement don't have the answer
+pub limit-fault : (q p : Question) (limit : ℕ) (f : Fault) → p ≡ q → ((other : Fault) → IsCandidateFault q.test other → ⊥)
+    → limit < tree_size q.prices (length (slots q.test)) → (f ≡ NodeLimit) × Allows p.test (all_with None (slots p.test))
+    × (Allows p.test (all_with (Some RwRw) (slots p.test)) → ⊥) → IsSolveFault q limit f
+limit-fault q p limit f same clean large ends =
+    let needed = subst (λ (x : Question). Allows x.test (all_with None (slots x.test))) same ends.1 in
+    let enough = subst (λ (x : Question). Allows x.test (all_with (Some RwRw) (slots x.test)) → ⊥) same ends.2 in
+    inr (ends.0, record { needed = needed; enough = enough; large = large }, clean)
+
+-- no fence at all, which forbids the outcome, with its cost
+pub none-answer : (q r : Question) (p : List Entry) (prices : PriceTable) → r ≡ q → prices ≡ q.prices → p ≡ all_with None (slots r.test)
+    → (Allows r.test (all_with None (slots r.test)) → ⊥) → IsCheapest q.test q.prices p × (cost prices p ≡ cost q.prices p)
+none-answer q r p prices same priced is forbids =
+    let there : p ≡ all_with None (slots q.test) = is ∙ ap (λ (x : Question). all_with None (slots x.test)) same in
+    let nowhere = subst (λ (x : Question). Allows x.test (all_with None (slots x.test)) → ⊥) same forbids in
+    let denied : Allows q.test p → ⊥ = λ shown. nowhere (subst (Allows q.test) there shown) in
+    (none-cheapest q.test q.prices p there denied, ap (λ (x : PriceTable). cost x p) priced)
+
+pub limit-not-memory : (f : Fault) → f ≡ NodeLimit → f ≢ Memory
+limit-not-memory f is other = let e : NodeLimit ≡ Memory = sym is ∙ other in absurd (cc)

@@ -1,0 +1,4 @@
+pub mod Goes
+pub mod Replied
+pub mod Ends
+pub mod Parts

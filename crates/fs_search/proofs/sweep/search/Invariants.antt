@@ -1,0 +1,14 @@
+use Rattle.std.proofs.Common.{◌≡◌, ◌+◌, ◌-◌}
+use Rattle.fs_search.specs.Histories.{GoesOn}
+use Rattle.fs_search.specs.inner.Steps.{AreWitnesses, done}
+use Rattle.fs_search.proofs.sweep.search.Given as goal
+
+abbrev pub invariant-loop-children : goal.invariant-loop-children
+invariant-loop-children l = record {
+  problem : l.problem ≡ l.initial.problem;
+  goes : GoesOn l.initial.board l.board;
+  known : AreWitnesses l.problem.test l.store;
+}
+
+abbrev pub decreases-loop-children : goal.decreases-loop-children
+decreases-loop-children l = (l.board.board.limit + 1) - done l.board.board

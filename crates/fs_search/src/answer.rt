@@ -1,0 +1,33 @@
+//! Answers, as values.
+
+ghost use Rattle.std.specs.Prelude.{◌≡◌, option_map};
+
+use fs_board::Board;
+use fs_evidence::Witness;
+use fs_kinds::Placement;
+
+/// The answer to a question.
+#[derive(Drop)]
+pub enum Answer {
+    /// The cheapest placement that forbids the outcome, of several the first, and what it costs.
+    Fenced { placement: Placement, cost: u64 },
+    /// No placement does: the witness shows the outcome even with `rw,rw` in every slot.
+    None { witness: Witness },
+}
+
+/// An answer, with the finished board that it was read from: none where the search came to its limit, and the least and the greatest
+/// placement had the answer.
+#[derive(Drop)]
+pub struct Solved {
+    pub answer: Answer,
+    pub board: Option<Board>,
+}
+
+impl Solved {
+    /// The finished board, where there is one.
+    pub fn board(&self) -> Option<&Board>
+        ensures { option_map (λ b. b.now) result ≡ self.now.board }
+    {
+        self.board.as_ref()
+    }
+}

@@ -1,0 +1,137 @@
+//! The answer to a question.
+
+ghost use Rattle.std.specs.Prelude.{◌≡◌, ◌≢◌, ◌≤◌, IfOk, IfErr, IfSome, OnOk, IsOkUnless, IsTrue, All, Some, None, true};
+ghost use Rattle.std.specs.Arc.{arc_value};
+ghost use Rattle.fs_kinds.specs.Placement.{all_with};
+ghost use Rattle.fs_kinds.specs.PriceTable.{IsPriceTable, are_offered, cost};
+ghost use Rattle.fs_syntax.specs.Test.{IsBounded, IsStart};
+ghost use Rattle.fs_syntax.specs.Slots.{slots};
+ghost use Rattle.fs_model.specs.Allows.{Allows};
+ghost use Rattle.fs_answer.specs.CandidateFaults.{IsCandidateFault};
+ghost use Rattle.fs_history.specs.Board.{is_finished};
+ghost use Rattle.fs_judge.specs.Verdicts.{IsVerdict};
+ghost use Rattle.fs_search.specs.Answers.{IsAnswer, IsSolveFault};
+
+use crate::answer::{Answer, Solved};
+use crate::sweep::search;
+use fs_board::Board;
+use fs_evidence::Question;
+use fs_judge::{Problem, Verdict};
+use fs_kinds::{Fault, Kind, Placement, Prices};
+use fs_syntax::slots;
+use std::alloc::Global;
+use std::sync::Arc;
+
+/// The placement as an answer, with its cost.
+fn fenced(prices: &Prices, placement: Placement) -> Answer
+    requires { IsTrue (are_offered prices.now placement) }
+    ensures { result ≡ Answer.Fenced placement (cost prices.now placement) }
+{
+    let cost = placement.cost(prices);
+    Answer::Fenced { placement, cost }
+}
+
+/// The verdict on no fence at all.
+fn verdict_on_none(alloc: Global, problem: &mut Problem) -> Result<Verdict, Fault>
+    requires { IsBounded problem.old.test }
+    ensures value { problem.new ≡ problem.old }
+    ensures ok { IfOk result (λ v. IsVerdict problem.old.test (all_with None (slots problem.old.test)) v) }
+    ensures err { IsOkUnless result Fault.Memory }
+{
+    let places = slots(alloc, &problem.question().test)?;
+    let placement = Placement::bottom(alloc, &places)?;
+    problem.verdict(alloc, &placement, &[])
+}
+
+/// The verdict on `rw,rw` in every slot.
+fn verdict_on_all(alloc: Global, problem: &mut Problem) -> Result<Verdict, Fault>
+    requires { IsBounded problem.old.test }
+    ensures value { problem.new ≡ problem.old }
+    ensures ok { IfOk result (λ v. IsVerdict problem.old.test (all_with (Some Kind.RwRw) (slots problem.old.test)) v) }
+    ensures err { IsOkUnless result Fault.Memory }
+{
+    let places = slots(alloc, &problem.question().test)?;
+    let placement = Placement::top(alloc, &places)?;
+    problem.verdict(alloc, &placement, &[])
+}
+
+/// The answer of a finished board: its bound, or where it has none the witness for `rw,rw` in every slot.
+fn answer_of(alloc: Global, problem: &mut Problem, board: &Board) -> Result<Answer, Fault>
+    requires bounded { IsBounded problem.old.test }
+    requires prices { IsPriceTable problem.old.prices }
+    requires same { board.now.question ≡ problem.old }
+    requires finished { is_finished board.now.board ≡ true }
+    ensures value { problem.new ≡ problem.old }
+    ensures ok { IfOk result (λ a. IsAnswer problem.old.test problem.old.prices a) }
+    ensures err { IsOkUnless result Fault.Memory }
+{
+    let _legal = board.log();
+    if let Some(best) = board.bound() {
+        let placement = best.placement.copy()?;
+        return Ok(fenced(&board.question().prices, placement));
+    }
+    let verdict = verdict_on_all(alloc, problem)?;
+    match verdict {
+        Verdict::Allowed(witness) => Ok(Answer::None { witness }),
+        Verdict::Forbids(_) => unreachable!(),
+    }
+}
+
+/// The answer where the search came to its limit: none where `rw,rw` in every slot isn't enough, no fence where none is needed. Else F16.
+fn answer_by_ends(alloc: Global, problem: &mut Problem) -> Result<Answer, Fault>
+    requires bounded { IsBounded problem.old.test }
+    requires prices { IsPriceTable problem.old.prices }
+    ensures ok { IfOk result (λ a. IsAnswer problem.old.test problem.old.prices a) }
+    ensures err { IfErr result (λ f. f ≢ Fault.Memory → (f ≡ Fault.NodeLimit)
+        × Allows problem.old.test (all_with None (slots problem.old.test))
+        × (Allows problem.old.test (all_with (Some Kind.RwRw) (slots problem.old.test)) → ⊥)) }
+{
+    let on_all = verdict_on_all(alloc, problem)?;
+    if let Verdict::Allowed(witness) = on_all {
+        return Ok(Answer::None { witness });
+    }
+    let on_none = verdict_on_none(alloc, problem)?;
+    match on_none {
+        Verdict::Forbids(forbidden) => {
+            let placement = forbidden.placement.copy()?;
+            Ok(fenced(&problem.question().prices, placement))
+        }
+        Verdict::Allowed(_) => Err(Fault::NodeLimit),
+    }
+}
+
+/// The answer to a question: the cheapest placement that forbids the outcome, of several the first, or a witness that none does. No node
+/// of the search has a number above the limit. F13 to F15 where the candidates can't be listed. F16 where the search comes to its limit,
+/// fences are needed, and `rw,rw` in every slot is enough. F19.
+pub fn solve(alloc: Global, question: Arc<Question>, limit: usize) -> Result<Solved, Fault>
+    requires test { IsBounded (arc_value question).test }
+    requires starts { All IsStart (arc_value question).test.starts }
+    requires prices { IsPriceTable (arc_value question).prices }
+    requires some { 1 ≤ limit }
+    requires limit { limit ≤ 1000000 }
+    ensures ok { IfOk result (λ s. IsAnswer (arc_value question).test (arc_value question).prices s.answer) }
+    ensures clean { OnOk result ((f : Fault) → IsCandidateFault (arc_value question).test f → ⊥) }
+    ensures board { IfOk result (λ s. IfSome s.board (λ b. (b.question ≡ arc_value question) × (is_finished b.board ≡ true))) }
+    ensures err { IfErr result (λ f. f ≢ Fault.Memory → IsSolveFault (arc_value question) limit f) }
+{
+    let asked = Arc::try_clone(&question)?;
+    let mut problem = Problem::new(alloc, asked)?;
+    let mut board = Board::new(alloc, question, limit)?;
+    match search(alloc, &mut problem, &mut board) {
+        Ok(()) => {
+            let answer = answer_of(alloc, &mut problem, &board)?;
+            Ok(Solved {
+                answer,
+                board: Some(board),
+            })
+        }
+        Err(Fault::NodeLimit) => {
+            let answer = answer_by_ends(alloc, &mut problem)?;
+            Ok(Solved {
+                answer,
+                board: None,
+            })
+        }
+        Err(fault) => Err(fault),
+    }
+}

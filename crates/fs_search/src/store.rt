@@ -1,0 +1,310 @@
+//! The witnesses that the search has met, and which of them it tries at a node.
+
+ghost use Rattle.std.specs.Prelude.{ℕ, ◌≡◌, ◌++◌, ◌∷◌, [], Some, IfOk, IfSome, OnOk, OnErr, slice_get, map};
+ghost use Rattle.std.specs.Arc.{arc_value};
+ghost use Rattle.fs_syntax.specs.declared.test.Test.{Test};
+ghost use Rattle.fs_search.specs.inner.Steps.{AreWitnesses};
+
+use crate::codes::{Codes, bits_of_kind, bits_of_pairs};
+use fs_board::{Board, Decision, Part};
+use fs_evidence::{Pairs, Witness};
+use fs_kinds::{Entry, Kind, Prices, Slot};
+use std::alloc::{AllocError, Global};
+use std::marker::Model;
+use std::sync::Arc;
+
+/// What breaking an execution costs at a slot where no offered kind breaks it.
+const NEVER: u64 = u64::MAX;
+
+/// A witness with its widths in words, and for each slot what the cheapest offered kind costs that breaks it there.
+#[derive(Drop)]
+struct Known {
+    witness: Arc<Witness>,
+    kept: Codes,
+    breaks: Vec<u64>,
+}
+
+impl Model for Known {
+    ghost use Rattle.std.specs.Arc.{arc_value};
+    ghost use Rattle.fs_evidence.specs.Evidence.{Shown};
+
+    ghost Value = { Shown };
+
+    ghost view = { λ k. arc_value k.witness };
+}
+
+/// The witnesses that the search has met, the newest last.
+#[derive(Drop)]
+pub(crate) struct Store {
+    known: Vec<Known>,
+}
+
+impl Model for Store {
+    ghost use Rattle.std.specs.Prelude.{List};
+    ghost use Rattle.fs_evidence.specs.Evidence.{Shown};
+
+    ghost Value = { List Shown };
+
+    ghost view = { λ s. s.known.items };
+}
+
+/// A stored witness that shows the outcome under a node's least placement: how many slots of the node are breakable for it, what its
+/// least break lacks to the greatest number, its number, and the breakable slots as bits. The least one is tried first.
+#[derive(Clone, Copy, PartialEq, Eq, PartialOrd, Ord)]
+struct Offer {
+    slots: u32,
+    lack: u64,
+    number: usize,
+    places: u64,
+}
+
+/// What the cheapest offered kind costs that orders a pair at the slot which isn't among these.
+fn least_break(prices: &Prices, slot: Slot, kept: Pairs) -> u64 {
+    let kept = bits_of_pairs(kept);
+    let weight = u64::from(prices.weight(slot));
+    let mut least = NEVER;
+    for kind in Kind::ALL {
+        if bits_of_kind(kind) & !kept != 0 {
+            if let Some(price) = prices.of(kind) {
+                least = least.min(u64::from(price).saturating_mul(weight));
+            }
+        }
+    }
+    least
+}
+
+/// What the placement costs, as far as numbers go.
+fn cost(prices: &Prices, placement: &[Entry]) -> u64 {
+    let mut total: u64 = 0;
+    for entry in placement {
+        if let Some(kind) = entry.kind {
+            if let Some(price) = prices.of(kind) {
+                let weight = u64::from(prices.weight(entry.slot));
+                total = total.saturating_add(u64::from(price).saturating_mul(weight));
+            }
+        }
+    }
+    total
+}
+
+/// Is the placement before the other one in the order of those of equal cost?
+fn is_before(placement: &[Entry], other: &[Entry]) -> bool {
+    for (entry, above) in placement.iter().zip(other) {
+        if entry.kind != above.kind {
+            return entry.kind < above.kind;
+        }
+    }
+    false
+}
+
+impl Known {
+    /// Whether it is worth an offer at a node: where it shows the outcome under the node's least placement, what breaking it takes.
+    fn offer(&self, number: usize, floor: &Codes, decisions: &[Decision]) -> Option<Offer> {
+        if !floor.is_within(&self.kept) {
+            return None;
+        }
+        let mut slots: u32 = 0;
+        let mut least = NEVER;
+        let mut places: u64 = 0;
+        let mut place: u64 = 1;
+        for (decision, cost) in decisions.iter().zip(&self.breaks) {
+            if decision.decided.is_none() && *cost != NEVER {
+                slots = slots.saturating_add(1);
+                least = least.min(*cost);
+                places |= place;
+            }
+            place = place.wrapping_shl(1);
+        }
+        let lack = NEVER.saturating_sub(least);
+        Some(Offer {
+            slots,
+            lack,
+            number,
+            places,
+        })
+    }
+}
+
+impl Store {
+    /// No witness yet.
+    pub(crate) fn new(alloc: Global) -> Store
+        ensures { result ≡ [] }
+    {
+        Store {
+            known: Vec::new(alloc),
+        }
+    }
+
+    /// Stores a witness, and hands it out. At `Err` nothing is changed.
+    pub(crate) fn add(
+        &mut self,
+        alloc: Global,
+        prices: &Prices,
+        decisions: &[Decision],
+        witness: Witness,
+    ) -> Result<Arc<Witness>, AllocError>
+        ensures shared { IfOk result (λ w. arc_value w ≡ witness) }
+        ensures ok { OnOk result (self.new ≡ self.old ++ witness ∷ []) }
+        ensures err { OnErr result (self.new ≡ self.old) }
+    {
+        let kept = Codes::of_widths(witness.widths.as_slice());
+        let breaks = breaks_of(alloc, prices, decisions, witness.widths.as_slice())?;
+        let witness = Arc::new(alloc, witness)?;
+        let shared = Arc::try_clone(&witness)?;
+        self.known.push(Known {
+            witness,
+            kept,
+            breaks,
+        })?;
+        Ok(shared)
+    }
+
+    /// The newest witness that shows the outcome with this placement.
+    pub(crate) fn newest_over(&self, placement: &[Entry]) -> Option<&Arc<Witness>>
+        ensures { IfSome result (λ w. (k : ℕ) × (slice_get self.now k ≡ Some (arc_value w.now))) }
+    {
+        let codes = Codes::of_placement(placement);
+        for known in self.known.iter().rev() {
+            if codes.is_within(&known.kept) {
+                return Some(&known.witness);
+            }
+        }
+        None
+    }
+
+    /// The witness of this number.
+    fn get(&self, number: usize) -> Option<&Arc<Witness>>
+        ensures { IfSome result (λ w. (k : ℕ) × (slice_get self.now k ≡ Some (arc_value w.now))) }
+    {
+        let known = self.known.get(number)?;
+        Some(&known.witness)
+    }
+
+    /// Adds the offered witness, unless it shares a breakable slot with those that were added before.
+    fn take(
+        &self,
+        picked: &mut Vec<Arc<Witness>>,
+        sum: &mut Sum,
+        offer: &Offer,
+    ) -> Result<(), AllocError>
+        ensures { (t : Test) → AreWitnesses t self.now → AreWitnesses t (map arc_value picked.old.items) → AreWitnesses t (map arc_value picked.new.items) }
+    {
+        if offer.places & sum.places != 0 {
+            return Ok(());
+        }
+        let Some(witness) = self.get(offer.number) else {
+            return Ok(());
+        };
+        let shared = Arc::try_clone(witness)?;
+        picked.push(shared)?;
+        sum.add(offer);
+        Ok(())
+    }
+
+    /// What the witnesses offer that show the outcome under a node's least placement: those first that are breakable at the fewest slots,
+    /// and of these those whose least break is the highest.
+    fn offers(
+        &self,
+        alloc: Global,
+        floor: &Codes,
+        decisions: &[Decision],
+    ) -> Result<Vec<Offer>, AllocError> {
+        let mut offers = Vec::new(alloc);
+        for (number, known) in self.known.iter().enumerate() {
+            if let Some(offer) = known.offer(number, floor, decisions) {
+                offers.push(offer)?;
+            }
+        }
+        offers.sort_unstable();
+        Ok(offers)
+    }
+
+    /// Witnesses that bound the node of this part and cost too much to break together, taken greedily: each that shares no breakable slot
+    /// with those taken. None where that doesn't close the node.
+    pub(crate) fn pick(
+        &self,
+        alloc: Global,
+        board: &Board,
+        part: &Part,
+    ) -> Result<Vec<Arc<Witness>>, AllocError>
+        ensures { IfOk result (λ picked. (t : Test) → AreWitnesses t self.now → AreWitnesses t (map arc_value picked.items)) }
+    {
+        let floor = part.floor(alloc)?;
+        let codes = Codes::of_placement(floor.as_slice());
+        let offers = self.offers(alloc, &codes, part.as_slice())?;
+        let limit = Limit::of(board, floor.as_slice());
+        let mut sum = Sum {
+            total: cost(&board.question().prices, floor.as_slice()),
+            places: 0,
+        };
+        let mut picked = Vec::new(alloc);
+        for offer in &offers {
+            self.take(&mut picked, &mut sum, offer)?;
+            if limit.is_passed(sum.total) {
+                return Ok(picked);
+            }
+        }
+        Ok(Vec::new(alloc))
+    }
+}
+
+/// What breaking an execution of these widths costs at each slot.
+fn breaks_of(
+    alloc: Global,
+    prices: &Prices,
+    decisions: &[Decision],
+    widths: &[Pairs],
+) -> Result<Vec<u64>, AllocError> {
+    let mut breaks = Vec::new(alloc);
+    for (decision, kept) in decisions.iter().zip(widths) {
+        breaks.push(least_break(prices, decision.slot, *kept))?;
+    }
+    Ok(breaks)
+}
+
+/// What breaking the witnesses that were taken costs, with the node's least placement, and where they are breakable.
+#[derive(Clone, Copy)]
+struct Sum {
+    total: u64,
+    places: u64,
+}
+
+impl Sum {
+    /// Takes one more.
+    fn add(&mut self, offer: &Offer) {
+        self.total = self.total.saturating_add(NEVER.saturating_sub(offer.lack));
+        self.places |= offer.places;
+    }
+}
+
+/// What a node must cost to be closed: at least so much, or more.
+#[derive(Clone, Copy)]
+struct Limit {
+    cost: u64,
+    is_enough: bool,
+}
+
+impl Limit {
+    /// The limit at a node of this floor: at equal cost the bound wins where the floor isn't before it. With no bound it is what can't be
+    /// had at all.
+    fn of(board: &Board, floor: &[Entry]) -> Limit {
+        match board.bound() {
+            None => Limit {
+                cost: NEVER,
+                is_enough: true,
+            },
+            Some(bound) => {
+                let best = bound.placement.as_slice();
+                Limit {
+                    cost: cost(&board.question().prices, best),
+                    is_enough: !is_before(floor, best),
+                }
+            }
+        }
+    }
+
+    /// Does so much close the node?
+    fn is_passed(self, total: u64) -> bool {
+        self.cost < total || self.is_enough && self.cost == total
+    }
+}

@@ -1,0 +1,65 @@
+//! The search: depth first, none first, at the first undecided slot.
+
+ghost use Rattle.std.specs.Prelude.{◌≡◌, ◌≢◌, ◌<◌, IfOk, IfErr, OnOk, OnErr, IsOkUnless, length, true, false};
+ghost use Rattle.std.specs.Arc.{arc_value};
+ghost use Rattle.fs_syntax.specs.Slots.{slots};
+ghost use Rattle.fs_history.specs.Board.{is_finished};
+ghost use Rattle.fs_history.specs.Sizes.{tree_size};
+ghost use Rattle.fs_search.specs.Histories.{GoesOn};
+ghost use Rattle.fs_search.specs.inner.Steps.{MovesOn, AreWitnesses, IsTaken};
+
+use crate::closing::{settle, split_node};
+use crate::store::Store;
+use crate::taking::{Child, Taken, next_node};
+use crate::tries::try_all;
+use fs_board::Board;
+use fs_judge::Problem;
+use fs_kinds::Fault;
+use std::alloc::Global;
+
+/// Is done with a node: closes it where something does, else splits it at its first undecided slot.
+fn finish_node(
+    alloc: Global,
+    problem: &mut Problem,
+    board: &mut Board,
+    store: &mut Store,
+    children: &mut Vec<Child>,
+    taken: &Taken,
+) -> Result<(), Fault>
+    requires same { board.old.question ≡ problem.old }
+    requires known { AreWitnesses problem.old.test store.old }
+    requires taken { IsTaken board.old taken.now.node (arc_value taken.now.part) }
+    ensures problem { problem.new ≡ problem.old }
+    ensures known { AreWitnesses problem.old.test store.new }
+    ensures goes { GoesOn board.old board.new }
+    ensures ok { OnOk result (MovesOn board.old board.new) }
+    ensures err { IfErr result (λ f. f ≢ Fault.Memory → (f ≡ Fault.NodeLimit)
+        × (board.old.board.limit < tree_size board.old.question.prices (length (slots board.old.question.test)))) }
+{
+    if try_all(alloc, problem, board, store, taken)? {
+        return Ok(());
+    }
+    match taken.part.first_undecided() {
+        Some(slot) => split_node(alloc, board, children, taken.node, slot),
+        None => settle(alloc, problem, board, taken.node, &taken.part),
+    }
+}
+
+/// Searches until the board is finished, whatever open and held nodes it has: a child of its own first, then any open node, then any that
+/// is held, whoever holds it. It works as worker 0. F16 where a split is refused for want of nodes, and then the tree of all placements
+/// has more nodes below its root than the limit; else F19.
+pub fn search(alloc: Global, problem: &mut Problem, board: &mut Board) -> Result<(), Fault>
+    requires { board.old.question ≡ problem.old }
+    ensures problem { problem.new ≡ problem.old }
+    ensures goes { GoesOn board.old board.new }
+    ensures ok { OnOk result (is_finished board.new.board ≡ true) }
+    ensures err { IfErr result (λ f. f ≢ Fault.Memory → (f ≡ Fault.NodeLimit)
+        × (board.old.board.limit < tree_size board.old.question.prices (length (slots board.old.question.test)))) }
+{
+    let mut store = Store::new(alloc);
+    let mut children = Vec::new(alloc);
+    while let Some(taken) = next_node(board, &mut children)? {
+        finish_node(alloc, problem, board, &mut store, &mut children, &taken)?;
+    }
+    Ok(())
+}
