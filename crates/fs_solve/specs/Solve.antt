@@ -1,0 +1,66 @@
+-- What `solve` prints, and the fault that it answers.
+use Rattle.std.specs.Prelude.{◌≡◌, ◌⊎◌, ℕ, List, length, Some}
+use Rattle.fs_kinds.specs.declared.fault.Fault.{Fault}
+use Rattle.fs_kinds.specs.declared.fault.Fault.TheVariants.{Memory}
+use Rattle.fs_kinds.specs.declared.placement.Entry.{Entry}
+use Rattle.fs_kinds.specs.PriceTable.{PriceTable, cost}
+use Rattle.fs_syntax.specs.declared.test.Test.{Test}
+use Rattle.fs_litmus.specs.Reads.{Reads}
+use Rattle.fs_litmus.specs.Faults.{IsTestFault}
+use Rattle.fs_model.specs.Execution.{Execution}
+use Rattle.fs_model.specs.Allows.{IsCheapest, RefutesAll}
+use Rattle.fs_model.specs.Witness.{Witness, IsOfWitness}
+use Rattle.fs_answer.specs.CandidateFaults.{IsCandidateFault}
+use Rattle.fs_answer.specs.Texts.{fenced_lines, none_lines, witness_text}
+use Rattle.fs_answer.specs.WitnessFile.{IsWitnessFile}
+use Rattle.fs_io.specs.declared.status.Status.{Status}
+use Rattle.fs_io.specs.declared.status.Status.TheVariants.{Success, Denied}
+use Rattle.fs_place.specs.Place.{ArePriced, IsPricesFault}
+use Rattle.fs_search.specs.Answers.{IsSolveFault}
+
+-- the bytes hold these prices
+abbrev pub ArePricesOf : List ℕ → PriceTable → Type 0
+ArePricesOf bytes table = ArePriced (Some bytes) (Some table)
+
+-- the test's candidate executions can be listed: no run goes astray, and there aren't too many of them
+abbrev pub CanBeListed : Test → Type 0
+CanBeListed t = (f : Fault) → IsCandidateFault t f → ⊥
+
+-- the first of the cheapest placements that rule the outcome out, in print with its cost
+pub record PrintsCheapest (t : Test) (prices : PriceTable) (text : List ℕ) (status : Status) : Type 0 where
+  pub placement : List Entry
+  pub cheapest : IsCheapest t prices placement
+  pub shown : text ≡ fenced_lines (cost prices placement) placement
+  pub ends : status ≡ Success
+
+-- `none`, and as a witness file an execution that shows the outcome with rw,rw in every slot
+pub record PrintsNone (t : Test) (text : List ℕ) (status : Status) : Type 0 where
+  pub witness : Witness
+  pub execution : Execution
+  pub given : IsOfWitness t witness execution
+  pub refutes : RefutesAll t execution
+  pub says : IsWitnessFile (length t.codes) (witness_text witness) witness
+  pub shown : text ≡ none_lines witness
+  pub ends : status ≡ Denied
+
+abbrev pub PrintsAnswer : Test → PriceTable → List ℕ → Status → Type 0
+PrintsAnswer t prices text status = PrintsCheapest t prices text status ⊎ PrintsNone t text status
+
+-- the bytes read as a test and hold prices, and the answer to these is printed
+pub record IsSolved (test prices text : List ℕ) (status : Status) : Type 0 where
+  pub the_test : Test
+  pub table : PriceTable
+  pub reads : Reads test the_test
+  pub priced : ArePricesOf prices table
+  pub listed : CanBeListed the_test
+  pub answer : PrintsAnswer the_test table text status
+
+-- the first fault: of the prices, else of the test, else of its candidates and then of the search; want of memory may come in place
+-- of any answer
+pub data IsFirstSolveFault (test prices : List ℕ) (limit : ℕ) : Fault → Type 0 where
+  of_prices : {fault : Fault} → IsPricesFault (Some prices) fault → IsFirstSolveFault test prices limit fault
+  of_test : {fault : Fault} (table : PriceTable) → ArePricesOf prices table → IsTestFault test fault
+      → IsFirstSolveFault test prices limit fault
+  of_search : {fault : Fault} (table : PriceTable) (t : Test) → ArePricesOf prices table → Reads test t
+      → IsSolveFault (record { test = t; prices = table }) limit fault → IsFirstSolveFault test prices limit fault
+  of_memory : IsFirstSolveFault test prices limit Memory
