@@ -1,5 +1,5 @@
-"""Hostile files for `rvfence place` and hostile witnesses for `rvfence order`, each with its answer: the line of its fault, or
-READ, or what `order` says. The answers are those of docs/FORMAT.md. None is taken from the program: they are derived where
+"""Hostile files for `rvfence place` and `rvfence solve`, and hostile witnesses for `rvfence order`, each with its answer: the line of
+its fault, or READ, or what `order` says. The answers are those of docs/FORMAT.md. None is taken from the program: they are derived where
 the file is made, as the comments say, and for the files that are changed or composed by a second reader of the formats."""
 import os
 import random
@@ -492,4 +492,13 @@ TESTS = [
     numbers_of_parts,
     long_words,
     sizes,
+]
+
+# Those that are searched too.
+SEARCHED = [
+    tokens_changed,
+    tests_composed,
+    depths,
+    numbers_of_parts,
+    long_words,
 ]

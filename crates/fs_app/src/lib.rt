@@ -6,5 +6,6 @@ mod program;
 
 pub use fs_io::{Output, Status, read_bytes, write_text};
 pub use fs_place::run_place;
+pub use fs_solve::{headline, run_solve};
 pub use order::run_order;
 pub use program::run;

@@ -2,10 +2,11 @@
 use crate::order::run_order;
 use clap::Error;
 use clap::error::ErrorKind;
-use fs_command::{Order, Place, Request, read_request};
+use fs_command::{Order, Place, Request, Solve, read_request};
 use fs_io::{Output, Status, read_bytes, write_text};
 use fs_kinds::Fault;
 use fs_place::run_place;
+use fs_solve::run_solve;
 use std::fs::File;
 use std::process::ExitCode;
 use std::rt::{Env, Files};
@@ -14,10 +15,12 @@ use std::{env, io};
 /// Tests, prices and witnesses are read up to this many bytes.
 const INPUT_LIMIT: usize = 1_048_576;
 
-/// Does what the process's command line asks for, and answers the exit status: 0 where it was done or the answer
-/// is yes, 1 where it is no, 2 for a fault or a
-/// bad command line, 3 where memory ran out. A fault or a bad command line prints on standard error, and nothing on
-/// standard output unless it was standard output that failed.
+/// The most nodes that a search may be allowed.
+const MOST_NODES: usize = 1_000_000;
+
+/// Does what the process's command line asks for, and answers the exit status: 0 where it was done or the answer is yes or
+/// fenced, 1 where it is no or none, 2 for a fault or a bad command line, 3 where memory ran out. A fault or a bad command line
+/// prints on standard error, and nothing on standard output unless it was standard output that failed.
 pub fn run<R: Env + Files + Input + Print + Eprint + AllocGlobal>(rt: &R) -> ExitCode {
     ExitCode::from(status_of_run(rt).code())
 }
@@ -81,6 +84,7 @@ fn answer<R: Files + Input + AllocGlobal>(rt: &R, request: &Request<'_>) -> Resu
     match request {
         Request::Place(place) => answer_place(rt, place),
         Request::Order(order) => answer_order(rt, order),
+        Request::Solve(solve) => answer_solve(rt, solve),
     }
 }
 
@@ -104,6 +108,17 @@ fn answer_order<R: Files + Input + AllocGlobal>(
     let test = read_input(rt, order.test)?;
     let witness = read_file(rt, order.witness)?;
     run_order(rt.alloc(), &test, &witness, &order.fences)
+}
+
+fn answer_solve<R: Files + Input + AllocGlobal>(
+    rt: &R,
+    solve: &Solve<'_>,
+) -> Result<Output, Fault> {
+    let test = read_input(rt, solve.test)?;
+    let prices = read_file(rt, solve.prices)?;
+    // the command line has no other numbers; here it is said once more for the proof
+    let limit = (solve.nodes as usize).clamp(1, MOST_NODES);
+    run_solve(rt.alloc(), &test, &prices, limit)
 }
 
 /// The bytes of a test: of standard input where it is called `stdin`, else of the file.

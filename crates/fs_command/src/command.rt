@@ -1,5 +1,5 @@
 //! The command line: its words, and what each command's help says.
-use clap::{Arg, ArgMatches, Command, Error};
+use clap::{Arg, ArgMatches, Command, Error, value_parser};
 use std::alloc::{AllocError, Global};
 
 const PLACE_ABOUT: &str = "Print a litmus test with fences placed in it";
@@ -43,10 +43,46 @@ Exit status:
   2  a fault, one line on standard error as `fault F17 BadWitness`, or a bad command line
   3  memory ran out (fault F19)";
 
+const SOLVE_ABOUT: &str = "Find the cheapest fences that rule an outcome out";
+
+const SOLVE_HELP: &str = "\
+Prints the cheapest fences under which no execution of the test shows the outcome of
+its condition (of `forall`: of the condition's denial). Store buffering needs two:
+
+  $ rvfence solve examples/SB.litmus examples/prices.json
+  fenced 18
+  fence P0 2 w,r
+  fence P1 2 w,r
+
+Both together cost 18. The first is a `fence w,r` before instruction 2 of hart 0; harts
+and instructions count from 0, labels don't count. `place` with P0:2=w,r P1:2=w,r prints
+the test with them. Of fences that cost the same it takes the first, slot by slot: no
+fence before any, then r,r r,w r,rw w,r w,w w,rw rw,r rw,w rw,rw tso.
+
+Where some execution shows the outcome even with rw,rw in every slot, no fences rule it
+out. Then it prints `none` and such an execution, as a witness that `order` reads:
+
+  $ rvfence solve examples/MP11.litmus examples/prices.json
+  none
+  {\"choices\":[[],[1,1]],\"order\":[\"P0:1\",\"P0:3\",\"P1:0\",\"P1:1\"]}
+
+PRICES offers kinds, each for 1 to 1000000, and rw,rw must be one of them, as in
+{\"w,w\":2,\"rw,rw\":10}. Slots may have weights that multiply the price.
+
+Exit status:
+  0  fenced
+  1  none
+  2  a fault, one line on standard error as `fault F16 NodeLimit`, or a bad command line
+  3  memory ran out (fault F19)
+Faults beside those of the files: a hart has too many runs (F13), a run accesses an
+address of no location (F14), there are too many candidate executions (F15), the search
+needs more nodes (F16).";
+
 const PROGRAM_HELP: &str = "\
 `rvfence <COMMAND> --help` says what a command answers.
 
-Exit status: 0 done or yes, 1 no, 2 a fault or a bad command line, 3 memory ran out.";
+Exit status: 0 done, yes or fenced; 1 no or none; 2 a fault or a bad command line;
+3 memory ran out.";
 
 const FILE_HELP: &str = "Litmus test in herd7's RISC-V format; `stdin` means standard input";
 
@@ -56,11 +92,17 @@ const WITNESS_HELP: &str = "JSON file with an execution: the choices of each har
 
 const PRICES_HELP: &str = "JSON file with the prices of the kinds that may be placed";
 
+const NODES_HELP: &str = "Most nodes that the search may make, 1 to 1000000";
+
+/// How many nodes a search may make, where the command line doesn't say.
+const MOST_NODES: u32 = 1_000_000;
+
 /// What a command line asks for. Files go by their paths.
 #[derive(Debug, Drop)]
 pub enum Request<'a> {
     Place(Place<'a>),
     Order(Order<'a>),
+    Solve(Solve<'a>),
 }
 
 /// What `place` was asked for.
@@ -79,11 +121,23 @@ pub struct Order<'a> {
     pub fences: Vec<String>,
 }
 
+/// What `solve` was asked for.
+#[derive(Debug, Drop)]
+pub struct Solve<'a> {
+    pub test: &'a str,
+    pub prices: &'a str,
+    /// How many nodes the search may make: from 1 to 1,000,000.
+    pub nodes: u32,
+}
+
 /// The request that the words make, the program's name first. An error holds the text for the user, and help is one.
 pub fn read_request<'a>(alloc: Global, words: &'a [String]) -> Result<Request<'a>, Error> {
     let matches = whole_command(alloc)?.try_get_matches_from(words)?;
     if let Some(found) = matches.subcommand_matches("order") {
         return Ok(Request::Order(order_of(alloc, found)?));
+    }
+    if let Some(found) = matches.subcommand_matches("solve") {
+        return Ok(Request::Solve(solve_of(found)));
     }
     let place = match matches.subcommand_matches("place") {
         Some(found) => place_of(alloc, found)?,
@@ -108,6 +162,14 @@ fn order_of<'a>(alloc: Global, found: &ArgMatches<'a>) -> Result<Order<'a>, Allo
     })
 }
 
+fn solve_of<'a>(found: &ArgMatches<'a>) -> Solve<'a> {
+    Solve {
+        test: found.get_str("FILE").unwrap_or(""),
+        prices: found.get_str("PRICES").unwrap_or(""),
+        nodes: found.get_one::<u32>("nodes").unwrap_or(MOST_NODES),
+    }
+}
+
 fn fences_of(alloc: Global, found: &ArgMatches<'_>) -> Result<Vec<String>, AllocError> {
     let mut fences = Vec::new(alloc);
     for word in found.get_strs("FENCE").unwrap_or(&[]) {
@@ -122,6 +184,7 @@ fn whole_command<'a>(alloc: Global) -> Result<Command<'a>, AllocError> {
         .after_help(PROGRAM_HELP)
         .subcommand_required(true);
     program
+        .subcommand(solve_command(alloc)?)?
         .subcommand(place_command(alloc)?)?
         .subcommand(order_command(alloc)?)
 }
@@ -151,4 +214,21 @@ fn order_command<'a>(alloc: Global) -> Result<Command<'a>, AllocError> {
         .arg(file)?
         .arg(witness)?
         .arg(fence)
+}
+
+fn solve_command<'a>(alloc: Global) -> Result<Command<'a>, AllocError> {
+    let file = Arg::new(alloc, "FILE").help(FILE_HELP).required(true);
+    let prices = Arg::new(alloc, "PRICES").help(PRICES_HELP).required(true);
+    let nodes = Arg::new(alloc, "nodes")
+        .long("nodes")
+        .value_name("N")
+        .help(NODES_HELP)
+        .value_parser(value_parser!(u32).range(1..=i64::from(MOST_NODES)))
+        .default_value("1000000");
+    Command::new(alloc, "solve")
+        .about(SOLVE_ABOUT)
+        .after_help(SOLVE_HELP)
+        .arg(file)?
+        .arg(prices)?
+        .arg(nodes)
 }

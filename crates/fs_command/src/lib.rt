@@ -3,4 +3,4 @@
 
 mod command;
 
-pub use command::{Order, Place, Request, read_request};
+pub use command::{Order, Place, Request, Solve, read_request};
