@@ -1,0 +1,425 @@
+#!/usr/bin/env python3
+"""Finds the cheapest fences of a test, in plain Python.
+
+    scripts/solve_reference.py TEST PRICES [--listing]
+
+It is written from docs/MODEL.md and docs/FORMAT.md alone and shares no code with the program. Tests, prices, runs, rules and
+candidates are those of scripts/check_certificate.py. The way to the answer is another one than the program's: it has no tree.
+
+It prints what `rvfence solve` is to print: `fenced`, the cost and a line for each fence, status 0; or `none` and an execution
+that shows the outcome with `rw,rw` in every slot, status 1. Where the program may print any such execution, this is one. Of
+the faults it knows F13, F14 and F15; it takes it that `rvfence place` accepts the test and the prices.
+
+With `--listing` it judges all placements one by one, the best first, until one forbids the outcome. That is slow and plain,
+and there to be compared with.
+"""
+
+import collections
+import itertools
+import json
+import math
+import sys
+
+sys.dont_write_bytecode = True
+import check_certificate as model                               # of this folder
+
+MOST_RUNS = 100000
+MOST_CANDIDATES = 4000000
+MOST_LISTED = 2000000
+
+
+class Fault(Exception):
+    """Why there is no answer, as the line that is printed."""
+
+
+# --- Faults of a test's runs and candidates (MODEL 11 and 15) --------------------------------------------------------------
+
+class PlacedRun(model.Run):
+    """A run that says where it went astray."""
+
+    def execute(self, position):
+        try:
+            return super().execute(position)
+        except model.GoesAstray as astray:
+            astray.position = position
+            raise
+
+
+def ends_over(test, hart, words, choices=()):
+    """How each choice list over these words ends, in the lists' order: None, or the position where it goes astray."""
+    try:
+        PlacedRun(test, hart, choices)
+        yield None
+    except model.GoesAstray as astray:
+        yield astray.position
+    except model.ChoicesEnd as end:
+        for choice in end.results or sorted(words[end.address]):
+            yield from ends_over(test, hart, words, choices + (choice,))
+
+
+def refuse_runs(test, words):
+    """Raises the first fault of a hart whose loads take these words."""
+    for hart in range(len(test.code)):
+        ends = list(itertools.islice(ends_over(test, hart, words), MOST_RUNS + 1))
+        if len(ends) > MOST_RUNS:
+            raise Fault('fault F13 TooManyTraces')
+        for position in ends:
+            if position is not None:
+                raise Fault('fault F14 Astray P%d:%d' % (hart, position))
+
+
+def sets_of(test):
+    """The value sets, round by round; a fault that a round meets is raised before the next round."""
+    sets = {address: {word} for address, word in test.words.items()}
+    refuse_runs(test, sets)
+    for _ in range(sum(instruction.form in ('store', 'sc', 'amo') for code in test.code for instruction in code)):
+        wider = {address: set(words) for address, words in sets.items()}
+        for runs in model.all_runs_over(test, sets):
+            for step in itertools.chain.from_iterable(run.steps for run in runs):
+                if step.stored is not None:
+                    wider[step.address].add(step.stored)
+        if wider == sets:
+            break
+        sets = wider
+        refuse_runs(test, sets)
+    return sets
+
+
+def accesses_of(run):
+    """Of each access of a run its address and its loaded and stored words, in no order."""
+    return tuple(sorted(((step.address, step.loaded, step.stored) for step in run.steps if step.address is not None), key=str))
+
+
+def raw_candidates(test, accesses):
+    """How many raw candidates have runs with these accesses: sources of each load, times orders of each word's stores."""
+    stores = collections.Counter()
+    for address, _, stored in accesses:
+        if stored is not None:
+            stores[address, stored] += 1
+    count = 1
+    for address, loaded, stored in accesses:
+        if loaded is not None:
+            count *= stores[address, loaded] + (test.words[address] == loaded) - (stored == loaded)
+    for address in test.words:
+        count *= math.factorial(sum(number for (place, _), number in stores.items() if place == address))
+    return count
+
+
+def count_candidates(test, all_runs, most=MOST_CANDIDATES):
+    """How many raw candidates there are. Raises a fault where there are too many, or too many lists of runs."""
+    alike = [collections.Counter(map(accesses_of, runs)) for runs in all_runs]
+    if math.prod(map(len, all_runs)) > most:
+        raise Fault('fault F15 TooManyCandidates')
+    count = 0
+    for chosen in itertools.product(*[each.items() for each in alike]):
+        times = math.prod(number for _, number in chosen)
+        count += times * raw_candidates(test, list(itertools.chain.from_iterable(accesses for accesses, _ in chosen)))
+        if count > most:
+            raise Fault('fault F15 TooManyCandidates')
+    return count
+
+
+# --- Relations as rows of bits ---------------------------------------------------------------------------------------------
+
+def joined(rows, others):
+    return [row | other for row, other in zip(rows, others)]
+
+
+def has_cycle(rows):
+    """Does a chain of edges come back? Takes away what has no edge to anything left, for as long as there is any."""
+    left = (1 << len(rows)) - 1
+    while left:
+        last = [number for number in range(len(rows)) if left >> number & 1 and not rows[number] & left]
+        if not last:
+            return True
+        for number in last:
+            left &= ~(1 << number)
+    return False
+
+
+def order_of(rows):
+    """An order of the numbers that goes the way of each edge. There must be no cycle."""
+    found = []
+    while len(found) < len(rows):
+        left = [number for number in range(len(rows)) if number not in found]
+        found.append(next(b for b in left if not any(rows[a] >> b & 1 for a in left)))
+    return found
+
+
+def rows_where(operations, is_edge):
+    """A row for each of these operations, counted from 0. No edge enters an initial store, so these are on no cycle."""
+    return [sum(1 << at for at, b in enumerate(operations) if b is not a and is_edge(a, b)) for a in operations]
+
+
+# --- What a placement must break ---------------------------------------------------------------------------------------------
+
+SOURCE_RULES = (2, 3, 12)       # those that look at sources; of rule 4 the written fences alone are meant here
+OTHER_RULES = (1, 4, 5, 6, 7, 8, 9, 10, 11, 13)
+
+
+class Fences:
+    """What the runs alone decide: the edges of the rules that look at no source, and those of a fence at each slot. Both are
+    within a hart, so they are worked out once for each run; `known` has them, with the hart's operations counted from 0."""
+
+    def __init__(self, operations, slots, known):
+        size = len(operations.of_harts)
+        self.rows = [0] * size
+        self.at = [{pair: [0] * size for pair in model.ALL_PAIRS} for _ in slots]
+        for hart, run in enumerate(operations.runs):
+            own = [operation for operation in operations.of_harts if operation.hart == hart]
+            if (hart, run.choices) not in known:
+                known[hart, run.choices] = self.of_run(operations, own, slots)
+            self.put(own, *known[hart, run.choices])
+
+    @staticmethod
+    def of_run(operations, own, slots):
+        """The rows of a hart's operations, and those for each slot and pair."""
+        preserved = model.Preserved(operations, {}, slots, (None,) * len(slots))
+
+        def is_fenced(slot, pair, a, b):
+            return (model.po(a, b) and model.orders([pair], a, b)
+                    and model.runs_slot_between(operations.runs[a.hart], slot, a, b))
+
+        rows = rows_where(own, lambda a, b: any(preserved.rule(number, a, b) for number in OTHER_RULES))
+        return rows, {(at, pair): rows_where(own, lambda a, b: is_fenced(slot, pair, a, b))
+                      for at, slot in enumerate(slots) for pair in model.ALL_PAIRS}
+
+    def put(self, own, rows, at_slots):
+        """Puts the rows of a hart's operations in their place."""
+        for index, operation in enumerate(own):
+            self.rows[operation.number] = rows[index] << own[0].number
+            for (at, pair), fenced in at_slots.items():
+                self.at[at][pair][operation.number] = fenced[index] << own[0].number
+
+
+class Live:
+    """A candidate without a cycle where no fence is placed."""
+
+    def __init__(self, candidate, rows, fences):
+        self.candidate = candidate
+        self.rows = rows
+        self.fences = fences
+
+    def under(self, placement):
+        """The judged relation under this placement."""
+        rows = self.rows
+        for at, kind in enumerate(placement):
+            if kind is not None:
+                for pair in model.PAIRS[kind]:
+                    rows = joined(rows, self.fences.at[at][pair])
+        return rows
+
+    def survives(self, placement):
+        return not has_cycle(self.under(placement))
+
+    def kept(self, placement):
+        """At each slot pairs that fences may have all at once, those of the placement included, and leave it without a cycle."""
+        rows = self.under(placement)
+        kept = [set(model.PAIRS[kind]) if kind is not None else set() for kind in placement]
+        for at, pairs in enumerate(kept):
+            for pair in model.ALL_PAIRS:
+                wider = joined(rows, self.fences.at[at][pair])
+                if not has_cycle(wider):
+                    rows = wider
+                    pairs.add(pair)
+        return kept
+
+    def witness(self, placement):
+        """An execution under this placement, as a witness file has it."""
+        operations = self.candidate.operations
+        order = [operations.of_harts[number].name for number in order_of(self.under(placement))]
+        return {'choices': [list(run.choices) for run in operations.runs], 'order': order}
+
+
+class Problem:
+    """A test and prices, with the candidates that a placement must break, where they are few enough to be listed."""
+
+    def __init__(self, test, prices, most_listed=MOST_CANDIDATES):
+        self.test = test
+        self.prices = prices
+        self.slots = test.slots()
+        self.raw = count_candidates(test, model.all_runs_over(test, sets_of(test)))
+        self.candidates = 0
+        self.live = []
+        self.is_listed = self.raw <= most_listed
+        if self.is_listed:
+            self.list_candidates()
+
+    def list_candidates(self):
+        """Goes through all showing candidates, and keeps those without a cycle."""
+        operations = None
+        known = {}
+        for candidate in model.candidates(self.test):
+            self.candidates += 1
+            if operations is not candidate.operations:
+                operations = candidate.operations
+                fences = Fences(operations, self.slots, known)
+            preserved = model.Preserved(operations, candidate.rf, self.slots, (None,) * len(self.slots))
+            rows = joined(fences.rows, rows_where(operations.of_harts, lambda a, b: (
+                candidate.rfe(a, b) or candidate.co(a, b) or candidate.fr(a, b)
+                or any(preserved.rule(number, a, b) for number in SOURCE_RULES))))
+            if not has_cycle(rows):
+                self.live.append(Live(candidate, rows, fences))
+
+    def survivor(self, placement):
+        """A candidate that this placement doesn't break, or None. It comes first the next time."""
+        for at, live in enumerate(self.live):
+            if live.survives(placement):
+                self.live.insert(0, self.live.pop(at))
+                return live
+        return None
+
+    def price(self, at, kind):
+        """What a kind or none costs at the slot of this number."""
+        return 0 if kind is None else self.prices.at(self.slots[at], kind)
+
+    def cost(self, placement):
+        return self.prices.cost(self.slots, placement)
+
+
+# --- The answer by breaking one execution after the other ----------------------------------------------------------------
+
+class Breaks:
+    """Which placements break all of some executions: for each execution the slots and kinds that break it."""
+
+    def __init__(self, problem):
+        self.problem = problem
+        self.options = [None] + problem.prices.offered          # in the order of precedence
+        self.executions = []
+        self.best = None
+
+    def add(self, kept):
+        """An execution that stands fences with all the pairs kept at each slot, and breaks where a kind has another pair."""
+        self.executions.append([{kind for kind in self.options if kind is not None and not model.PAIRS[kind] <= pairs}
+                                for pairs in kept])
+
+    def cheapest(self):
+        """Of the placements that break all executions the first cheapest, with its cost; or None."""
+        self.best = None
+        self.visit((), 0, self.executions)
+        return self.best
+
+    def visit(self, chosen, cost, left):
+        """Goes on from these decisions for the first slots, which leave these executions unbroken. What is visited later is
+        later in precedence too, so only what is cheaper replaces the best."""
+        least = self.least(len(chosen), left)
+        if least is None or self.best is not None and cost + least >= self.best[0]:
+            return
+        if not left:
+            self.best = (cost, chosen + (None,) * (len(self.problem.slots) - len(chosen)))
+            return
+        for option in self.useful(len(chosen), left):
+            rest = [breaks for breaks in left if option not in breaks[len(chosen)]]
+            self.visit(chosen + (option,), cost + self.problem.price(len(chosen), option), rest)
+
+    def useful(self, at, left):
+        """The options at a slot. One is left out where another breaks as much, and costs less or as much and is earlier."""
+        broken = {option: {number for number, breaks in enumerate(left) if option in breaks[at]} for option in self.options}
+
+        def is_better(number, other):
+            rank = (self.problem.price(at, self.options[number]), number)
+            return rank < (self.problem.price(at, self.options[other]), other) \
+                and broken[self.options[number]] >= broken[self.options[other]]
+
+        numbers = range(len(self.options))
+        return [self.options[other] for other in numbers if not any(is_better(number, other) for number in numbers)]
+
+    def least(self, start, left):
+        """A cost that it takes at least to break these executions at slots from this number on; None where that can't be.
+        Executions that are broken at different slots are paid for each."""
+        found = 0
+        taken = set()
+        for breaks in left:
+            slots = [at for at in range(start, len(breaks)) if breaks[at]]
+            if not slots:
+                return None
+            if taken.isdisjoint(slots):
+                taken.update(slots)
+                found += min(self.problem.price(at, kind) for at in slots for kind in breaks[at])
+        return found
+
+
+def solved(problem):
+    """The first cheapest placement that forbids the outcome; or None. Each round takes the best placement that breaks all
+    executions known so far. Where it leaves a candidate without a cycle that is an execution more to break; else it forbids
+    the outcome, and nothing better does, since that would leave one of the known executions."""
+    breaks = Breaks(problem)
+    while True:
+        found = breaks.cheapest()
+        if found is None:
+            return None
+        live = problem.survivor(found[1])
+        if live is None:
+            return found[1]
+        breaks.add(live.kept(found[1]))
+
+
+# --- The answer by listing -----------------------------------------------------------------------------------------------
+
+def by_cost(problem):
+    """All placements, each made when it is asked for: the cheapest first, and of one cost in their order of precedence."""
+    costs = [{0}]                   # what the last slots together may cost, for more and more of them
+    options = [None] + problem.prices.offered
+    for at in reversed(range(len(problem.slots))):
+        costs.insert(0, {problem.price(at, kind) + rest for kind in options for rest in costs[0]})
+
+    def of_cost(at, cost):
+        if at == len(problem.slots):
+            yield ()
+            return
+        for kind in options:
+            if cost - problem.price(at, kind) in costs[at + 1]:
+                for rest in of_cost(at + 1, cost - problem.price(at, kind)):
+                    yield (kind,) + rest
+
+    for cost in sorted(costs[0]):
+        yield from of_cost(0, cost)
+
+
+def listed(problem):
+    """The first placement by cost and precedence that forbids the outcome, or None."""
+    for number, placement in enumerate(by_cost(problem)):
+        if number == MOST_LISTED:
+            raise Fault('there are too many placements to list')
+        if problem.survivor(placement) is None:
+            return placement
+    return None
+
+
+# --- The command ---------------------------------------------------------------------------------------------------------
+
+def lines_of(problem, placement):
+    """What is printed of an answer."""
+    if placement is None:
+        full = ('rw,rw',) * len(problem.slots)
+        return ['none', json.dumps(problem.survivor(full).witness(full), separators=(',', ':'))]
+    filled = ['fence P%d %d %s' % (slot + (kind,)) for slot, kind in zip(problem.slots, placement) if kind is not None]
+    return ['fenced %d' % problem.cost(placement)] + filled
+
+
+def answer(test, prices, method=solved):
+    """The lines that are printed for this test and these prices, a fault's included, and the exit status."""
+    try:
+        problem = Problem(test, prices)
+        placement = method(problem)
+    except Fault as fault:
+        return [str(fault)], 2
+    return lines_of(problem, placement), 1 if placement is None else 0
+
+
+def main(arguments):
+    method = listed if '--listing' in arguments else solved
+    files = [word for word in arguments if word != '--listing']
+    if len(files) != 2:
+        print('usage: solve_reference.py TEST PRICES [--listing]', file=sys.stderr)
+        return 2
+    try:
+        lines, status = answer(model.read(files[0], model.test_of), model.read(files[1], model.prices_of), method)
+    except model.Unreadable as error:
+        lines, status = [str(error)], 2
+    print('\n'.join(lines), file=sys.stderr if status == 2 else sys.stdout)
+    return status
+
+
+if __name__ == '__main__':
+    sys.exit(main(sys.argv[1:]))
