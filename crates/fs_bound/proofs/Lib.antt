@@ -3,4 +3,3 @@ pub mod Floors
 pub mod Breaks
 pub mod Bounded
 pub mod OneWitness
-pub mod EarlyExecutions

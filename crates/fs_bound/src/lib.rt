@@ -2,10 +2,8 @@
 //! promises.
 #![tactic(auto)]
 
-mod early;
 mod pruning;
 
-pub use early::{early_reads, early_widths};
 pub use pruning::{
     better_is_total_order, bounded_part, cost_alone_prunes, floor_is_least, one_witness_prunes,
 };

@@ -1,13 +1,10 @@
 //! The laws on which verdicts stand: a placement allows the outcome exactly where a showing candidate has an order that respects
-//! its judged relation, and exactly where it does over the value sets. The functions do nothing: each stands for the laws that it
-//! promises.
+//! its judged relation. The functions do nothing: each stands for the laws that it promises.
 #![tactic(auto)]
 
 mod decide;
-mod plain;
 
 pub use decide::{
     candidates_decide, causes_make_edges, cycles_decide, cycles_forbid, edges_enter_harts,
     fences_add_edges,
 };
-pub use plain::value_sets_decide;

@@ -1,15 +1,13 @@
-//! What is shown by a certificate for none, by a posted placement and by a cycle; and which placement is better.
+//! What is shown by a certificate for none and by a cycle; and which placement is better.
 
 ghost use Rattle.std.specs.Prelude.{◌≡◌, ℕ, ◌≤◌, List, length};
 ghost use Rattle.fs_kinds.specs.declared.placement.Entry.{Entry};
 ghost use Rattle.fs_kinds.specs.PriceTable.{PriceTable};
 ghost use Rattle.fs_syntax.specs.declared.test.Test.{Test};
 ghost use Rattle.fs_model.specs.Execution.{Execution};
-ghost use Rattle.fs_model.specs.Allows.{Allows, RefutesAll};
-ghost use Rattle.fs_history.specs.Board.{Board, Post, Closed};
+ghost use Rattle.fs_model.specs.Allows.{RefutesAll};
 ghost use Rattle.fs_answer.specs.Candidates.{Candidate};
 ghost use Rattle.fs_answer.specs.Certificate.{Certificate, Link, Version};
-ghost use Rattle.fs_history.specs.Histories.{Steps};
 ghost use Rattle.fs_answer.specs.Valid.{IsCycle, IsValidForNone};
 ghost use Rattle.fs_model.specs.Witness.{Witness, IsOfWitness};
 ghost use Rattle.fs_laws.specs.Answers.{none_by, IsByCostAndOrder};
@@ -21,12 +19,6 @@ pub fn one_witness_refutes_all()
     ensures right { (t : Test) (c : Certificate) → IsValidForNone t c → (prices : PriceTable) → HasNoAnswer t prices }
     ensures there { (t : Test) (version : Version) (w : Witness) (e : Execution) → IsOfWitness t w e → RefutesAll t e
         → IsValidForNone t (none_by version w) }
-{}
-
-/// A law: a placement that allows the outcome is never posted on the board.
-pub fn posted_placements_forbid()
-    ensures { (t : Test) (prices : PriceTable) (old new : Board) (worker node : ℕ) (p : List Entry)
-        → Steps t prices old worker (Post node p) Closed new → Allows t p → ⊥ }
 {}
 
 /// A law: a cycle in a certificate has 1 to 64 operations.

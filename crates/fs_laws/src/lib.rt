@@ -5,9 +5,7 @@ mod answers;
 mod fenced;
 mod strength;
 
-pub use answers::{
-    cost_and_order_decide, cycles_are_short, one_witness_refutes_all, posted_placements_forbid,
-};
+pub use answers::{cost_and_order_decide, cycles_are_short, one_witness_refutes_all};
 pub use fenced::{
     fenced_test_means_placement, fences_keep_runs, no_entries_no_fences, same_tests_show_alike,
 };

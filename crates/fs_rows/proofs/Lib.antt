@@ -15,3 +15,4 @@ pub mod Adding
 pub mod PassingListing
 pub mod PassingCertificates
 pub mod Bounded
+pub mod EarlyExecutions

@@ -10,3 +10,4 @@ pub mod Witnessed
 pub mod Adding
 pub mod PassingCertificates
 pub mod Bounded
+pub mod EarlyReads

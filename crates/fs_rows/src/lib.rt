@@ -6,6 +6,7 @@
 mod answers;
 mod boards;
 mod certificates;
+mod early;
 mod rules;
 mod values;
 
@@ -15,6 +16,7 @@ pub use certificates::{
     bounded_leaves, certificates_of_none, cheap_leaves, one_candidate, refused_cycles,
     refused_trees, valid_certificates,
 };
+pub use early::{early_reads, early_widths};
 pub use rules::{
     annotations, dependencies, dependencies_carried, fences_by_position, loads_run_ahead,
     overlapping_addresses, pairs, placed_fences, store_buffering, stores_and_reads, written_fences,

@@ -7,9 +7,9 @@ ghost use Rattle.fs_kinds.specs.declared.slot.Slot.{Slot};
 ghost use Rattle.fs_kinds.specs.PriceTable.{PriceTable, IsPriceTable};
 ghost use Rattle.fs_syntax.specs.declared.test.Test.{Test};
 ghost use Rattle.fs_syntax.specs.Slots.{slots};
-ghost use Rattle.fs_model.specs.Allows.{IsPlacement};
+ghost use Rattle.fs_model.specs.Allows.{Allows, IsPlacement};
 ghost use Rattle.fs_answer.specs.Parts.{Part};
-ghost use Rattle.fs_history.specs.Board.{Board, Node, Split, SplitAt, Full, is_finished};
+ghost use Rattle.fs_history.specs.Board.{Board, Node, Split, SplitAt, Post, Closed, Full, is_finished};
 ghost use Rattle.fs_history.specs.Histories.{LogEntry, IsHistory, Steps};
 ghost use Rattle.fs_history.specs.Sizes.{tree_size};
 ghost use Rattle.fs_tree.specs.Trees.{IsNode, IsPart, IsSplitAt, HasOneLeaf, room};
@@ -22,6 +22,12 @@ pub fn one_leaf()
         → IsHistory t prices limit log board → (k : ℕ) (node : Node) → IsNode board k node → IsPart t prices node.part }
     ensures leaf { (t : Test) (prices : PriceTable) (limit : ℕ) (log : List LogEntry) (board : Board)
         → IsHistory t prices limit log board → (p : List Entry) → IsPlacement t prices p → HasOneLeaf board p }
+{}
+
+/// A law: a placement that allows the outcome is never posted on the board.
+pub fn posted_placements_forbid()
+    ensures { (t : Test) (prices : PriceTable) (old new : Board) (worker node : ℕ) (p : List Entry)
+        → Steps t prices old worker (Post node p) Closed new → Allows t p → ⊥ }
 {}
 
 /// A law: after each legal history each closed node has its reason, against the bound as it is now and by witnesses of the board; and

@@ -7,4 +7,5 @@ mod histories;
 pub use certificates::valid_is_right;
 pub use histories::{
     children_stand, closed_nodes_hold, finished_board_answers, nodes_fit, one_leaf,
+    posted_placements_forbid,
 };

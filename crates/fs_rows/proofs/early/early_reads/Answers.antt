@@ -1,5 +1,5 @@
-use Rattle.fs_bound.proofs.EarlyExecutions.{first_shows, second_shows, first_keeps, second_keeps, both_apart, both_bound, cheap_allows}
-use Rattle.fs_bound.proofs.early.early_reads.Goals as goal
+use Rattle.fs_rows.proofs.EarlyExecutions.{first_shows, second_shows, first_keeps, second_keeps, both_apart, both_bound, cheap_allows}
+use Rattle.fs_rows.proofs.early.early_reads.Goals as goal
 
 pub returns-clause-first_shows : goal.returns-clause-first_shows
 returns-clause-first_shows c = first_shows

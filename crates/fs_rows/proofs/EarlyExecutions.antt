@@ -24,7 +24,7 @@ use Rattle.fs_answer.specs.Pruning.{are_apart, lower_bound, is_pruned}
 use Rattle.fs_rows.specs.StoreBuffering.{sb, buffered, fences}
 use Rattle.fs_rows.specs.Rows.{prices}
 use Rattle.fs_rows.proofs.StoreBuffering.{x, first, second}
-use Rattle.fs_bound.specs.EarlyReads.{root, reads_early, first_slot, second_slot, first_early, second_early, KeepsAt}
+use Rattle.fs_rows.specs.EarlyReads.{root, reads_early, first_slot, second_slot, first_early, second_early, KeepsAt}
 use Rattle.fs_bound.proofs.Bounded.{bounded}
 use Rattle.fs_bound.proofs.Ranked.{first-less, nil≢cons}
 

@@ -9,7 +9,7 @@ use Rattle.fs_plain.specs.Allowing.{AllowsOver}
 use Rattle.fs_thin_air.specs.ThinAir.{IsAlwaysGrounded}
 use Rattle.fs_values.specs.Sets.{AreValues}
 use Rattle.fs_values.proofs.Sets.{back, loads}
-use Rattle.fs_decide.proofs.plain.value_sets_decide.Goals as goal
+use Rattle.fs_plain_laws.proofs.plain.value_sets_decide.Goals as goal
 
 module _ (t : Test) (sets : List (List ℕ)) (are : AreValues t sets) (grounded : IsAlwaysGrounded t) (p : List Entry) where
   allowed : AllowsOver t p sets → Allows t p

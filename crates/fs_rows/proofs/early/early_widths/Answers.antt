@@ -1,6 +1,6 @@
 use Rattle.std.proofs.Common.{◌≡◌, ℕ, ◌==◌, nat_lt, Bool, true, ◌||◌, ◌&&◌, refl, arith}
 use Rattle.std.proofs.lemmas.Bool.Decides.{nat_tests}
-use Rattle.fs_bound.proofs.early.early_widths.Goals as goal
+use Rattle.fs_rows.proofs.early.early_widths.Goals as goal
 
 less : (m : ℕ) (later : Bool) → m ≡ 17 → (nat_lt m 18 || (m == 18) && later) ≡ true
 less m later is = grind (arith, nat_tests)

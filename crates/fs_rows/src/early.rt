@@ -12,7 +12,7 @@ ghost use Rattle.fs_answer.specs.Parts.{floor};
 ghost use Rattle.fs_answer.specs.Pruning.{are_apart, is_pruned, lower_bound};
 ghost use Rattle.fs_rows.specs.StoreBuffering.{sb, fences};
 ghost use Rattle.fs_rows.specs.Rows.{prices};
-ghost use Rattle.fs_bound.specs.EarlyReads.{root, reads_early, keeps_all, first_slot, second_slot, first_early, second_early, KeepsAt};
+ghost use Rattle.fs_rows.specs.EarlyReads.{root, reads_early, keeps_all, first_slot, second_slot, first_early, second_early, KeepsAt};
 
 /// A law: two executions, of which one reads early in hart 0 and one in hart 1, cost 9 each to break. So they bound what has nothing
 /// decided by 18. It is pruned against a placement that costs 17. It isn't against `w,r` twice, which costs as much and comes after

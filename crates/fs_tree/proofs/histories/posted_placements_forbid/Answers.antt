@@ -1,4 +1,4 @@
-use Rattle.fs_laws.proofs.answers.posted_placements_forbid.Goals as goal
+use Rattle.fs_tree.proofs.histories.posted_placements_forbid.Goals as goal
 
 pub returns : goal.returns
 returns c = λ t prices old new worker node p (part, held, least, forbids, changed). forbids
