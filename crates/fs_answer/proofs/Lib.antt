@@ -1,4 +1,3 @@
 pub mod Handed
 pub mod Items
 pub mod Once
-pub mod Spelling

@@ -10,4 +10,5 @@ mod witness;
 pub use fs_kinds::{Fault, OperationName};
 pub use fs_model::Choice;
 pub use lists::{ChoiceLists, Choices, Names};
-pub use witness::{WitnessFile, read_witness};
+pub use name::read_name;
+pub use witness::{WitnessFile, read_witness, witness_of};

@@ -59,8 +59,9 @@ fn read_json(alloc: Global, bytes: &[u8]) -> Result<Value, Fault>
     }
 }
 
-/// The witness that the value says, with choices for any number of harts.
-pub(crate) fn witness_of(alloc: Global, value: &Value) -> Result<WitnessFile, Fault>
+/// The witness that the JSON value says, with choices for any number of harts. F17 where the value isn't an object as in a witness
+/// file, F19.
+pub fn witness_of(alloc: Global, value: &Value) -> Result<WitnessFile, Fault>
     ensures ok { IfOk result (λ file. (w : Witness) × IsWitnessValue (view value.now) w × KeepsWitness file w) }
     ensures bad { IsErrOf result Fault.BadWitness → (w : Witness) → ¬ IsWitnessValue (view value.now) w }
     ensures err { IfErr result IsWitnessFault }

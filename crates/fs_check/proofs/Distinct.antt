@@ -9,11 +9,10 @@ use Rattle.fs_syntax.specs.Test.{GoesForward}
 use Rattle.fs_model.specs.declared.hart.Hart.{Hart}
 use Rattle.fs_model.specs.declared.step.Step.{Step}
 use Rattle.fs_model.specs.Trace.{AreSteps, after_step, start_with}
-use Rattle.fs_model.specs.Operations.{PreExecution, accesses, operation, place, steps_of}
+use Rattle.fs_model.specs.Operations.{PreExecution, operation, place, steps_of}
 use Rattle.fs_model.specs.Witness.{name_of}
 use Rattle.fs_model.proofs.OptionalNumbers.{same_from}
 use Rattle.fs_model.proofs.HartOperations.{in_list}
-pub use Rattle.fs_model.proofs.HartOperations.{has_name}
 use Rattle.fs_model.proofs.ProgramOrder.{below_po, po_place}
 use Rattle.fs_hart.proofs.Forward.{goes_on}
 

@@ -28,7 +28,7 @@ use Rattle.fs_check.specs.declared.order.OrderVerdict.TheVariants.{No}
 use Rattle.fs_check.specs.declared.ordered.OrderedCandidate.{OrderedCandidate}
 use Rattle.fs_answer.specs.declared.witness.WitnessFile.{WitnessFile}
 use Rattle.fs_check.specs.inner.NamedOrder.{name_in, numbers_of}
-use Rattle.fs_check.specs.inner.Ordered.{IsOrdered, runs_in}
+use Rattle.fs_check.specs.Ordered.{IsOrdered, runs_in}
 use Rattle.fs_check.specs.Verdicts.{IsWholeFile, IsFoundOrder, IsArranged, IsJudgement, IsLoadReason, IsRuleReason, IsAtomicReason}
 use Rattle.fs_answer.specs.WitnessFile.{KeepsWitness, in_range}
 use Rattle.fs_model.proofs.HartOperations.{has_name}

@@ -7,4 +7,5 @@ pub mod NamedOrder
 pub mod OneVerdict
 pub mod Orderings
 pub mod RunNames
+pub mod Shown
 pub mod Verdicts

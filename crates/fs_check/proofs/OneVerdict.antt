@@ -210,7 +210,7 @@ module _ (t : Test) (w : Witness) where
       run_once (length t.locations) (code_of t hart) (registers_of t hart) (choices_for w hart) _ _ (h.whole hart there)
       (k.whole hart there))
 
-  same_execution : All GoesForward t.codes → (e f : Execution) → IsOrder t w e → IsOrder t w f → e ≡ f
+  pub same_execution : All GoesForward t.codes → (e f : Execution) → IsOrder t w e → IsOrder t w f → e ≡ f
   same_execution forward e f h k =
       let traces = same_traces e.traces f.traces h.runs k.runs in
       let names = subst (λ traces. HaveNames (pre_execution t traces) e.order w.order) traces h.names in
@@ -311,7 +311,7 @@ module _ (t : Test) (p : List Entry) (w : Witness) where
       let axioms = execution.axioms in
       of_order v e order (inr (axioms.values, inr (axioms.preserved, inr (axioms.atomic, outcome))))
 
-  order_of : (e : Execution) → IsOfWitness t w e → IsExecution t p e → IsOrder t w e
+  pub order_of : (e : Execution) → IsOfWitness t w e → IsExecution t p e → IsOrder t w e
   order_of e of execution = record {
     runs = record { harts = of.harts; whole = of.runs };
     names = of.order;

@@ -24,7 +24,9 @@ use Rattle.fs_check.specs.declared.order.OrderVerdict.{OrderVerdict}
 use Rattle.fs_check.specs.declared.order.OrderVerdict.TheVariants.{Yes, No}
 use Rattle.fs_check.specs.declared.ordered.OrderedCandidate.{OrderedCandidate}
 use Rattle.fs_answer.specs.declared.witness.WitnessFile.{WitnessFile}
-use Rattle.fs_check.specs.Verdicts.{IsVerdict, IsWholeFile, IsFoundOrder, IsJudgement, KeepsAtomicity}
+use Rattle.fs_answer.specs.Shown.{ShowsAs}
+use Rattle.fs_check.specs.Ordered.{execution_in}
+use Rattle.fs_check.specs.Verdicts.{IsVerdict, IsWholeFile, IsFoundBy, IsFoundOrder, IsJudgement, KeepsAtomicity}
 use Rattle.fs_answer.specs.WitnessFile.{KeepsWitness}
 use Rattle.fs_check.specs.declared.runs.Runs.{Runs}
 use Rattle.fs_check.specs.declared.runs.Runs.TheVariants.{Whole, Stopped}
@@ -115,6 +117,16 @@ module _ (t : Test) (p : List Entry) (file : WitnessFile) (w : Witness) (keeps :
   decided o (No (reason.Node k)) whole found j = absurd j
   decided o (No (reason.Witness k)) whole found j = absurd j
 
+  -- an order that keeps the axioms, and shows the outcome
+  pub shown_as : (o : OrderedCandidate) → IsFoundBy t file w o → IsJudgement t p o Yes → ShowsAs t p w (execution_in o)
+  shown_as o (whole, found) j = (
+    of_witness o.candidate.traces o.order.listed whole found.0 found.1,
+    record {
+      execution = is_execution o.candidate.traces o.order.listed whole found.0 found.1 j.0.0 j.0.1 j.0.2;
+      outcome = j.1;
+    },
+  )
+
   -- without an order that has all operations once
   pub unordered : (c : Candidate) → IsWholeFile t file c.traces → IsFoundOrder t c w None → IsVerdict t p w (No reason.Order)
   unordered c whole none = (steps_in c.traces, of_file t file w c.traces whole keeps, λ order o. none order o.names o.once)
@@ -132,3 +144,9 @@ pub stopped_of : (t : Test) (p : List Entry) (file : WitnessFile) (w : Witness) 
 stopped_of t p file w choices made why e of is keeps =
     let reasons = subst (AreRunsOf t choices) is of in
     subst (λ cs. IsReason t p (record { choices = cs; order = w.order }) why) (e ∙ keeps.choices) (reasons p w.order)
+
+pub whole_made : (t : Test) (file : WitnessFile) (choices : List (List Choice)) (made : Runs) (traces : List Trace) → choices ≡ file.choices → AreRunsOf t choices made
+    → made ≡ Whole traces → length choices ≡ length t.codes → IsWholeFile t file traces
+whole_made t file choices made traces e of is all =
+    let runs = subst (AreRunsOf t choices) is of in
+    (ap length (sym e) ∙ all, runs.0, subst (λ cs. AreWholeRuns t cs traces) e runs.1)

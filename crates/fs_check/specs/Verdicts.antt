@@ -12,13 +12,12 @@ use Rattle.fs_model.specs.Witness.{Witness}
 use Rattle.fs_model.specs.Reasons.{IsYes, IsReason, HaveNames, LoadsRightly, IsFirstWrongLoad, IsFirstBrokenPair, KeepsRules, IsFirstBrokenRule, Breaks}
 use Rattle.fs_hart.specs.declared.trace.Trace.{Trace}
 use Rattle.fs_cand.specs.declared.candidate.Candidate.{Candidate}
-use Rattle.fs_hart.specs.Steps.{steps_in}
 use Rattle.fs_cand.specs.Candidates.{runs_of}
 use Rattle.fs_check.specs.declared.order.OrderVerdict.{OrderVerdict}
 use Rattle.fs_check.specs.declared.order.OrderVerdict.TheVariants.{Yes, No}
 use Rattle.fs_check.specs.declared.ordered.OrderedCandidate.{OrderedCandidate}
 use Rattle.fs_answer.specs.declared.witness.WitnessFile.{WitnessFile}
-use Rattle.fs_check.specs.inner.Ordered.{runs_in}
+use Rattle.fs_check.specs.Ordered.{runs_in, execution_in}
 use Rattle.fs_check.specs.inner.WitnessRuns.{AreWholeRuns}
 
 -- yes where the witness gives an execution with these fences that shows the outcome; else no, for the first reason
@@ -36,6 +35,14 @@ IsWholeFile t file traces = (length file.choices ≡ length t.codes) × (length 
 abbrev pub IsFoundOrder : Test → Candidate → Witness → Option (List ℕ) → Type 0
 IsFoundOrder t c w (Some order) = HaveNames (runs_of c (initial_words t)) order w.order × (lists_each_once (runs_of c (initial_words t)) order ≡ true)
 IsFoundOrder t c w None = (order : List ℕ) → HaveNames (runs_of c (initial_words t)) order w.order → lists_each_once (runs_of c (initial_words t)) order ≡ true → ⊥
+
+-- the file makes these runs, and this is the order that the witness names
+abbrev pub IsFoundBy : Test → WitnessFile → Witness → OrderedCandidate → Type 0
+IsFoundBy t file w o = IsWholeFile t file o.candidate.traces × IsFoundOrder t o.candidate w (Some o.order.listed)
+
+-- whatever the fences, the witness names no order that has each operation once
+abbrev pub HasNoOrder : Test → Witness → Type 0
+HasNoOrder t w = (p : List Entry) → IsReason t p w reason.Order
 
 -- the runs are the candidate's, and the order is the one given
 pub record IsArranged (c : Candidate) (listed : List ℕ) (o : OrderedCandidate) : Type 0 where
@@ -65,7 +72,7 @@ KeepsAxioms x p order = LoadsRightly x order × KeepsRules x p order × KeepsAto
 
 -- is the outcome true at the end?
 abbrev pub is_shown : Test → OrderedCandidate → Bool
-is_shown t o = has_outcome t (record { traces = steps_in o.candidate.traces; order = o.order.listed })
+is_shown t o = has_outcome t (execution_in o)
 
 -- what is said of runs with an order that lists each operation once
 abbrev pub IsJudgement : Test → List Entry → OrderedCandidate → OrderVerdict → Type 0

@@ -1,5 +1,4 @@
 -- What only inner functions and proofs need.
 pub mod Breaking
 pub mod NamedOrder
-pub mod Ordered
 pub mod WitnessRuns

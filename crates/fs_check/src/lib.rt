@@ -9,4 +9,5 @@ mod runs;
 
 pub use fs_kinds::{Fault, OperationName};
 pub use fs_model::Choice;
-pub use order::{OrderVerdict, check_order};
+pub use order::{OrderVerdict, check_order, shown_by};
+pub use ordered::OrderedCandidate;

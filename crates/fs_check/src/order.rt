@@ -10,8 +10,9 @@ ghost use Rattle.fs_model.specs.Reasons.{LoadsRightly, KeepsRules};
 ghost use Rattle.fs_model.specs.Witness.{Witness, name_of};
 ghost use Rattle.fs_cand.specs.Candidates.{IsMade, AreShort};
 ghost use Rattle.fs_axioms.specs.Final.{AreFinal};
-ghost use Rattle.fs_check.specs.inner.Ordered.{IsOrdered, runs_in};
-ghost use Rattle.fs_check.specs.Verdicts.{IsVerdict, IsWholeFile, IsFoundOrder, IsArranged, IsJudgement, IsLoadReason, IsRuleReason, IsAtomicReason, KeepsAtomicity};
+ghost use Rattle.fs_check.specs.Ordered.{IsOrdered, execution_in, runs_in};
+ghost use Rattle.fs_check.specs.Verdicts.{IsVerdict, IsWholeFile, IsFoundBy, HasNoOrder, IsFoundOrder, IsArranged, IsJudgement, IsLoadReason, IsRuleReason, IsAtomicReason, KeepsAtomicity};
+ghost use Rattle.fs_answer.specs.Shown.{ShowsAs, IsShownBy};
 ghost use Rattle.fs_answer.specs.WitnessFile.{IsWitnessFile, IsWitnessFault, KeepsWitness};
 
 use crate::names::{name, names, numbers};
@@ -59,6 +60,59 @@ pub fn check_order(
     }
 }
 
+/// The execution that a witness gives, as its runs and their order, where it is one of the test with the placement's fences that
+/// shows the outcome of its condition; nothing where the witness gives no such execution. A witness with another number of lists of
+/// choices than the test has harts gives none. The cost is that of `check_order` after reading. The error is F19.
+pub fn shown_by(
+    alloc: Global,
+    test: &Test,
+    placement: &Placement,
+    file: &WitnessFile,
+) -> Result<Option<OrderedCandidate>, Fault>
+    requires test { IsBounded test.now }
+    requires starts { All IsStart test.now.starts }
+    ensures ordered { IfOk result (λ found. IfSome found (IsOrdered test.now)) }
+    ensures some { (w : Witness) → KeepsWitness file.now w → IfOk result (λ found.
+        IfSome found (λ o. ShowsAs test.now placement.now w (execution_in o))) }
+    ensures none { (w : Witness) → KeepsWitness file.now w → IfOk result (λ found.
+        IfNone found (IsShownBy test.now placement.now w → ⊥)) }
+    ensures err { IsOkUnless result Memory }
+{
+    if file.choices.as_slice().len() != test.codes.as_slice().len() {
+        return Ok(None);
+    }
+    match make_runs(alloc, test, file.choices.as_slice())? {
+        Runs::Whole(traces) => shown_in(alloc, test, placement, file, traces),
+        Runs::Stopped(_) => Ok(None),
+    }
+}
+
+// The same of a witness whose choices make these runs.
+fn shown_in(
+    alloc: Global,
+    test: &Test,
+    placement: &Placement,
+    file: &WitnessFile,
+    traces: Traces,
+) -> Result<Option<OrderedCandidate>, Fault>
+    requires test { IsBounded test.now }
+    requires whole { IsWholeFile test.now file.now traces }
+    ensures ordered { IfOk result (λ found. IfSome found (IsOrdered test.now)) }
+    ensures some { (w : Witness) → KeepsWitness file.now w → IfOk result (λ found.
+        IfSome found (λ o. ShowsAs test.now placement.now w (execution_in o))) }
+    ensures none { (w : Witness) → KeepsWitness file.now w → IfOk result (λ found.
+        IfNone found (IsShownBy test.now placement.now w → ⊥)) }
+    ensures err { IsOkUnless result Memory }
+{
+    let Some(ordered) = ordered_by(alloc, test, file, traces)? else {
+        return Ok(None);
+    };
+    match judge(test, placement, &ordered) {
+        OrderVerdict::Yes => Ok(Some(ordered)),
+        OrderVerdict::No(_) => Ok(None),
+    }
+}
+
 // What is said of a witness whose choices make these runs.
 fn judge_runs(
     alloc: Global,
@@ -68,17 +122,36 @@ fn judge_runs(
     traces: Traces,
 ) -> Result<OrderVerdict, Fault>
     requires test { IsBounded test.now }
-    requires starts { length test.now.starts ≡ length test.now.codes }
     requires whole { IsWholeFile test.now file.now traces }
     ensures ok { (w : Witness) → KeepsWitness file.now w → IfOk result (IsVerdict test.now placement.now w) }
     ensures err { IsOkUnless result Memory }
 {
+    match ordered_by(alloc, test, file, traces)? {
+        Some(ordered) => Ok(judge(test, placement, &ordered)),
+        None => Ok(OrderVerdict::No(Reason::Order)),
+    }
+}
+
+// The runs with the order that the file names, where it has each operation of the harts once.
+fn ordered_by(
+    alloc: Global,
+    test: &Test,
+    file: &WitnessFile,
+    traces: Traces,
+) -> Result<Option<OrderedCandidate>, Fault>
+    requires test { IsBounded test.now }
+    requires whole { IsWholeFile test.now file.now traces }
+    ensures ordered { IfOk result (λ found. IfSome found (IsOrdered test.now)) }
+    ensures last { IfOk result (λ found. IfSome found (λ o. AreFinal test.now o.candidate.traces)) }
+    ensures some { (w : Witness) → KeepsWitness file.now w → IfOk result (λ found. IfSome found (IsFoundBy test.now file.now w)) }
+    ensures none { (w : Witness) → KeepsWitness file.now w → IfOk result (λ found. IfNone found (HasNoOrder test.now w)) }
+    ensures err { IsOkUnless result Memory }
+{
     let candidate = candidate(alloc, test, traces)?;
     let Some(listed) = listed(alloc, test, file, &candidate)? else {
-        return Ok(OrderVerdict::No(Reason::Order));
+        return Ok(None);
     };
-    let ordered = arrange(alloc, test, candidate, listed)?;
-    Ok(judge(test, placement, &ordered))
+    Ok(Some(arrange(alloc, test, candidate, listed)?))
 }
 
 // The candidate of these runs, before any order.

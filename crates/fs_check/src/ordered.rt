@@ -7,7 +7,7 @@ ghost use Rattle.fs_model.specs.Operations.{accesses};
 ghost use Rattle.fs_cand.specs.Candidates.{rf};
 ghost use Rattle.fs_model.specs.Reasons.{is_wrong_load, is_against_rule, is_against_atomicity};
 ghost use Rattle.fs_check.specs.inner.Breaking.{is_before, rule_broken_by, rule_broken_after, atomicity_broken_by};
-ghost use Rattle.fs_check.specs.inner.Ordered.{IsOrdered, runs_in};
+ghost use Rattle.fs_check.specs.Ordered.{IsOrdered, runs_in};
 
 use fs_axioms::Ordered;
 use fs_cand::Candidate;
@@ -15,11 +15,13 @@ use fs_kinds::Placement;
 use fs_ppo::{fence_rule, rule};
 use fs_syntax::Test;
 
-// A candidate with an order of its operations, which gives it its sources.
+/// A candidate with an order of its operations, which gives it its sources.
 #[derive(Drop)]
-pub(crate) struct OrderedCandidate {
-    pub(crate) candidate: Candidate,
-    pub(crate) order: Ordered,
+pub struct OrderedCandidate {
+    /// The runs, and their operations, dependencies and sources.
+    pub candidate: Candidate,
+    /// The order of the operations.
+    pub order: Ordered,
 }
 
 impl OrderedCandidate {

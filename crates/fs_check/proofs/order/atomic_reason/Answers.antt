@@ -1,5 +1,5 @@
 use Rattle.std.proofs.Common.{sym}
-use Rattle.fs_check.specs.inner.Ordered.{runs_in}
+use Rattle.fs_check.specs.Ordered.{runs_in}
 use Rattle.fs_check.proofs.Breaking.{broken_pair, pair_has_store, no_broken_pair}
 use Rattle.fs_check.proofs.Found.{if_none}
 use Rattle.fs_check.proofs.order.atomic_reason.Goals as goal

@@ -1,39 +1,14 @@
-use Rattle.std.proofs.Common.{option_map, sym, ◌∙◌, subst}
-use Rattle.fs_axioms.specs.Final.{AreFinal}
-use Rattle.fs_check.specs.Verdicts.{IsWholeFile, IsFoundOrder}
-use Rattle.fs_check.proofs.Found.{few_made, found_moved}
-use Rattle.fs_check.proofs.Verdicts.{short, final, decided, unordered}
+use Rattle.std.proofs.Common.{subst}
+use Rattle.std.specs.Prelude.{IfSome, IfNone}
+use Rattle.fs_check.specs.Verdicts.{IsFoundBy, HasNoOrder}
+use Rattle.fs_check.proofs.Verdicts.{decided}
 use Rattle.fs_check.proofs.order.judge_runs.Goals as goal
 
-pub candidate-requires-clause-steps : goal.candidate-requires-clause-steps
-candidate-requires-clause-steps c = short c.args.test.now c.args.file.now c.args.traces c.requires.test c.requires.whole
+pub returns-in-Some-clause-ok : goal.returns-in-Some-clause-ok
+returns-in-Some-clause-ok c w keeps =
+    let found = subst (λ found. IfSome found (IsFoundBy c.args.test.now c.args.file.now w)) c.in-Some.is (c.in_ok-ordered.ensures.some w keeps) in
+    decided c.args.test.now c.args.placement.now c.args.file.now w keeps c.in-Some.ordered c.judge.result found.0 found.1 c.judge.ensures
 
-pub listed-requires-clause-whole : goal.listed-requires-clause-whole
-listed-requires-clause-whole c = subst (IsWholeFile c.args.test.now c.args.file.now) (sym c.in_ok-candidate.ensures.traces) c.requires.whole
-
-pub returns-in_default-clause-ok : goal.returns-in_default-clause-ok
-returns-in_default-clause-ok c w keeps =
-    let candidate = c.in_ok-candidate.candidate in
-    unordered c.args.test.now c.args.placement.now c.args.file.now w keeps candidate
-    (subst (IsWholeFile c.args.test.now c.args.file.now) (sym c.in_ok-candidate.ensures.traces) c.requires.whole)
-    (subst (λ found. IsFoundOrder c.args.test.now candidate w (option_map (λ listed. listed.items) found)) c.in_default.is (c.in_ok-listed.ensures.ok w keeps))
-
-pub arrange-requires-clause-few : goal.arrange-requires-clause-few
-arrange-requires-clause-few c =
-    few_made c.args.test.now c.args.file.now c.in_ok-candidate.candidate c.requires.test c.in_ok-candidate.ensures.made
-    (subst (IsWholeFile c.args.test.now c.args.file.now) (sym c.in_ok-candidate.ensures.traces) c.requires.whole)
-
-pub judge-requires-clause-last : goal.judge-requires-clause-last
-judge-requires-clause-last c =
-    subst (AreFinal c.args.test.now) (sym (c.in_ok-ordered.ensures.same.traces ∙ c.in_ok-candidate.ensures.traces))
-    (final c.args.test.now c.args.file.now c.args.traces c.requires.starts c.requires.whole)
-
-pub returns-clause-ok : goal.returns-clause-ok
-returns-clause-ok c w keeps =
-    let candidate = c.in_ok-candidate.candidate in
-    let ordered = c.in_ok-ordered.ordered in
-    decided c.args.test.now c.args.placement.now c.args.file.now w keeps ordered c.judge.result
-    (subst (IsWholeFile c.args.test.now c.args.file.now) (sym (c.in_ok-ordered.ensures.same.traces ∙ c.in_ok-candidate.ensures.traces)) c.requires.whole)
-    (found_moved c.args.test.now candidate ordered w c.in-Some.listed.items c.in_ok-ordered.ensures.same
-    (subst (λ found. IsFoundOrder c.args.test.now candidate w (option_map (λ listed. listed.items) found)) c.in-Some.is (c.in_ok-listed.ensures.ok w keeps)))
-    c.judge.ensures
+pub returns-in-None-clause-ok : goal.returns-in-None-clause-ok
+returns-in-None-clause-ok c w keeps =
+    subst (λ found. IfNone found (HasNoOrder c.args.test.now w)) c.in-None.is (c.in_ok-ordered.ensures.none w keeps) c.args.placement.now

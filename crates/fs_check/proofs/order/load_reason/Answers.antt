@@ -1,5 +1,5 @@
 use Rattle.std.proofs.Common.{sym}
-use Rattle.fs_check.specs.inner.Ordered.{runs_in}
+use Rattle.fs_check.specs.Ordered.{runs_in}
 use Rattle.fs_check.proofs.Breaking.{wrong_load, no_wrong_load}
 use Rattle.fs_check.proofs.Found.{if_none}
 use Rattle.fs_check.proofs.order.load_reason.Goals as goal

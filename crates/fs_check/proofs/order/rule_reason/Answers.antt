@@ -1,5 +1,5 @@
 use Rattle.std.proofs.Common.{sym}
-use Rattle.fs_check.specs.inner.Ordered.{runs_in}
+use Rattle.fs_check.specs.Ordered.{runs_in}
 use Rattle.fs_check.proofs.Breaking.{broken_rule, rule_has_first, rule_has_second, no_broken_rule}
 use Rattle.fs_check.proofs.Found.{if_none}
 use Rattle.fs_check.proofs.order.rule_reason.Goals as goal

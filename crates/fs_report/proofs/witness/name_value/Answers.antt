@@ -2,7 +2,7 @@ use Rattle.std.proofs.Common.{◌≡◌, sym, ap, ◌∙◌, subst, refl, arith}
 use Rattle.serde_json.specs.Data.{string}
 use Rattle.serde_json.specs.View.{view}
 use Rattle.fs_kinds.specs.ReasonText.{operation_name}
-use Rattle.fs_answer.proofs.Spelling.{name-printed}
+use Rattle.fs_kinds.proofs.PlaceNames.{name-printed}
 use Rattle.fs_report.specs.inner.Written.{SaysName, name_value}
 use Rattle.fs_report.proofs.witness.name_value.Goals as goal
 

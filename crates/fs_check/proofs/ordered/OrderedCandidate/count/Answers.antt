@@ -1,4 +1,4 @@
-use Rattle.fs_check.specs.inner.Ordered.{runs_in}
+use Rattle.fs_check.specs.Ordered.{runs_in}
 use Rattle.fs_check.proofs.Orderings.{of_runs}
 use Rattle.fs_check.proofs.ordered.OrderedCandidate.count.Goals as goal
 

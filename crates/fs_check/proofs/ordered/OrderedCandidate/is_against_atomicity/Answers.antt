@@ -1,6 +1,6 @@
 use Rattle.std.proofs.Common.{not, sym, ap}
 use Rattle.fs_hart.specs.Steps.{steps_in}
-use Rattle.fs_check.specs.inner.Ordered.{runs_in}
+use Rattle.fs_check.specs.Ordered.{runs_in}
 use Rattle.fs_check.proofs.Orderings.{of_runs}
 use Rattle.fs_check.proofs.ordered.OrderedCandidate.is_against_atomicity.Goals as goal
 

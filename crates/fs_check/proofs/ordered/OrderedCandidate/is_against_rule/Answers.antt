@@ -1,4 +1,4 @@
-use Rattle.fs_check.specs.inner.Ordered.{runs_in}
+use Rattle.fs_check.specs.Ordered.{runs_in}
 use Rattle.fs_check.proofs.Orderings.{of_runs, against_then, against_else}
 use Rattle.fs_check.proofs.ordered.OrderedCandidate.is_against_rule.Goals as goal
 

@@ -1,7 +1,7 @@
 use Rattle.std.proofs.Common.{◌∙◌}
 use Rattle.fs_model.specs.Execution.{initial_words}
 use Rattle.fs_cand.specs.Candidates.{rf}
-use Rattle.fs_check.specs.inner.Ordered.{runs_in}
+use Rattle.fs_check.specs.Ordered.{runs_in}
 use Rattle.std.proofs.lemmas.Bool.{ne_eqb}
 use Rattle.fs_check.proofs.Befores.{numbered}
 use Rattle.fs_check.proofs.ordered.OrderedCandidate.is_before.Goals as goal

@@ -1,5 +1,5 @@
 use Rattle.std.proofs.Common.{not, ap}
-use Rattle.fs_check.specs.inner.Ordered.{runs_in}
+use Rattle.fs_check.specs.Ordered.{runs_in}
 use Rattle.fs_check.proofs.Orderings.{of_runs}
 use Rattle.fs_check.proofs.ordered.OrderedCandidate.is_wrong_load.Goals as goal
 
