@@ -1,2 +1,3 @@
 pub mod Fencing
+pub mod Naming
 pub mod inner

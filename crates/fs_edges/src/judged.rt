@@ -1,4 +1,5 @@
-//! Whether a candidate without placed fences has an edge of its judged relation from operation a to operation b.
+//! Whether a candidate without placed fences has an edge of its judged relation from operation a to operation b, and the parts of
+//! the relation that are no preserved program order: external reads-from, coherence order and from-reads.
 
 ghost use Rattle.std.specs.Prelude.{◌≡◌, Some, []};
 ghost use Rattle.fs_model.specs.Numbers.{is_same, stands_before};
@@ -34,8 +35,9 @@ fn is_same_hart(candidate: &Candidate, a: usize, b: usize) -> bool
     Operation::numbered(operations, a).is_same_hart(&Operation::numbered(operations, b))
 }
 
-// External reads-from: b loads what a stores, and they are not of one hart.
-fn is_read_externally(candidate: &Candidate, a: usize, b: usize) -> bool
+/// External reads-from: b loads what a stores, and they are not of one hart. The candidate is made of runs, as `Candidate::new` makes
+/// it; of another nothing is promised.
+pub fn is_read_externally(candidate: &Candidate, a: usize, b: usize) -> bool
     ensures { OfRuns candidate.now (λ x. result ≡ rfe x (candidate_of candidate.now) a b) }
 {
     reads_from(candidate, b, a) && !is_same_hart(candidate, a, b)
@@ -55,8 +57,8 @@ fn stands_before(listed: &[u8], a: usize, b: usize) -> bool
     is_before
 }
 
-// Does a come before b in coherence order?
-fn is_coherent(candidate: &Candidate, a: usize, b: usize) -> bool
+/// Does a come before b in coherence order? Linear in the stores.
+pub fn precedes_in_coherence(candidate: &Candidate, a: usize, b: usize) -> bool
     ensures { result ≡ co (candidate_of candidate.now) a b }
 {
     candidate
@@ -65,12 +67,12 @@ fn is_coherent(candidate: &Candidate, a: usize, b: usize) -> bool
         .any(|stores| stands_before(stores, a, b))
 }
 
-// From-reads: b is another store, later in coherence order than what a returns.
-fn is_from_read(candidate: &Candidate, a: usize, b: usize) -> bool
+/// From-reads: b is another store, later in coherence order than what a returns. Linear in the stores.
+pub fn is_from_read(candidate: &Candidate, a: usize, b: usize) -> bool
     ensures { result ≡ fr (candidate_of candidate.now) a b }
 {
     match source(candidate, a) {
-        Some(store) => a != b && is_coherent(candidate, usize::from(store), b),
+        Some(store) => a != b && precedes_in_coherence(candidate, usize::from(store), b),
         None => false,
     }
 }
@@ -81,6 +83,6 @@ pub(crate) fn is_judged(candidate: &Candidate, a: usize, b: usize) -> bool
 {
     is_preserved(candidate, a, b)
         || is_read_externally(candidate, a, b)
-        || is_coherent(candidate, a, b)
+        || precedes_in_coherence(candidate, a, b)
         || is_from_read(candidate, a, b)
 }

@@ -1,4 +1,4 @@
 pub mod Caused
 pub mod Linked
-pub mod Listed
 pub mod Prepared
+pub mod Unfenced

@@ -1,16 +1,13 @@
 -- The links of a cycle, and the names of its operations.
-use Rattle.std.proofs.Common.{◌≡◌, ℕ, zero, suc, ◌+◌, ◌<◌, ◌≤◌, inl, inr, Bool, true, ◌⊎◌, Option, Some, option_map, option_and_then, unwrap_or, List, [], ◌∷◌, ◌++◌, map, length, refl, sym, ◌∙◌, ap, subst, arith}
+use Rattle.std.proofs.Common.{◌≡◌, ℕ, zero, suc, ◌+◌, ◌<◌, ◌≤◌, inl, inr, Bool, true, ◌⊎◌, Some, List, [], ◌∷◌, ◌++◌, map, length, refl, sym, ◌∙◌, ap, subst, arith}
 use Rattle.std.specs.Prelude.{slice_get, slice_index}
 use Rattle.std.specs.List.{list_all, zip}
 use Rattle.std.proofs.lemmas.Bool.{and_parts, and_from}
 use Rattle.std.proofs.lemmas.List.{length-append}
 use Rattle.fs_kinds.specs.declared.placement.Entry.{Entry}
-use Rattle.fs_kinds.specs.declared.reason.OperationName.{OperationName as Name}
 use Rattle.fs_syntax.specs.declared.test.Test.{Test}
-use Rattle.fs_model.specs.declared.step.Step.{Step}
-use Rattle.fs_model.specs.Operations.{PreExecution, accesses, operation, place, steps_of}
-use Rattle.fs_model.specs.Witness.{name_of, step_name}
-use Rattle.fs_model.proofs.HartOperations.{access_is}
+use Rattle.fs_model.specs.Operations.{accesses}
+use Rattle.fs_model.specs.Witness.{name_of}
 use Rattle.fs_answer.specs.Candidates.{Candidate, IsRaw, runs_of}
 use Rattle.fs_answer.specs.Certificate.{Link}
 use Rattle.fs_answer.specs.Judged.{is_edge, is_judged}
@@ -18,19 +15,6 @@ use Rattle.fs_answer.specs.Valid.{IsCycle, are_edges, most_links}
 use Rattle.fs_decide.proofs.Edges.{edge_low}
 use Rattle.fs_relation.specs.Edges.{has_edge}
 use Rattle.fs_judge.specs.inner.Links.{IsLink, followers}
-
--- ---- each operation of a hart has a name
-
-name_from : (traces : List (List Step)) (k : ℕ) (u : Option ℕ) (hart : ℕ) (s : Step) → u ≡ Some hart → slice_get (steps_of traces hart) k ≡ Some s
-    → option_and_then (λ hart. option_map (step_name hart) (slice_get (unwrap_or (option_map (steps_of traces) u) []) k)) u ≡ Some (step_name hart s)
-name_from traces k u hart s e r = rw (e, r) refl
-
-pub has_name : (x : PreExecution) (a : ℕ) → a < length (accesses x) → (n : Name) × (name_of x a ≡ Some n)
-has_name x a low =
-    let access = access_is x a low in (
-      step_name access.hart access.step,
-      name_from x.traces (place x a) (operation x a).hart access.hart access.step (ap (λ o. o.hart) access.is) access.there,
-    )
 
 -- ---- a list that grows
 

@@ -1,5 +1,5 @@
 -- Showing candidates by their numbers, and a cycle for each.
-use Rattle.std.proofs.Common.{◌≡◌, ℕ, zero, suc, ◌<◌, ◌≤◌, Some, List, [], ◌∷◌, length, Result, Ok, Err, OnOk, IfErr, refl, sym, ◌∙◌, subst, arith}
+use Rattle.std.proofs.Common.{◌≡◌, ℕ, zero, suc, ◌<◌, Some, List, [], ◌∷◌, length, Result, Ok, Err, OnOk, IfErr, refl, sym, ◌∙◌, subst, arith}
 use Rattle.std.specs.Prelude.{slice_get}
 use Rattle.std.specs.List.{AllZip, Contains}
 use Rattle.std.specs.Result.{IsErrAnd}
@@ -11,8 +11,6 @@ use Rattle.fs_model.specs.TooMany.{IsRunFault}
 use Rattle.fs_answer.specs.CandidateFaults.{HasTooMany, IsCandidateFault}
 use Rattle.fs_answer.specs.Candidates.{Candidate, IsShowing}
 use Rattle.fs_answer.specs.Listings.{IsListing}
-use Rattle.fs_judge.specs.declared.base.Base.{Base}
-use Rattle.fs_judge.specs.inner.Bases.{AreBases}
 
 same_Some : {X : Type 0} (x y : X) → Some x ≡ Some y → x ≡ y
 same_Some x y e = cc
@@ -32,13 +30,6 @@ pub item_at : {X : Type 0} (xs : List X) (k : ℕ) → k < length xs → (x : X)
 item_at [] k low = absurd (omega (arith, low))
 item_at (x ∷ xs) zero low = (x, refl)
 item_at (x ∷ xs) (suc k) low = item_at xs k (omega (arith, low))
-
-pub few_of : (t : Test) (cs : List Candidate) (bases : List Base) → AreBases t cs bases → (k : ℕ) (base : Base) → slice_get bases k ≡ Some base → base.len ≤ 64
-few_of t cs bases are k base there =
-    let low = slice_get_within bases k base there in
-    let within = are.within in
-    let here = item_at cs k (omega (arith, low, within)) in
-    (are.each k base there here.0 here.1).few
 
 -- what holds place by place
 pub zipped : {X Y : Type 0} (R : X → Y → Type 0) (xs : List X) (ys : List Y) → length ys ≡ length xs

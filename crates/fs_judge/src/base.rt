@@ -14,7 +14,7 @@ use fs_cand::Candidate;
 use fs_edges::{Sides, base_rows, fence_rows, sides_of};
 use fs_kinds::{Fault, Placement};
 use fs_list::List;
-use fs_relation::{Rows, has_order};
+use fs_relation::Rows;
 use std::alloc::Global;
 
 /// The judged relation of a candidate without placed fences, the places in its runs where fences may stand, and how many operations
@@ -51,12 +51,5 @@ impl Base {
         let mut rows = fence_rows(self.sides.as_slice(), placement);
         rows.union(&self.rows);
         rows
-    }
-
-    // Is there no cycle without placed fences? Fences take none away.
-    pub(crate) fn is_live(&self) -> bool
-        requires { self.now.len ≤ 64 }
-    {
-        has_order(&self.rows, self.len)
     }
 }

@@ -6,8 +6,8 @@ ghost use Rattle.fs_cand.specs.Candidates.{candidate_of};
 ghost use Rattle.fs_evidence.specs.Evidence.{cause_of};
 ghost use Rattle.fs_ppo.specs.Rules.{OfRuns};
 
-use crate::edges::{is_coherent, is_from_read, is_read_externally};
 use fs_cand::Candidate;
+use fs_edges::{is_from_read, is_read_externally, precedes_in_coherence};
 use fs_evidence::Cause;
 use fs_kinds::Placement;
 use fs_ppo::{fence_rule, rule};
@@ -51,7 +51,7 @@ fn is_edge(candidate: &Candidate, placement: &Placement, a: usize, b: usize, cau
         Cause::Rule12 => rule(12, candidate, a, b),
         Cause::Rule13 => rule(13, candidate, a, b),
         Cause::ReadsFrom => is_read_externally(candidate, a, b),
-        Cause::Coherence => is_coherent(candidate, a, b),
+        Cause::Coherence => precedes_in_coherence(candidate, a, b),
         Cause::FromReads => is_from_read(candidate, a, b),
     }
 }

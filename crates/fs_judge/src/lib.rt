@@ -3,9 +3,9 @@
 
 mod base;
 mod causes;
-mod edges;
 mod judging;
 mod links;
+mod prejudged;
 mod prepare;
 mod problem;
 mod survey;

@@ -1,10 +1,11 @@
 //! Cycles of the judged relation as their links: the operations' names, each with why it comes before the next one.
 
-ghost use Rattle.std.specs.Prelude.{◌≡◌, ◌≤◌, ◌<◌, ℕ, true, length, slice_index, IfOk, IsOkUnless};
+ghost use Rattle.std.specs.Prelude.{◌≡◌, ◌≤◌, ◌<◌, ℕ, Some, true, length, slice_index, IfOk, IsOkUnless};
 ghost use Rattle.fs_kinds.specs.declared.fault.Fault.TheVariants.{Memory};
 ghost use Rattle.fs_syntax.specs.declared.test.Test.{Test};
 ghost use Rattle.fs_model.specs.Execution.{initial_words};
 ghost use Rattle.fs_model.specs.Operations.{accesses};
+ghost use Rattle.fs_model.specs.Witness.{name_of};
 ghost use Rattle.fs_answer.specs.Candidates.{IsRaw, runs_of};
 ghost use Rattle.fs_answer.specs.Judged.{is_judged};
 ghost use Rattle.fs_answer.specs.Valid.{IsCycle};
@@ -15,10 +16,10 @@ ghost use Rattle.fs_relation.specs.Orders.{IsCycleBelow};
 ghost use Rattle.fs_judge.specs.inner.Links.{IsLink, followers};
 
 use crate::causes::cause;
-use crate::edges::name;
 use fs_cand::Candidate;
+use fs_edges::operation_name;
 use fs_evidence::Link;
-use fs_kinds::{Fault, Placement};
+use fs_kinds::{Fault, OperationName, Placement};
 use fs_list::List;
 use fs_relation::Rows;
 use std::alloc::Global;
@@ -33,6 +34,13 @@ fn follower(cycle: &[u8], place: usize) -> u8
     } else {
         cycle[0]
     }
+}
+
+// The name of an operation of a hart. Of another number nothing is promised.
+fn name(candidate: &Candidate, a: usize) -> OperationName
+    ensures { OfRuns candidate.now (λ x. a < length (accesses x) → name_of x a ≡ Some result) }
+{
+    operation_name(candidate, a).unwrap_or(OperationName { hart: 0, at: 0 })
 }
 
 // The step of a cycle from a to b, where a is an operation of a hart that must come before b.

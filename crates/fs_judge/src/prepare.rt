@@ -1,16 +1,15 @@
 //! What is made once for a test, before any placement.
 
-ghost use Rattle.std.specs.Prelude.{◌≡◌, ◌≢◌, ◌≤◌, ◌<◌, ◌^◌, ℕ, All, Some, slice_get, IfOk, OnOk, IfErr, IsOkUnless};
+ghost use Rattle.std.specs.Prelude.{◌≡◌, ◌≢◌, ◌≤◌, ◌<◌, ◌^◌, All, IfOk, OnOk, IfErr, IsOkUnless};
 ghost use Rattle.fs_kinds.specs.declared.fault.Fault.{Fault as RunFault};
 ghost use Rattle.fs_kinds.specs.declared.fault.Fault.TheVariants.{Memory};
 ghost use Rattle.fs_syntax.specs.Test.{IsBounded, IsStart};
 ghost use Rattle.fs_answer.specs.CandidateFaults.{IsCandidateFault};
 ghost use Rattle.fs_answer.specs.Listings.{IsListing};
 ghost use Rattle.fs_thin_air.specs.ThinAir.{BeginsWithWords, CanBeListed};
-ghost use Rattle.fs_judge.specs.declared.base.Base.{Base as Kept};
-ghost use Rattle.fs_judge.specs.inner.Bases.{AreBases};
+ghost use Rattle.fs_judge.specs.inner.Bases.{ArePrejudged};
 
-use crate::base::Base;
+use crate::prejudged::Prejudged;
 use fs_evidence::Question;
 use fs_kinds::Fault;
 use fs_showing::Showing;
@@ -19,10 +18,10 @@ use fs_values::Values;
 use std::alloc::Global;
 use std::sync::Arc;
 
-/// How many bases are kept at most. Of further candidates they are made anew each time.
-const MOST_BASES: usize = 65_536;
+/// How many candidates are prejudged at most. Further ones are judged anew each time.
+const MOST_PREJUDGED: usize = 65_536;
 
-/// How many places for fences the bases have at most, so that they take no more than some 100 megabytes.
+/// How many places for fences these have at most, so that they take no more than some 100 megabytes.
 const MOST_PLACES: usize = 2_097_152;
 
 // A law: a word of 32 bits is one.
@@ -62,40 +61,39 @@ pub(crate) fn showing_of(alloc: Global, question: &Question) -> Result<Showing, 
     Showing::of(alloc, test, &values)
 }
 
-// How many bases are kept for a test: no run has more steps than its hart has instructions.
-fn most_bases(test: &Test) -> usize
+// How many candidates are prejudged for a test: no run has more steps than its hart has instructions.
+fn most_prejudged(test: &Test) -> usize
     ensures { result ≤ 65536 }
 {
     let mut steps: usize = 0;
     for code in test.codes.as_slice() {
         steps = steps.saturating_add(code.len());
     }
-    (MOST_PLACES / steps.max(1)).min(MOST_BASES)
+    (MOST_PLACES / steps.max(1)).min(MOST_PREJUDGED)
 }
 
-// The bases of the first showing candidates.
-pub(crate) fn bases_of(alloc: Global, showing: &Showing) -> Result<Vec<Base>, Fault>
+// The first showing candidates, prejudged. For each the cost of `Prejudged::of`.
+pub(crate) fn firsts_of(alloc: Global, showing: &Showing) -> Result<Vec<Prejudged>, Fault>
     requires { IsListing showing.now.test showing.now.candidates }
-    ensures ok { IfOk result (λ bases. AreBases showing.now.test showing.now.candidates bases.items) }
+    ensures ok { IfOk result (λ firsts. ArePrejudged showing.now.test showing.now.candidates firsts.items) }
     ensures err { IsOkUnless result Memory }
 {
-    let mut bases = Vec::new(alloc);
-    let most = showing.len().min(most_bases(showing.test()));
+    let mut firsts = Vec::new(alloc);
+    let most = showing.len().min(most_prejudged(showing.test()));
     for number in 0..most {
         let candidate = showing.get(alloc, number)?;
-        bases.push(Base::of(alloc, &candidate)?)?;
+        firsts.push(Prejudged::of(alloc, &candidate)?)?;
     }
-    Ok(bases)
+    Ok(firsts)
 }
 
 // The numbers of the live ones.
-pub(crate) fn live_among(alloc: Global, bases: &[Base]) -> Result<Vec<usize>, Fault>
-    requires { (k : ℕ) (base : Kept) → slice_get bases.now k ≡ Some base → base.len ≤ 64 }
+pub(crate) fn live_among(alloc: Global, firsts: &[Prejudged]) -> Result<Vec<usize>, Fault>
     ensures { IsOkUnless result Memory }
 {
     let mut live = Vec::new(alloc);
-    for number in 0..bases.len() {
-        if bases[number].is_live() {
+    for number in 0..firsts.len() {
+        if firsts[number].is_live() {
             live.push(number)?;
         }
     }

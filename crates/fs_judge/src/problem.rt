@@ -11,8 +11,8 @@ ghost use Rattle.fs_answer.specs.CandidateFaults.{IsCandidateFault};
 ghost use Rattle.fs_judge.specs.Verdicts.{IsShownWith, IsVerdict};
 ghost use Rattle.fs_judge.specs.inner.Findings.{IsSurvey};
 
-use crate::base::Base;
-use crate::prepare::{bases_of, live_among, showing_of, test_of};
+use crate::prejudged::Prejudged;
+use crate::prepare::{firsts_of, live_among, showing_of, test_of};
 use crate::survey::{Survey, Survivor, first_survivor, judge_all};
 use crate::verdict::Verdict;
 use fs_evidence::{Forbidden, Question, Witness};
@@ -22,14 +22,15 @@ use std::alloc::Global;
 use std::marker::Model;
 use std::sync::Arc;
 
-/// A test and prices, with all that judging a placement takes: the showing candidates; of the first 65,536, or of fewer where the
-/// harts have many instructions, the judged relation without placed fences and the places where fences may stand; and which of these
-/// are live, as they have no cycle without placed fences. Contracts see the question.
+/// A test and prices, with all that judging a placement takes: the showing candidates, and the first 65,536 of them, or fewer where
+/// the harts have many instructions, judged without placed fences. Of those that have a cycle then, and so with any fences, it keeps
+/// this cycle; of the others, the live ones, the judged relation without placed fences and the places where fences may stand.
+/// Contracts see the question.
 #[derive(Drop)]
 pub struct Problem {
     question: Arc<Question>,
     showing: Showing,
-    bases: Vec<Base>,
+    firsts: Vec<Prejudged>,
     live: Vec<usize>,
     last: usize,
 }
@@ -39,7 +40,7 @@ impl Model for Problem {
     ghost use Rattle.std.specs.Coded.{codes};
     ghost use Rattle.fs_syntax.specs.contracts.outcome.Outcome as outcome;
     ghost use Rattle.fs_evidence.specs.Evidence.{Question as Asked};
-    ghost use Rattle.fs_judge.specs.inner.Bases.{IsPrepared};
+    ghost use Rattle.fs_judge.specs.inner.Bases.{IsReady};
 
     ghost Value = { Asked };
 
@@ -47,13 +48,14 @@ impl Model for Problem {
 
     ghost coded = { Prim.hlevel (codes, outcome.the_row.coded) };
 
-    ghost invariant = { λ p. IsPrepared (arc_value p.question).test p.showing p.bases.items };
+    ghost invariant = { λ p. IsReady (arc_value p.question).test p.showing p.firsts.items };
 }
 
 impl Problem {
-    /// Finds the value sets of the test, its showing candidates, and what is kept of the first ones. The test is bounded, and its
-    /// harts start with whole registers. The fault is F13 or F14 where a hart's runs can't be listed, else F15 where there are too
-    /// many candidates or lists of runs; or F19.
+    /// Finds the value sets of the test and its showing candidates, and judges the first ones without placed fences. The test is
+    /// bounded, and its harts start with whole registers. The fault is F13 or F14 where a hart's runs can't be listed, else F15 where
+    /// there are too many candidates or lists of runs; or F19. The cost is that of `Values::of` and `Showing::of`, and for each of
+    /// the first candidates the square of its operations, each pair by all rules of preserved program order.
     pub fn new(alloc: Global, question: Arc<Question>) -> Result<Problem, Fault>
         requires test { IsBounded (arc_value question).test }
         requires starts { All IsStart (arc_value question).test.starts }
@@ -62,12 +64,12 @@ impl Problem {
         ensures err { IfErr result (λ f. f ≢ Memory → IsCandidateFault (arc_value question).test f) }
     {
         let showing = showing_of(alloc, &question)?;
-        let bases = bases_of(alloc, &showing)?;
-        let live = live_among(alloc, &bases)?;
+        let firsts = firsts_of(alloc, &showing)?;
+        let live = live_among(alloc, &firsts)?;
         Ok(Problem {
             question,
             showing,
-            bases,
+            firsts,
             live,
             last: 0,
         })
@@ -115,19 +117,21 @@ impl Problem {
     {
         let test = test_of(&self.question);
         let showing = &self.showing;
-        let bases = self.bases.as_slice();
+        let firsts = self.firsts.as_slice();
         let last = [self.last];
-        let again = first_survivor(alloc, test, showing, bases, &last, placement, first)?;
+        let again = first_survivor(alloc, test, showing, firsts, &last, placement, first)?;
         if again.is_some() {
             return Ok(again);
         }
-        first_survivor(alloc, test, showing, bases, &self.live, placement, first)
+        first_survivor(alloc, test, showing, firsts, &self.live, placement, first)
     }
 
-    /// Whether the placement, one of the test's slots, forbids the outcome: judges all showing candidates in their order. The one
-    /// without a cycle has a witness, widened at the first slots before the others; where there is none, there is a cycle for each.
-    /// The cost: for each candidate the steps of its runs times the slots, and its operations times the causes' tests for a cycle.
-    /// The error is F19.
+    /// Whether the placement, one of the test's slots, forbids the outcome: looks as `look` does, and where that finds nothing judges
+    /// all showing candidates in their order. One without a cycle has a witness, widened at the first slots before the others;
+    /// where there is none, there is a cycle for each. The cost beyond that of `look`, where this finds nothing: for each candidate
+    /// that is prejudged with a cycle the links of this; for each other one what it takes to make it, the steps of its runs times
+    /// the slots, and its operations times the tests for causes; past the first 65,536 also what judging it without fences takes. The
+    /// error is F19.
     pub fn verdict(
         &mut self,
         alloc: Global,
@@ -151,7 +155,7 @@ impl Problem {
         }
     }
 
-    // What is found of all showing candidates.
+    // What is found of all showing candidates: no cycle's links are made where a prejudged candidate survives.
     fn surveyed(
         &self,
         alloc: Global,
@@ -161,7 +165,10 @@ impl Problem {
         ensures ok { IfOk result (IsSurvey self.now.test placement.now) }
         ensures err { IsOkUnless result Memory }
     {
+        if let Some(survivor) = self.found(alloc, placement, first)? {
+            return Ok(Survey::Survives(survivor));
+        }
         let test = test_of(&self.question);
-        judge_all(alloc, test, &self.showing, &self.bases, placement, first)
+        judge_all(alloc, test, &self.showing, &self.firsts, placement, first)
     }
 }

@@ -14,7 +14,9 @@ pub mod AllRuns
 pub mod Totals
 pub mod Stepwise
 pub mod Kept
+pub mod Counted
 pub mod Finals
+pub mod Preparing
 pub mod Given
 pub mod AllKept
 pub mod Composed

@@ -123,14 +123,22 @@ order_long x k =
     ∙ length-orders (length (own_stores x k)) (own_stores x k)
     (once-filter (is_store_to x k) (numbers_below (length (accesses x))) (once-range 0 (length (accesses x)))) refl
 
+pub factors : (t : Test) (traces : List (List Step))
+    → product_of_lengths (all_sources (pre_execution t traces))
+    * product_by number_of_orders (map (own_stores (pre_execution t traces)) (numbers_below (length t.locations)))
+    ≡ length (candidates_with t traces)
+factors t traces =
+    let x = pre_execution t traces in
+    ap (λ m. product_of_lengths (all_sources x) * m) (sym (orders_long x (length t.locations) (numbers_below (length t.locations)) (order_long x)))
+    ∙ sym (length-candidates t traces)
+
 pub counted : (t : Test) (traces : List (List Step)) (c : Choices) → AreChoices (pre_execution t traces) (length t.locations) c
     → product_of_lengths c.sources.items * product_by number_of_orders c.stores.items ≡ length (candidates_with t traces)
 counted t traces c are =
     let x = pre_execution t traces in
     ap (λ xs. product_of_lengths xs * product_by number_of_orders c.stores.items) are.sources
     ∙ ap (λ xs. product_of_lengths (all_sources x) * product_by number_of_orders xs) are.stores
-    ∙ ap (λ m. product_of_lengths (all_sources x) * m) (sym (orders_long x (length t.locations) (numbers_below (length t.locations)) (order_long x)))
-    ∙ sym (length-candidates t traces)
+    ∙ factors t traces
 
 -- ---- the sum over all runs
 

@@ -1,10 +1,10 @@
 //! What may be chosen with given runs: the sources of each operation, and the stores of each location.
 
-ghost use Rattle.std.specs.Prelude.{◌≡◌, ◌≤◌, ◌<◌, ◌-◌, map, length, IfOk};
+ghost use Rattle.std.specs.Prelude.{◌≡◌, ◌≤◌, ◌<◌, ◌-◌, map, filter, length, IfOk};
 ghost use Rattle.fs_model.specs.Numbers.{is_same, numbers_below};
 ghost use Rattle.fs_model.specs.Operations.{PreExecution, accesses, operations as operations_of};
 ghost use Rattle.fs_showing.specs.RawCandidates.{all_sources};
-ghost use Rattle.fs_showing.specs.inner.Listed.{is_source_among, sources_within, sources_among, stores_among, own_among};
+ghost use Rattle.fs_showing.specs.inner.Listed.{is_source_among, number_of_sources, sources_within, sources_among, stores_among, own_among};
 ghost use Rattle.fs_showing.specs.inner.Chosen.{AreChoices};
 
 use fs_axioms::count_accesses;
@@ -72,6 +72,26 @@ fn sources(
     Ok(sources)
 }
 
+// How many other operations store what a loads.
+fn count_storing(operations: &[Operation], a: usize) -> usize
+    ensures { result ≡ length (filter (is_source_among operations.now a) (numbers_below (length operations.now))) }
+{
+    (0..operations.len())
+        .filter(|s| is_source(operations, a, *s))
+        .count()
+}
+
+// How many sources operation a may have. What is no load has one way to have none. Linear in the operations.
+pub(crate) fn count_sources(operations: &[Operation], a: usize) -> usize
+    ensures { result ≡ number_of_sources operations.now a }
+{
+    if Operation::numbered(operations, a).is_load() {
+        count_storing(operations, a)
+    } else {
+        1
+    }
+}
+
 // Does operation a store to the location?
 fn stores_to(operations: &[Operation], location: u8, a: usize) -> bool
     ensures { result ≡ stores_among operations.now location a }
@@ -94,6 +114,15 @@ fn own_stores(
         .filter(|a| stores_to(operations, location, *a))
         .map(|a| a as u8)
         .collect(alloc)
+}
+
+// How many stores to a location the harts have, where the first `count` operations are the harts'.
+pub(crate) fn count_own_stores(operations: &[Operation], count: usize, location: u8) -> usize
+    ensures { result ≡ length (own_among operations.now count location) }
+{
+    (0..count)
+        .filter(|a| stores_to(operations, location, *a))
+        .count()
 }
 
 // The sources of all operations.

@@ -12,9 +12,9 @@ ghost use Rattle.fs_showing.specs.Ways.{products, product_of_lengths, product_by
 ghost use Rattle.fs_showing.specs.RawCandidates.{all_orders};
 ghost use Rattle.fs_showing.specs.inner.Listed.{number_of_orders};
 ghost use Rattle.fs_showing.specs.inner.Places.{place, count_with, numbered_with, showing_from, IsPrepared};
+ghost use Rattle.fs_showing.specs.inner.Tested.{any_pair_among};
 
 use crate::by_number::{push_orders, push_sources};
-use crate::outcome::may_show;
 use crate::place::Place;
 use crate::prepared::Prepared;
 use fs_cand::{Candidate, StoreOrder};
@@ -45,11 +45,13 @@ impl Prepared {
         alloc: Global,
         test: &Test,
         runs: u32,
+        has_pairs: bool,
         first: u32,
         sources: &[Option<u8>],
         kept: &mut Vec<Place>,
     ) -> Result<(), AllocError>
         requires prepared { IsPrepared test.now self.now }
+        requires pairs { has_pairs ≡ any_pair_among (steps_in self.now.traces) self.now.operations }
         requires few { count_with test.now self.now.traces ≤ most_candidates }
         requires first { first < product_of_lengths self.now.choices.sources.items }
         requires sources { sources.now ≡ slice_index_or (products self.now.choices.sources.items) first [] }
@@ -59,7 +61,7 @@ impl Prepared {
         let count = self.choices.count_orders();
         for second in 0..count {
             let orders = self.orders(alloc, test, second)?;
-            if self.shows(test, sources, &orders) {
+            if self.shows(test, has_pairs, sources, &orders) {
                 let chosen = first * count + second;
                 kept.push(Place { runs, chosen })?;
             }
@@ -67,7 +69,8 @@ impl Prepared {
         Ok(())
     }
 
-    // Puts the numbers of the raw candidates that show the outcome behind the others.
+    // Puts the numbers of the raw candidates that show the outcome behind the others. Each raw candidate is tried, by tests of each two
+    // operations.
     pub(crate) fn add_showing(
         &self,
         alloc: Global,
@@ -80,14 +83,12 @@ impl Prepared {
         ensures { OnOk result (kept.new.items ≡ kept.old.items
             ++ map (place runs) (showing_from test.now self.now.traces 0 (count_with test.now self.now.traces))) }
     {
-        if !may_show(test, self.traces.as_slice()) {
-            return Ok(());
-        }
+        let has_pairs = self.has_pairs();
         let mut sources = Vec::new(alloc);
         for first in 0..self.choices.count_sources() {
             sources.clear();
             push_sources(&self.choices.sources, first, &mut sources)?;
-            self.add_with(alloc, test, runs, first, &sources, kept)?;
+            self.add_with(alloc, test, runs, has_pairs, first, &sources, kept)?;
         }
         Ok(())
     }

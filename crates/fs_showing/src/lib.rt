@@ -7,7 +7,6 @@ mod by_number;
 mod choices;
 mod coherence;
 mod counting;
-mod few;
 mod going;
 pub mod laws;
 mod outcome;
@@ -17,5 +16,4 @@ mod runs;
 mod showing;
 mod total;
 
-pub use few::check_candidates;
 pub use showing::Showing;

@@ -1,22 +1,18 @@
 //! Runs of each hart with all that their raw candidates are made of.
 
-ghost use Rattle.std.specs.Prelude.{◌≡◌, ◌≤◌, ◌<◌, ◌&&◌, ℕ, Option, List, length, map, IfOk, IsOkUnless};
+ghost use Rattle.std.specs.Prelude.{◌≡◌, ◌&&◌, ℕ, Option, List, IfOk, IsOkUnless};
 ghost use Rattle.fs_kinds.specs.declared.fault.Fault.TheVariants.{Memory};
 ghost use Rattle.fs_syntax.specs.Test.{IsBounded};
-ghost use Rattle.fs_answer.specs.CandidateFaults.{most_candidates};
 ghost use Rattle.fs_hart.specs.Steps.{steps_in};
-ghost use Rattle.fs_showing.specs.Over.{HaveFinal};
-ghost use Rattle.fs_showing.specs.RawCandidates.{AreAllRuns, candidate};
+ghost use Rattle.fs_showing.specs.RawCandidates.{candidate};
 ghost use Rattle.fs_showing.specs.ShowingTests.{has_outcome, shows};
-ghost use Rattle.fs_showing.specs.Ways.{product_of_lengths};
-ghost use Rattle.fs_showing.specs.inner.Places.{runs_at, IsPrepared};
+ghost use Rattle.fs_showing.specs.inner.Places.{CanBePrepared, IsPrepared};
 ghost use Rattle.fs_showing.specs.inner.Tested.{any_pair_among, all_coherent_among, all_atomic_among};
 
 use crate::atomicity::{any_pair, are_atomic};
 use crate::choices::Choices;
 use crate::coherence::are_coherent;
 use crate::outcome::has_outcome;
-use crate::runs::push_runs;
 use fs_hart::{Operations, Trace, operations};
 use fs_kinds::Fault;
 use fs_list::List;
@@ -29,39 +25,32 @@ pub(crate) struct Prepared {
     pub(crate) traces: List<Trace>,
     pub(crate) operations: Operations,
     pub(crate) choices: Choices,
-    // Is there a pair of an lr.w and an sc.w?
-    pub(crate) has_pairs: bool,
 }
 
 impl Prepared {
-    // The runs of this number.
-    pub(crate) fn of(
-        alloc: Global,
-        test: &Test,
-        lists: &[List<Trace>],
-        number: u32,
-    ) -> Result<Prepared, Fault>
+    // What the raw candidates with these runs are made of. The square of the operations.
+    pub(crate) fn of(alloc: Global, test: &Test, traces: List<Trace>) -> Result<Prepared, Fault>
         requires test { IsBounded test.now }
-        requires runs { AreAllRuns test.now (map steps_in lists.now) }
-        requires registers { HaveFinal test.now lists.now }
-        requires few { product_of_lengths lists.now ≤ most_candidates }
-        requires number { number < product_of_lengths lists.now }
-        ensures runs { IfOk result (λ p. p.traces ≡ runs_at lists.now number) }
+        requires runs { CanBePrepared test.now traces }
+        ensures runs { IfOk result (λ p. p.traces ≡ traces) }
         ensures ok { IfOk result (IsPrepared test.now) }
         ensures err { IsOkUnless result Memory }
     {
-        let mut traces = Vec::new(alloc);
-        push_runs(alloc, lists, number, &mut traces)?;
-        let operations = operations(alloc, test, &traces)?;
+        let operations = operations(alloc, test, traces.as_slice())?;
         let locations = test.locations.as_slice().len() as u8;
         let choices = Choices::of(alloc, operations.as_slice(), locations)?;
-        let has_pairs = any_pair(&traces, operations.as_slice());
         Ok(Prepared {
-            traces: List::new(traces),
+            traces,
             operations,
             choices,
-            has_pairs,
         })
+    }
+
+    // Is there a pair of an lr.w and an sc.w?
+    pub(crate) fn has_pairs(&self) -> bool
+        ensures { result ≡ any_pair_among (steps_in self.now.traces) self.now.operations }
+    {
+        any_pair(self.traces.as_slice(), self.operations.as_slice())
     }
 
     // Do the runs with these store orders show the outcome?
@@ -78,11 +67,11 @@ impl Prepared {
     }
 
     // Does each pair keep atomicity? Where there is no pair, no two operations are looked at.
-    fn is_atomic(&self, sources: &[Option<u8>], orders: &[List<u8>]) -> bool
-        requires { self.now.has_pairs ≡ any_pair_among (steps_in self.now.traces) self.now.operations }
+    fn is_atomic(&self, has_pairs: bool, sources: &[Option<u8>], orders: &[List<u8>]) -> bool
+        requires { has_pairs ≡ any_pair_among (steps_in self.now.traces) self.now.operations }
         ensures { result ≡ all_atomic_among (steps_in self.now.traces) self.now.operations sources.now orders.now }
     {
-        if !self.has_pairs {
+        if !has_pairs {
             return true;
         }
         are_atomic(
@@ -94,19 +83,27 @@ impl Prepared {
     }
 
     // Are the sources coherent with the store orders, and does each pair keep atomicity?
-    fn is_consistent(&self, sources: &[Option<u8>], orders: &[List<u8>]) -> bool
-        requires { self.now.has_pairs ≡ any_pair_among (steps_in self.now.traces) self.now.operations }
+    fn is_consistent(&self, has_pairs: bool, sources: &[Option<u8>], orders: &[List<u8>]) -> bool
+        requires { has_pairs ≡ any_pair_among (steps_in self.now.traces) self.now.operations }
         ensures { result ≡ (all_coherent_among self.now.operations sources.now orders.now
             && all_atomic_among (steps_in self.now.traces) self.now.operations sources.now orders.now) }
     {
-        are_coherent(self.operations.as_slice(), sources, orders) && self.is_atomic(sources, orders)
+        are_coherent(self.operations.as_slice(), sources, orders)
+            && self.is_atomic(has_pairs, sources, orders)
     }
 
     // Does the raw candidate with these sources and store orders show the outcome?
-    pub(crate) fn shows(&self, test: &Test, sources: &[Option<u8>], orders: &[List<u8>]) -> bool
-        requires { IsPrepared test.now self.now }
+    pub(crate) fn shows(
+        &self,
+        test: &Test,
+        has_pairs: bool,
+        sources: &[Option<u8>],
+        orders: &[List<u8>],
+    ) -> bool
+        requires prepared { IsPrepared test.now self.now }
+        requires pairs { has_pairs ≡ any_pair_among (steps_in self.now.traces) self.now.operations }
         ensures { result ≡ shows test.now (candidate (steps_in self.now.traces) sources.now orders.now) }
     {
-        self.has_outcome(test, orders) && self.is_consistent(sources, orders)
+        self.has_outcome(test, orders) && self.is_consistent(has_pairs, sources, orders)
     }
 }

@@ -10,6 +10,7 @@ ghost use Rattle.fs_hart.specs.Listing.{IsOffered};
 ghost use Rattle.fs_values.specs.Rounds.{HasNoFault};
 ghost use Rattle.fs_showing.specs.Over.{AreListed};
 ghost use Rattle.fs_showing.specs.Ways.{products, product_of_lengths};
+ghost use Rattle.fs_showing.specs.inner.Places.{runs_at};
 
 use crate::counting::count_choices;
 use fs_hart::{Steps, Trace, Words, traces_over};
@@ -49,7 +50,7 @@ pub(crate) fn runs_over(
 }
 
 // Puts the runs of this number behind the others, one of each list. The last list's runs change first.
-pub(crate) fn push_runs(
+fn push_runs(
     alloc: Global,
     lists: &[List<Trace>],
     number: u32,
@@ -65,4 +66,19 @@ pub(crate) fn push_runs(
     let count = count_choices(rest);
     traces.push(copy(alloc, &list[(number / count) as usize])?)?;
     push_runs(alloc, rest, number % count, traces)
+}
+
+// The runs of this number, one of each list.
+pub(crate) fn runs_at(
+    alloc: Global,
+    lists: &[List<Trace>],
+    number: u32,
+) -> Result<List<Trace>, AllocError>
+    requires few { product_of_lengths lists.now ≤ most_candidates }
+    requires number { number < product_of_lengths lists.now }
+    ensures { IfOk result (λ traces. traces ≡ runs_at lists.now number) }
+{
+    let mut traces = Vec::new(alloc);
+    push_runs(alloc, lists, number, &mut traces)?;
+    Ok(List::new(traces))
 }

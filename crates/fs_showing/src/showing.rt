@@ -12,12 +12,13 @@ ghost use Rattle.fs_cand.specs.Candidates.{candidate_of, IsMade};
 ghost use Rattle.fs_values.specs.Sets.{AreValues};
 ghost use Rattle.fs_values.specs.Rounds.{HasNoFault};
 ghost use Rattle.fs_showing.specs.Ways.{product_of_lengths};
-ghost use Rattle.fs_showing.specs.inner.Places.{places_below, AreListable};
+ghost use Rattle.fs_showing.specs.inner.Places.{places_below, places_with, AreListable};
 
 use crate::counting::count_choices;
+use crate::outcome::may_show;
 use crate::place::Place;
 use crate::prepared::Prepared;
-use crate::runs::runs_over;
+use crate::runs::{runs_at, runs_over};
 use crate::total::check_few;
 use fs_cand::Candidate;
 use fs_hart::Trace;
@@ -55,6 +56,29 @@ impl Model for Showing {
     ghost invariant = { λ s. AreKept (arc_value s.test) s.lists.items s.kept.items };
 }
 
+// Puts the numbers of the raw candidates with the runs of this number that show the outcome behind the others. Where the final
+// registers rule the outcome out, nothing more is made of the runs.
+fn add_places(
+    alloc: Global,
+    test: &Test,
+    lists: &[List<Trace>],
+    number: u32,
+    kept: &mut Vec<Place>,
+) -> Result<(), Fault>
+    requires lists { AreListable test.now lists.now }
+    requires few { HasTooMany test.now → ⊥ }
+    requires number { number < product_of_lengths lists.now }
+    ensures ok { OnOk result (kept.new.items ≡ kept.old.items ++ places_with test.now lists.now number) }
+    ensures err { IsOkUnless result Memory }
+{
+    let traces = runs_at(alloc, lists, number)?;
+    if !may_show(test, traces.as_slice()) {
+        return Ok(());
+    }
+    let prepared = Prepared::of(alloc, test, traces)?;
+    Ok(prepared.add_showing(alloc, test, number, kept)?)
+}
+
 // The numbers of all raw candidates that show the outcome.
 fn places(alloc: Global, test: &Test, lists: &[List<Trace>]) -> Result<Vec<Place>, Fault>
     requires lists { AreListable test.now lists.now }
@@ -64,8 +88,7 @@ fn places(alloc: Global, test: &Test, lists: &[List<Trace>]) -> Result<Vec<Place
 {
     let mut kept = Vec::new(alloc);
     for number in 0..count_choices(lists) {
-        let prepared = Prepared::of(alloc, test, lists, number)?;
-        prepared.add_showing(alloc, test, number, &mut kept)?;
+        add_places(alloc, test, lists, number, &mut kept)?;
     }
     Ok(kept)
 }
@@ -73,8 +96,9 @@ fn places(alloc: Global, test: &Test, lists: &[List<Trace>]) -> Result<Vec<Place
 impl Showing {
     /// The candidates of the test that show its outcome, where these are its value sets and no hart has a fault over them. F15
     /// where there are more than 4,000,000 lists of runs, one of each hart, or more than 4,000,000 raw candidates, whether they
-    /// show the outcome or not, and then none is tried; F19. The time goes by the raw candidates, times the square of the
-    /// operations.
+    /// show the outcome or not, and then none is tried; F19. The cost: for each list of runs the square of its operations, to count its
+    /// raw candidates; and for each raw candidate of those whose final registers may show the outcome again this square, times the
+    /// stores of a location.
     pub fn of(alloc: Global, test: Arc<Test>, values: &Values) -> Result<Showing, Fault>
         requires test { IsBounded (arc_value test) }
         requires starts { All IsStart (arc_value test).starts }
@@ -105,7 +129,7 @@ impl Showing {
         &self.test
     }
 
-    /// The candidate of this number, counted from 0. F19.
+    /// The candidate of this number, counted from 0. F19. It is made anew: the square of its operations.
     pub fn get(&self, alloc: Global, k: usize) -> Result<Candidate, Fault>
         requires { k < length self.now.candidates }
         ensures ok { IfOk result (λ c. slice_get self.now.candidates k ≡ Some (candidate_of c)) }
@@ -115,7 +139,8 @@ impl Showing {
         ensures err { IsOkUnless result Memory }
     {
         let place = self.kept[k];
-        let prepared = Prepared::of(alloc, &self.test, &self.lists, place.runs)?;
+        let traces = runs_at(alloc, &self.lists, place.runs)?;
+        let prepared = Prepared::of(alloc, &self.test, traces)?;
         prepared.candidate(alloc, &self.test, place.chosen)
     }
 }

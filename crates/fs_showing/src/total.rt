@@ -10,9 +10,9 @@ ghost use Rattle.fs_showing.specs.RawCandidates.{AreAllRuns};
 ghost use Rattle.fs_showing.specs.Ways.{product_of_lengths};
 ghost use Rattle.fs_showing.specs.inner.Totals.{capped_with};
 
-use crate::counting::{MOST_CANDIDATES, count_choices};
-use crate::prepared::Prepared;
-use fs_hart::Trace;
+use crate::counting::{MOST_CANDIDATES, count_choices, count_raw};
+use crate::runs::runs_at;
+use fs_hart::{Trace, operations};
 use fs_kinds::Fault;
 use fs_list::List;
 use fs_syntax::Test;
@@ -29,8 +29,10 @@ fn count_with(alloc: Global, test: &Test, lists: &[List<Trace>], number: u32) ->
     ensures most { IfOk result (λ count. count ≤ most_candidates + 1) }
     ensures err { IsOkUnless result Memory }
 {
-    let prepared = Prepared::of(alloc, test, lists, number)?;
-    Ok(prepared.choices.count())
+    let traces = runs_at(alloc, lists, number)?;
+    let operations = operations(alloc, test, traces.as_slice())?;
+    let locations = test.locations.as_slice().len() as u8;
+    Ok(count_raw(operations.as_slice(), locations))
 }
 
 /// Goes over the lists of runs, where these are all runs of each hart over the value sets, and counts the raw candidates, as far as

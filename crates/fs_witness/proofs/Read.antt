@@ -9,11 +9,12 @@ use Rattle.fs_model.specs.declared.step.Choice.{Choice}
 use Rattle.fs_model.specs.Choices.{choice_by, choices_of}
 use Rattle.fs_model.specs.Operations.{PreExecution, accesses, place, trace_of}
 use Rattle.fs_model.specs.Witness.{name_of, step_name}
+use Rattle.fs_model.proofs.HartOperations.{has_name}
 use Rattle.fs_model.proofs.WhichOperation.{no_hart_past}
 use Rattle.fs_cand.specs.declared.candidate.Candidate.{Candidate}
 use Rattle.fs_cand.specs.Candidates.{IsMade, runs_of}
-use Rattle.fs_check.proofs.Distinct.{has_name}
-use Rattle.fs_witness.specs.inner.Reading.{chosen, name_at}
+use Rattle.fs_edges.specs.Naming.{name_at}
+use Rattle.fs_witness.specs.inner.Reading.{chosen}
 
 -- ---- choices
 

@@ -39,7 +39,8 @@ use Rattle.fs_relation.specs.Edges.{has_edge}
 use Rattle.fs_relation.specs.Orders.{IsOrderBelow}
 use Rattle.fs_evidence.specs.Evidence.{IsWitnessFor, Shown, pairs_at, widths_of}
 use Rattle.fs_witness.specs.inner.Keeping.{width_in}
-use Rattle.fs_witness.specs.inner.Reading.{IsReadOff, chosen, name_at}
+use Rattle.fs_edges.specs.Naming.{name_at}
+use Rattle.fs_witness.specs.inner.Reading.{IsReadOff, chosen}
 use Rattle.fs_witness.proofs.Keeping.{all_from, implied, implies_from, kept_orders, orders_kept, same_truth}
 use Rattle.fs_witness.proofs.Read.{chosen_is, name_is, names_are}
 use Rattle.fs_witness.proofs.OneExecution.{one_execution}

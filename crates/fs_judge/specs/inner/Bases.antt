@@ -7,11 +7,14 @@ use Rattle.fs_model.specs.Operations.{operations}
 use Rattle.fs_answer.specs.Candidates.{Candidate, runs_of}
 use Rattle.fs_answer.specs.Judged.{is_judged}
 use Rattle.fs_answer.specs.Listings.{IsListing}
+use Rattle.fs_answer.specs.Valid.{IsCycle}
 use Rattle.fs_thin_air.specs.ThinAir.{CanBeListed}
 use Rattle.fs_relation.specs.Edges.{has_edge}
 use Rattle.fs_edges.specs.Fencing.{orders_at, is_fenced}
 use Rattle.fs_showing.specs.Showing.{Listed}
 use Rattle.fs_judge.specs.declared.base.Base.{Base}
+use Rattle.fs_judge.specs.declared.prejudged.Prejudged.{Prejudged}
+use Rattle.fs_judge.specs.declared.prejudged.Prejudged.TheVariants.{Live, Dead}
 
 -- its rows are the candidate's judged relation without placed fences, and its sides give the edges of each placement's fences
 pub record IsBase (t : Test) (c : Candidate) (base : Base) : Type 0 where
@@ -20,14 +23,19 @@ pub record IsBase (t : Test) (c : Candidate) (base : Base) : Type 0 where
   pub long : base.len ≡ length (operations (runs_of t c))
   pub few : base.len ≤ 64
 
--- the bases of the first ones of these candidates
-pub record AreBases (t : Test) (cs : List Candidate) (bases : List Base) : Type 0 where
-  pub within : length bases ≤ length cs
-  pub each : (k : ℕ) (base : Base) → slice_get bases k ≡ Some base → (c : Candidate) → slice_get cs k ≡ Some c → IsBase t c base
+-- it has this base; or this cycle, whatever fences are placed
+abbrev pub IsPrejudged : Test → Candidate → Prejudged → Type 0
+IsPrejudged t c (Live base) = IsBase t c base
+IsPrejudged t c (Dead links) = (p : List Entry) → IsCycle t p c links
 
--- all showing candidates of a test whose runs can be listed, with the bases of the first ones
-pub record IsPrepared (t : Test) (s : Listed) (kept : List Base) : Type 0 where
+-- the first ones of these candidates
+pub record ArePrejudged (t : Test) (cs : List Candidate) (firsts : List Prejudged) : Type 0 where
+  pub within : length firsts ≤ length cs
+  pub each : (k : ℕ) (first : Prejudged) → slice_get firsts k ≡ Some first → (c : Candidate) → slice_get cs k ≡ Some c → IsPrejudged t c first
+
+-- all showing candidates of a test whose runs can be listed, the first ones prejudged
+pub record IsReady (t : Test) (s : Listed) (prejudged : List Prejudged) : Type 0 where
   pub listable : CanBeListed t
   pub same : s.test ≡ t
   pub listing : IsListing t s.candidates
-  pub bases : AreBases t s.candidates kept
+  pub firsts : ArePrejudged t s.candidates prejudged

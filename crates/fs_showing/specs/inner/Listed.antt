@@ -32,6 +32,11 @@ stores_among os location a = is_some (numbered os a).stored && is_same (numbered
 abbrev pub own_among : List Operation → ℕ → ℕ → List ℕ
 own_among os n location = filter (stores_among os location) (numbers_below n)
 
+-- how many sources a may have
+abbrev pub number_of_sources : List Operation → ℕ → ℕ
+number_of_sources os a =
+    if is_some (numbered os a).loaded then length (filter (is_source_among os a) (numbers_below (length os))) else 1
+
 -- ---- counting up to a limit
 
 -- the number, or one more than there may be
@@ -41,3 +46,7 @@ capped n = if nat_lt most_candidates n then most_candidates + 1 else n
 -- how many orders numbers have
 abbrev pub number_of_orders : List ℕ → ℕ
 number_of_orders ns = factorial (length ns)
+
+-- how many orders the first n operations' stores to a location have
+abbrev pub orders_among : List Operation → (n location : ℕ) → ℕ
+orders_among os n location = number_of_orders (own_among os n location)

@@ -18,7 +18,6 @@ use Rattle.fs_showing.specs.RawCandidates.{AreAllRuns, candidate, candidates_wit
 use Rattle.fs_showing.specs.ShowingTests.{shows}
 use Rattle.fs_showing.specs.Over.{HaveFinal}
 use Rattle.fs_showing.specs.inner.Chosen.{AreChoices}
-use Rattle.fs_showing.specs.inner.Tested.{any_pair_among}
 
 -- the runs of this number, one of each list
 abbrev pub runs_at : List (List Trace) → ℕ → List Trace
@@ -52,6 +51,13 @@ places_below t lists n = flat_map (places_with t lists) (numbers_below n)
 
 -- ---- what is known of runs and of numbers
 
+-- runs as a bounded test has them, with their final registers
+pub record CanBePrepared (t : Test) (traces : List Trace) : Type 0 where
+  pub final : AreFinal t traces
+  pub harts : length traces ≤ 8
+  pub short : All (λ trace. length trace.steps ≤ 32) traces
+  pub few : length (operations (pre_execution t (steps_in traces))) ≤ 56
+
 -- the runs' operations and choices
 pub record IsPrepared (t : Test) (p : Prepared) : Type 0 where
   pub operations : p.operations ≡ operations (pre_execution t (steps_in p.traces))
@@ -60,7 +66,6 @@ pub record IsPrepared (t : Test) (p : Prepared) : Type 0 where
   pub harts : length p.traces ≤ 8
   pub short : All (λ trace. length trace.steps ≤ 32) p.traces
   pub few : length p.operations ≤ 56
-  pub pairs : p.has_pairs ≡ any_pair_among (steps_in p.traces) p.operations
 
 -- the lists are all runs of each hart over the value sets, with their final registers, and have few lists of runs
 pub record AreListable (t : Test) (lists : List (List Trace)) : Type 0 where

@@ -1,38 +1,26 @@
 -- What is read off a candidate's runs and an order of its operations.
-use Rattle.std.specs.Prelude.{◌≡◌, ℕ, Option, option_map, option_and_then, unwrap_or, List, [], map, slice_get}
-use Rattle.std.specs.List.{filter_map, list_any, slice_index_or}
+use Rattle.std.specs.Prelude.{◌≡◌, ℕ, List, map}
+use Rattle.std.specs.List.{filter_map, list_any}
 use Rattle.fs_kinds.specs.declared.placement.Entry.{Entry}
-use Rattle.fs_kinds.specs.declared.reason.OperationName.{OperationName as Name}
 use Rattle.fs_syntax.specs.declared.test.Test.{Test}
 use Rattle.fs_syntax.specs.Slots.{slots}
-use Rattle.fs_model.specs.declared.operation.Operation.{Operation}
 use Rattle.fs_model.specs.declared.step.Choice.{Choice}
 use Rattle.fs_model.specs.declared.step.Step.{Step}
 use Rattle.fs_model.specs.Choices.{choice_by}
 use Rattle.fs_model.specs.Numbers.{stands_before}
-use Rattle.fs_model.specs.Operations.{nothing, steps_of}
-use Rattle.fs_model.specs.Witness.{step_name}
 use Rattle.fs_hart.specs.Steps.{steps_in}
 use Rattle.fs_cand.specs.declared.candidate.Candidate.{Candidate}
 use Rattle.fs_ppo.specs.Rules.{OfRuns}
 use Rattle.fs_relation.specs.Edges.{has_edge}
 use Rattle.fs_edges.specs.declared.points.Sides.{Sides}
 use Rattle.fs_edges.specs.Fencing.{orders_at, is_fenced}
+use Rattle.fs_edges.specs.Naming.{name_at}
 use Rattle.fs_evidence.specs.Evidence.{Shown, widths_of}
 use Rattle.fs_witness.specs.inner.Keeping.{width_in}
 
 -- the choices of a run
 abbrev pub chosen : List Step → List Choice
 chosen = filter_map (λ s. choice_by s.instr s)
-
--- the name of an operation in these runs; an initial store has none
-abbrev pub name_in : List (List Step) → Operation → Option Name
-name_in traces o =
-    option_and_then (λ hart. option_map (step_name hart) (slice_get (unwrap_or (option_map (steps_of traces) o.hart) []) o.place)) o.hart
-
--- the name of the operation of this number
-abbrev pub name_at : Candidate → ℕ → Option Name
-name_at c a = name_in (steps_in c.traces) (slice_index_or c.operations a nothing)
 
 -- the witness has the choices of the runs, the names in this order, and the widths that it has
 pub record IsReadOff (t : Test) (c : Candidate) (numbers : List ℕ) (w : Shown) : Type 0 where

@@ -1,19 +1,12 @@
-use Rattle.std.proofs.Common.{◌≡◌, ◌∙◌, ◌≤◌, ℕ, not, ◌==◌, List, [], map, length, refl, ap, inl, inr, arith}
-use Rattle.std.specs.List.{slice_index_or}
-use Rattle.std.proofs.lemmas.Bool.{cases_lt}
-use Rattle.std.proofs.Math.ListN.{get_or-eq_default}
-use Rattle.std.proofs.lemmas.List.{length-map}
+use Rattle.std.proofs.Common.{◌≡◌, ◌∙◌, ℕ, List, refl, ap}
 use Rattle.fs_syntax.specs.declared.test.Test.{Test}
-use Rattle.fs_syntax.specs.Condition.{Condition, condition_of, Always, Never, RegisterIs, LocationIs, Deny, Both, Either}
+use Rattle.fs_syntax.specs.Condition.{condition_of}
 use Rattle.fs_model.specs.declared.operation.Operation.{Operation}
-use Rattle.fs_model.specs.Execute.{read}
-use Rattle.fs_model.specs.Trace.{start_with, hart_after}
-use Rattle.fs_model.specs.Operations.{operations, steps_of}
-use Rattle.fs_model.specs.Execution.{registers_of}
-use Rattle.fs_model.specs.Shows.{holds, is_outcome, final_register}
+use Rattle.fs_model.specs.Operations.{operations}
+use Rattle.fs_model.specs.Shows.{is_outcome, final_register}
 use Rattle.fs_hart.specs.declared.trace.Trace.{Trace}
 use Rattle.fs_hart.specs.Steps.{steps_in}
-use Rattle.fs_axioms.specs.Final.{register_in, AreFinal}
+use Rattle.fs_axioms.specs.Final.{register_in}
 use Rattle.fs_answer.specs.Candidates.{Candidate, last_word, runs_of}
 use Rattle.fs_showing.specs.RawCandidates.{candidate}
 use Rattle.fs_showing.specs.inner.Tested.{word_among}

@@ -1,6 +1,6 @@
-use Rattle.std.proofs.Common.{sym, ◌∙◌, get_or}
+use Rattle.std.proofs.Common.{sym, ◌∙◌, ap, get_or}
 use Rattle.std.proofs.lemmas.List.{get_or_default}
-use Rattle.fs_witness.specs.inner.Reading.{name_at}
+use Rattle.fs_edges.specs.Naming.{name_at}
 use Rattle.fs_witness.proofs.Listing.{given, passed}
 use Rattle.fs_witness.proofs.names.names.Goals.{in-Some+in_ok-push, in_default}
 use Rattle.fs_witness.proofs.names.names.Goals as goal
@@ -11,9 +11,9 @@ loop-number-preserved c =
     let i = c.loop-number.number-index in
     let low = c.loop-number-test.true in
     let number = get_or numbers i 0 in
-    elim c.match-name.branch [
+    elim c.match-operation_name.branch [
       | in-Some+in_ok-push w ↦ rw w.names-is (given (name_at c.args.candidate.now) numbers i number low (get_or_default numbers i 0 number low)
-          w.in-Some.name c.loop-number.names.items _ (sym c.name.ensures ∙ w.in-Some.is) c.loop-number.invariant w.in_ok-push.ensures.items)
+          w.in-Some.name c.loop-number.names.items _ (ap (name_at c.args.candidate.now) (sym c.from.ensures) ∙ sym c.operation_name.ensures.read ∙ w.in-Some.is) c.loop-number.invariant w.in_ok-push.ensures.items)
       | in_default w ↦ rw w.names-is (passed (name_at c.args.candidate.now) numbers i number low (get_or_default numbers i 0 number low)
-          c.loop-number.names.items (sym c.name.ensures ∙ w.in_default.is) c.loop-number.invariant)
+          c.loop-number.names.items (ap (name_at c.args.candidate.now) (sym c.from.ensures) ∙ sym c.operation_name.ensures.read ∙ w.in_default.is) c.loop-number.invariant)
     ]

@@ -1,6 +1,6 @@
 use Rattle.std.proofs.Common.{◌≡◌, take}
 use Rattle.std.specs.List.{filter_map}
-use Rattle.fs_witness.specs.inner.Reading.{name_at}
+use Rattle.fs_edges.specs.Naming.{name_at}
 use Rattle.fs_witness.proofs.names.names.Given as goal
 
 -- the names of the operations so far

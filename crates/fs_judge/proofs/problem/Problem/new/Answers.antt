@@ -1,16 +1,9 @@
-use Rattle.std.proofs.Common.{◌≡◌, ◌≢◌, Some, List, subst}
-use Rattle.std.specs.Prelude.{slice_get}
+use Rattle.std.proofs.Common.{◌≢◌, subst}
 use Rattle.fs_kinds.specs.declared.fault.Fault.TheVariants.{Memory}
 use Rattle.fs_answer.specs.CandidateFaults.{IsCandidateFault}
 use Rattle.fs_evidence.specs.Evidence.{Question}
-use Rattle.fs_judge.specs.declared.base.Base.{Base}
-use Rattle.fs_judge.proofs.Prepared.{few_of, handed}
+use Rattle.fs_judge.proofs.Prepared.{handed}
 use Rattle.fs_judge.proofs.problem.Problem.new.Goals as goal
-
-pub live_among-requires : goal.live_among-requires
-live_among-requires c = λ k base there.
-    few_of c.in_ok-showing.showing.test c.in_ok-showing.showing.candidates c.in_ok-bases.bases.items c.in_ok-bases.ensures.ok k base
-    (subst (λ (bases : List Base). slice_get bases k ≡ Some base) c.deref-2.ensures.value there)
 
 pub returns-clause-clean : goal.returns-clause-clean
 returns-clause-clean c = λ f. subst (λ (q : Question). IsCandidateFault q.test f → ⊥) c.deref.ensures (c.in_ok-showing.ensures.clean f)

@@ -1,11 +1,7 @@
-use Rattle.std.proofs.Common.{◌≡◌, ◌≤◌, false, subst, sym, arith}
+use Rattle.std.proofs.Common.{◌≤◌, subst, sym, arith}
 use Rattle.fs_answer.specs.CandidateFaults.{most_candidates}
 use Rattle.fs_showing.specs.Ways.{product_of_lengths}
-use Rattle.fs_hart.specs.Steps.{steps_in}
-use Rattle.fs_axioms.specs.Final.{AreFinal}
-use Rattle.fs_showing.specs.RawCandidates.{candidate}
-use Rattle.fs_showing.specs.ShowingTests.{has_outcome}
-use Rattle.fs_showing.proofs.Kept.{nothing_added, few_sources, row_more, rows_whole}
+use Rattle.fs_showing.proofs.Kept.{few_sources, row_more, rows_whole}
 use Rattle.fs_showing.proofs.prepared.Prepared.add_showing.Goals as goal
 
 pub push_sources-requires-clause-few : goal.push_sources-requires-clause-few
@@ -23,13 +19,3 @@ returns c =
     rows_whole c.args.test.now c.args.self.now c.requires.prepared c.args.runs c.loop-first.first c.count_sources-first-end.result
     c.args.kept.now.items c.loop-first.kept.items c.requires.few c.count_sources-first-end.ensures.exact
     (omega (arith, c.loop-first-test.false, c.loop-first.auto.first-end)) c.loop-first.invariant
-
-pub may_show-requires : goal.may_show-requires
-may_show-requires c = subst (AreFinal c.args.test.now) (sym c.as_slice.ensures) c.requires.prepared.final
-
-pub returns-then-not-may_show : goal.returns-then-not-may_show
-returns-then-not-may_show c =
-    let t = c.args.test.now in
-    nothing_added c.args.runs t c.args.self.now.traces c.args.kept.now.items (λ sources orders.
-    subst (λ ts. has_outcome t (candidate (steps_in ts) sources orders) ≡ false) c.as_slice.ensures
-    (c.may_show.ensures c.if-not-may_show.true sources orders))
