@@ -1,7 +1,7 @@
 -- What is decided, put into a placement slot by slot, and slots that rise.
 use Rattle.std.proofs.Common.{◌≡◌, ℕ, zero, suc, ◌+◌, ◌<◌, ◌≤◌, true, false, ◌||◌, Option, None, Some, unwrap_or, List, [], ◌∷◌, map, length, drop, take, refl, ap, ap₂, ◌∙◌, arith}
-use Rattle.std.specs.Prelude.{if◌then◌else◌, get_or}
-use Rattle.std.specs.List.{list_all}
+use Rattle.std.specs.Prelude.{if◌then◌else◌, get_or, is_none}
+use Rattle.std.specs.List.{find, list_all}
 use Rattle.std.proofs.lemmas.Bool.{and_parts}
 use Rattle.std.proofs.lemmas.Bool.Decides.{nat_tests}
 use Rattle.fs_kinds.specs.declared.kind.Kind.{Kind}
@@ -39,6 +39,15 @@ put_end [] zero p l = refl
 put_end [] (suc i) p l = refl
 put_end (d ∷ part) zero p l = absurd (omega arith)
 put_end (d ∷ part) (suc i) p l = put_end part i p (omega arith)
+
+-- ---- the first undecided slot
+
+pub find_drop : (part : Part) (i : ℕ) (d : Decision) → i < length part
+    → find (λ x. is_none x.decided) (drop i part)
+    ≡ (if is_none (get_or part i d).decided then Some (get_or part i d) else find (λ x. is_none x.decided) (drop (i + 1) part))
+find_drop [] i d l = absurd (omega arith)
+find_drop (x ∷ xs) zero d l = refl
+find_drop (x ∷ xs) (suc i) d l = let e : suc i + 1 ≡ suc (i + 1) = omega arith in rw e (find_drop xs i d (omega arith))
 
 -- ---- rising slots
 

@@ -68,7 +68,8 @@ fn push_within<T: Drop>(list: &mut Vec<T>, item: T)
 }
 
 impl Board {
-    /// The board with one open node, which is wholly undecided, and an empty log. No node's number may pass the limit. F19.
+    /// The board with one open node, which is wholly undecided, and an empty log. No node's number may pass the limit. F19. It takes time
+    /// of slots.
     pub fn new(alloc: Global, question: Arc<Question>, limit: usize) -> Result<Board, Fault>
         requires bounded { IsBounded (arc_value question).test }
         requires limit { limit ≤ 1000000 }
@@ -120,12 +121,12 @@ impl Board {
         self.tree.status(node)
     }
 
-    /// The first node that a worker holds, where there is one. It looks at the nodes in turn.
-    pub fn first_held(&self) -> Option<usize>
+    /// A node that a worker holds, where there is one. It takes time of nodes.
+    pub fn any_held(&self) -> Option<usize>
         ensures some { IfSome result (λ k. (p : PartValue) × (part_at is_held self.now.board k ≡ Some p)) }
         ensures none { IfNone result (has_node is_held self.now.board ≡ false) }
     {
-        self.tree.first_held()
+        self.tree.any_held()
     }
 
     /// The best placement posted, with a cycle for each showing candidate.
@@ -240,12 +241,12 @@ impl Board {
         Ok(Reply::Closed)
     }
 
-    /// Hands out any open node. Where none is open, `Idle` if some node is held, else `Done`.
+    /// Hands out any open node. Where none is open, `Idle` if some node is held, else `Done`. All calls together look at each node once.
     pub fn take(&mut self, worker: u8) -> Result<Reply, AllocError>
         ensures step { IfOk result (λ r. Answers self.old self.new worker Take (reply_of r)) }
         ensures err { OnErr result (self.new ≡ self.old) }
     {
-        let Some(node) = self.tree.first_open() else {
+        let Some(node) = self.tree.any_open() else {
             if self.tree.has_held() {
                 return self.refuse(worker, Event::Take, Reply::Idle, Reply::Idle);
             }
@@ -280,7 +281,8 @@ impl Board {
     }
 
     /// Splits a node at an undecided slot: one open child for none, and one for each offered kind, in table order. `NotYours`;
-    /// `Decided` where the slot is decided or none of the node's; `Full` where the last child's number would pass the limit.
+    /// `Decided` where the slot is decided or none of the node's; `Full` where the last child's number would pass the limit. It takes time
+    /// of slots times kinds.
     pub fn split(
         &mut self,
         alloc: Global,
@@ -313,7 +315,8 @@ impl Board {
         Ok(Reply::Children(first, count))
     }
 
-    /// Closes a node whose least placement is no better than the bound. `NotYours`; `Cheaper` where it is better, or there is no bound.
+    /// Closes a node whose least placement is no better than the bound. `NotYours`; `Cheaper` where it is better, or there is no bound. It
+    /// takes time of slots.
     #[tactic(auto, using(crate::proofs::Bests::pruned_by_cost))]
     pub fn cut_cost(&mut self, alloc: Global, worker: u8, node: usize) -> Result<Reply, AllocError>
         ensures step { IfOk result (λ r. Answers self.old self.new worker (CutCost node) (reply_of r)) }
@@ -436,7 +439,7 @@ impl Board {
     }
 
     /// Closes a node whose least placement this is, and makes it the bound where it is better. `NotYours`; `Other` where it isn't the
-    /// node's least placement. The placement must forbid the outcome, as its cycles show.
+    /// node's least placement. The placement must forbid the outcome, as its cycles show. It takes time of slots.
     pub fn post(
         &mut self,
         alloc: Global,
@@ -477,7 +480,8 @@ impl Board {
         }
     }
 
-    /// Shows the bound with its cycles, how many witnesses there are, and those from this number on with their widths.
+    /// Shows the bound with its cycles, how many witnesses there are, and those from this number on with their widths. It takes time of
+    /// those that it shows.
     pub fn peek(&mut self, alloc: Global, worker: u8, from: usize) -> Result<Reply, AllocError>
         ensures backed { IfOk result (IsSeen self.old.question.test) }
         ensures step { IfOk result (λ r. Answers self.old self.new worker (Peek from) (reply_of r)) }

@@ -1,7 +1,7 @@
 //! Partial placements.
 
-ghost use Rattle.std.specs.Prelude.{◌≡◌, IsTrue, IfOk, IfSome, IfNone, true, false, map, filter, ◌&&◌, is_none, unwrap_or, Some, None, if◌then◌else◌};
-ghost use Rattle.std.specs.List.{list_any};
+ghost use Rattle.std.specs.Prelude.{◌≡◌, IsTrue, IfOk, IfSome, IfNone, true, false, map, filter, ◌&&◌, is_none, unwrap_or, option_map, Some, None, if◌then◌else◌};
+ghost use Rattle.std.specs.List.{find, list_any};
 ghost use Rattle.fs_kinds.specs.declared.slot.Slot.{Slot};
 ghost use Rattle.fs_kinds.specs.Placement.{all_with};
 ghost use Rattle.fs_kinds.specs.Slot.{is_same_slot, is_rising};
@@ -111,7 +111,7 @@ impl Decision {
 }
 
 impl Part {
-    /// No slot of these is decided. The slots must rise.
+    /// No slot of these is decided. The slots must rise. It takes time of slots.
     pub fn undecided(alloc: Global, slots: &[Slot]) -> Result<Part, AllocError>
         requires { IsTrue (is_rising slots.now) }
         ensures { IfOk result (λ p. p ≡ map (λ slot. record { slot = slot; decided = None }) slots.now) }
@@ -123,7 +123,7 @@ impl Part {
         Ok(Part { decisions })
     }
 
-    /// Is the slot one of the part's, and undecided?
+    /// Is the slot one of the part's, and undecided? It takes time of slots.
     pub fn is_undecided(&self, slot: Slot) -> bool
         ensures { result ≡ is_undecided slot self.now }
     {
@@ -132,7 +132,7 @@ impl Part {
             .any(|decision| decision.is_open_at(slot))
     }
 
-    /// The part with the slot decided so.
+    /// The part with the slot decided so. It takes time of slots.
     pub fn decide(&self, alloc: Global, slot: Slot, kind: Option<Kind>) -> Result<Part, AllocError>
         ensures { IfOk result (λ p. p ≡ decide slot self.now kind) }
     {
@@ -154,7 +154,7 @@ impl Part {
         Ok(entries)
     }
 
-    /// The least completion: what is decided, and none elsewhere.
+    /// The least completion: what is decided, and none elsewhere. It takes time of slots squared.
     pub fn floor(&self, alloc: Global) -> Result<Placement, AllocError>
         ensures { IfOk result (λ p. p ≡ floor self.now) }
     {
@@ -165,7 +165,7 @@ impl Part {
         Ok(self.filled_with(bottom, None))
     }
 
-    /// The strongest completion: what is decided, and `rw,rw` elsewhere.
+    /// The strongest completion: what is decided, and `rw,rw` elsewhere. It takes time of slots squared.
     pub fn filled(&self, alloc: Global) -> Result<Placement, AllocError>
         ensures { IfOk result (λ p. p ≡ filled self.now) }
     {
@@ -201,8 +201,10 @@ impl Part {
         Ok(slots)
     }
 
-    /// The first slot that is undecided.
+    /// The first slot that is undecided. It takes time of slots.
+    #[tactic(auto, using(crate::proofs::Filling::find_drop))]
     pub fn first_undecided(&self) -> Option<Slot>
+        ensures first { result ≡ option_map (λ d. d.slot) (find (λ d. is_none d.decided) self.now) }
         ensures some { IfSome result (λ s. is_undecided s self.now ≡ true) }
         ensures none { IfNone result (list_any (λ d. is_none d.decided) self.now ≡ false) }
     {
@@ -214,7 +216,7 @@ impl Part {
         None
     }
 
-    /// The slots that are undecided, in order.
+    /// The slots that are undecided, in order. It takes time of slots.
     pub fn undecided_slots(&self, alloc: Global) -> Result<Vec<Slot>, AllocError>
         ensures { IfOk result (λ slots. slots.items ≡ map (λ d. d.slot) (filter (λ d. is_none d.decided) self.now)) }
     {

@@ -74,8 +74,8 @@ impl Tree {
         Some(self.nodes.get(node)?.status())
     }
 
-    /// The first node that a worker holds, where there is one.
-    pub(crate) fn first_held(&self) -> Option<usize>
+    /// A node that a worker holds, where there is one. It takes time of nodes.
+    pub(crate) fn any_held(&self) -> Option<usize>
         ensures some { IfSome result (λ k. (n : NodeValue) × (slice_get self.now.nodes k ≡ Some n) × (is_held n.status ≡ true)) }
         ensures none { IfNone result (has_node is_held (board_of self.now) ≡ false) }
     {
@@ -109,7 +109,7 @@ impl Tree {
     }
 
     /// An open node, where there is one. All calls together look at each node once.
-    pub(crate) fn first_open(&mut self) -> Option<usize>
+    pub(crate) fn any_open(&mut self) -> Option<usize>
         ensures same { self.new ≡ self.old }
         ensures there { IfSome result (λ k. k < length self.new.nodes) }
         ensures some { IfSome result (λ k. (n : NodeValue) × (slice_get self.new.nodes k ≡ Some n) × (is_open n.status ≡ true)) }

@@ -2,7 +2,7 @@ use Rattle.std.proofs.Common.{arith}
 use Rattle.std.proofs.lemmas.Option.{slice_get_within}
 use Rattle.fs_history.specs.Board.{is_open}
 use Rattle.fs_board.proofs.Counts.{none_passes}
-use Rattle.fs_board.proofs.tree.Tree.first_open.Goals as goal
+use Rattle.fs_board.proofs.tree.Tree.any_open.Goals as goal
 
 pub returns-clause-none : goal.returns-clause-none
 returns-clause-none c =

@@ -3,7 +3,7 @@ use Rattle.fs_board.specs.Counts.{IsCounted}
 use Rattle.std.specs.Arc.{arc_value}
 use Rattle.std.specs.Prelude.{option_map, map}
 use Rattle.fs_board.specs.Growth.{Tree}
-use Rattle.fs_board.proofs.tree.Tree.first_open.Given as goal
+use Rattle.fs_board.proofs.tree.Tree.any_open.Given as goal
 
 abbrev pub invariant-loop-self : goal.invariant-loop-self
 invariant-loop-self l = record {
