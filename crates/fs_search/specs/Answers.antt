@@ -1,23 +1,38 @@
 -- The answer to a question, and why there may be none.
-use Rattle.std.specs.Prelude.{◌≡◌, ◌⊎◌, ℕ}
+use Rattle.std.specs.Prelude.{◌≡◌, ◌⊎◌, ℕ, true, List, Option, None, Some}
 use Rattle.fs_kinds.specs.declared.fault.Fault.{Fault}
 use Rattle.fs_kinds.specs.declared.fault.Fault.TheVariants.{NodeLimit}
+use Rattle.fs_kinds.specs.declared.placement.Entry.{Entry}
 use Rattle.fs_kinds.specs.PriceTable.{PriceTable, cost}
 use Rattle.fs_syntax.specs.declared.test.Test.{Test}
 use Rattle.fs_model.specs.Execution.{Execution}
-use Rattle.fs_model.specs.Witness.{IsOfWitness}
 use Rattle.fs_model.specs.Allows.{IsCheapest, RefutesAll}
 use Rattle.fs_answer.specs.CandidateFaults.{IsCandidateFault}
+use Rattle.fs_history.specs.Board.{is_finished}
 use Rattle.fs_history.specs.Sizes.{IsNodeLimit}
-use Rattle.fs_evidence.specs.Evidence.{Question}
+use Rattle.fs_evidence.specs.Evidence.{Question, IsWitnessFor}
+use Rattle.fs_board.specs.View.{Search}
 use Rattle.fs_search.specs.declared.answer.Answer.{Answer}
 use Rattle.fs_search.specs.declared.answer.Answer.TheVariants as answer
 
--- The cheapest placement that forbids the outcome, and of those the first, with its cost; or a witness of an execution that shows the
--- outcome even with rw,rw in every slot.
+-- The cheapest placement that forbids the outcome, and of those the first, with its cost; or a witness, with its widths, of an execution
+-- that shows the outcome even with rw,rw in every slot.
 abbrev pub IsAnswer : Test → PriceTable → Answer → Type 0
 IsAnswer t prices (answer.Fenced p n) = IsCheapest t prices p × (n ≡ cost prices p)
-IsAnswer t prices (answer.None w) = (e : Execution) × IsOfWitness t w.witness e × RefutesAll t e
+IsAnswer t prices (answer.None w) = (e : Execution) × IsWitnessFor t w e × RefutesAll t e
+
+-- the placement of an answer, where it has one
+abbrev pub placement_of : Answer → Option (List Entry)
+placement_of (answer.Fenced p n) = Some p
+placement_of (answer.None w) = None
+
+-- The finished board of a search for this answer, with this limit. Its bound is the answer's placement, and it has no bound where the
+-- answer has none.
+pub record IsBoardOf (q : Question) (most : ℕ) (a : Answer) (search : Search) : Type 0 where
+  pub question : search.question ≡ q
+  pub limit : search.board.limit ≡ most
+  pub finished : is_finished search.board ≡ true
+  pub bound : search.board.bound ≡ placement_of a
 
 -- The candidates can't be listed. Or they can, and the search needs more nodes than the limit: fences are needed, rw,rw in every slot
 -- is enough, and the tree of all placements is larger than the limit.

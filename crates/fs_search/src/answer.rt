@@ -15,8 +15,8 @@ pub enum Answer {
     None { witness: Witness },
 }
 
-/// An answer, with the finished board that it was read from: none where the search came to its limit, and the least and the greatest
-/// placement had the answer.
+/// An answer, with the finished board that it was read from. There is no board where the search came to its limit before it was
+/// finished: then the answer is no fence at all, or none by a witness, and was found by judging the least and the greatest placement.
 #[derive(Drop)]
 pub struct Solved {
     pub answer: Answer,
@@ -24,7 +24,7 @@ pub struct Solved {
 }
 
 impl Solved {
-    /// The finished board, where there is one.
+    /// The finished board; none where the search came to its limit and the answer was found without it.
     pub fn board(&self) -> Option<&Board>
         ensures { option_map (λ b. b.now) result ≡ self.now.board }
     {

@@ -1,6 +1,6 @@
 //! The answer to a question.
 
-ghost use Rattle.std.specs.Prelude.{◌≡◌, ◌≢◌, ◌≤◌, IfOk, IfErr, IfSome, OnOk, IsOkUnless, IsTrue, All, Some, None, true};
+ghost use Rattle.std.specs.Prelude.{◌≡◌, ◌≢◌, ◌≤◌, ◌<◌, length, IfOk, IfErr, IfSome, IfNone, MatchOption, OnOk, IsOkUnless, IsTrue, All, Some, None, true};
 ghost use Rattle.std.specs.Arc.{arc_value};
 ghost use Rattle.fs_kinds.specs.Placement.{all_with};
 ghost use Rattle.fs_kinds.specs.PriceTable.{IsPriceTable, are_offered, cost};
@@ -9,8 +9,9 @@ ghost use Rattle.fs_syntax.specs.Slots.{slots};
 ghost use Rattle.fs_model.specs.Allows.{Allows};
 ghost use Rattle.fs_answer.specs.CandidateFaults.{IsCandidateFault};
 ghost use Rattle.fs_history.specs.Board.{is_finished};
+ghost use Rattle.fs_history.specs.Sizes.{tree_size};
 ghost use Rattle.fs_judge.specs.Verdicts.{IsVerdict};
-ghost use Rattle.fs_search.specs.Answers.{IsAnswer, IsSolveFault};
+ghost use Rattle.fs_search.specs.Answers.{IsAnswer, IsBoardOf, IsSolveFault, placement_of};
 
 use crate::answer::{Answer, Solved};
 use crate::sweep::search;
@@ -55,6 +56,23 @@ fn verdict_on_all(alloc: Global, problem: &mut Problem) -> Result<Verdict, Fault
     problem.verdict(alloc, &placement, &[])
 }
 
+/// The bound of a finished board as an answer. None where it has no bound.
+fn posted_answer(board: &Board) -> Result<Option<Answer>, Fault>
+    requires prices { IsPriceTable board.now.question.prices }
+    requires finished { is_finished board.now.board ≡ true }
+    ensures ok { IfOk result (λ found. MatchOption found (board.now.board.bound ≡ None)
+        (λ a. IsAnswer board.now.question.test board.now.question.prices a × (board.now.board.bound ≡ placement_of a))) }
+    ensures err { IsOkUnless result Fault.Memory }
+{
+    let _legal = board.log();
+    let Some(best) = board.bound() else {
+        return Ok(None);
+    };
+    let placement = best.placement.copy()?;
+    let answer = fenced(&board.question().prices, placement);
+    Ok(Some(answer))
+}
+
 /// The answer of a finished board: its bound, or where it has none the witness for `rw,rw` in every slot.
 fn answer_of(alloc: Global, problem: &mut Problem, board: &Board) -> Result<Answer, Fault>
     requires bounded { IsBounded problem.old.test }
@@ -63,12 +81,12 @@ fn answer_of(alloc: Global, problem: &mut Problem, board: &Board) -> Result<Answ
     requires finished { is_finished board.now.board ≡ true }
     ensures value { problem.new ≡ problem.old }
     ensures ok { IfOk result (λ a. IsAnswer problem.old.test problem.old.prices a) }
+    ensures bound { IfOk result (λ a. board.now.board.bound ≡ placement_of a) }
     ensures err { IsOkUnless result Fault.Memory }
 {
     let _legal = board.log();
-    if let Some(best) = board.bound() {
-        let placement = best.placement.copy()?;
-        return Ok(fenced(&board.question().prices, placement));
+    if let Some(answer) = posted_answer(board)? {
+        return Ok(answer);
     }
     let verdict = verdict_on_all(alloc, problem)?;
     match verdict {
@@ -101,8 +119,11 @@ fn answer_by_ends(alloc: Global, problem: &mut Problem) -> Result<Answer, Fault>
 }
 
 /// The answer to a question: the cheapest placement that forbids the outcome, of several the first, or a witness that none does. No node
-/// of the search has a number above the limit. F13 to F15 where the candidates can't be listed. F16 where the search comes to its limit,
-/// fences are needed, and `rw,rw` in every slot is enough. F19.
+/// of the search has a number above the limit. F16 comes only where fences are needed, `rw,rw` in every slot is enough, and the tree of
+/// all placements has more nodes below its root than the limit. F13 to F15 come where the candidates can't be listed; or F19.
+///
+/// The finished board is handed out with the answer, and its bound is the answer's placement. There is none only where the tree of all
+/// placements has more nodes below its root than the limit.
 pub fn solve(alloc: Global, question: Arc<Question>, limit: usize) -> Result<Solved, Fault>
     requires test { IsBounded (arc_value question).test }
     requires starts { All IsStart (arc_value question).test.starts }
@@ -111,7 +132,9 @@ pub fn solve(alloc: Global, question: Arc<Question>, limit: usize) -> Result<Sol
     requires limit { limit ≤ 1000000 }
     ensures ok { IfOk result (λ s. IsAnswer (arc_value question).test (arc_value question).prices s.answer) }
     ensures clean { OnOk result ((f : Fault) → IsCandidateFault (arc_value question).test f → ⊥) }
-    ensures board { IfOk result (λ s. IfSome s.board (λ b. (b.question ≡ arc_value question) × (is_finished b.board ≡ true))) }
+    ensures board { IfOk result (λ s. IfSome s.board (IsBoardOf (arc_value question) limit s.answer)) }
+    ensures lost { IfOk result (λ s. IfNone s.board
+        (limit < tree_size (arc_value question).prices (length (slots (arc_value question).test)))) }
     ensures err { IfErr result (λ f. f ≢ Fault.Memory → IsSolveFault (arc_value question) limit f) }
 {
     let asked = Arc::try_clone(&question)?;

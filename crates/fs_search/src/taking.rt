@@ -80,7 +80,7 @@ fn adopt(board: &mut Board, node: usize) -> Result<Taken, AllocError>
     }
 }
 
-/// Takes any node that is open, or adopts the first that is held. None where the board is finished.
+/// Takes any node that is open, or adopts one that is held. None where the board is finished.
 fn take_any(board: &mut Board) -> Result<Option<Taken>, AllocError>
     ensures goes { GoesOn board.old board.new }
     ensures done { done board.old.board ≤ done board.new.board }
@@ -90,7 +90,7 @@ fn take_any(board: &mut Board) -> Result<Option<Taken>, AllocError>
     if let Some((node, part)) = given(reply) {
         return Ok(Some(hold(board, node, part, None)));
     }
-    match board.first_held() {
+    match board.any_held() {
         Some(held) => Ok(Some(adopt(board, held)?)),
         None => Ok(None),
     }

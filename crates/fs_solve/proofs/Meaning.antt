@@ -22,7 +22,7 @@ use Rattle.fs_solve.specs.Headline.{IsFencedTest, StaysPossible, IsRuledOut, Che
 use Rattle.fs_solve.proofs.SamePrices.{Agree, agree, same_placement, same_costs}
 use Rattle.fs_solve.specs.Solve.{PrintsCheapest, PrintsNone, IsSolved}
 
-same_itself : (t : Test) → IsSame t t
+pub same_itself : (t : Test) → IsSame t t
 same_itself t = record { name = refl; codes = refl; starts = refl; locations = refl; quantifier = refl; condition = refl }
 
 -- the fenced test is one, wherever it was read from

@@ -37,7 +37,7 @@ agree bytes table other left right =
 
 -- ---- the slots of a test have numbers of one byte
 
-abbrev AreSlots : List Slot → Type 0
+abbrev pub AreSlots : List Slot → Type 0
 AreSlots [] = Unit {0}
 AreSlots (s ∷ ss) = IsSlot s × AreSlots ss
 
@@ -63,7 +63,7 @@ in_codes n (code ∷ codes) most short =
     (positions (is_slot code) n 0 (length code) (omega arith) (omega (arith, here)))
     (in_codes (n + 1) codes (omega arith) (All-tail (λ c. length c ≤ most_instructions) code codes short))
 
-slots_small : (t : Test) → IsBounded t → AreSlots (slots t)
+pub slots_small : (t : Test) → IsBounded t → AreSlots (slots t)
 slots_small t h = let harts = h.harts in in_codes 0 t.codes (omega (arith, harts)) h.lengths
 
 -- ---- costs

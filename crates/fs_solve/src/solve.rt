@@ -21,11 +21,12 @@ use std::sync::Arc;
 
 /// What `solve` prints for a test file and a file of prices: the first of the cheapest placements of fences that rule the outcome
 /// out, with its cost, and status 0; or `none`, with an execution that shows the outcome with `rw,rw` in every slot, and status 1.
-/// The files are bytes as they were read. The search makes at most `limit` nodes beside its first one.
+/// The files are bytes as they were read.
 ///
 /// The first fault in this order: `BadPrices` and `NoTop`; those of a test file by number and then line; `TooManyTraces` and
-/// `Astray`; `TooManyCandidates`; `NodeLimit`. `Memory` may come in place of any answer. The law `headline` says what an answer
-/// means.
+/// `Astray`; `TooManyCandidates`; `NodeLimit`, which comes only where fences are needed, `rw,rw` in every slot is enough, and the
+/// tree of all placements has more than `limit` nodes below its root. `Memory` may come in place of any answer. The law `headline`
+/// says what an answer means.
 pub fn run_solve(alloc: Global, test: &[u8], prices: &[u8], limit: usize) -> Result<Output, Fault>
     requires least { 1 ≤ limit }
     requires most { limit ≤ 1000000 }
