@@ -1,1 +1,5 @@
+mod Agrees
 pub mod OrderFaults
+mod Placing
+mod WitnessTexts
+mod Witnesses
