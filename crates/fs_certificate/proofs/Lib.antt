@@ -1,0 +1,7 @@
+pub mod Handed
+pub mod Lists
+pub mod Parts
+pub mod Says
+pub mod Shapes
+pub mod Steps
+pub mod Texts

@@ -1,0 +1,10 @@
+use Rattle.std.proofs.Common.{take}
+use Rattle.serde_json.specs.View.{items_view}
+use Rattle.fs_answer.specs.CertificateFile.{IsLink}
+use Rattle.fs_certificate.specs.Kept.{KeepsLink}
+use Rattle.fs_certificate.proofs.Lists.{AreKept}
+use Rattle.fs_certificate.proofs.read_cycles.read_cycle.Given as goal
+
+-- the links so far are kept of the items so far
+abbrev pub invariant-loop-item : goal.invariant-loop-item
+invariant-loop-item l = AreKept IsLink KeepsLink (items_view (take l.item-index l.item-items)) l.links.items

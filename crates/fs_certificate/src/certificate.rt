@@ -1,0 +1,57 @@
+//! What a certificate is made of.
+
+use fs_answer::WitnessFile;
+use fs_evidence::Cause;
+use fs_kinds::OperationName;
+use fs_list::List;
+
+/// What a certificate claims: in the first version that no cheaper placement forbids the outcome, in the second that the answer is
+/// the first of the cheapest.
+#[derive(Clone, Copy, Debug, PartialEq, Eq)]
+pub enum Version {
+    First,
+    Second,
+}
+
+/// The answer that a certificate is for.
+#[derive(Drop)]
+pub enum CertifiedAnswer {
+    /// A placement: what it costs, and the words of its fences, as `P0:3=w,w`.
+    Fenced { cost: u64, fences: List<String> },
+    /// No placement forbids the outcome.
+    NoneForbids,
+}
+
+/// An item of a certificate's tree, in preorder. Slots and witnesses count from 0.
+#[derive(Drop)]
+pub enum Item {
+    /// A node that splits at the slot of this number.
+    SplitAt(u64),
+    /// A leaf that costs too much.
+    Costly,
+    /// A leaf that the witness of this number refutes.
+    Refuted(u64),
+    /// A leaf that the witnesses of these numbers bound.
+    Bounded(List<u64>),
+}
+
+/// One step of a cycle: an operation, and why it comes before the next one. There is no operation where a number of its name
+/// passes 255, since no operation has such a name.
+#[derive(Drop)]
+pub struct CertificateLink {
+    pub operation: Option<OperationName>,
+    pub cause: Cause,
+}
+
+/// What a certificate file says.
+#[derive(Drop)]
+pub struct Certificate {
+    pub version: Version,
+    pub answer: CertifiedAnswer,
+    /// A cycle for each candidate execution that shows the outcome, in their order.
+    pub cycles: List<List<CertificateLink>>,
+    /// The items of the tree, in preorder.
+    pub tree: List<Item>,
+    /// The executions that leaves name.
+    pub witnesses: List<WitnessFile>,
+}

@@ -1,0 +1,16 @@
+//! Certificates as plain values, and their JSON text both ways.
+#![tactic(auto)]
+
+mod cause;
+mod certificate;
+mod read;
+mod read_answer;
+mod read_cycles;
+mod read_tree;
+mod values;
+mod write;
+mod write_cycles;
+mod write_tree;
+mod write_witnesses;
+
+pub use certificate::{Certificate, CertificateLink, CertifiedAnswer, Item, Version};
