@@ -1,0 +1,75 @@
+-- What breaks a witness at a slot, and the least that it costs.
+use Rattle.std.proofs.Common.{◌≡◌, ℕ, zero, suc, ◌+◌, ◌*◌, ◌<◌, true, false, ◌&&◌, ◌||◌, not, Option, None, Some, is_none, List, [], ◌∷◌, map, length, take, refl, sym, ap, ◌∙◌, arith}
+use Rattle.std.specs.Prelude.{if◌then◌else◌, filter, min, get_or}
+use Rattle.std.specs.List.{list_any}
+use Rattle.fs_kinds.specs.declared.kind.Kind.{Kind}
+use Rattle.fs_kinds.specs.declared.placement.Entry.{Entry}
+use Rattle.fs_kinds.specs.declared.slot.Slot.{Slot}
+use Rattle.fs_kinds.specs.Kind.{all_kinds}
+use Rattle.fs_kinds.specs.PriceTable.{PriceTable, is_offered, kind_cost, entry_cost, weight_of}
+use Rattle.fs_answer.specs.Pruning.{breaks, breaking_ways, is_empty, lesser, least}
+use Rattle.fs_evidence.specs.declared.evidence.Pairs.{Pairs}
+use Rattle.fs_checker.specs.inner.Breaks.{fits, is_break, break_cost, everywhere, lesser_of, least_of}
+
+-- ---- the least of a list
+
+pub lesser_none : (m : Option ℕ) → lesser_of m None ≡ m
+lesser_none None = refl
+lesser_none (Some m) = refl
+
+min_assoc : (k m n : ℕ) → min k (min m n) ≡ min (min k m) n
+min_assoc k m n = omega arith
+
+pub lesser_assoc : (k m n : Option ℕ) → lesser_of k (lesser_of m n) ≡ lesser_of (lesser_of k m) n
+lesser_assoc None m n = refl
+lesser_assoc (Some k) None n = refl
+lesser_assoc (Some k) (Some m) None = refl
+lesser_assoc (Some k) (Some m) (Some n) = ap Some (min_assoc k m n)
+
+pub least_more : {A : Type 0} (f : A → Option ℕ) (xs : List A) (i : ℕ) (d : A) → i < length xs
+    → least_of f (take (i + 1) xs) ≡ lesser_of (least_of f (take i xs)) (f (get_or xs i d))
+least_more f [] i d l = absurd (omega arith)
+least_more f (x ∷ xs) zero d l = lesser_none (f x)
+least_more f (x ∷ xs) (suc i) d l =
+    let e : suc i + 1 ≡ suc (i + 1) = omega arith in
+    rw e (ap (lesser_of (f x)) (least_more f xs i d (omega arith)) ∙ lesser_assoc (f x) (least_of f (take i xs)) (f (get_or xs i d)))
+
+-- ---- at a slot
+
+module _ (prices : PriceTable) (pairs : Pairs) (slot : Slot) where
+  abbrev at_slot : Option Kind → Entry
+  at_slot kind = record { slot = slot; kind = kind }
+
+  abbrev ways : List (Option Kind) → List Entry
+  ways kinds = filter (breaks (everywhere pairs)) (map at_slot (filter (is_offered prices) kinds))
+
+  pub least_ways : (kinds : List (Option Kind)) → least (map (entry_cost prices) (ways kinds)) ≡ least_of (break_cost prices pairs (weight_of prices slot)) kinds
+  least_ways [] = refl
+  least_ways (kind ∷ kinds) = elim (is_offered prices kind) as (λ b. least (map (entry_cost prices) (filter (breaks (everywhere pairs)) (map at_slot (if b then kind ∷ filter (is_offered prices) kinds else filter (is_offered prices) kinds)))) ≡ lesser_of (if b && not (fits pairs kind) then Some (kind_cost prices kind * weight_of prices slot) else None) (least_of (break_cost prices pairs (weight_of prices slot)) kinds)) [
+    | true ↦ elim (fits pairs kind) as (λ b. least (map (entry_cost prices) (if not b then at_slot kind ∷ ways kinds else ways kinds)) ≡ lesser_of (if not b then Some (kind_cost prices kind * weight_of prices slot) else None) (least_of (break_cost prices pairs (weight_of prices slot)) kinds)) [
+      | true ↦ least_ways kinds
+      | false ↦ ap (λ n. Some (lesser (kind_cost prices kind * weight_of prices slot) n)) (least_ways kinds)
+    ]
+    | false ↦ least_ways kinds
+  ]
+
+  pub some_way : (kinds : List (Option Kind)) → not (is_empty (ways kinds)) ≡ list_any (is_break prices pairs) kinds
+  some_way [] = refl
+  some_way (kind ∷ kinds) = elim (is_offered prices kind) as (λ b. not (is_empty (filter (breaks (everywhere pairs)) (map at_slot (if b then kind ∷ filter (is_offered prices) kinds else filter (is_offered prices) kinds)))) ≡ (b && not (fits pairs kind) || list_any (is_break prices pairs) kinds)) [
+    | true ↦ elim (fits pairs kind) as (λ b. not (is_empty (if not b then at_slot kind ∷ ways kinds else ways kinds)) ≡ (not b || list_any (is_break prices pairs) kinds)) [
+      | true ↦ some_way kinds
+      | false ↦ refl
+    ]
+    | false ↦ some_way kinds
+  ]
+
+pub some_break : (prices : PriceTable) (pairs : Pairs) (slot : Slot) (decided : Option (Option Kind)) → is_none decided ≡ true
+    → list_any (is_break prices pairs) (None ∷ map (λ kind. Some kind) all_kinds) ≡ not (is_empty (breaking_ways prices (everywhere pairs) slot decided))
+some_break prices pairs slot None free = sym (some_way prices pairs slot (None ∷ map (λ kind. Some kind) all_kinds))
+some_break prices pairs slot (Some kind) free = absurd (cc)
+
+pub least_break_at : (prices : PriceTable) (pairs : Pairs) (slot : Slot) (decided : Option (Option Kind)) → is_none decided ≡ true
+    → least_of (break_cost prices pairs (weight_of prices slot)) (None ∷ map (λ kind. Some kind) all_kinds)
+    ≡ least (map (entry_cost prices) (breaking_ways prices (everywhere pairs) slot decided))
+least_break_at prices pairs slot None free = sym (least_ways prices pairs slot (None ∷ map (λ kind. Some kind) all_kinds))
+least_break_at prices pairs slot (Some kind) free = absurd (cc)

@@ -1,0 +1,13 @@
+pub mod Bearing
+pub mod Breaks
+pub mod Children
+pub mod Keeping
+pub mod Pruned
+pub mod Refuting
+pub mod Listed
+pub mod Looked
+pub mod Linked
+pub mod Verdicts
+pub mod Words
+pub mod Filled
+pub mod Walking

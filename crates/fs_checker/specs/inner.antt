@@ -1,0 +1,7 @@
+-- What only inner functions and proofs need.
+pub mod Bearing
+pub mod Breaks
+pub mod Leaves
+pub mod Cycles
+pub mod Filled
+pub mod Walks
