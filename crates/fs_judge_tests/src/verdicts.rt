@@ -1,0 +1,81 @@
+//! What is said of placements, and the candidates in their order.
+use crate::questions::{PRICES, question_of, verdict_on};
+use fs_cand::Candidate;
+use fs_examples::{ADD2, LBD, MPA, SB, SBF};
+use fs_judge::{Problem, Verdict};
+use fs_kinds::Fault;
+use fs_litmus::read_test;
+use fs_showing::Showing;
+use fs_values::Values;
+use std::alloc::{AllocError, Global};
+use std::sync::Arc;
+use std::test::Fail;
+
+/// What the verdict on the placement that the words name says.
+fn said_of(alloc: Global, text: &str, words: &str) -> Result<String, Fault> {
+    let question = question_of(alloc, text, PRICES)?;
+    let mut problem = Problem::new(alloc, question)?;
+    let said = match verdict_on(alloc, &mut problem, words)? {
+        Verdict::Allowed(_) => String::from_str(alloc, "allowed")?,
+        Verdict::Forbids(forbidden) => {
+            let count = forbidden.cycles.len();
+            format!(in alloc; "forbidden by {count}")?
+        }
+    };
+    Ok(said)
+}
+
+#[test]
+fn verdicts_on_known_placements(rt: HostRuntime) -> Result<(), Fail> {
+    // Store buffering has one showing candidate, and so has MPA: the dependency leaves the choice of sources alone.
+    let rows = [
+        (SB, "", "allowed"),
+        (SB, "P0:2=rw,rw", "allowed"),
+        (SB, "P0:2=w,r P1:2=w,r", "forbidden by 1"),
+        (MPA, "P0:3=w,w", "forbidden by 1"),
+        (SBF, "", "allowed"),
+    ];
+    for (text, words, wanted) in rows {
+        let said = said_of(rt.alloc(), text, words)?;
+        assert_eq!(rt; said.as_str(), wanted, "of {words} in {text}");
+    }
+    Ok(())
+}
+
+/// Writes the words that the harts load, a list for each.
+fn write_loads(candidate: &Candidate, text: &mut String) -> Result<(), AllocError> {
+    for trace in &candidate.traces {
+        text.push_str("[")?;
+        for step in trace.steps() {
+            if let Some(word) = step.loaded {
+                write!(text, "{word}")?;
+            }
+        }
+        text.push_str("]")?;
+    }
+    text.push_str(" ")
+}
+
+/// What each showing candidate of the test loads, in their order.
+fn loads_of(alloc: Global, text: &str) -> Result<String, Fault> {
+    let test = read_test(alloc, text.as_bytes())?;
+    let values = Values::of(alloc, &test)?;
+    let showing = Showing::of(alloc, Arc::new(alloc, test)?, &values)?;
+    let mut loads = String::new(alloc);
+    for number in 0..showing.len() {
+        let candidate = showing.get(alloc, number)?;
+        write_loads(&candidate, &mut loads)?;
+    }
+    Ok(loads)
+}
+
+#[test]
+fn candidates_come_in_order(rt: HostRuntime) -> Result<(), Fail> {
+    // Where both AMOs return 0, either order of their stores is a candidate.
+    let rows = [(ADD2, "[0][0] [0][0] [0][1] [1][0] "), (LBD, "")];
+    for (text, wanted) in rows {
+        let loads = loads_of(rt.alloc(), text)?;
+        assert_eq!(rt; loads.as_str(), wanted, "in {text}");
+    }
+    Ok(())
+}

@@ -1,0 +1,12 @@
+//! Tests of `solve`: what it prints for tests known from the literature, and that its answers are those of a plain program that tries
+//! all placements.
+#![tactic(auto)]
+
+#[cfg(test)]
+mod answers;
+#[cfg(test)]
+mod made;
+#[cfg(test)]
+mod plain;
+#[cfg(test)]
+mod thin_air;
