@@ -146,7 +146,8 @@ start_library() {
 }
 
 # Starts the libraries that wait for nothing, as processors and memory allow: the one with the longest chain first, with half
-# of the idle processors, or all but one for each other that could start. (More than four don't make a check quicker.)
+# of the idle processors, or all but one for each other that could start. (More than four don't make a check quicker.) The
+# first gets two at least, though one may be busy: all others wait for it in the end.
 start_libraries() {
     local name it jobs half idle=$1 room=$2 ready=()
     for name in "${queue[@]}"; do
@@ -162,6 +163,7 @@ start_libraries() {
         half=$(((idle + 1) / 2))
         jobs=$((jobs < half ? half : jobs))
         jobs=$((jobs > 4 ? 4 : jobs))
+        ((it > 0 || jobs > 1 || processors == 1)) || jobs=2
         while ((jobs > 1 && $(memory_of "$name" "$jobs") > room)); do
             jobs=$((jobs - 1))
         done
