@@ -1,5 +1,5 @@
 -- The children of a part, pushed from the last to the first, and their slots.
-use Rattle.std.proofs.Common.{◌≡◌, ℕ, suc, ◌+◌, ◌-◌, ◌<◌, ◌≤◌, Bool, true, false, Option, None, Some, List, [], ◌∷◌, ◌++◌, map, length, drop, refl, ap, ap₂, ◌∙◌, sym, arith}
+use Rattle.std.proofs.Common.{◌≡◌, ℕ, ◌+◌, ◌-◌, ◌<◌, ◌≤◌, Bool, true, false, Option, None, Some, List, [], ◌∷◌, ◌++◌, map, drop, refl, ap, ap₂, ◌∙◌, sym, arith}
 use Rattle.std.specs.Prelude.{filter, get_or, if◌then◌else◌}
 use Rattle.std.proofs.lemmas.List.{at_drop_more}
 use Rattle.fs_kinds.specs.declared.kind.Kind.{Kind}
@@ -9,7 +9,7 @@ use Rattle.fs_kinds.specs.PriceTable.{PriceTable, is_offered}
 use Rattle.fs_kinds.specs.Slot.{is_same_slot}
 use Rattle.fs_syntax.specs.declared.test.Test.{Test}
 use Rattle.fs_syntax.specs.Slots.{slots}
-use Rattle.fs_answer.specs.Parts.{Part, Decision, decide, child_parts, options}
+use Rattle.fs_answer.specs.Parts.{Part, decide, child_parts, options}
 use Rattle.fs_checker.specs.inner.Leaves.{slots_in_part}
 use Rattle.fs_checker.specs.inner.Walks.{AreOfTest}
 

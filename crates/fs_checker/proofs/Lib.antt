@@ -11,3 +11,6 @@ pub mod Verdicts
 pub mod Words
 pub mod Filled
 pub mod Walking
+pub mod Faults
+pub mod Judged
+pub mod OneFile

@@ -5,3 +5,4 @@ pub mod Leaves
 pub mod Cycles
 pub mod Filled
 pub mod Walks
+pub mod Judgements

@@ -66,7 +66,7 @@ fn fill(
 }
 
 /// The placement whose cost this is, and the words of whose fences in slot order these are: over the slots of the test, with offered
-/// kinds. None where there is no such placement. F19. Linear in the words and the slots.
+/// kinds. None where there is no such placement. The error is `Memory`. Linear in the words and the slots.
 pub(crate) fn answered_placement(
     alloc: Global,
     test: &Test,

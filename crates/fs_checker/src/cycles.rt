@@ -148,7 +148,7 @@ fn is_cycle(
 }
 
 /// The first reason against the cycles of a certificate, where there is one: there isn't one for each candidate that shows the
-/// outcome, or one isn't a cycle of its candidate's judged relation under the placement. F19. Each candidate is made once; for each
+/// outcome, or one isn't a cycle of its candidate's judged relation under the placement. The error is `Memory`. Each candidate is made once; for each
 /// link linear in the operations, and one test of an edge.
 pub(crate) fn first_bad_cycle(
     alloc: Global,

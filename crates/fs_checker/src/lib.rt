@@ -3,11 +3,19 @@
 
 mod answer;
 mod bounds;
+mod candidates;
 mod costs;
 mod cycles;
 mod edges;
+mod fenced;
+mod laws;
 mod options;
 mod part;
 mod stack;
 mod tree;
+mod unforbidden;
+mod verdict;
 mod witness;
+
+pub use laws::file_says_one_certificate;
+pub use verdict::{CheckVerdict, check};

@@ -51,7 +51,7 @@ fn is_borne_by_all(test: &Test, ordered: &OrderedCandidate, fences: &Placement) 
     (0..count).all(|a| is_borne_after(test, ordered, fences, a))
 }
 
-/// A fence of this kind at this slot, and no other. The error is F19.
+/// A fence of this kind at this slot, and no other. The error is `Memory`.
 fn single(alloc: Global, slot: Slot, kind: Kind) -> Result<Placement, Fault>
     ensures ok { IfOk result (λ p. p ≡ record { slot = slot; kind = Some kind } ∷ []) }
     ensures err { IsOkUnless result Memory }
@@ -62,7 +62,7 @@ fn single(alloc: Global, slot: Slot, kind: Kind) -> Result<Placement, Fault>
     }
 }
 
-/// The pairs that the order keeps at the slot. The error is F19.
+/// The pairs that the order keeps at the slot. The error is `Memory`.
 fn pairs_at(
     alloc: Global,
     test: &Test,
@@ -85,7 +85,7 @@ fn pairs_at(
     })
 }
 
-/// The pairs that the order keeps at each of these slots. The error is F19.
+/// The pairs that the order keeps at each of these slots. The error is `Memory`.
 fn widths(
     alloc: Global,
     test: &Test,
@@ -104,7 +104,7 @@ fn widths(
 }
 
 /// What is kept of the witness: nothing where it doesn't show the outcome of the test without fences, else its widths. The error is
-/// F19.
+/// `Memory`.
 fn shown_width(
     alloc: Global,
     test: &Test,
@@ -127,7 +127,7 @@ fn shown_width(
 
 /// What is kept of each witness, by its number: nothing where it doesn't show the outcome of the test even without fences, else the
 /// pairs that its execution keeps at each slot of the test. For each witness it costs what `shown_by` costs, and for each slot the
-/// square of the operations, times the steps between two of a hart that the order turns round. The error is F19.
+/// square of the operations, times the steps between two of a hart that the order turns round. The error is `Memory`.
 pub(crate) fn shown_widths(
     alloc: Global,
     test: &Test,

@@ -1,0 +1,14 @@
+use Rattle.std.proofs.Common.{subst}
+use Rattle.fs_checker.specs.inner.Judgements.{IsPlacedVerdict}
+use Rattle.fs_checker.proofs.Judged.{placed_refused, placed_valid}
+use Rattle.fs_checker.proofs.fenced.judgement_of.Goals as goal
+
+pub returns-in-Some : goal.returns-in-Some
+returns-in-Some c t prices said cs answered listing against =
+    placed_refused t prices said c.args.placement cs c.in-Some.reason answered listing
+    (subst (IsPlacedVerdict t prices said c.args.placement cs) c.in-Some.is against)
+
+pub returns-in-None : goal.returns-in-None
+returns-in-None c t prices said cs answered listing whole =
+    placed_valid t prices said c.args.placement cs answered listing
+    (subst (IsPlacedVerdict t prices said c.args.placement cs) c.in-None.is whole)

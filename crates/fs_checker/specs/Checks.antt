@@ -1,0 +1,26 @@
+-- What is said of a certificate, and why nothing may be said.
+use Rattle.std.specs.Prelude.{◌≡◌, ◌⊎◌, ℕ, List}
+use Rattle.fs_kinds.specs.declared.fault.Fault.{Fault}
+use Rattle.fs_kinds.specs.declared.fault.Fault.TheVariants.{BadCertificate}
+use Rattle.fs_kinds.specs.PriceTable.{PriceTable}
+use Rattle.fs_syntax.specs.declared.test.Test.{Test}
+use Rattle.fs_answer.specs.CandidateFaults.{IsCandidateFault}
+use Rattle.fs_answer.specs.Certificate.{Certificate}
+use Rattle.fs_answer.specs.CertificateFile.{IsCertificateFile}
+use Rattle.fs_answer.specs.Refusals.{IsRefusal}
+use Rattle.fs_answer.specs.Valid.{IsValid}
+use Rattle.fs_certificate.specs.Kept.{KeepsCertificate}
+use Rattle.fs_tree.specs.Rightness.{IsRight}
+use Rattle.fs_checker.specs.declared.verdict.CheckVerdict.{CheckVerdict}
+use Rattle.fs_checker.specs.declared.verdict.CheckVerdict.TheVariants.{Yes, No}
+
+-- The certificate is valid for the answer, and so the answer is right; or it isn't, for this reason, which is the first.
+abbrev pub IsCheckVerdict : Test → PriceTable → Certificate → CheckVerdict → Type 0
+IsCheckVerdict t prices c (Yes kept answer) = KeepsCertificate kept c × (IsValid t prices c answer × IsRight c.version t prices answer)
+IsCheckVerdict t prices c (No why) = IsRefusal t prices c why
+
+-- The bytes are no certificate file. Or they are one, and the candidates of the test can't be listed.
+abbrev pub IsCheckFault : Test → (certificate : List ℕ) → Fault → Type 0
+IsCheckFault t bytes f =
+    ((f ≡ BadCertificate) × ((c : Certificate) → IsCertificateFile bytes c → ⊥))
+    ⊎ (((c : Certificate) × IsCertificateFile bytes c) × IsCandidateFault t f)

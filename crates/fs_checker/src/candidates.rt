@@ -1,0 +1,55 @@
+//! The candidates of a test that show its outcome.
+
+ghost use Rattle.std.specs.Prelude.{◌≡◌, ◌≢◌, ◌<◌, ◌^◌, All, IfOk, OnOk, IfErr};
+ghost use Rattle.std.specs.Arc.{arc_value};
+ghost use Rattle.fs_kinds.specs.declared.fault.Fault.{Fault as RunFault};
+ghost use Rattle.fs_kinds.specs.declared.fault.Fault.TheVariants.{Memory};
+ghost use Rattle.fs_syntax.specs.Test.{IsBounded, IsStart};
+ghost use Rattle.fs_answer.specs.CandidateFaults.{IsCandidateFault};
+ghost use Rattle.fs_answer.specs.Listings.{IsListing};
+ghost use Rattle.fs_thin_air.specs.ThinAir.{BeginsWithWords, CanBeListed};
+
+use fs_kinds::Fault;
+use fs_showing::Showing;
+use fs_syntax::Test;
+use fs_values::Values;
+use std::alloc::Global;
+use std::sync::Arc;
+
+// A law: a word of 32 bits is one.
+fn is_word(_word: u32)
+    ensures { _word < 2 ^ 32 }
+{}
+
+// A law: the words that the locations of a test begin with are words of 32 bits.
+fn begins_with_words(test: &Test)
+    ensures { BeginsWithWords test.now }
+{
+    for declared in test.locations.as_slice() {
+        is_word(declared.word);
+    }
+}
+
+/// The candidates of the test that show its outcome. The test is bounded, and its harts start with whole registers. The fault is
+/// `TooManyTraces` or `Astray` where a hart's runs can't be listed, else `TooManyCandidates` where there are too many candidates or
+/// lists of runs; or `Memory`.
+pub(crate) fn showing_of(alloc: Global, test: Arc<Test>) -> Result<Showing, Fault>
+    requires test { IsBounded (arc_value test) }
+    requires starts { All IsStart (arc_value test).starts }
+    ensures test { IfOk result (λ showing. showing.test ≡ arc_value test) }
+    ensures listing { IfOk result (λ showing. IsListing showing.test showing.candidates) }
+    ensures listable { OnOk result (CanBeListed (arc_value test)) }
+    ensures clean { OnOk result ((f : RunFault) → IsCandidateFault (arc_value test) f → ⊥) }
+    ensures err { IfErr result (λ f. f ≢ Memory → IsCandidateFault (arc_value test) f) }
+{
+    let values = Values::of(alloc, &test)?;
+    begins_with_words(&test);
+    Showing::of(alloc, test, &values)
+}
+
+/// The test of the candidates.
+pub(crate) fn test_of(showing: &Showing) -> &Test
+    ensures { result.now ≡ showing.now.test }
+{
+    showing.test()
+}

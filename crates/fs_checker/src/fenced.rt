@@ -1,0 +1,112 @@
+//! What is said of a certificate that answers a placement.
+
+ghost use Rattle.std.specs.Prelude.{◌≡◌, List, [], ◌∷◌, All, map, string_bytes, IfOk, IsOkUnless};
+ghost use Rattle.fs_kinds.specs.declared.fault.Fault.TheVariants.{Memory};
+ghost use Rattle.fs_kinds.specs.PriceTable.{PriceTable};
+ghost use Rattle.fs_syntax.specs.declared.test.Test.{Test as Tests};
+ghost use Rattle.fs_syntax.specs.Test.{IsBounded, IsStart};
+ghost use Rattle.fs_answer.specs.Candidates.{Candidate};
+ghost use Rattle.fs_answer.specs.Certificate.{Certificate as Said, Fenced, IsAnswered};
+ghost use Rattle.fs_answer.specs.Listings.{IsListing};
+ghost use Rattle.fs_answer.specs.Parts.{undecided};
+ghost use Rattle.fs_certificate.specs.Kept.{KeepsCertificate};
+ghost use Rattle.fs_checker.specs.inner.Judgements.{IsPlacedVerdict, IsJudgement};
+ghost use Rattle.fs_checker.specs.inner.Walks.{IsWalked};
+
+use crate::answer::answered_placement;
+use crate::candidates::test_of;
+use crate::cycles::first_bad_cycle;
+use crate::tree::Grounds;
+use crate::witness::shown_widths;
+use fs_certificate::Certificate;
+use fs_kinds::{Fault, Placement, Prices, Reason};
+use fs_showing::Showing;
+use fs_syntax::{Test, slots};
+use std::alloc::Global;
+
+/// The answer of a valid certificate, a placement or none; or the first reason against one that isn't.
+pub(crate) type Judgement = Result<Option<Placement>, Reason>;
+
+// The first reason against the tree of a certificate that answers this placement.
+fn first_bad_item(
+    alloc: Global,
+    test: &Test,
+    prices: &Prices,
+    placement: &Placement,
+    certificate: &Certificate,
+) -> Result<Option<Reason>, Fault>
+    requires test { IsBounded test.now }
+    requires starts { All IsStart test.now.starts }
+    ensures ok { (c : Said) → KeepsCertificate certificate.now c
+        → IfOk result (IsWalked test.now prices.now c placement.now (undecided test.now ∷ []) c.tree) }
+    ensures err { IsOkUnless result Memory }
+{
+    let slots = slots(alloc, test)?;
+    let shown = shown_widths(alloc, test, &certificate.witnesses)?;
+    let grounds = Grounds {
+        version: certificate.version,
+        prices,
+        slots: &slots,
+        answer: placement.as_slice(),
+        shown: &shown,
+    };
+    Ok(grounds.first_failing(alloc, &certificate.tree)?)
+}
+
+// The first reason against the cycles of a certificate that answers this placement, or else against its tree.
+fn first_failure(
+    alloc: Global,
+    showing: &Showing,
+    prices: &Prices,
+    placement: &Placement,
+    certificate: &Certificate,
+) -> Result<Option<Reason>, Fault>
+    requires test { IsBounded showing.now.test }
+    requires starts { All IsStart showing.now.test.starts }
+    requires listing { IsListing showing.now.test showing.now.candidates }
+    ensures ok { (c : Said) → KeepsCertificate certificate.now c
+        → IfOk result (IsPlacedVerdict showing.now.test prices.now c placement.now showing.now.candidates) }
+    ensures err { IsOkUnless result Memory }
+{
+    let reason = first_bad_cycle(alloc, showing, placement, &certificate.cycles)?;
+    if reason.is_some() {
+        return Ok(reason);
+    }
+    first_bad_item(alloc, test_of(showing), prices, placement, certificate)
+}
+
+// What is said of a certificate that answers the placement, where this is the first reason against its cycles and its tree.
+fn judgement_of(placement: Placement, failure: Option<Reason>) -> Judgement
+    ensures { (t : Tests) (prices : PriceTable) (c : Said) (cs : List Candidate) → IsAnswered t prices c.answer placement → IsListing t cs
+        → IsPlacedVerdict t prices c placement cs failure → IsJudgement t prices c result }
+{
+    match failure {
+        Some(reason) => Err(reason),
+        None => Ok(Some(placement)),
+    }
+}
+
+/// What is said of a certificate whose answer is the fences of these words at this cost, where these candidates show the outcome. The
+/// cost: for each link of a cycle one test of an edge; for each witness that of `check_order` and of its widths; and for each item of
+/// the tree at most the slots times the kinds, times the witnesses that it names. The error is `Memory`.
+pub(crate) fn judge_fenced(
+    alloc: Global,
+    showing: &Showing,
+    prices: &Prices,
+    certificate: &Certificate,
+    cost: u64,
+    fences: &[String],
+) -> Result<Judgement, Fault>
+    requires test { IsBounded showing.now.test }
+    requires starts { All IsStart showing.now.test.starts }
+    requires listing { IsListing showing.now.test showing.now.candidates }
+    ensures ok { (c : Said) → KeepsCertificate certificate.now c → c.answer ≡ Fenced cost (map string_bytes fences.now)
+        → IfOk result (IsJudgement showing.now.test prices.now c) }
+    ensures err { IsOkUnless result Memory }
+{
+    let Some(placement) = answered_placement(alloc, test_of(showing), prices, cost, fences)? else {
+        return Ok(Err(Reason::Answer));
+    };
+    let failure = first_failure(alloc, showing, prices, &placement, certificate)?;
+    Ok(judgement_of(placement, failure))
+}
