@@ -1,0 +1,5 @@
+mod Listed
+mod Worded
+mod Firsts
+mod Walks
+pub mod Verdicts
