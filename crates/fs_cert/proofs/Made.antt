@@ -1,0 +1,162 @@
+-- What is put together is a valid certificate.
+use Rattle.std.proofs.Common.{◌≡◌, ◌≤◌, true, false, not, Some, None, List, [], ◌∷◌, map, length, refl, ap, sym, subst, ◌∙◌, arith}
+use Rattle.std.specs.Prelude.{All}
+use Rattle.std.specs.List.{AllZip, AllByRecursion, list_all}
+use Rattle.std.proofs.lemmas.Bool.{and_from}
+use Rattle.std.proofs.lemmas.List.Elements.{All-nil, All-cons}
+use Rattle.fs_kinds.specs.declared.placement.Entry.{Entry}
+use Rattle.fs_kinds.specs.declared.slot.Slot.{Slot}
+use Rattle.fs_kinds.specs.Placement.{slots_of, all_with}
+use Rattle.fs_kinds.specs.PriceTable.{PriceTable, cost, are_offered}
+use Rattle.fs_kinds.proofs.Entries.{slots_of-all_with}
+use Rattle.fs_syntax.specs.declared.test.Test.{Test}
+use Rattle.fs_syntax.specs.Slots.{slots}
+use Rattle.fs_model.specs.Allows.{IsPlacement, RefutesAll, is_better}
+use Rattle.fs_model.specs.Execution.{Execution}
+use Rattle.fs_model.specs.Witness.{Witness, IsOfWitness}
+use Rattle.fs_answer.specs.declared.witness.WitnessFile.{WitnessFile}
+use Rattle.fs_answer.specs.Parts.{undecided, floor}
+use Rattle.fs_answer.specs.Pruning.{is_pruned}
+use Rattle.fs_answer.specs.Certificate as said
+use Rattle.fs_answer.specs.Certificate.{Certificate, Version, Second, NoneForbids, Link, Item, fence_words}
+use Rattle.fs_answer.specs.CertificateFile.{is_sayable, numbers_in, most_number}
+use Rattle.fs_answer.specs.Valid.{HasCycles, IsCycle, Covers, is_costly, most_links}
+use Rattle.fs_certificate.specs.declared.certificate.Certificate.{Certificate as Kept}
+use Rattle.fs_certificate.specs.declared.certificate.Item.{Item as CodeItem}
+use Rattle.fs_certificate.specs.Kept.{KeepsCycle, answer_of, version_of, item_of}
+use Rattle.fs_answer.specs.WitnessFile.{KeepsWitness}
+use Rattle.fs_bound.proofs.Floors.{cost-alone}
+use Rattle.fs_bound.proofs.Ranked.{better-irreflexive}
+use Rattle.fs_evidence.specs.Evidence.{Question, Refuted}
+use Rattle.fs_cert.specs.Certified.{Certifies}
+use Rattle.fs_cert.specs.inner.Copies.{AreCopiedWitnesses}
+use Rattle.fs_cert.specs.inner.Fenced.{IsFenced}
+use Rattle.fs_cert.specs.inner.Items.{AreSayable}
+use Rattle.fs_cert.proofs.Copying.{zip_all, copies_keep, copies_named, copies_worded, cycles_keep, cycles_named}
+
+all_from : {X : Type 0} (P : X → Type 0) (xs : List X) → AllByRecursion P xs → All P xs
+all_from P [] each = All-nil P
+all_from P (x ∷ xs) each = All-cons P x xs each.0 (all_from P xs each.1)
+
+items_said : (items : List Item) → AreSayable items → list_all (is_sayable Second) items ≡ true
+items_said [] each = refl
+items_said (item ∷ items) each = and_from _ _ each.0.0 (items_said items each.1)
+
+numbers_said : (items : List Item) → AreSayable items → All (λ leaf. All (λ n. n ≤ most_number) (numbers_in leaf)) items
+numbers_said [] each = All-nil _
+numbers_said (item ∷ items) each =
+    All-cons (λ leaf. All (λ n. n ≤ most_number) (numbers_in leaf)) item items (all_from (λ n. n ≤ most_number) (numbers_in item) each.0.1) (numbers_said items each.1)
+
+-- ---- certificates of fences
+
+abbrev certificate_of : Question → Refuted → List CodeItem → List Witness → Certificate
+certificate_of q f tree ws = record {
+  version = Second;
+  answer = said.Fenced (cost q.prices f.placement) (fence_words f.placement);
+  cycles = f.cycles;
+  tree = map item_of tree;
+  witnesses = ws;
+}
+
+pub fenced_certifies : (q : Question) (f : Refuted) (tree : List CodeItem) (files : List WitnessFile) (made : Kept) (ws : List Witness)
+    → IsFenced q f tree files made → AreCopiedWitnesses files ws → HasCycles q.test f.placement f.cycles → IsPlacement q.test q.prices f.placement
+    → AreSayable (map item_of tree)
+    → ((c : Certificate) → c.version ≡ Second → c.witnesses ≡ ws → Covers q.test q.prices c f.placement (undecided q.test ∷ []) (map item_of tree))
+    → Certifies q.test q.prices (Some f.placement) made
+fenced_certifies q f tree files made ws is copied cycles placement sayable covers = record {
+  certificate = certificate_of q f tree ws;
+  keeps = record {
+    version = sym is.version;
+    answer = sym is.answer;
+    cycles = cycles_keep made.cycles f.cycles is.cycles;
+    tree = ap (map item_of) (sym is.tree_is);
+    witnesses = subst (λ l. AllZip KeepsWitness l ws) (sym is.witnesses_are) (copies_keep files ws copied);
+  };
+  second = refl;
+  valid = record {
+    answered = record { placement = placement; answered = refl };
+    cycles = cycles;
+    tree = covers (certificate_of q f tree ws) refl refl;
+  };
+  in_range = record {
+    cycles = cycles_named made.cycles f.cycles is.cycles;
+    witnesses = copies_named files ws copied;
+  };
+  sayable = record {
+    cost = is.most;
+    cycles = zip_all (IsCycle q.test f.placement) (λ links. (1 ≤ length links) × (length links ≤ most_links)) (λ c links cycle. (cycle.some, cycle.most))
+        cycles.0 f.cycles cycles.2;
+    items = items_said (map item_of tree) sayable;
+    numbers = numbers_said (map item_of tree) sayable;
+    words = copies_worded files ws copied;
+  };
+}
+
+-- ---- no fence at all
+
+offered-none : (prices : PriceTable) (ss : List Slot) → are_offered prices (all_with None ss) ≡ true
+offered-none prices [] = refl
+offered-none prices (s ∷ ss) = and_from _ _ refl (offered-none prices ss)
+
+floor-undecided : (ss : List Slot) → floor (map (λ slot. record { slot = slot; decided = None }) ss) ≡ all_with None ss
+floor-undecided [] = refl
+floor-undecided (s ∷ ss) = ap (λ (p : List Entry). record { slot = s; kind = None } ∷ p) (floor-undecided ss)
+
+pub least-placement : (t : Test) (prices : PriceTable) (p : List Entry) → p ≡ all_with None (slots t) → IsPlacement t prices p
+least-placement t prices p is = record {
+  slots = ap slots_of is ∙ slots_of-all_with None (slots t);
+  offered = ap (are_offered prices) is ∙ offered-none prices (slots t);
+}
+
+-- the root alone is a tree for it
+pub least-covers : (t : Test) (prices : PriceTable) (c : Certificate) (p : List Entry) → p ≡ all_with None (slots t) → c.version ≡ Second
+    → Covers t prices c p (undecided t ∷ []) (said.Costly ∷ [])
+least-covers t prices c p is second =
+    let same : floor (undecided t) ≡ p = floor-undecided (slots t) ∙ sym is in
+    let no_better : is_better prices (floor (undecided t)) p ≡ false = ap (λ q. is_better prices q p) same ∙ better-irreflexive prices p in
+    let pruned : is_pruned prices (Some p) (undecided t) [] ≡ true = cost-alone prices p (undecided t) ∙ ap not no_better in
+    (ap (λ (v : Version). is_costly v prices p (undecided t)) second ∙ pruned, tt)
+
+-- ---- certificates of none
+
+abbrev certificate_by : Witness → Certificate
+certificate_by w = record { version = Second; answer = NoneForbids; cycles = []; tree = []; witnesses = w ∷ [] }
+
+pub none_certifies : (t : Test) (prices : PriceTable) (made : Kept) (w : Witness) (e : Execution) → version_of made.version ≡ Second
+    → answer_of made.answer ≡ NoneForbids → made.cycles ≡ [] → made.tree ≡ [] → AreCopiedWitnesses made.witnesses (w ∷ []) → IsOfWitness t w e
+    → RefutesAll t e → Certifies t prices None made
+none_certifies t prices made w e version answer cycles tree copied given refutes = record {
+  certificate = certificate_by w;
+  keeps = record {
+    version = sym version;
+    answer = sym answer;
+    cycles = subst (λ l. AllZip KeepsCycle l []) (sym cycles) tt;
+    tree = ap (map item_of) (sym tree);
+    witnesses = copies_keep made.witnesses (w ∷ []) copied;
+  };
+  second = refl;
+  valid = record {
+    answered = refl;
+    cycles = refl;
+    tree = refl;
+    witness = w;
+    only = refl;
+    execution = e;
+    given = given;
+    refutes = refutes;
+  };
+  in_range = record {
+    cycles = All-nil _;
+    witnesses = copies_named made.witnesses (w ∷ []) copied;
+  };
+  sayable = record {
+    cost = zero-least;
+    cycles = All-nil _;
+    items = refl;
+    numbers = All-nil _;
+    words = copies_worded made.witnesses (w ∷ []) copied;
+  };
+}
+  where
+    zero-least : 0 ≤ most_number
+    zero-least = omega arith

@@ -1,0 +1,28 @@
+-- What a certificate that was made says.
+use Rattle.std.specs.Prelude.{◌≡◌, ◌≢◌, Option, List, AllPairs}
+use Rattle.fs_kinds.specs.declared.placement.Entry.{Entry}
+use Rattle.fs_kinds.specs.PriceTable.{PriceTable}
+use Rattle.fs_syntax.specs.declared.test.Test.{Test}
+use Rattle.fs_answer.specs.Certificate as said
+use Rattle.fs_answer.specs.CertificateFile.{CanBeSaid}
+use Rattle.fs_answer.specs.Valid.{IsValid}
+use Rattle.fs_answer.specs.declared.witness.WitnessFile.{WitnessFile}
+use Rattle.fs_certificate.specs.declared.certificate.Certificate.{Certificate}
+use Rattle.fs_certificate.specs.Kept.{AreInRange, KeepsCertificate}
+
+-- It is a certificate of the second version, which is valid with this placement as its answer, or with none; and a file can say it.
+pub record Certifies (t : Test) (prices : PriceTable) (answer : Option (List Entry)) (kept : Certificate) : Type 0 where
+  pub certificate : said.Certificate
+  pub keeps : KeepsCertificate kept certificate
+  pub second : certificate.version ≡ said.Second
+  pub valid : IsValid t prices certificate answer
+  pub in_range : AreInRange certificate
+  pub sayable : CanBeSaid certificate
+
+-- no two of them are the same
+abbrev pub AreDistinct : List WitnessFile → Type 0
+AreDistinct = AllPairs (λ file other. file ≢ other)
+
+-- the certificate has each of its witnesses once
+abbrev pub HasEachOnce : Certificate → Type 0
+HasEachOnce kept = AreDistinct kept.witnesses

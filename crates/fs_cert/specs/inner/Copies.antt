@@ -1,0 +1,50 @@
+-- Parts of a certificate that are copied, each within the range of its type.
+use Rattle.std.specs.Prelude.{◌≡◌, ℕ, ◌≤◌, Some, Option, List, slice_get}
+use Rattle.std.specs.List.{AllZip}
+use Rattle.fs_kinds.specs.declared.reason.OperationName.{OperationName as Name}
+use Rattle.fs_model.specs.declared.step.Choice.{Choice}
+use Rattle.fs_model.specs.Witness.{Witness}
+use Rattle.fs_answer.specs.declared.witness.WitnessFile.{WitnessFile}
+use Rattle.fs_answer.specs.Certificate.{Link}
+use Rattle.fs_answer.specs.CertificateFile.{IsChoiceOfWord, most_number}
+use Rattle.fs_answer.specs.WitnessFile.{in_range}
+use Rattle.fs_certificate.specs.declared.certificate.CertificateLink.{CertificateLink}
+use Rattle.fs_certificate.specs.Kept.{KeepsLink, IsInRange}
+
+abbrev pub IsCopiedLink : CertificateLink → Link → Type 0
+IsCopiedLink copy link = KeepsLink copy link × IsInRange link.operation
+
+abbrev pub IsCopiedCycle : List CertificateLink → List Link → Type 0
+IsCopiedCycle = AllZip IsCopiedLink
+
+abbrev pub IsCopiedChoice : Choice → Choice → Type 0
+IsCopiedChoice copy choice = (copy ≡ choice) × IsChoiceOfWord choice
+
+abbrev pub AreCopiedChoices : List Choice → List Choice → Type 0
+AreCopiedChoices = AllZip IsCopiedChoice
+
+abbrev pub IsCopiedName : Option Name → Name → Type 0
+IsCopiedName copy name = (copy ≡ in_range name) × IsInRange name
+
+pub record IsCopiedWitness (file : WitnessFile) (w : Witness) : Type 0 where
+  pub choices : AllZip AreCopiedChoices file.choices w.choices
+  pub order : AllZip IsCopiedName file.order w.order
+
+abbrev pub AreCopiedWitnesses : List WitnessFile → List Witness → Type 0
+AreCopiedWitnesses = AllZip IsCopiedWitness
+
+-- none of the files is a copy of the witness
+abbrev pub HasNoCopy : List WitnessFile → Witness → Type 0
+HasNoCopy files w = (k : ℕ) (file : WitnessFile) → slice_get files k ≡ Some file → IsCopiedWitness file w → ⊥
+
+-- the witness stands among these under this number
+abbrev pub StandsAt : List Witness → Witness → ℕ → Type 0
+StandsAt ws w n = (slice_get ws n ≡ Some w) × (n ≤ most_number)
+
+-- and each of them under its number
+abbrev pub AreNumbered : List Witness → List Witness → List ℕ → Type 0
+AreNumbered ws = AllZip (StandsAt ws)
+
+-- the files are copies of witnesses, among which each of these stands under its number
+abbrev pub IsNumbering : List WitnessFile → List ℕ → List Witness → Type 0
+IsNumbering files numbers all = (ws : List Witness) × AreCopiedWitnesses files ws × AreNumbered ws all numbers

@@ -1,0 +1,111 @@
+//! Certificates of answers.
+
+ghost use Rattle.std.specs.Prelude.{◌≡◌, IfOk, IfSome, IsOkUnless, IsTrue, None, Some, List, MatchOption, true};
+ghost use Rattle.fs_kinds.specs.Placement.{all_with};
+ghost use Rattle.fs_kinds.specs.PriceTable.{PriceTable, are_offered};
+ghost use Rattle.fs_syntax.specs.declared.test.Test.{Test};
+ghost use Rattle.fs_syntax.specs.Test.{IsBounded};
+ghost use Rattle.fs_syntax.specs.Slots.{slots};
+ghost use Rattle.fs_model.specs.Allows.{RefutesAll};
+ghost use Rattle.fs_model.specs.Execution.{Execution};
+ghost use Rattle.fs_answer.specs.Valid.{HasCycles};
+ghost use Rattle.fs_evidence.specs.Evidence.{IsWitnessFor};
+ghost use Rattle.fs_history.specs.Board.{is_finished};
+ghost use Rattle.fs_cert.specs.Certified.{Certifies, HasEachOnce};
+ghost use Rattle.fs_cert.specs.inner.Fenced.{IsFenced};
+
+use crate::answered::answer_of;
+use crate::copied::witness_of;
+use crate::cycles::cycles_of;
+use crate::numbered::number_all;
+use crate::preorder::tree_of;
+use fs_answer::WitnessFile;
+use fs_board::Board;
+use fs_certificate::{Certificate, CertifiedAnswer, Item, Version};
+use fs_evidence::{Forbidden, Question, Witness};
+use fs_kinds::Fault;
+use fs_list::List;
+use fs_syntax::slots;
+use std::alloc::{AllocError, Global};
+
+/// The certificate of a placement, with this tree and these witnesses.
+fn fenced(
+    alloc: Global,
+    question: &Question,
+    forbidden: &Forbidden,
+    tree: List<Item>,
+    witnesses: List<WitnessFile>,
+) -> Result<Certificate, AllocError>
+    requires { IsTrue (are_offered question.now.prices forbidden.now.placement) }
+    ensures { IfOk result (IsFenced question.now forbidden.now tree witnesses) }
+{
+    Ok(Certificate {
+        version: Version::Second,
+        answer: answer_of(alloc, &question.prices, &forbidden.placement)?,
+        cycles: cycles_of(alloc, forbidden.cycles.as_slice())?,
+        tree,
+        witnesses,
+    })
+}
+
+/// The certificate of a finished board's bound: the bound is its answer, the board's tree shows that nothing better forbids the outcome,
+/// and each of the board's witnesses stands in it once. None where the board has no bound. The error is want of memory. It takes time
+/// of nodes times slots, and of witnesses times the different ones among them.
+pub fn from_board(alloc: Global, board: &Board) -> Result<Option<Certificate>, Fault>
+    requires bounded { IsBounded board.now.question.test }
+    requires finished { is_finished board.now.board ≡ true }
+    ensures ok { IfOk result (λ made. MatchOption made (board.now.board.bound ≡ None)
+        (Certifies board.now.question.test board.now.question.prices board.now.board.bound)) }
+    ensures once { IfOk result (λ made. IfSome made HasEachOnce) }
+    ensures err { IsOkUnless result Fault.Memory }
+{
+    let _legal = board.log();
+    let Some(forbidden) = board.bound() else {
+        return Ok(None);
+    };
+    let question = board.question();
+    let slots = slots(alloc, &question.test)?;
+    let numbering = number_all(alloc, board.witnesses())?;
+    let tree = tree_of(alloc, board, &slots, &numbering.numbers)?;
+    let witnesses = List::new(numbering.files);
+    Ok(Some(fenced(alloc, question, forbidden, tree, witnesses)?))
+}
+
+/// The certificate of no fence at all, where that forbids the outcome, as the cycles show: nothing is better, whatever the prices. The
+/// error is want of memory.
+pub fn from_least(
+    alloc: Global,
+    question: &Question,
+    forbidden: &Forbidden,
+) -> Result<Certificate, AllocError>
+    requires least { forbidden.now.placement ≡ all_with None (slots question.now.test) }
+    requires cycles { HasCycles question.now.test forbidden.now.placement forbidden.now.cycles }
+    ensures { IfOk result (Certifies question.now.test question.now.prices (Some forbidden.now.placement)) }
+{
+    let mut tree = Vec::new(alloc);
+    tree.push(Item::Costly)?;
+    fenced(
+        alloc,
+        question,
+        forbidden,
+        List::new(tree),
+        List::new(Vec::new(alloc)),
+    )
+}
+
+/// The certificate of the answer none, by a witness of a test that shows the outcome even with `rw,rw` in every slot. The error is want
+/// of memory.
+pub fn from_witness(alloc: Global, witness: &Witness) -> Result<Certificate, AllocError>
+    ensures { IfOk result (λ made. (t : Test) (prices : PriceTable) (e : Execution)
+        → IsWitnessFor t witness.now e → RefutesAll t e → Certifies t prices None made) }
+{
+    let mut witnesses = Vec::new(alloc);
+    witnesses.push(witness_of(alloc, witness)?)?;
+    Ok(Certificate {
+        version: Version::Second,
+        answer: CertifiedAnswer::NoneForbids,
+        cycles: List::new(Vec::new(alloc)),
+        tree: List::new(Vec::new(alloc)),
+        witnesses: List::new(witnesses),
+    })
+}

@@ -1,0 +1,5 @@
+//! Tests of certificates: those of answers that a search finds.
+#![tactic(auto)]
+
+#[cfg(test)]
+mod found;
