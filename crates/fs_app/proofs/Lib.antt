@@ -1,5 +1,1 @@
-mod Agrees
 pub mod OrderFaults
-mod Placing
-mod WitnessTexts
-mod Witnesses

@@ -4,7 +4,7 @@ ghost use Rattle.fs_syntax.specs.Placed.{IsPlaced};
 ghost use Rattle.fs_syntax.specs.Slots.{slots};
 ghost use Rattle.fs_syntax.specs.Test.{IsTest};
 ghost use Rattle.fs_litmus.specs.Reads.{Reads};
-ghost use Rattle.fs_app.specs.Order.{IsAnswered, IsFirstOrderFault, verdict_line, verdict_status};
+ghost use Rattle.fs_app.specs.Order.{IsOrderAnswer, IsFirstOrderFault, verdict_line, verdict_status};
 
 use fs_check::{OrderVerdict, check_order};
 use fs_io::{Output, Status};
@@ -25,7 +25,7 @@ pub fn run_order(
     fences: &[String],
 ) -> Result<Output, Fault>
     ensures answer { IfOk result (λ output.
-        IsAnswered test.now witness.now (map string_bytes fences.now) (string_bytes output.text) output.status) }
+        IsOrderAnswer test.now witness.now (map string_bytes fences.now) (string_bytes output.text) output.status) }
     ensures fault { IfErr result (IsFirstOrderFault test.now witness.now (map string_bytes fences.now)) }
 {
     let test = read_test(alloc, test)?;
@@ -36,7 +36,7 @@ pub fn run_order(
 fn judge(alloc: Global, test: &Test, witness: &[u8], fences: &[String]) -> Result<Output, Fault>
     requires { IsTest test.now }
     ensures answer { IfOk result (λ output. (bytes : List ℕ) → Reads bytes test.now
-        → IsAnswered bytes witness.now (map string_bytes fences.now) (string_bytes output.text) output.status) }
+        → IsOrderAnswer bytes witness.now (map string_bytes fences.now) (string_bytes output.text) output.status) }
     ensures fault { IfErr result (λ fault. (bytes : List ℕ) → Reads bytes test.now
         → IsFirstOrderFault bytes witness.now (map string_bytes fences.now) fault) }
 {
@@ -54,7 +54,7 @@ fn judge_placed(
     requires { IsTest test.now }
     ensures answer { IfOk result (λ output. (bytes : List ℕ) (words : List (List ℕ)) → Reads bytes test.now
         → IsPlaced None (slots test.now) words (Some placement.now)
-        → IsAnswered bytes witness.now words (string_bytes output.text) output.status) }
+        → IsOrderAnswer bytes witness.now words (string_bytes output.text) output.status) }
     ensures fault { IfErr result (λ fault. (bytes : List ℕ) (words : List (List ℕ)) → Reads bytes test.now
         → IsPlaced None (slots test.now) words (Some placement.now)
         → IsFirstOrderFault bytes witness.now words fault) }

@@ -2,11 +2,12 @@
 use crate::order::run_order;
 use clap::Error;
 use clap::error::ErrorKind;
-use fs_command::{Order, Place, Request, Solve, read_request};
+use fs_command::{Check, Order, Place, Request, Solve, read_request};
 use fs_io::{Output, Status, read_bytes, write_text};
 use fs_kinds::Fault;
 use fs_place::run_place;
-use fs_solve::run_solve;
+use fs_solve::{run_certified, run_solve};
+use fs_verify::run_check;
 use std::fs::File;
 use std::process::ExitCode;
 use std::rt::{Env, Files};
@@ -14,6 +15,9 @@ use std::{env, io};
 
 /// Tests, prices and witnesses are read up to this many bytes.
 const INPUT_LIMIT: usize = 1_048_576;
+
+/// Certificates are read up to this many bytes.
+const CERTIFICATE_LIMIT: usize = 1_073_741_824;
 
 /// The most nodes that a search may be allowed.
 const MOST_NODES: usize = 1_000_000;
@@ -85,6 +89,7 @@ fn answer<R: Files + Input + AllocGlobal>(rt: &R, request: &Request<'_>) -> Resu
         Request::Place(place) => answer_place(rt, place),
         Request::Order(order) => answer_order(rt, order),
         Request::Solve(solve) => answer_solve(rt, solve),
+        Request::Check(check) => answer_check(rt, check),
     }
 }
 
@@ -94,7 +99,7 @@ fn answer_place<R: Files + Input + AllocGlobal>(
 ) -> Result<Output, Fault> {
     let test = read_input(rt, place.test)?;
     let prices = match place.prices {
-        Some(path) => Some(read_file(rt, path)?),
+        Some(path) => Some(read_file(rt, path, INPUT_LIMIT)?),
         None => None,
     };
     let prices = prices.as_ref().map(|bytes| bytes.as_slice());
@@ -106,7 +111,7 @@ fn answer_order<R: Files + Input + AllocGlobal>(
     order: &Order<'_>,
 ) -> Result<Output, Fault> {
     let test = read_input(rt, order.test)?;
-    let witness = read_file(rt, order.witness)?;
+    let witness = read_file(rt, order.witness, INPUT_LIMIT)?;
     run_order(rt.alloc(), &test, &witness, &order.fences)
 }
 
@@ -115,10 +120,25 @@ fn answer_solve<R: Files + Input + AllocGlobal>(
     solve: &Solve<'_>,
 ) -> Result<Output, Fault> {
     let test = read_input(rt, solve.test)?;
-    let prices = read_file(rt, solve.prices)?;
+    let prices = read_file(rt, solve.prices, INPUT_LIMIT)?;
     // the command line has no other numbers; here it is said once more for the proof
     let limit = (solve.nodes as usize).clamp(1, MOST_NODES);
-    run_solve(rt.alloc(), &test, &prices, limit)
+    let Some(path) = solve.certificate else {
+        return run_solve(rt.alloc(), &test, &prices, limit);
+    };
+    let certified = run_certified(rt.alloc(), &test, &prices, limit)?;
+    write_file(rt, path, certified.certificate.as_bytes())?;
+    Ok(certified.output)
+}
+
+fn answer_check<R: Files + Input + AllocGlobal>(
+    rt: &R,
+    check: &Check<'_>,
+) -> Result<Output, Fault> {
+    let test = read_input(rt, check.test)?;
+    let prices = read_file(rt, check.prices, INPUT_LIMIT)?;
+    let certificate = read_file(rt, check.certificate, CERTIFICATE_LIMIT)?;
+    run_check(rt.alloc(), &test, &prices, &certificate)
 }
 
 /// The bytes of a test: of standard input where it is called `stdin`, else of the file.
@@ -126,13 +146,22 @@ fn read_input<R: Files + Input + AllocGlobal>(rt: &R, path: &str) -> Result<Vec<
     if path == "stdin" {
         return read_bytes(rt.alloc(), &mut rt.reader(), INPUT_LIMIT);
     }
-    read_file(rt, path)
+    read_file(rt, path, INPUT_LIMIT)
 }
 
-/// The bytes of the file, where there are at most `INPUT_LIMIT`. One that can't be opened is a `ReadFault`.
-fn read_file<R: Files + AllocGlobal>(rt: &R, path: &str) -> Result<Vec<u8>, Fault> {
+/// The bytes of the file, where there are at most `limit`. One that can't be opened is a `ReadFault`.
+fn read_file<R: Files + AllocGlobal>(rt: &R, path: &str, limit: usize) -> Result<Vec<u8>, Fault> {
     match File::open(rt, path) {
-        Ok(mut file) => read_bytes(rt.alloc(), &mut file, INPUT_LIMIT),
+        Ok(mut file) => read_bytes(rt.alloc(), &mut file, limit),
         Err(_) => Err(Fault::ReadFault),
+    }
+}
+
+/// Makes the file, or empties it where it is there, and writes the bytes. A `WriteFault` where it can't be made or written; then it may
+/// hold their beginning.
+fn write_file<R: Files>(rt: &R, path: &str, bytes: &[u8]) -> Result<(), Fault> {
+    match File::create(rt, path) {
+        Ok(mut file) => write_text(&mut file, bytes),
+        Err(_) => Err(Fault::WriteFault),
     }
 }

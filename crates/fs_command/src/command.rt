@@ -66,6 +66,9 @@ out. Then it prints `none` and such an execution, as a witness that `order` read
   none
   {\"choices\":[[],[1,1]],\"order\":[\"P0:1\",\"P0:3\",\"P1:0\",\"P1:1\"]}
 
+With --cert PATH a certificate of the answer is written to PATH first, which `check` reads
+and judges without a search.
+
 PRICES offers kinds, each for 1 to 1000000, and rw,rw must be one of them, as in
 {\"w,w\":2,\"rw,rw\":10}. Slots may have weights that multiply the price.
 
@@ -77,6 +80,40 @@ Exit status:
 Faults beside those of the files: a hart has too many runs (F13), a run accesses an
 address of no location (F14), there are too many candidate executions (F15), the search
 needs more nodes (F16).";
+
+const CHECK_ABOUT: &str = "Does this certificate show that an answer is right?";
+
+const CHECK_HELP: &str = "\
+Prints `yes` where the certificate is valid for the test and the prices, and below it the
+answer that it is for, as `solve` prints it; else `no: ` and the first reason against it.
+Nothing is searched, so a yes needs no trust in the search:
+
+  $ rvfence check examples/SB.litmus examples/prices.json examples/certificates/SB.json
+  yes
+  fenced 18
+  fence P0 2 w,r
+  fence P1 2 w,r
+
+A certificate is a JSON file with the answer, a cycle for each candidate execution that
+shows the outcome, a tree in which nothing better than the answer is left, and the
+executions that the tree names. docs/CERTIFICATE.md says what makes one valid.
+
+Reasons, where K counts from 0:
+  answer       the answer is none of the test and the prices
+  cycles       not one cycle for each candidate execution that shows the outcome
+  cycle K      this one is no cycle under the answer's fences
+  tree         the items are not one whole tree
+  node K       something better than the answer is left at this item
+  witness K    an item needs this execution, and it isn't there or shows nothing there
+
+Exit status:
+  0  yes
+  1  no
+  2  a fault, one line on standard error as `fault F18 BadCertificate`, or a bad command
+     line
+  3  memory ran out (fault F19)
+Faults beside those of the files: a hart has too many runs (F13), a run accesses an
+address of no location (F14), there are too many candidate executions (F15).";
 
 const PROGRAM_HELP: &str = "\
 `rvfence <COMMAND> --help` says what a command answers.
@@ -92,6 +129,10 @@ const WITNESS_HELP: &str = "JSON file with an execution: the choices of each har
 
 const PRICES_HELP: &str = "JSON file with the prices of the kinds that may be placed";
 
+const CERTIFICATE_HELP: &str = "JSON file with a certificate, of up to 1 GiB";
+
+const CERT_HELP: &str = "File to write a certificate of the answer to, which `check` reads";
+
 const NODES_HELP: &str = "Most nodes that the search may make, 1 to 1000000";
 
 /// How many nodes a search may make, where the command line doesn't say.
@@ -103,6 +144,7 @@ pub enum Request<'a> {
     Place(Place<'a>),
     Order(Order<'a>),
     Solve(Solve<'a>),
+    Check(Check<'a>),
 }
 
 /// What `place` was asked for.
@@ -128,6 +170,16 @@ pub struct Solve<'a> {
     pub prices: &'a str,
     /// How many nodes the search may make: from 1 to 1,000,000.
     pub nodes: u32,
+    /// Where a certificate of the answer is to be written.
+    pub certificate: Option<&'a str>,
+}
+
+/// What `check` was asked for.
+#[derive(Debug, Drop)]
+pub struct Check<'a> {
+    pub test: &'a str,
+    pub prices: &'a str,
+    pub certificate: &'a str,
 }
 
 /// The request that the words make, the program's name first. An error holds the text for the user, and help is one.
@@ -138,6 +190,9 @@ pub fn read_request<'a>(alloc: Global, words: &'a [String]) -> Result<Request<'a
     }
     if let Some(found) = matches.subcommand_matches("solve") {
         return Ok(Request::Solve(solve_of(found)));
+    }
+    if let Some(found) = matches.subcommand_matches("check") {
+        return Ok(Request::Check(check_of(found)));
     }
     let place = match matches.subcommand_matches("place") {
         Some(found) => place_of(alloc, found)?,
@@ -167,6 +222,15 @@ fn solve_of<'a>(found: &ArgMatches<'a>) -> Solve<'a> {
         test: found.get_str("FILE").unwrap_or(""),
         prices: found.get_str("PRICES").unwrap_or(""),
         nodes: found.get_one::<u32>("nodes").unwrap_or(MOST_NODES),
+        certificate: found.get_str("cert"),
+    }
+}
+
+fn check_of<'a>(found: &ArgMatches<'a>) -> Check<'a> {
+    Check {
+        test: found.get_str("FILE").unwrap_or(""),
+        prices: found.get_str("PRICES").unwrap_or(""),
+        certificate: found.get_str("CERTIFICATE").unwrap_or(""),
     }
 }
 
@@ -186,7 +250,8 @@ fn whole_command<'a>(alloc: Global) -> Result<Command<'a>, AllocError> {
     program
         .subcommand(solve_command(alloc)?)?
         .subcommand(place_command(alloc)?)?
-        .subcommand(order_command(alloc)?)
+        .subcommand(order_command(alloc)?)?
+        .subcommand(check_command(alloc)?)
 }
 
 fn place_command<'a>(alloc: Global) -> Result<Command<'a>, AllocError> {
@@ -225,10 +290,29 @@ fn solve_command<'a>(alloc: Global) -> Result<Command<'a>, AllocError> {
         .help(NODES_HELP)
         .value_parser(value_parser!(u32).range(1..=i64::from(MOST_NODES)))
         .default_value("1000000");
+    let certificate = Arg::new(alloc, "cert")
+        .long("cert")
+        .value_name("PATH")
+        .help(CERT_HELP);
     Command::new(alloc, "solve")
         .about(SOLVE_ABOUT)
         .after_help(SOLVE_HELP)
         .arg(file)?
         .arg(prices)?
-        .arg(nodes)
+        .arg(nodes)?
+        .arg(certificate)
+}
+
+fn check_command<'a>(alloc: Global) -> Result<Command<'a>, AllocError> {
+    let file = Arg::new(alloc, "FILE").help(FILE_HELP).required(true);
+    let prices = Arg::new(alloc, "PRICES").help(PRICES_HELP).required(true);
+    let certificate = Arg::new(alloc, "CERTIFICATE")
+        .help(CERTIFICATE_HELP)
+        .required(true);
+    Command::new(alloc, "check")
+        .about(CHECK_ABOUT)
+        .after_help(CHECK_HELP)
+        .arg(file)?
+        .arg(prices)?
+        .arg(certificate)
 }

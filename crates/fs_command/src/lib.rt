@@ -3,4 +3,4 @@
 
 mod command;
 
-pub use command::{Order, Place, Request, Solve, read_request};
+pub use command::{Check, Order, Place, Request, Solve, read_request};

@@ -1,5 +1,5 @@
 -- The least and the greatest placement as answers, what a finished board's bound says, and which fault is handed on.
-use Rattle.std.proofs.Common.{◌≡◌, ◌≢◌, ℕ, ◌<◌, true, false, Option, Some, None, Result, Ok, Err, IfErr, List, [], ◌∷◌, map, length, refl, sym, ap, ap₂, subst, ◌∙◌, arith, inl, inr, ◌⊎◌}
+use Rattle.std.proofs.Common.{◌≡◌, ◌≢◌, ℕ, ◌<◌, true, Some, None, Result, Ok, Err, IfErr, List, [], ◌∷◌, map, length, refl, sym, ap, subst, ◌∙◌, inr}
 use Rattle.std.specs.Result.{IsErrAnd}
 use Rattle.std.proofs.lemmas.Bool.{and_from, false≢true}
 use Rattle.fs_kinds.specs.declared.fault.Fault.{Fault}
@@ -12,18 +12,18 @@ use Rattle.fs_kinds.specs.PriceTable.{PriceTable, IsPriceTable, are_offered, cos
 use Rattle.fs_kinds.proofs.Entries.{slots_of-all_with}
 use Rattle.fs_syntax.specs.declared.test.Test.{Test}
 use Rattle.fs_syntax.specs.Slots.{slots}
-use Rattle.fs_model.specs.Execution.{Execution}
 use Rattle.fs_model.specs.Allows.{Allows, IsCheapest, is_better}
 use Rattle.fs_answer.specs.CandidateFaults.{IsCandidateFault}
-use Rattle.fs_answer.specs.Parts.{Part, floor, filled, undecided}
-use Rattle.fs_history.specs.Board.{Board, is_finished}
+use Rattle.fs_answer.specs.Parts.{floor, undecided}
+use Rattle.fs_answer.specs.Valid.{HasCycles}
+use Rattle.fs_history.specs.Board.{is_finished}
 use Rattle.fs_history.specs.Histories.{IsHistory}
-use Rattle.fs_history.specs.Sizes.{IsNodeLimit, tree_size}
+use Rattle.fs_history.specs.Sizes.{tree_size}
 use Rattle.fs_tree.specs.Closing.{IsFinalAnswer}
 use Rattle.fs_tree.proofs.PartsOfTests.{under-root}
 use Rattle.fs_tree.proofs.Final.{final}
 use Rattle.fs_bound.proofs.Floors.{floor-best}
-use Rattle.fs_evidence.specs.Evidence.{Question, Shown}
+use Rattle.fs_evidence.specs.Evidence.{Question, Refuted}
 use Rattle.fs_board.specs.View.{Search}
 use Rattle.fs_search.specs.Answers.{IsSolveFault}
 
@@ -103,3 +103,13 @@ none-answer q r p prices same priced is forbids =
 
 pub limit-not-memory : (f : Fault) → f ≡ NodeLimit → f ≢ Memory
 limit-not-memory f is other = let e : NodeLimit ≡ Memory = sym is ∙ other in absurd (cc)
+
+-- the cycles of no fence at all, as its placement has them
+pub least-shown : (t asked : Test) (f : Refuted) (p : List Entry) → t ≡ asked → f.placement ≡ p → f.placement ≡ all_with None (slots t)
+    → HasCycles t (all_with None (slots t)) f.cycles
+    → (f.placement ≡ p) × (f.placement ≡ all_with None (slots asked)) × HasCycles asked f.placement f.cycles
+least-shown t asked f p same copied is cycles = (
+  copied,
+  is ∙ ap (λ (x : Test). all_with None (slots x)) same,
+  subst (λ (x : Test). HasCycles x f.placement f.cycles) same (subst (λ (q : List Entry). HasCycles t q f.cycles) (sym is) cycles),
+)

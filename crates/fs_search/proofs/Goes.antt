@@ -1,14 +1,13 @@
 -- How each event moves a search on, and how many nodes are done then.
-use Rattle.std.proofs.Common.{◌≡◌, ℕ, zero, suc, ◌+◌, ◌<◌, ◌≤◌, Bool, true, false, ◌&&◌, not, ◌⊎◌, inl, inr, Option, Some, None, List, [], ◌∷◌, ◌++◌, map, length, refl, sym, ap, subst, ◌∙◌, arith, append_assoc, append-nil, length-append}
+use Rattle.std.proofs.Common.{◌≡◌, ℕ, zero, suc, ◌+◌, ◌<◌, ◌≤◌, Bool, true, false, ◌&&◌, not, Option, Some, None, List, [], ◌∷◌, ◌++◌, length, refl, sym, ap, subst, ◌∙◌, arith, append_assoc, append-nil}
 use Rattle.std.specs.Prelude.{slice_get, slice_set, if◌then◌else◌, option_and_then}
 use Rattle.std.proofs.lemmas.Bool.{false≢true}
 use Rattle.fs_kinds.specs.PriceTable.{PriceTable}
 use Rattle.fs_syntax.specs.declared.test.Test.{Test}
 use Rattle.fs_answer.specs.Parts.{Part}
 use Rattle.fs_history.specs.Board.{Board, Node, Status, Open, Held, Split, Costly, Witnessed, Bounded, Posted, Event, Reply, is_open, is_held, is_held_by, part_at}
-use Rattle.fs_history.specs.Histories.{LogEntry, Steps, IsHistory, HoldsNode}
-use Rattle.fs_tree.specs.Trees.{IsPart}
-use Rattle.fs_tree.proofs.Moves.{node_of, HasStatus, status-at, Move, Stays as Still, Marks, Splits, moves}
+use Rattle.fs_history.specs.Histories.{IsHistory, HoldsNode}
+use Rattle.fs_tree.proofs.Moves.{node_of, status-at, Move, Stays as Still, Marks, Splits, moves}
 use Rattle.fs_tree.proofs.Leaves.{history-parts}
 use Rattle.fs_tree.proofs.Growing.{history-within}
 use Rattle.fs_board.specs.Counts.{count_of}

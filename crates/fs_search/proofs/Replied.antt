@@ -1,5 +1,5 @@
 -- What the board's replies mean to a search.
-use Rattle.std.proofs.Common.{◌≡◌, ◌≢◌, ℕ, ◌+◌, ◌<◌, ◌≤◌, Bool, true, false, ◌&&◌, not, Some, None, List, [], ◌∷◌, ◌++◌, map, length, refl, sym, ap, subst, ◌∙◌, arith}
+use Rattle.std.proofs.Common.{◌≡◌, ℕ, ◌<◌, true, false, Some, None, List, length, refl, sym, ap, subst, ◌∙◌}
 use Rattle.std.proofs.lemmas.Bool.{false≢true}
 use Rattle.fs_kinds.specs.declared.slot.Slot.{Slot}
 use Rattle.fs_kinds.specs.declared.placement.Entry.{Entry}
@@ -7,13 +7,12 @@ use Rattle.fs_syntax.specs.Slots.{slots}
 use Rattle.fs_model.specs.Witness.{Witness}
 use Rattle.fs_answer.specs.Parts.{Part, floor, filled, is_undecided, child_parts}
 use Rattle.fs_answer.specs.Shown.{IsShownBy}
-use Rattle.fs_history.specs.Board.{Board, Node, Status, Open, Held, Split, Costly, Witnessed, Bounded, Posted, Event, Take, Claim, Adopt, SplitAt, CutCost, CutWitness, CutBound, Post, Peek, Reply, Given, Idle, Done, Gone, Children, NotYours, Decided, Full, Closed, Cheaper, NotCovered, Other, Seen, is_open, is_held, has_node, part_at, is_finished}
+use Rattle.fs_history.specs.Board.{Split, Costly, Witnessed, Bounded, Posted, Event, Take, Claim, Adopt, SplitAt, CutCost, CutWitness, CutBound, Post, Reply, Given, Idle, Done, Gone, Children, NotYours, Decided, Full, Closed, Cheaper, NotCovered, Other, is_open, is_held, has_node, part_at, is_finished}
 use Rattle.fs_history.specs.Histories.{IsHistory, HoldsNode}
 use Rattle.fs_history.specs.Sizes.{tree_size}
 use Rattle.fs_tree.proofs.Leaves.{opened}
 use Rattle.fs_tree.proofs.Growing.{full-large}
 use Rattle.fs_board.specs.View.{Search, Answers}
-use Rattle.fs_search.specs.Histories.{GoesOn}
 use Rattle.fs_search.specs.inner.Steps.{MovesOn, Stays, IsTried, is_closed, is_given, is_split_so}
 use Rattle.fs_search.proofs.Goes.{goes-on, done-now, done-more, IsHandedOut, handed-open, handed-held}
 

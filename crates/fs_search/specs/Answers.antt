@@ -3,14 +3,17 @@ use Rattle.std.specs.Prelude.{◌≡◌, ◌⊎◌, ℕ, true, List, Option, Non
 use Rattle.fs_kinds.specs.declared.fault.Fault.{Fault}
 use Rattle.fs_kinds.specs.declared.fault.Fault.TheVariants.{NodeLimit}
 use Rattle.fs_kinds.specs.declared.placement.Entry.{Entry}
+use Rattle.fs_kinds.specs.Placement.{all_with}
 use Rattle.fs_kinds.specs.PriceTable.{PriceTable, cost}
 use Rattle.fs_syntax.specs.declared.test.Test.{Test}
+use Rattle.fs_syntax.specs.Slots.{slots}
 use Rattle.fs_model.specs.Execution.{Execution}
 use Rattle.fs_model.specs.Allows.{IsCheapest, RefutesAll}
 use Rattle.fs_answer.specs.CandidateFaults.{IsCandidateFault}
+use Rattle.fs_answer.specs.Valid.{HasCycles}
 use Rattle.fs_history.specs.Board.{is_finished}
 use Rattle.fs_history.specs.Sizes.{IsNodeLimit}
-use Rattle.fs_evidence.specs.Evidence.{Question, IsWitnessFor}
+use Rattle.fs_evidence.specs.Evidence.{Question, Refuted, IsWitnessFor}
 use Rattle.fs_board.specs.View.{Search}
 use Rattle.fs_search.specs.declared.answer.Answer.{Answer}
 use Rattle.fs_search.specs.declared.answer.Answer.TheVariants as answer
@@ -25,6 +28,17 @@ IsAnswer t prices (answer.None w) = (e : Execution) × IsWitnessFor t w e × Ref
 abbrev pub placement_of : Answer → Option (List Entry)
 placement_of (answer.Fenced p n) = Some p
 placement_of (answer.None w) = None
+
+-- the answer is none, or no fence at all
+abbrev pub IsAtAnEnd : Test → Answer → Type 0
+IsAtAnEnd t a = (placement_of a ≡ None) ⊎ (placement_of a ≡ Some (all_with None (slots t)))
+
+-- What an answer that was found without a board rests on: a witness, which is the answer's own, or the cycles of no fence at all.
+abbrev pub IsShownLeast : Test → Answer → Option Refuted → Type 0
+IsShownLeast t (answer.None w) least = least ≡ None
+IsShownLeast t (answer.Fenced p n) None = ⊥
+IsShownLeast t (answer.Fenced p n) (Some f) =
+    (f.placement ≡ p) × (f.placement ≡ all_with None (slots t)) × HasCycles t f.placement f.cycles
 
 -- The finished board of a search for this answer, with this limit. Its bound is the answer's placement, and it has no bound where the
 -- answer has none.

@@ -3,7 +3,7 @@
 ghost use Rattle.std.specs.Prelude.{◌≡◌, option_map};
 
 use fs_board::Board;
-use fs_evidence::Witness;
+use fs_evidence::{Forbidden, Witness};
 use fs_kinds::Placement;
 
 /// The answer to a question.
@@ -21,6 +21,8 @@ pub enum Answer {
 pub struct Solved {
     pub answer: Answer,
     pub board: Option<Board>,
+    /// What showed, where there is no board and the answer is no fence at all, that this forbids the outcome.
+    pub least: Option<Forbidden>,
 }
 
 impl Solved {

@@ -11,7 +11,7 @@ ghost use Rattle.fs_answer.specs.CandidateFaults.{IsCandidateFault};
 ghost use Rattle.fs_history.specs.Board.{is_finished};
 ghost use Rattle.fs_history.specs.Sizes.{tree_size};
 ghost use Rattle.fs_judge.specs.Verdicts.{IsVerdict};
-ghost use Rattle.fs_search.specs.Answers.{IsAnswer, IsBoardOf, IsSolveFault, placement_of};
+ghost use Rattle.fs_search.specs.Answers.{IsAnswer, IsAtAnEnd, IsBoardOf, IsShownLeast, IsSolveFault, placement_of};
 
 use crate::answer::{Answer, Solved};
 use crate::sweep::search;
@@ -96,23 +96,34 @@ fn answer_of(alloc: Global, problem: &mut Problem, board: &Board) -> Result<Answ
 }
 
 /// The answer where the search came to its limit: none where `rw,rw` in every slot isn't enough, no fence where none is needed. Else F16.
-fn answer_by_ends(alloc: Global, problem: &mut Problem) -> Result<Answer, Fault>
+fn answer_by_ends(alloc: Global, problem: &mut Problem) -> Result<Solved, Fault>
     requires bounded { IsBounded problem.old.test }
     requires prices { IsPriceTable problem.old.prices }
-    ensures ok { IfOk result (λ a. IsAnswer problem.old.test problem.old.prices a) }
+    ensures ok { IfOk result (λ s. IsAnswer problem.old.test problem.old.prices s.answer) }
+    ensures board { IfOk result (λ s. s.board ≡ None) }
+    ensures ends { IfOk result (λ s. IsAtAnEnd problem.old.test s.answer) }
+    ensures least { IfOk result (λ s. IsShownLeast problem.old.test s.answer s.least) }
     ensures err { IfErr result (λ f. f ≢ Fault.Memory → (f ≡ Fault.NodeLimit)
         × Allows problem.old.test (all_with None (slots problem.old.test))
         × (Allows problem.old.test (all_with (Some Kind.RwRw) (slots problem.old.test)) → ⊥)) }
 {
     let on_all = verdict_on_all(alloc, problem)?;
     if let Verdict::Allowed(witness) = on_all {
-        return Ok(Answer::None { witness });
+        return Ok(Solved {
+            answer: Answer::None { witness },
+            board: None,
+            least: None,
+        });
     }
     let on_none = verdict_on_none(alloc, problem)?;
     match on_none {
         Verdict::Forbids(forbidden) => {
             let placement = forbidden.placement.copy()?;
-            Ok(fenced(&problem.question().prices, placement))
+            Ok(Solved {
+                answer: fenced(&problem.question().prices, placement),
+                board: None,
+                least: Some(forbidden),
+            })
         }
         Verdict::Allowed(_) => Err(Fault::NodeLimit),
     }
@@ -123,7 +134,8 @@ fn answer_by_ends(alloc: Global, problem: &mut Problem) -> Result<Answer, Fault>
 /// all placements has more nodes below its root than the limit. F13 to F15 come where the candidates can't be listed; or F19.
 ///
 /// The finished board is handed out with the answer, and its bound is the answer's placement. There is none only where the tree of all
-/// placements has more nodes below its root than the limit.
+/// placements has more nodes below its root than the limit, and then the answer is none or no fence at all, and the cycles of no fence at
+/// all are handed out.
 pub fn solve(alloc: Global, question: Arc<Question>, limit: usize) -> Result<Solved, Fault>
     requires test { IsBounded (arc_value question).test }
     requires starts { All IsStart (arc_value question).test.starts }
@@ -135,6 +147,8 @@ pub fn solve(alloc: Global, question: Arc<Question>, limit: usize) -> Result<Sol
     ensures board { IfOk result (λ s. IfSome s.board (IsBoardOf (arc_value question) limit s.answer)) }
     ensures lost { IfOk result (λ s. IfNone s.board
         (limit < tree_size (arc_value question).prices (length (slots (arc_value question).test)))) }
+    ensures ends { IfOk result (λ s. IfNone s.board (IsAtAnEnd (arc_value question).test s.answer)) }
+    ensures least { IfOk result (λ s. IfNone s.board (IsShownLeast (arc_value question).test s.answer s.least)) }
     ensures err { IfErr result (λ f. f ≢ Fault.Memory → IsSolveFault (arc_value question) limit f) }
 {
     let asked = Arc::try_clone(&question)?;
@@ -146,14 +160,12 @@ pub fn solve(alloc: Global, question: Arc<Question>, limit: usize) -> Result<Sol
             Ok(Solved {
                 answer,
                 board: Some(board),
+                least: None,
             })
         }
         Err(Fault::NodeLimit) => {
-            let answer = answer_by_ends(alloc, &mut problem)?;
-            Ok(Solved {
-                answer,
-                board: None,
-            })
+            let solved = answer_by_ends(alloc, &mut problem)?;
+            Ok(solved)
         }
         Err(fault) => Err(fault),
     }

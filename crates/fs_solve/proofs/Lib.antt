@@ -1,3 +1,2 @@
-pub mod Meaning
-pub mod SamePrices
+pub mod Founding
 pub mod SolveFaults

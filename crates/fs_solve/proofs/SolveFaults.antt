@@ -1,5 +1,5 @@
 -- Which fault `solve` answers first.
-use Rattle.std.proofs.Common.{◌≡◌, ◌≢◌, inl, inr, ℕ, List, Some, Result, Ok, Err, IfOk, OnOk, sym, subst}
+use Rattle.std.proofs.Common.{◌≡◌, ◌≢◌, inl, inr, ℕ, List, Some, Result, Ok, Err, IfOk, sym, subst}
 use Rattle.fs_kinds.specs.declared.fault.Fault.{Fault}
 use Rattle.fs_kinds.specs.declared.fault.Fault.TheVariants.{Memory}
 use Rattle.fs_kinds.specs.PriceTable.{PriceTable}
@@ -9,12 +9,11 @@ use Rattle.fs_litmus.specs.Faults.{IsTestFault}
 use Rattle.fs_place.specs.Place.{IsPricesFault}
 use Rattle.fs_place.proofs.Faults.{is_memory}
 use Rattle.fs_evidence.specs.Evidence.{Question}
-use Rattle.fs_search.specs.declared.answer.Answer.{Answer}
-use Rattle.fs_search.specs.Answers.{IsAnswer, IsSolveFault}
-use Rattle.fs_solve.specs.Solve.{ArePricesOf, CanBeListed, IsFirstSolveFault, of_prices, of_test, of_search, of_memory}
+use Rattle.fs_search.specs.Answers.{IsSolveFault}
+use Rattle.fs_solve.specs.Solve.{ArePricesOf, IsFirstSolveFault, of_prices, of_test, of_search, of_memory}
 
 module _ (test prices : List ℕ) (limit : ℕ) where
-  solve-memory : (f : Fault) → f ≡ Memory → IsFirstSolveFault test prices limit f
+  pub solve-memory : (f : Fault) → f ≡ Memory → IsFirstSolveFault test prices limit f
   solve-memory f e = subst (IsFirstSolveFault test prices limit) (sym e) of_memory
 
   pub solve-prices : (f : Fault) → (f ≢ Memory → IsPricesFault (Some prices) f) → IsFirstSolveFault test prices limit f
@@ -31,18 +30,6 @@ module _ (test prices : List ℕ) (limit : ℕ) where
 pub of_question : (asked other : Question) (limit : ℕ) (f : Fault) → asked ≡ other → (f ≢ Memory → IsSolveFault asked limit f)
     → f ≢ Memory → IsSolveFault other limit f
 of_question asked other limit f same h = subst (λ q. f ≢ Memory → IsSolveFault q limit f) same h
-
-pub listed_in : (asked other : Question) → asked ≡ other → CanBeListed asked.test → CanBeListed other.test
-listed_in asked other same h = subst (λ q. CanBeListed q.test) same h
-
--- what holds in any case holds at an answer
-pub on_ok : {T E P : Type 0} (r : Result T E) → P → OnOk r P
-on_ok (Ok x) p = p
-on_ok (Err e) p = tt
-
-pub answer_in : (asked other : Question) (answer : Answer) → asked ≡ other → IsAnswer asked.test asked.prices answer
-    → IsAnswer other.test other.prices answer
-answer_in asked other answer same h = subst (λ q. IsAnswer q.test q.prices answer) same h
 
 -- what follows from what holds of an answer holds of it
 pub if_ok : {T E : Type 0} (P Q : T → Type 0) (r : Result T E) → IfOk r P → ((x : T) → P x → Q x) → IfOk r Q

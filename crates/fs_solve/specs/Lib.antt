@@ -1,2 +1,2 @@
-pub mod Headline
 pub mod Solve
+pub mod inner

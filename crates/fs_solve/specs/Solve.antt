@@ -1,5 +1,5 @@
 -- What `solve` prints, and the fault that it answers.
-use Rattle.std.specs.Prelude.{◌≡◌, ◌⊎◌, ℕ, List, length, Some}
+use Rattle.std.specs.Prelude.{◌≡◌, ◌⊎◌, ℕ, Option, None, Some, List, length}
 use Rattle.fs_kinds.specs.declared.fault.Fault.{Fault}
 use Rattle.fs_kinds.specs.declared.fault.Fault.TheVariants.{Memory}
 use Rattle.fs_kinds.specs.declared.placement.Entry.{Entry}
@@ -11,7 +11,10 @@ use Rattle.fs_model.specs.Execution.{Execution}
 use Rattle.fs_model.specs.Allows.{IsCheapest, RefutesAll}
 use Rattle.fs_model.specs.Witness.{Witness, IsOfWitness}
 use Rattle.fs_answer.specs.CandidateFaults.{IsCandidateFault}
+use Rattle.fs_answer.specs.Certificate as said
+use Rattle.fs_answer.specs.CertificateFile.{IsCertificateFile}
 use Rattle.fs_answer.specs.Texts.{fenced_lines, none_lines, witness_text}
+use Rattle.fs_answer.specs.Valid.{IsValid}
 use Rattle.fs_answer.specs.WitnessFile.{IsWitnessFile}
 use Rattle.fs_io.specs.declared.status.Status.{Status}
 use Rattle.fs_io.specs.declared.status.Status.TheVariants.{Success, Denied}
@@ -23,8 +26,8 @@ abbrev pub ArePricesOf : List ℕ → PriceTable → Type 0
 ArePricesOf bytes table = ArePriced (Some bytes) (Some table)
 
 -- the test's candidate executions can be listed: no run goes astray, and there aren't too many of them
-abbrev pub CanBeListed : Test → Type 0
-CanBeListed t = (f : Fault) → IsCandidateFault t f → ⊥
+abbrev pub HasNoCandidateFault : Test → Type 0
+HasNoCandidateFault t = (f : Fault) → IsCandidateFault t f → ⊥
 
 -- the first of the cheapest placements that rule the outcome out, in print with its cost
 pub record PrintsCheapest (t : Test) (prices : PriceTable) (text : List ℕ) (status : Status) : Type 0 where
@@ -52,8 +55,31 @@ pub record IsSolved (test prices text : List ℕ) (status : Status) : Type 0 whe
   pub table : PriceTable
   pub reads : Reads test the_test
   pub priced : ArePricesOf prices table
-  pub listed : CanBeListed the_test
+  pub listed : HasNoCandidateFault the_test
   pub answer : PrintsAnswer the_test table text status
+
+-- the first of the cheapest placements, which is this one, or `none` as above
+abbrev pub PrintsPlaced : Test → PriceTable → Option (List Entry) → List ℕ → Status → Type 0
+PrintsPlaced t prices (Some p) text status = IsCheapest t prices p × (text ≡ fenced_lines (cost prices p) p) × (status ≡ Success)
+PrintsPlaced t prices None text status = PrintsNone t text status
+
+-- the bytes are a certificate file, of the second version, which is valid with this placement as its answer, or with none
+pub record IsCertificateOf (t : Test) (prices : PriceTable) (answer : Option (List Entry)) (bytes : List ℕ) : Type 0 where
+  pub certificate : said.Certificate
+  pub file : IsCertificateFile bytes certificate
+  pub second : certificate.version ≡ said.Second
+  pub valid : IsValid t prices certificate answer
+
+-- as `IsSolved`, and the certificate is one of the answer that is printed
+pub record IsCertified (test prices text : List ℕ) (status : Status) (certificate : List ℕ) : Type 0 where
+  pub the_test : Test
+  pub table : PriceTable
+  pub reads : Reads test the_test
+  pub priced : ArePricesOf prices table
+  pub listed : HasNoCandidateFault the_test
+  pub placed : Option (List Entry)
+  pub answer : PrintsPlaced the_test table placed text status
+  pub certified : IsCertificateOf the_test table placed certificate
 
 -- the first fault: of the prices, else of the test, else of its candidates and then of the search; want of memory may come in place
 -- of any answer

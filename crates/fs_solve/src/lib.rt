@@ -1,8 +1,6 @@
-//! What the command `solve` answers, from the bytes of its files to the text that is printed, and what that answer means.
+//! What the command `solve` answers, from the bytes of its files to the text that is printed and to a certificate's.
 #![tactic(auto)]
 
-mod promise;
 mod solve;
 
-pub use promise::headline;
-pub use solve::run_solve;
+pub use solve::{Certified, run_certified, run_solve};

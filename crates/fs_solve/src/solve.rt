@@ -1,23 +1,44 @@
 //! What `solve` answers.
 
-ghost use Rattle.std.specs.Prelude.{◌≡◌, ◌≢◌, ◌≤◌, ℕ, List, IfOk, IfErr, OnOk, IsOkUnless, string_bytes};
+ghost use Rattle.std.specs.Prelude.{◌≡◌, ◌≢◌, ◌≤◌, ℕ, List, None, IfOk, IfErr, IsOkUnless, string_bytes, true};
 ghost use Rattle.std.specs.Arc.{arc_value};
 ghost use Rattle.fs_kinds.specs.PriceTable.{PriceTable, IsPriceTable};
 ghost use Rattle.fs_syntax.specs.declared.test.Test.{Test as Tests};
-ghost use Rattle.fs_syntax.specs.Test.{IsTest};
+ghost use Rattle.fs_syntax.specs.Test.{IsBounded, IsTest};
 ghost use Rattle.fs_litmus.specs.Reads.{Reads};
 ghost use Rattle.fs_evidence.specs.Evidence.{Question as Asked};
-ghost use Rattle.fs_search.specs.Answers.{IsAnswer, IsSolveFault};
-ghost use Rattle.fs_solve.specs.Solve.{ArePricesOf, CanBeListed, PrintsAnswer, IsSolved, IsFirstSolveFault};
+ghost use Rattle.fs_history.specs.Board.{is_finished};
+ghost use Rattle.fs_search.specs.Answers.{IsAnswer, IsShownLeast, IsSolveFault, placement_of};
+ghost use Rattle.fs_cert.specs.Certified.{Certifies};
+ghost use Rattle.fs_solve.specs.Solve.{ArePricesOf, PrintsPlaced, IsSolved, IsCertificateOf, IsCertified, IsFirstSolveFault};
+ghost use Rattle.fs_solve.specs.inner.Found.{IsFound, IsFoundFor};
 
-use fs_evidence::Question;
+use fs_board::Board;
+use fs_cert::{from_board, from_least, from_witness};
+use fs_certificate::Certificate;
+use fs_evidence::{Forbidden, Question};
 use fs_io::{Output, Status};
 use fs_kinds::{Fault, Prices, read_prices};
 use fs_litmus::{Test, read_test};
 use fs_report::{fenced_text, none_text};
-use fs_search::{Answer, solve};
+use fs_search::{Answer, Solved, solve};
 use std::alloc::{AllocError, Global};
 use std::sync::Arc;
+
+/// What `solve` prints, and a certificate of the answer.
+#[derive(Drop)]
+pub struct Certified {
+    pub output: Output,
+    /// The text of a certificate file.
+    pub certificate: String,
+}
+
+/// An answer that was found, with its question.
+#[derive(Drop)]
+struct Found {
+    question: Arc<Question>,
+    solved: Solved,
+}
 
 /// What `solve` prints for a test file and a file of prices: the first of the cheapest placements of fences that rule the outcome
 /// out, with its cost, and status 0; or `none`, with an execution that shows the outcome with `rw,rw` in every slot, and status 1.
@@ -26,7 +47,7 @@ use std::sync::Arc;
 /// The first fault in this order: `BadPrices` and `NoTop`; those of a test file by number and then line; `TooManyTraces` and
 /// `Astray`; `TooManyCandidates`; `NodeLimit`, which comes only where fences are needed, `rw,rw` in every slot is enough, and the
 /// tree of all placements has more than `limit` nodes below its root. `Memory` may come in place of any answer. The law `headline`
-/// says what an answer means.
+/// of fs_promise says what an answer means.
 pub fn run_solve(alloc: Global, test: &[u8], prices: &[u8], limit: usize) -> Result<Output, Fault>
     requires least { 1 ≤ limit }
     requires most { limit ≤ 1000000 }
@@ -34,38 +55,76 @@ pub fn run_solve(alloc: Global, test: &[u8], prices: &[u8], limit: usize) -> Res
         IsSolved test.now prices.now (string_bytes output.text) output.status) }
     ensures fault { IfErr result (IsFirstSolveFault test.now prices.now limit) }
 {
-    let table = read_prices(alloc, prices)?;
-    solve_priced(alloc, test, table, limit)
+    let found = find(alloc, test, prices, limit)?;
+    answer_output(alloc, &found.solved.answer)
 }
 
-/// What `solve` prints with these prices.
-fn solve_priced(alloc: Global, test: &[u8], prices: Prices, limit: usize) -> Result<Output, Fault>
+/// What `run_solve` answers, with the text of a certificate of the second version, which is valid for the test and the prices with the
+/// answer that is printed. The faults are those of `run_solve`.
+pub fn run_certified(
+    alloc: Global,
+    test: &[u8],
+    prices: &[u8],
+    limit: usize,
+) -> Result<Certified, Fault>
+    requires least { 1 ≤ limit }
+    requires most { limit ≤ 1000000 }
+    ensures answer { IfOk result (λ made.
+        IsSolved test.now prices.now (string_bytes made.output.text) made.output.status) }
+    ensures certificate { IfOk result (λ made.
+        IsCertified test.now prices.now (string_bytes made.output.text) made.output.status (string_bytes made.certificate)) }
+    ensures fault { IfErr result (IsFirstSolveFault test.now prices.now limit) }
+{
+    let found = find(alloc, test, prices, limit)?;
+    let output = answer_output(alloc, &found.solved.answer)?;
+    let certificate = certificate_text(alloc, &found.question, &found.solved)?;
+    Ok(Certified {
+        output,
+        certificate,
+    })
+}
+
+/// The answer for a test file and a file of prices.
+fn find(alloc: Global, test: &[u8], prices: &[u8], limit: usize) -> Result<Found, Fault>
+    requires least { 1 ≤ limit }
+    requires most { limit ≤ 1000000 }
+    ensures answer { IfOk result (λ found.
+        IsFound test.now prices.now limit (arc_value found.question) found.solved) }
+    ensures fault { IfErr result (IsFirstSolveFault test.now prices.now limit) }
+{
+    let table = read_prices(alloc, prices)?;
+    find_priced(alloc, test, table, limit)
+}
+
+/// The answer for a test file with these prices.
+fn find_priced(alloc: Global, test: &[u8], prices: Prices, limit: usize) -> Result<Found, Fault>
     requires table { IsPriceTable prices }
     requires least { 1 ≤ limit }
     requires most { limit ≤ 1000000 }
-    ensures answer { IfOk result (λ output. (bytes : List ℕ) → ArePricesOf bytes prices
-        → IsSolved test.now bytes (string_bytes output.text) output.status) }
+    ensures answer { IfOk result (λ found. (bytes : List ℕ) → ArePricesOf bytes prices
+        → IsFound test.now bytes limit (arc_value found.question) found.solved) }
     ensures fault { IfErr result (λ fault. (bytes : List ℕ) → ArePricesOf bytes prices
         → IsFirstSolveFault test.now bytes limit fault) }
 {
     let read = read_test(alloc, test)?;
-    solve_test(alloc, read, prices, limit)
+    find_read(alloc, read, prices, limit)
 }
 
-/// What `solve` prints for a test that was read.
-fn solve_test(alloc: Global, test: Test, prices: Prices, limit: usize) -> Result<Output, Fault>
+/// The answer for a test that was read.
+fn find_read(alloc: Global, test: Test, prices: Prices, limit: usize) -> Result<Found, Fault>
     requires test { IsTest test }
     requires table { IsPriceTable prices }
     requires least { 1 ≤ limit }
     requires most { limit ≤ 1000000 }
-    ensures answer { IfOk result (λ output. PrintsAnswer test prices (string_bytes output.text) output.status) }
-    ensures listed { OnOk result (CanBeListed test) }
+    ensures answer { IfOk result (λ found.
+        IsFoundFor (record { test = test; prices = prices }) limit (arc_value found.question) found.solved) }
     ensures fault { IfErr result (λ fault. fault ≢ Fault.Memory
         → IsSolveFault (record { test = test; prices = prices }) limit fault) }
 {
     let question = question_of(alloc, test, prices)?;
-    let solved = solve(alloc, question, limit)?;
-    answer_output(alloc, &solved.answer)
+    let asked = Arc::try_clone(&question)?;
+    let solved = solve(alloc, asked, limit)?;
+    Ok(Found { question, solved })
 }
 
 /// The question of this test and these prices.
@@ -79,7 +138,7 @@ fn question_of(alloc: Global, test: Test, prices: Prices) -> Result<Arc<Question
 /// The answer in print, and the status that goes with it.
 fn answer_output(alloc: Global, answer: &Answer) -> Result<Output, Fault>
     ensures answer { IfOk result (λ output. (t : Tests) (prices : PriceTable) → IsAnswer t prices answer.now
-        → PrintsAnswer t prices (string_bytes output.text) output.status) }
+        → PrintsPlaced t prices (placement_of answer.now) (string_bytes output.text) output.status) }
     ensures err { IsOkUnless result Fault.Memory }
 {
     match answer {
@@ -91,5 +150,79 @@ fn answer_output(alloc: Global, answer: &Answer) -> Result<Output, Fault>
             text: none_text(alloc, &witness.choices, &witness.order)?,
             status: Status::Denied,
         }),
+    }
+}
+
+/// The text of a certificate of the answer.
+fn certificate_text(alloc: Global, question: &Question, solved: &Solved) -> Result<String, Fault>
+    requires { (q : Asked) × (limit : ℕ) × IsFoundFor q limit question.now solved.now }
+    ensures ok { IfOk result (λ text.
+        IsCertificateOf question.now.test question.now.prices (placement_of solved.now.answer) (string_bytes text)) }
+    ensures err { IsOkUnless result Fault.Memory }
+{
+    let made = certificate_of(alloc, question, solved)?;
+    let text = made.to_text(alloc)?;
+    Ok(text)
+}
+
+/// The certificate of the answer.
+fn certificate_of(alloc: Global, question: &Question, solved: &Solved) -> Result<Certificate, Fault>
+    requires { (q : Asked) × (limit : ℕ) × IsFoundFor q limit question.now solved.now }
+    ensures ok { IfOk result (Certifies question.now.test question.now.prices (placement_of solved.now.answer)) }
+    ensures err { IsOkUnless result Fault.Memory }
+{
+    match &solved.answer {
+        Answer::None { witness } => Ok(from_witness(alloc, witness)?),
+        Answer::Fenced { .. } => fenced_certificate(alloc, question, solved),
+    }
+}
+
+/// The certificate of an answer that is a placement.
+fn fenced_certificate(
+    alloc: Global,
+    question: &Question,
+    solved: &Solved,
+) -> Result<Certificate, Fault>
+    requires some { placement_of solved.now.answer ≡ None → ⊥ }
+    requires found { (q : Asked) × (limit : ℕ) × IsFoundFor q limit question.now solved.now }
+    ensures ok { IfOk result (Certifies question.now.test question.now.prices (placement_of solved.now.answer)) }
+    ensures err { IsOkUnless result Fault.Memory }
+{
+    match solved.board() {
+        Some(board) => bound_certificate(alloc, board),
+        None => least_certificate(alloc, question, &solved.answer, &solved.least),
+    }
+}
+
+/// The certificate of a finished board's bound, which is there.
+fn bound_certificate(alloc: Global, board: &Board) -> Result<Certificate, Fault>
+    requires bounded { IsBounded board.now.question.test }
+    requires finished { is_finished board.now.board ≡ true }
+    requires some { board.now.board.bound ≡ None → ⊥ }
+    ensures ok { IfOk result (Certifies board.now.question.test board.now.question.prices board.now.board.bound) }
+    ensures err { IsOkUnless result Fault.Memory }
+{
+    let made = from_board(alloc, board)?;
+    match made {
+        Some(certificate) => Ok(certificate),
+        None => unreachable!(),
+    }
+}
+
+/// The certificate of no fence at all.
+fn least_certificate(
+    alloc: Global,
+    question: &Question,
+    answer: &Answer,
+    least: &Option<Forbidden>,
+) -> Result<Certificate, Fault>
+    requires some { placement_of answer.now ≡ None → ⊥ }
+    requires shown { IsShownLeast question.now.test answer.now least.now }
+    ensures ok { IfOk result (Certifies question.now.test question.now.prices (placement_of answer.now)) }
+    ensures err { IsOkUnless result Fault.Memory }
+{
+    match least {
+        Some(forbidden) => Ok(from_least(alloc, question, forbidden)?),
+        None => unreachable!(),
     }
 }

@@ -1,4 +1,4 @@
-use Rattle.std.proofs.Common.{sym, subst, ap, ◌∙◌}
+use Rattle.std.proofs.Common.{subst, ap, ◌∙◌}
 use Rattle.fs_syntax.specs.Slots.{slots}
 use Rattle.fs_evidence.specs.Evidence.{Question}
 use Rattle.fs_judge.specs.Verdicts.{IsVerdict}

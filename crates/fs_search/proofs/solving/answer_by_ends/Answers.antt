@@ -1,10 +1,11 @@
-use Rattle.std.proofs.Common.{◌≡◌, None, sym, subst, ap, ◌∙◌}
+use Rattle.std.proofs.Common.{◌≡◌, None, Some, inr, sym, subst, ap, ◌∙◌}
 use Rattle.fs_kinds.specs.Placement.{all_with}
 use Rattle.fs_syntax.specs.Slots.{slots}
 use Rattle.fs_evidence.specs.Evidence.{Question, Refuted}
 use Rattle.fs_judge.specs.Verdicts.{IsVerdict}
-use Rattle.fs_search.specs.Answers.{IsAnswer}
-use Rattle.fs_search.proofs.Ends.{none-offered, none-answer}
+use Rattle.fs_search.specs.declared.answer.Answer.{Answer}
+use Rattle.fs_search.specs.Answers.{IsAnswer, IsShownLeast, placement_of}
+use Rattle.fs_search.proofs.Ends.{none-offered, none-answer, least-shown}
 use Rattle.fs_search.proofs.solving.answer_by_ends.Goals as goal
 
 pub fenced-requires : goal.fenced-requires
@@ -26,3 +27,25 @@ returns-in-Forbids-clause-ok c =
     ap (λ (q : Question). q.prices) (c.behind-question.view_is ∙ (c.deref.ensures ∙ (c.question.ensures ∙ (c.in_ok-on_none.ensures.value ∙ c.in_ok-on_all.ensures.value)))) in
     subst (IsAnswer c.args.problem.now.test c.args.problem.now.prices) (sym c.fenced.ensures)
     (none-answer c.args.problem.now r c.in_ok-placement-in-Forbids.placement c.behind-question.inside.prices c.in_ok-on_all.ensures.value priced placed refuted.2)
+
+pub returns-in-Forbids-clause-ends : goal.returns-in-Forbids-clause-ends
+returns-in-Forbids-clause-ends c =
+    let t = c.verdict_on_all.new.problem.test in
+    let refuted = subst (IsVerdict t (all_with None (slots t))) c.in-Forbids.is c.in_ok-on_none.ensures.ok in
+    let placed : c.in_ok-placement-in-Forbids.placement ≡ all_with None (slots t) =
+    c.in_ok-placement-in-Forbids.ensures.ok ∙ (ap (λ (f : Refuted). f.placement) c.forbidden.view_is ∙ refuted.0) in
+    let asked : all_with None (slots t) ≡ all_with None (slots c.args.problem.now.test) =
+    ap (λ (q : Question). all_with None (slots q.test)) c.in_ok-on_all.ensures.value in
+    inr (ap placement_of c.fenced.ensures ∙ ap (λ p. Some p) (placed ∙ asked))
+
+pub returns-in-Forbids-clause-least : goal.returns-in-Forbids-clause-least
+returns-in-Forbids-clause-least c =
+    let t = c.verdict_on_all.new.problem.test in
+    let asked = c.args.problem.now.test in
+    let f = c.in-Forbids.forbidden in
+    let same : t ≡ asked = ap (λ (q : Question). q.test) c.in_ok-on_all.ensures.value in
+    let refuted = subst (IsVerdict t (all_with None (slots t))) c.in-Forbids.is c.in_ok-on_none.ensures.ok in
+    let copied : c.in_ok-placement-in-Forbids.placement ≡ f.placement =
+    c.in_ok-placement-in-Forbids.ensures.ok ∙ ap (λ (f : Refuted). f.placement) c.forbidden.view_is in
+    subst (λ (a : Answer). IsShownLeast asked a (Some f)) (sym c.fenced.ensures)
+    (least-shown t asked f _ same (sym copied) refuted.0 refuted.1)

@@ -1,9 +1,10 @@
-use Rattle.fs_place.proofs.Faults.{IfErr-handed, IsPricesFault-read}
-use Rattle.fs_solve.proofs.SolveFaults.{solve-prices}
+use Rattle.fs_solve.proofs.Founding.{first-memory, is-solved}
+use Rattle.fs_solve.proofs.SolveFaults.{if_ok}
 use Rattle.fs_solve.proofs.solve.run_solve.Goals as goal
 
-pub returns-in_err-table-clause-fault : goal.returns-in_err-table-clause-fault
-returns-in_err-table-clause-fault c =
-    let said = c.in_err-table.ensures in
-    IfErr-handed c.from_residual.result _ _ c.from_residual.ensures.1
-    (solve-prices _ _ _ _ (IsPricesFault-read _ _ said.err said.bad said.no_top))
+pub returns-clause-answer : goal.returns-clause-answer
+returns-clause-answer c = if_ok _ _ c.answer_output.result c.answer_output.ensures.answer
+    (λ output shown. is-solved _ _ c.args.limit _ _ _ _ c.in_ok-found.ensures.answer shown)
+
+pub returns-clause-fault : goal.returns-clause-fault
+returns-clause-fault c = first-memory _ _ c.args.limit c.answer_output.result c.answer_output.ensures.err

@@ -1,0 +1,11 @@
+mod Accepted
+mod Agrees
+mod LineEnds
+mod Meaning
+mod OneAnswer
+mod Placing
+mod SameCertificates
+mod SamePrices
+mod WitnessTexts
+mod Witnesses
+mod Yeses

@@ -1,0 +1,58 @@
+-- What an answer of `solve` means, in the words of executions.
+use Rattle.std.specs.Prelude.{◌≡◌, ◌⊎◌, ℕ, true, Some, List, length}
+use Rattle.fs_kinds.specs.declared.kind.Kind.TheVariants.{RwRw}
+use Rattle.fs_kinds.specs.declared.placement.Entry.{Entry}
+use Rattle.fs_kinds.specs.Placement.{slots_of, all_with}
+use Rattle.fs_kinds.specs.PriceTable.{PriceTable, cost}
+use Rattle.fs_syntax.specs.declared.test.Test.{Test}
+use Rattle.fs_syntax.specs.Fenced.{fenced}
+use Rattle.fs_syntax.specs.Printed.{printed}
+use Rattle.fs_syntax.specs.Slots.{slots}
+use Rattle.fs_litmus.specs.Reads.{Reads}
+use Rattle.fs_model.specs.Allows.{Allows, IsPlacement, is_better}
+use Rattle.fs_model.specs.Reasons.{IsYes}
+use Rattle.fs_model.specs.Witness.{Witness}
+use Rattle.fs_answer.specs.Texts.{fenced_lines, none_lines, witness_text}
+use Rattle.fs_answer.specs.WitnessFile.{IsWitnessFile}
+use Rattle.fs_laws.specs.Fenced.{no_fences}
+use Rattle.fs_solve.specs.Solve.{ArePricesOf, HasNoCandidateFault}
+
+-- u has the fences of p as instructions: it is the fenced test, or is read from its printed form
+abbrev pub IsFencedTest : Test → List Entry → Test → Type 0
+IsFencedTest t p u = (u ≡ fenced t p) ⊎ Reads (printed (fenced t p)) u
+
+-- some execution of the test as it stands shows the outcome to rule out
+abbrev pub IsPossible : Test → Type 0
+IsPossible u = Allows u (no_fences u)
+
+-- with these fences it stays possible
+abbrev pub StaysPossible : Test → List Entry → Type 0
+StaysPossible t p = (u : Test) → IsFencedTest t p u → IsPossible u
+
+-- with these fences it is impossible
+abbrev pub IsRuledOut : Test → List Entry → Type 0
+IsRuledOut t p = (u : Test) → IsFencedTest t p u → IsPossible u → ⊥
+
+-- A placement and its cost are printed. It rules the outcome out, and no better one over the same slots and kinds does: none that costs
+-- less, and of those that cost as much none that is earlier.
+pub record CheapestRulesOut (t : Test) (prices : PriceTable) (text : List ℕ) : Type 0 where
+  pub placement : List Entry
+  pub shown : text ≡ fenced_lines (cost prices placement) placement
+  pub placed : IsPlacement t prices placement
+  pub ruled_out : IsRuledOut t placement
+  pub better : (q : List Entry) → IsPlacement t prices q → is_better prices q placement ≡ true → StaysPossible t q
+
+-- `none` is printed, and a witness file. The outcome is possible whatever fences stand in the slots, and `order` says yes to the witness
+-- with rw,rw in each of them.
+pub record NothingRulesOut (t : Test) (text : List ℕ) : Type 0 where
+  pub witness : Witness
+  pub shown : text ≡ none_lines witness
+  pub says : IsWitnessFile (length t.codes) (witness_text witness) witness
+  pub shows : IsYes t (all_with (Some RwRw) (slots t)) witness
+  pub possible : (q : List Entry) → slots_of q ≡ slots t → StaysPossible t q
+
+-- Of every test and prices that the bytes read as, one of the two is so; and the test's candidates can be listed.
+abbrev pub IsTrueOfFiles : (test prices text : List ℕ) → Type 0
+IsTrueOfFiles test prices text =
+    (t : Test) (table : PriceTable) → Reads test t → ArePricesOf prices table
+    → HasNoCandidateFault t × (CheapestRulesOut t table text ⊎ NothingRulesOut t text)

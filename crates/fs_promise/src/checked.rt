@@ -1,0 +1,25 @@
+//! What a yes of `check` means, and that the certificate of `solve --cert` gets one.
+
+ghost use Rattle.std.specs.Prelude.{ℕ, List};
+ghost use Rattle.fs_io.specs.declared.status.Status.{Status};
+ghost use Rattle.fs_io.specs.declared.status.Status.TheVariants.{Success};
+ghost use Rattle.fs_solve.specs.Solve.{IsCertified};
+ghost use Rattle.fs_verify.specs.Check.{IsChecked};
+ghost use Rattle.fs_promise.specs.Checked.{IsTrueYes, IsYesTo};
+
+/// A law, the promise of `check`. What it prints below a `yes` is true of the test and the prices, whoever made the certificate. Of a
+/// certificate of the second version it means what the same lines of `solve` mean. Of one of the first version the placement rules
+/// the outcome out and none that costs less does, and ties are left open. Where it says `none`, some execution shows the outcome
+/// whatever fences stand in the slots.
+pub fn yes_is_true()
+    ensures { (test prices certificate text : List ℕ) → IsChecked test prices certificate text Success
+        → IsTrueYes test prices certificate text }
+{}
+
+/// A law: what `solve --cert` writes gets a yes. Where `check` answers of the certificate, for the bytes of the same test and prices,
+/// it isn't refused. Below the `yes` stands what `solve` printed, where that is a placement; where it is `none`, there stand `none`
+/// and the certificate's witness.
+pub fn certified_is_accepted()
+    ensures { (test prices text certificate verdict : List ℕ) (status end : Status) → IsCertified test prices text status certificate
+        → IsChecked test prices certificate verdict end → IsYesTo text status verdict end }
+{}

@@ -1,0 +1,27 @@
+-- An answer that was found, before it is printed.
+use Rattle.std.specs.Prelude.{◌≡◌, ℕ, List, IfNone, IfSome}
+use Rattle.fs_kinds.specs.PriceTable.{PriceTable}
+use Rattle.fs_syntax.specs.declared.test.Test.{Test}
+use Rattle.fs_syntax.specs.Test.{IsBounded}
+use Rattle.fs_litmus.specs.Reads.{Reads}
+use Rattle.fs_evidence.specs.Evidence.{Question}
+use Rattle.fs_search.specs.declared.answer.Solved.{Solved}
+use Rattle.fs_search.specs.Answers.{IsAnswer, IsBoardOf, IsShownLeast}
+use Rattle.fs_solve.specs.Solve.{ArePricesOf, HasNoCandidateFault}
+
+-- the answer to this question, with what it rests on
+pub record IsFoundFor (q : Question) (limit : ℕ) (asked : Question) (s : Solved) : Type 0 where
+  pub question : asked ≡ q
+  pub bounded : IsBounded asked.test
+  pub listed : HasNoCandidateFault asked.test
+  pub answer : IsAnswer asked.test asked.prices s.answer
+  pub board : IfSome s.board (IsBoardOf asked limit s.answer)
+  pub least : IfNone s.board (IsShownLeast asked.test s.answer s.least)
+
+-- the bytes read as the test and hold the prices of the question
+pub record IsFound (test prices : List ℕ) (limit : ℕ) (asked : Question) (s : Solved) : Type 0 where
+  pub the_test : Test
+  pub table : PriceTable
+  pub reads : Reads test the_test
+  pub priced : ArePricesOf prices table
+  pub found : IsFoundFor (record { test = the_test; prices = table }) limit asked s

@@ -1,0 +1,2 @@
+pub mod CheckFaults
+pub mod Given

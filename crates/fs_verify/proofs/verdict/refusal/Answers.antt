@@ -1,0 +1,5 @@
+use Rattle.fs_verify.proofs.Given.{prints_refusal}
+use Rattle.fs_verify.proofs.verdict.refusal.Goals as goal
+
+pub returns-clause-answer : goal.returns-clause-answer
+returns-clause-answer c = λ t prices said bounded verdict. prints_refusal t prices said _ _ verdict c.in_ok-refusal_text.ensures

@@ -1,0 +1,10 @@
+use Rattle.fs_checker.specs.declared.verdict.CheckVerdict.TheVariants.{Yes}
+use Rattle.fs_checker.specs.Checks.{IsCheckVerdict}
+use Rattle.std.proofs.Common.{subst}
+use Rattle.fs_verify.proofs.CheckFaults.{if_ok}
+use Rattle.fs_verify.proofs.verdict.yes_output.Goals as goal
+
+pub returns-in-Some-clause-answer : goal.returns-in-Some-clause-answer
+returns-in-Some-clause-answer c = if_ok _ _ c.fenced_output.result c.fenced_output.ensures.answer
+    (λ output shown t prices said bounded verdict. shown t prices said bounded
+    (subst (λ a. IsCheckVerdict t prices said (Yes c.args.certificate.now a)) c.in-Some.is verdict))

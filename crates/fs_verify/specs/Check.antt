@@ -1,0 +1,85 @@
+-- What `check` prints, and the fault that it answers.
+use Rattle.std.specs.Prelude.{◌≡◌, ◌⊎◌, ℕ, List, ◌++◌, Some, codes}
+use Rattle.fs_kinds.specs.declared.fault.Fault.{Fault}
+use Rattle.fs_kinds.specs.declared.fault.Fault.TheVariants.{Memory}
+use Rattle.fs_kinds.specs.declared.placement.Entry.{Entry}
+use Rattle.fs_kinds.specs.declared.reason.Reason.{Reason}
+use Rattle.fs_kinds.specs.PriceTable.{PriceTable, cost}
+use Rattle.fs_kinds.specs.ReasonText.{reason_text}
+use Rattle.fs_syntax.specs.declared.test.Test.{Test}
+use Rattle.fs_litmus.specs.Reads.{Reads}
+use Rattle.fs_litmus.specs.Faults.{IsTestFault}
+use Rattle.fs_answer.specs.CandidateFaults.{IsCandidateFault}
+use Rattle.fs_answer.specs.Certificate.{Certificate, IsBest}
+use Rattle.fs_answer.specs.CertificateFile.{IsCertificateFile}
+use Rattle.fs_answer.specs.Refusals.{IsRefusal}
+use Rattle.fs_answer.specs.Texts.{fenced_lines, none_lines}
+use Rattle.fs_answer.specs.Valid.{IsValidFor, IsValidForNone}
+use Rattle.fs_checker.specs.Checks.{IsCheckFault}
+use Rattle.fs_io.specs.declared.status.Status.{Status}
+use Rattle.fs_io.specs.declared.status.Status.TheVariants.{Success, Denied}
+use Rattle.fs_place.specs.Place.{ArePriced, IsPricesFault}
+
+-- the bytes hold these prices
+abbrev pub ArePricesOf : List ℕ → PriceTable → Type 0
+ArePricesOf bytes table = ArePriced (Some bytes) (Some table)
+
+-- the test's candidate executions can be listed: no run goes astray, and there aren't too many of them
+abbrev pub HasNoCandidateFault : Test → Type 0
+HasNoCandidateFault t = (f : Fault) → IsCandidateFault t f → ⊥
+
+abbrev pub yes_line : List ℕ
+yes_line = codes "yes\n"
+
+abbrev pub refusal_line : Reason → List ℕ
+refusal_line why = codes "no: " ++ reason_text why ++ codes "\n"
+
+-- The certificate is valid for a placement, which is printed with its cost. So this is the best one, as the version has it.
+pub record PrintsFences (t : Test) (prices : PriceTable) (c : Certificate) (text : List ℕ) (status : Status) : Type 0 where
+  pub placement : List Entry
+  pub valid : IsValidFor t prices c placement
+  pub best : IsBest c.version t prices placement
+  pub shown : text ≡ yes_line ++ fenced_lines (cost prices placement) placement
+  pub ends : status ≡ Success
+
+-- it is valid for none, which is printed with its witness
+pub record PrintsNone (t : Test) (c : Certificate) (text : List ℕ) (status : Status) : Type 0 where
+  pub valid : IsValidForNone t c
+  pub shown : text ≡ yes_line ++ none_lines valid.witness
+  pub ends : status ≡ Success
+
+-- it isn't valid, and the first reason why not is printed
+pub record PrintsRefusal (t : Test) (prices : PriceTable) (c : Certificate) (text : List ℕ) (status : Status) : Type 0 where
+  pub why : Reason
+  pub refused : IsRefusal t prices c why
+  pub shown : text ≡ refusal_line why
+  pub ends : status ≡ Denied
+
+abbrev pub PrintsVerdict : Test → PriceTable → Certificate → List ℕ → Status → Type 0
+PrintsVerdict t prices c text status =
+    PrintsFences t prices c text status ⊎ (PrintsNone t c text status ⊎ PrintsRefusal t prices c text status)
+
+-- the bytes are a certificate file, and the verdict on what it says is printed
+abbrev pub PrintsFileVerdict : Test → PriceTable → (certificate : List ℕ) → List ℕ → Status → Type 0
+PrintsFileVerdict t prices bytes text status = (c : Certificate) × IsCertificateFile bytes c × PrintsVerdict t prices c text status
+
+-- the bytes read as a test, hold prices and are a certificate file, and the verdict on it is printed
+pub record IsChecked (test prices certificate text : List ℕ) (status : Status) : Type 0 where
+  pub the_test : Test
+  pub table : PriceTable
+  pub the_certificate : Certificate
+  pub reads : Reads test the_test
+  pub priced : ArePricesOf prices table
+  pub says : IsCertificateFile certificate the_certificate
+  pub listed : HasNoCandidateFault the_test
+  pub verdict : PrintsVerdict the_test table the_certificate text status
+
+-- the first fault: of the prices, else of the test, else of the certificate and then of the test's candidates; want of memory may come
+-- in place of any answer
+pub data IsFirstCheckFault (test prices certificate : List ℕ) : Fault → Type 0 where
+  of_prices : {fault : Fault} → IsPricesFault (Some prices) fault → IsFirstCheckFault test prices certificate fault
+  of_test : {fault : Fault} (table : PriceTable) → ArePricesOf prices table → IsTestFault test fault
+      → IsFirstCheckFault test prices certificate fault
+  of_check : {fault : Fault} (table : PriceTable) (t : Test) → ArePricesOf prices table → Reads test t
+      → IsCheckFault t certificate fault → IsFirstCheckFault test prices certificate fault
+  of_memory : IsFirstCheckFault test prices certificate Memory

@@ -1,0 +1,7 @@
+//! What the command `check` answers, from the bytes of its files to the text that is printed.
+#![tactic(auto)]
+
+mod certified;
+mod verdict;
+
+pub use verdict::run_check;

@@ -1,0 +1,153 @@
+//! What `check` answers.
+
+ghost use Rattle.std.specs.Prelude.{◌≡◌, ◌≢◌, ℕ, List, None, Some, IfOk, IfErr, OnOk, IsOkUnless, string_bytes};
+ghost use Rattle.fs_kinds.specs.PriceTable.{PriceTable};
+ghost use Rattle.fs_syntax.specs.declared.test.Test.{Test as Tests};
+ghost use Rattle.fs_syntax.specs.Test.{IsBounded, IsTest};
+ghost use Rattle.fs_answer.specs.Certificate.{Certificate as Said};
+ghost use Rattle.fs_checker.specs.declared.verdict.CheckVerdict.TheVariants.{Yes, No};
+ghost use Rattle.fs_checker.specs.Checks.{IsCheckVerdict, IsCheckFault};
+ghost use Rattle.fs_verify.specs.Check.{ArePricesOf, HasNoCandidateFault, PrintsVerdict, PrintsFileVerdict, IsChecked, IsFirstCheckFault, refusal_line};
+
+use crate::certified::{fenced_answer, none_answer};
+use fs_certificate::Certificate;
+use fs_checker::{CheckVerdict, check};
+use fs_io::{Output, Status};
+use fs_kinds::{Fault, Placement, Prices, Reason, read_prices};
+use fs_litmus::{Test, read_test};
+use std::alloc::{AllocError, Global};
+use std::sync::Arc;
+
+/// What `check` prints for a test file, a file of prices and a certificate: where the certificate is valid, `yes` and below it the
+/// answer as `solve` prints it, and status 0; else `no: ` and the first reason against it, and status 1. The files are bytes as they
+/// were read. Nothing of the search is called.
+///
+/// The first fault in this order: `BadPrices` and `NoTop`; those of a test file by number and then line; `BadCertificate`;
+/// `TooManyTraces` and `Astray`; `TooManyCandidates`. `Memory` may come in place of any answer. The cost is that of `check` of
+/// fs_checker.
+pub fn run_check(
+    alloc: Global,
+    test: &[u8],
+    prices: &[u8],
+    certificate: &[u8],
+) -> Result<Output, Fault>
+    ensures answer { IfOk result (λ output.
+        IsChecked test.now prices.now certificate.now (string_bytes output.text) output.status) }
+    ensures fault { IfErr result (IsFirstCheckFault test.now prices.now certificate.now) }
+{
+    let table = read_prices(alloc, prices)?;
+    check_priced(alloc, test, &table, certificate)
+}
+
+/// What `check` prints with these prices.
+fn check_priced(
+    alloc: Global,
+    test: &[u8],
+    prices: &Prices,
+    certificate: &[u8],
+) -> Result<Output, Fault>
+    ensures answer { IfOk result (λ output. (bytes : List ℕ) → ArePricesOf bytes prices.now
+        → IsChecked test.now bytes certificate.now (string_bytes output.text) output.status) }
+    ensures fault { IfErr result (λ fault. (bytes : List ℕ) → ArePricesOf bytes prices.now
+        → IsFirstCheckFault test.now bytes certificate.now fault) }
+{
+    let read = read_test(alloc, test)?;
+    check_test(alloc, read, prices, certificate)
+}
+
+/// What `check` prints for a test that was read.
+fn check_test(
+    alloc: Global,
+    test: Test,
+    prices: &Prices,
+    certificate: &[u8],
+) -> Result<Output, Fault>
+    requires { IsTest test }
+    ensures answer { IfOk result (λ output.
+        PrintsFileVerdict test prices.now certificate.now (string_bytes output.text) output.status) }
+    ensures listed { OnOk result (HasNoCandidateFault test) }
+    ensures fault { IfErr result (λ fault. fault ≢ Fault.Memory → IsCheckFault test certificate.now fault) }
+{
+    let test = Arc::new(alloc, test)?;
+    let verdict = check(alloc, test, prices, certificate)?;
+    verdict_output(alloc, &verdict)
+}
+
+/// The verdict in print, and the status that goes with it.
+fn verdict_output(alloc: Global, verdict: &CheckVerdict) -> Result<Output, Fault>
+    ensures answer { IfOk result (λ output. (t : Tests) (prices : PriceTable) (c : Said) → IsBounded t
+        → IsCheckVerdict t prices c verdict.now → PrintsVerdict t prices c (string_bytes output.text) output.status) }
+    ensures err { IsOkUnless result Fault.Memory }
+{
+    match verdict {
+        CheckVerdict::Yes(certificate, answer) => yes_output(alloc, certificate, answer),
+        CheckVerdict::No(reason) => refusal(alloc, *reason),
+    }
+}
+
+/// A yes to a certificate with this answer.
+fn yes_output(
+    alloc: Global,
+    certificate: &Certificate,
+    answer: &Option<Placement>,
+) -> Result<Output, Fault>
+    ensures answer { IfOk result (λ output. (t : Tests) (prices : PriceTable) (c : Said) → IsBounded t
+        → IsCheckVerdict t prices c (Yes certificate.now answer.now)
+        → PrintsVerdict t prices c (string_bytes output.text) output.status) }
+    ensures err { IsOkUnless result Fault.Memory }
+{
+    match answer {
+        Some(placement) => fenced_output(alloc, certificate, placement),
+        None => none_output(alloc, certificate),
+    }
+}
+
+/// A yes to a certificate that answers this placement.
+fn fenced_output(
+    alloc: Global,
+    certificate: &Certificate,
+    placement: &Placement,
+) -> Result<Output, Fault>
+    ensures answer { IfOk result (λ output. (t : Tests) (prices : PriceTable) (c : Said) → IsBounded t
+        → IsCheckVerdict t prices c (Yes certificate.now (Some placement.now))
+        → PrintsVerdict t prices c (string_bytes output.text) output.status) }
+    ensures err { IsOkUnless result Fault.Memory }
+{
+    Ok(Output {
+        text: fenced_answer(alloc, certificate, placement)?,
+        status: Status::Success,
+    })
+}
+
+/// A yes to a certificate that answers none.
+fn none_output(alloc: Global, certificate: &Certificate) -> Result<Output, Fault>
+    ensures answer { IfOk result (λ output. (t : Tests) (prices : PriceTable) (c : Said) → IsBounded t
+        → IsCheckVerdict t prices c (Yes certificate.now None)
+        → PrintsVerdict t prices c (string_bytes output.text) output.status) }
+    ensures err { IsOkUnless result Fault.Memory }
+{
+    Ok(Output {
+        text: none_answer(alloc, certificate)?,
+        status: Status::Success,
+    })
+}
+
+/// A no in print, with its reason.
+fn refusal(alloc: Global, reason: Reason) -> Result<Output, Fault>
+    ensures answer { IfOk result (λ output. (t : Tests) (prices : PriceTable) (c : Said) → IsBounded t
+        → IsCheckVerdict t prices c (No reason)
+        → PrintsVerdict t prices c (string_bytes output.text) output.status) }
+    ensures err { IsOkUnless result Fault.Memory }
+{
+    Ok(Output {
+        text: refusal_text(alloc, reason)?,
+        status: Status::Denied,
+    })
+}
+
+/// The line `no: ` with the reason.
+fn refusal_text(alloc: Global, reason: Reason) -> Result<String, AllocError>
+    ensures { IfOk result (λ text. string_bytes text ≡ refusal_line reason) }
+{
+    format!(in alloc; "no: {}\n", reason)
+}
