@@ -1,22 +1,24 @@
-//! Whole executions: what `check_order` says of them, what a plain program says that computes the definition, and how many of
-//! them are known to show the outcome.
+//! Whole executions: what `check_order` and `shown_by` say of them, what a plain program says that computes the definition, and how
+//! many of them are known to show the outcome.
 ghost use Rattle.std.specs.Prelude.{◌≡◌, ◌≤◌, All, length};
 ghost use Rattle.std.specs.List.Sorted.{IsStrictlyIncreasing};
 ghost use Rattle.fs_syntax.specs.Test.{IsBounded, IsStart};
 ghost use Rattle.fs_cand.specs.Candidates.{AreShort};
 
+use fs_answer::read_witness;
 use fs_axioms::count_accesses;
 use fs_cand::Traces;
-use fs_check::{OrderVerdict, check_order};
+use fs_check::{OrderVerdict, check_order, shown_by};
 use fs_examples::{
     ADD2, CO_RR, Digits, FORWARDED, LB, LBC, LBD, LRSC, LRSCF, MANY, MP, MP11, MPA, MPB, POINTER,
-    SB, SBF, SBX, SBXA, TWO_WRITES, order_of, picked, runs_of, runs_over, same_sets, with_line,
+    SB, SBF, SBX, SBXA, TWO_WRITES, order_of, picked, placement_of, runs_of, runs_over,
 };
-use fs_hart::{Operation, Steps, Trace, Words, operations};
+use fs_hart::{Operation, Steps, Trace, operations};
 use fs_instr::Instr;
 use fs_kinds::{Fault, Placement};
-use fs_litmus::{Test, read_fences, read_test};
-use fs_plain::{allows_over, shows};
+use fs_litmus::{Test, read_test};
+use fs_plain::shows;
+use fs_values::Values;
 use std::alloc::{AllocError, Global};
 use std::test::Fail;
 
@@ -88,7 +90,7 @@ fn steps_of(alloc: Global, traces: &[Trace]) -> Result<Vec<Steps>, AllocError> {
 }
 
 /// What comparing has found.
-#[derive(Clone, Copy, Debug, PartialEq, Eq)]
+#[derive(Drop)]
 struct Count {
     /// How many executions show the outcome.
     showing: usize,
@@ -131,28 +133,17 @@ fn compare_orders(
     Ok(())
 }
 
-/// The placement that the words name.
-fn placement_of(alloc: Global, test: &Test, fences: &[&str]) -> Result<Placement, Fault>
-    requires { IsBounded test.now }
-{
-    let mut named = Vec::new(alloc);
-    for fence in fences {
-        named.push(String::from_str(alloc, fence)?)?;
-    }
-    read_fences(alloc, test, None, &named)
-}
-
-/// Compares on all these runs of the fenced test, a list for each hart, and all orders of their operations.
+/// Compares on all these runs, a list for each hart, and all orders of their operations, with the fences that the words name.
 fn compare_runs(
     alloc: Global,
     test: &Test,
     runs: &[Vec<Trace>],
-    fences: &[&str],
+    words: &str,
 ) -> Result<Count, Fault>
     requires test { IsBounded test.now }
     requires starts { All IsStart test.now.starts }
 {
-    let placement = placement_of(alloc, test, fences)?;
+    let placement = placement_of(alloc, test, words)?;
     let mut count = Count {
         showing: 0,
         differing: 0,
@@ -168,13 +159,14 @@ fn compare_runs(
     Ok(count)
 }
 
-/// Compares on all runs of the fenced test in which loads take these words, which must rise, and all orders of their operations.
-fn compare(alloc: Global, text: &str, words: &[u32], fences: &[&str]) -> Result<Count, Fault>
-    requires { IsStrictlyIncreasing words.now }
+/// Compares on all runs in which loads take these words, which must rise, and all orders of their operations, with the fences that the
+/// words name.
+fn compare(alloc: Global, text: &str, loaded: &[u32], words: &str) -> Result<Count, Fault>
+    requires { IsStrictlyIncreasing loaded.now }
 {
     let test = read_test(alloc, text.as_bytes())?;
-    let runs = runs_of(alloc, &test, words)?;
-    compare_runs(alloc, &test, &runs, fences)
+    let runs = runs_of(alloc, &test, loaded)?;
+    compare_runs(alloc, &test, &runs, words)
 }
 
 /// Of four operations, orders that must have two pairs in their sequence are a quarter of all 24: so many show SB, MP, LB and
@@ -200,152 +192,91 @@ fn so_many_executions_show_the_outcome(rt: HostRuntime) -> Result<(), Fail> {
         (FORWARDED, 2),
     ];
     for (text, wanted) in rows {
-        let count = compare(rt.alloc(), text, &[0, 1, 2], &[])?;
-        assert_eq!(rt;
-            count,
-            Count {
-                showing: wanted,
-                differing: 0
-            },
-            "in {text}"
-        );
+        let count = compare(rt.alloc(), text, &[0, 1, 2], "")?;
+        assert_eq!(rt; (count.showing, count.differing), (wanted, 0), "in {text}");
     }
     Ok(())
 }
 
 #[test]
 fn fences_leave_fewer_executions(rt: HostRuntime) -> Result<(), Fail> {
-    let rows: [(&str, &[&str], usize); 10] = [
-        (SB, &["P0:2=w,r"], 1),
-        (SB, &["P0:2=tso", "P1:2=tso"], 6),
-        (SB, &["P0:2=w,r", "P1:2=w,r"], 0),
-        (MP, &["P0:3=w,w"], 1),
-        (MP, &["P0:3=w,w", "P1:1=r,r"], 0),
-        (LB, &["P0:2=r,w"], 1),
-        (LB, &["P0:2=r,w", "P1:2=tso"], 0),
-        (MPA, &["P0:3=w,w"], 0),
-        (TWO_WRITES, &["P0:3=w,w"], 1),
-        (SBX, &["P0:2=r,r", "P1:2=r,r"], 0),
+    let rows = [
+        (SB, "P0:2=w,r", 1),
+        (SB, "P0:2=rw,rw", 1),
+        (SB, "P0:2=tso P1:2=tso", 6),
+        (SB, "P0:2=w,r P1:2=w,r", 0),
+        (MP, "P0:3=w,w", 1),
+        (MP, "P1:1=r,r", 1),
+        (MP, "P0:3=w,w P1:1=r,r", 0),
+        (MP11, "P0:3=rw,rw P1:1=rw,rw", 1),
+        (MPB, "P0:3=w,w", 1),
+        (MPB, "P0:3=w,w P1:2=r,r", 0),
+        (LB, "P0:2=r,w", 1),
+        (LB, "P0:2=r,w P1:2=tso", 0),
+        (LB, "P0:2=r,w P1:2=r,w", 0),
+        (MPA, "P0:3=w,w", 0),
+        (TWO_WRITES, "P0:3=w,w", 1),
+        (TWO_WRITES, "P0:3=w,w P1:3=w,w", 0),
+        (SBX, "P0:2=r,r P1:2=r,r", 0),
+        (LRSCF, "P0:1=rw,rw", 1),
     ];
-    for (text, fences, wanted) in rows {
-        let count = compare(rt.alloc(), text, &[0, 1, 2], fences)?;
+    for (text, words, wanted) in rows {
+        let count = compare(rt.alloc(), text, &[0, 1, 2], words)?;
         assert_eq!(rt;
-            count,
-            Count {
-                showing: wanted,
-                differing: 0
-            },
-            "in {text}"
+            (count.showing, count.differing),
+            (wanted, 0),
+            "{words} in {text}"
         );
     }
+    // A hart may load its own store before others see it, so the two loads of the outcome that return own stores bind nothing.
+    let count = compare(rt.alloc(), SBF, &[0, 1], "")?;
+    assert_eq!(rt; (count.showing, count.differing), (180, 0));
     Ok(())
 }
 
-/// A hart may load its own store before others see it, so the two loads of the outcome that return own stores bind nothing.
-#[test]
-fn forwarding_leaves_a_quarter_of_the_orders(rt: HostRuntime) -> Result<(), Fail> {
-    let count = compare(rt.alloc(), SBF, &[0, 1], &[])?;
-    assert_eq!(rt;
-        count,
-        Count {
-            showing: 180,
-            differing: 0
-        }
-    );
-    Ok(())
+/// Compares on the runs over the words that the locations begin with: nothing else is stored.
+fn compare_pointer(alloc: Global) -> Result<Count, Fault> {
+    let test = read_test(alloc, POINTER.as_bytes())?;
+    let values = Values::of(alloc, &test)?;
+    let runs = runs_over(alloc, &test, values.as_slice())?;
+    compare_runs(alloc, &test, &runs, "")
 }
 
 /// The loaded address binds the store behind the second load too: it may only be the last or the second one.
 #[test]
 fn an_address_comes_before_what_follows_it(rt: HostRuntime) -> Result<(), Fail> {
-    let alloc = rt.alloc();
-    let test = read_test(alloc, POINTER.as_bytes())?;
-    let sets = [
-        Words::new(Vec::from_slice(alloc, &[4128])?),
-        Words::new(Vec::from_slice(alloc, &[0])?),
-        Words::new(Vec::from_slice(alloc, &[0])?),
-    ];
-    let runs = runs_over(alloc, &test, &sets)?;
-    let count = compare_runs(alloc, &test, &runs, &[])?;
-    assert_eq!(rt;
-        count,
-        Count {
-            showing: 2,
-            differing: 0
-        }
-    );
+    let count = compare_pointer(rt.alloc())?;
+    assert_eq!(rt; (count.showing, count.differing), (2, 0));
     Ok(())
 }
 
-/// Does the fenced test allow its outcome, where loads take these words, which must rise?
-fn is_allowed(alloc: Global, text: &str, words: &[u32], fences: &[&str]) -> Result<bool, Fault>
-    requires { IsStrictlyIncreasing words.now }
-{
-    let test = read_test(alloc, text.as_bytes())?;
-    let placement = placement_of(alloc, &test, fences)?;
-    let sets = same_sets(alloc, test.locations.as_slice().len(), words)?;
-    allows_over(alloc, &test, &placement, &sets)
+/// Does the witness give an execution with the fences that the words name, which shows the outcome?
+fn is_shown(alloc: Global, words: &str, witness: &str) -> Result<bool, Fault> {
+    let test = read_test(alloc, SB.as_bytes())?;
+    let file = read_witness(alloc, 2, witness.as_bytes())?;
+    let placement = placement_of(alloc, &test, words)?;
+    Ok(shown_by(alloc, &test, &placement, &file)?.is_some())
 }
 
+/// In the first execution both loads come before both stores, and in the second one hart 1's operations come in program order.
 #[test]
-fn known_tests_are_allowed_or_not(rt: HostRuntime) -> Result<(), Fail> {
+fn witnesses_show_the_outcome_or_do_not(rt: HostRuntime) -> Result<(), Fail> {
+    let early = r#"{"choices":[[0],[0]],"order":["P0:2","P1:2","P0:1","P1:1"]}"#;
+    let one = r#"{"choices":[[0],[0]],"order":["P0:2","P1:1","P1:2","P0:1"]}"#;
+    let wrong = r#"{"choices":[[0],[1]],"order":["P0:2","P1:2","P0:1","P1:1"]}"#;
     let rows = [
-        (SB, true),
-        (MP, true),
-        (MPA, true),
-        (SBXA, false),
-        (CO_RR, false),
-        (LBD, false),
-        (LRSC, false),
-        (LRSCF, true),
+        ("", early, true),
+        ("P1:2=w,r", early, false),
+        ("P1:2=w,r", one, true),
+        ("P0:2=w,r", one, false),
+        ("", wrong, false),
     ];
-    for (text, wanted) in rows {
-        let found = is_allowed(rt.alloc(), text, &[0, 1, 2], &[])?;
-        assert_eq!(rt; found, wanted, "in {text}");
-    }
-    Ok(())
-}
-
-#[test]
-fn known_fences_forbid_or_do_not(rt: HostRuntime) -> Result<(), Fail> {
-    let rows: [(&str, &[&str], bool); 15] = [
-        (SB, &["P0:2=rw,rw"], true),
-        (SB, &["P0:2=tso", "P1:2=tso"], true),
-        (SB, &["P0:2=w,r", "P1:2=w,r"], false),
-        (MP, &["P0:3=w,w"], true),
-        (MP, &["P1:1=r,r"], true),
-        (MP, &["P0:3=w,w", "P1:1=r,r"], false),
-        (MP11, &["P0:3=rw,rw", "P1:1=rw,rw"], true),
-        (LB, &["P0:2=r,w"], true),
-        (LB, &["P0:2=r,w", "P1:2=r,w"], false),
-        (MPA, &["P0:3=w,w"], false),
-        (MPB, &["P0:3=w,w"], true),
-        (MPB, &["P0:3=w,w", "P1:2=r,r"], false),
-        (TWO_WRITES, &["P0:3=w,w", "P1:3=w,w"], false),
-        (SBX, &["P0:2=r,r", "P1:2=r,r"], false),
-        (LRSCF, &["P0:1=rw,rw"], true),
-    ];
-    for (text, fences, wanted) in rows {
-        let found = is_allowed(rt.alloc(), text, &[0, 1, 2], fences)?;
-        assert_eq!(rt; found, wanted, "in {text}");
-    }
-    Ok(())
-}
-
-/// A test in which a run goes astray has no answer.
-#[test]
-fn listing_stops_at_a_run_that_goes_astray(rt: HostRuntime) -> Result<(), Fail> {
-    let alloc = rt.alloc();
-    let stray = with_line(alloc, MP, 4, "1:x6=5; 1:x8=x;")?;
-    let rows = [
-        (POINTER, Fault::Astray { hart: 0, at: 1 }),
-        (stray.as_str(), Fault::Astray { hart: 1, at: 0 }),
-    ];
-    for (text, wanted) in rows {
-        match is_allowed(alloc, text, &[0, 1], &[]) {
-            Ok(_) => assert!(rt; false),
-            Err(fault) => assert_eq!(rt; fault, wanted),
-        }
+    for (words, witness, wanted) in rows {
+        assert_eq!(rt;
+            is_shown(rt.alloc(), words, witness)?,
+            wanted,
+            "{words} {witness}"
+        );
     }
     Ok(())
 }

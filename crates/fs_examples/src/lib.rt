@@ -1,12 +1,15 @@
-//! What tests of several crates share: litmus tests as text, and all runs, placements and orders of a test by number.
+//! What tests of several crates share: litmus tests as text, questions and answers as text, and all runs, placements and orders of a
+//! test by number.
 #![tactic(auto)]
 
 mod listing;
+mod questions;
 mod texts;
 
 pub use listing::{
     Digits, MANY, copy, order_of, picked, placements_of, runs_of, runs_over, same_sets,
 };
+pub use questions::{PRICES, cost_of, placement_of, question_of, told, write_fences};
 pub use texts::{
     ADD2, ANNOTATED, BACK, CO_RR, FENCED, FORWARDED, LB, LBC, LBD, LRSC, LRSCF, LRSCY, MP, MP11,
     MPA, MPB, POINTER, SB, SBF, SBX, SBXA, TWO_WRITES, with_line,

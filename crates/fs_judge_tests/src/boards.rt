@@ -2,12 +2,12 @@
 ghost use Rattle.std.specs.Prelude.{◌≡◌, ◌≤◌, OnOk};
 ghost use Rattle.fs_syntax.specs.Test.{IsBounded};
 
-use crate::questions::{PRICES, question_of, verdict_on};
+use crate::questions::verdict_on;
 use fs_board::{Board, Reply};
-use fs_evidence::Witness;
-use fs_examples::{MP11, SB, TWO_WRITES};
+use fs_evidence::{Forbidden, Witness};
+use fs_examples::{MP11, PRICES, SB, TWO_WRITES, cost_of, question_of, write_fences};
 use fs_judge::{Problem, Verdict};
-use fs_kinds::{Fault, Placement, Prices, Slot};
+use fs_kinds::{Fault, Slot};
 use std::alloc::{AllocError, Global};
 use std::sync::Arc;
 use std::test::Fail;
@@ -103,28 +103,6 @@ fn ask(
     }
 }
 
-/// Writes the words of the placement's fences, with a space before each.
-fn write_fences(placement: &Placement, text: &mut String) -> Result<(), AllocError> {
-    for entry in placement.as_slice() {
-        if let Some(kind) = entry.kind {
-            write!(text, " {}={}", entry.slot, kind.name())?;
-        }
-    }
-    Ok(())
-}
-
-/// What the placement costs.
-fn cost_of(prices: &Prices, placement: &Placement) -> u64 {
-    let mut cost: u64 = 0;
-    for entry in placement.as_slice() {
-        if let Some(price) = entry.kind.and_then(|kind| prices.of(kind)) {
-            let weight = u64::from(prices.weight(entry.slot));
-            cost = cost.saturating_add(u64::from(price).saturating_mul(weight));
-        }
-    }
-    cost
-}
-
 /// Writes the board's bound: what it costs, and its fences.
 fn write_bound(board: &Board, text: &mut String) -> Result<(), AllocError> {
     match board.bound() {
@@ -147,14 +125,26 @@ fn write_orders(witnesses: &[Arc<Witness>], text: &mut String) -> Result<(), All
     Ok(())
 }
 
+/// Writes the fences of the bound that a reply shows.
+fn write_seen(bound: Option<&Arc<Forbidden>>, text: &mut String) -> Result<(), AllocError> {
+    match bound {
+        None => text.push_str(", no bound"),
+        Some(bound) => {
+            text.push_str(", bound")?;
+            write_fences(&bound.placement, text)
+        }
+    }
+}
+
 /// Writes the reply.
 fn write_reply(reply: &Reply, text: &mut String) -> Result<(), AllocError> {
     let word = match reply {
         Reply::Node(node, _) => return write!(text, "node {node}"),
         Reply::Children(first, count) => return write!(text, "children {first} {count}"),
-        Reply::Seen(_, count, witnesses) => {
+        Reply::Seen(bound, count, witnesses) => {
             write!(text, "seen {count}")?;
-            return write_orders(witnesses, text);
+            write_orders(witnesses, text)?;
+            return write_seen(bound.as_ref(), text);
         }
         Reply::Idle => "idle",
         Reply::Done => "done",
@@ -170,8 +160,8 @@ fn write_reply(reply: &Reply, text: &mut String) -> Result<(), AllocError> {
     text.push_str(word)
 }
 
-/// What the board of the test and the prices replies to these workers in turn, a line for each. Behind the replies to posts and
-/// peeks stands the bound.
+/// What the board of the test and the prices replies to these workers in turn, a line for each. Behind the replies to posts
+/// stands the bound.
 fn replies(
     alloc: Global,
     text: &str,
@@ -188,7 +178,7 @@ fn replies(
     for (worker, asked) in asks {
         let reply = ask(alloc, &mut problem, &mut board, *worker, *asked)?;
         write_reply(&reply, &mut written)?;
-        if matches!(asked, Request::Post(..) | Request::Peek(_)) {
+        if matches!(asked, Request::Post(..)) {
             write_bound(&board, &mut written)?;
         }
         written.push_str("\n")?;
@@ -220,6 +210,7 @@ fn two_workers_share_a_board(rt: HostRuntime) -> Result<(), Fail> {
         (1, Request::CutCost(13)),
         (0, Request::Claim(11)),
         (0, Request::Adopt(6)),
+        (1, Request::Peek(0)),
     ];
     // Node 6 has rw,rw at P0:2, which costs 10; node 13 has w,r there and rw,rw at P1:2, which costs 19.
     let wanted = "node 0
@@ -236,6 +227,7 @@ node 13
 closed
 gone
 node 6
+seen 0, bound P0:2=w,r P1:2=w,r
 ";
     let found = replies(rt.alloc(), SB, PRICES, 14, &asks)?;
     assert_eq!(rt; found.as_str(), wanted);
@@ -250,6 +242,7 @@ fn witnesses_close_what_they_cover(rt: HostRuntime) -> Result<(), Fail> {
     let asks = [
         (0, Request::Peek(0)),
         (0, Request::Take),
+        (1, Request::Take),
         (1, Request::CutWitness(0, "P0:3=rw,rw P1:1=rw,rw")),
         (0, Request::CutWitness(0, "P0:3=rw,rw P1:1=rw,rw")),
         (1, Request::Peek(0)),
@@ -258,6 +251,7 @@ fn witnesses_close_what_they_cover(rt: HostRuntime) -> Result<(), Fail> {
     ];
     let wanted = "seen 0, no bound
 node 0
+idle
 not yours
 closed
 seen 1 P0:1 P0:3 P1:0 P1:1, no bound

@@ -1,7 +1,7 @@
 //! What is said of placements, and the candidates in their order.
-use crate::questions::{PRICES, question_of, verdict_on};
+use crate::questions::verdict_on;
 use fs_cand::Candidate;
-use fs_examples::{ADD2, LBD, MPA, SB, SBF};
+use fs_examples::{ADD2, LBD, MPA, PRICES, SB, SBF, question_of};
 use fs_judge::{Problem, Verdict};
 use fs_kinds::Fault;
 use fs_litmus::read_test;

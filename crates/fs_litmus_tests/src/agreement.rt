@@ -20,20 +20,14 @@ use std::test::Fail;
 /// What comparing has found.
 #[derive(Drop)]
 struct Comparison {
-    /// Whether a rule has had a case, by its number.
-    seen: [bool; 14],
-    /// The first rule and pair of operations on which the two differ.
+    /// The rules that have had a case, each as the bit of its number.
+    seen: u32,
+    /// The first rule and pair of operations on which the two differ; with 0 in place of a rule, the first pair of steps whose
+    /// dependencies do.
     difference: Option<(u8, usize, usize)>,
 }
 
 impl Comparison {
-    fn new() -> Comparison {
-        Comparison {
-            seen: [false; 14],
-            difference: None,
-        }
-    }
-
     /// Compares rule n on all pairs of operations, and with a number that is no operation's.
     fn take_rule(&mut self, n: u8, candidate: &Candidate, placement: &Placement)
         requires first { 1 ≤ n }
@@ -54,26 +48,43 @@ impl Comparison {
                     self.difference = self.difference.or(Some((n, a, b)));
                 }
                 if wanted {
-                    self.seen[usize::from(n)] = true;
+                    self.seen |= 1 << n;
                 }
             }
         }
     }
 
-    /// Compares all rules, rule 4 under the first placement.
+    /// Compares rule 4 under each placement, and the others once.
     fn take(&mut self, candidate: &Candidate, placements: &[Placement]) {
-        if let Some(placement) = placements.first() {
+        for (at, placement) in placements.iter().enumerate() {
             for n in 1..14 {
-                self.take_rule(n, candidate, placement);
+                if n == 4 || at == 0 {
+                    self.take_rule(n, candidate, placement);
+                }
             }
         }
     }
 
-    /// Compares rule 4 under each placement.
-    fn take_fences(&mut self, candidate: &Candidate, placements: &[Placement]) {
-        for placement in placements {
-            self.take_rule(4, candidate, placement);
+    /// Compares the dependencies between the steps of each run.
+    fn take_runs(&mut self, alloc: Global, runs: &[Trace]) -> Result<(), Fault> {
+        for run in runs {
+            let steps = run.steps();
+            if steps.len() > 32 {
+                return Err(Fault::BadWitness);
+            }
+            let deps = Deps::of(alloc, run)?;
+            for i in 0..steps.len() {
+                for j in 0..steps.len() {
+                    if deps.addr(i, j) != address_depends(steps, i, j)
+                        || deps.data(i, j) != data_depends(steps, i, j)
+                        || deps.ctrl(i, j) != control_depends(steps, i, j)
+                    {
+                        self.difference = self.difference.or(Some((0, i, j)));
+                    }
+                }
+            }
         }
+        Ok(())
     }
 }
 
@@ -107,7 +118,7 @@ fn sources_of(
 }
 
 /// Compares on the runs of this number, with each choice of sources. False where there are no such runs.
-fn compare_runs(
+fn compare_sources(
     alloc: Global,
     test: &Test,
     runs: &[Vec<Trace>],
@@ -132,11 +143,29 @@ fn compare_runs(
         let no_order = StoreOrder::new(Vec::new(alloc));
         let candidate = Candidate::new(alloc, test, traces, sources, no_order)?;
         comparison.take(&candidate, placements);
-        if choice == 0 {
-            comparison.take_fences(&candidate, placements);
-        }
     }
     Ok(true)
+}
+
+/// Compares on these runs, a list for each hart: the dependencies in each, and the rules on each choice of one for each hart.
+fn compare_runs(
+    alloc: Global,
+    test: &Test,
+    runs: &[Vec<Trace>],
+    comparison: &mut Comparison,
+) -> Result<(), Fault>
+    requires { IsBounded test.now }
+{
+    for runs_of_hart in runs {
+        comparison.take_runs(alloc, runs_of_hart)?;
+    }
+    let placements = placements_of(alloc, test)?;
+    for number in 0..MANY {
+        if !compare_sources(alloc, test, runs, number, &placements, comparison)? {
+            return Ok(());
+        }
+    }
+    Ok(())
 }
 
 /// Compares on all runs of the test in which loads take these words, which must rise.
@@ -150,106 +179,26 @@ fn compare(
 {
     let test = read_test(alloc, text.as_bytes())?;
     let runs = runs_of(alloc, &test, words)?;
-    let placements = placements_of(alloc, &test)?;
-    for number in 0..MANY {
-        if !compare_runs(alloc, &test, &runs, number, &placements, comparison)? {
-            return Ok(());
-        }
-    }
-    Ok(())
+    compare_runs(alloc, &test, &runs, comparison)
 }
 
 #[test]
-fn rules_agree_on_known_tests(rt: HostRuntime) -> Result<(), Fail> {
+fn rules_and_dependencies_agree(rt: HostRuntime) -> Result<(), Fail> {
     let texts = [
         SB, MP, LB, MPA, SBX, SBXA, MPB, TWO_WRITES, CO_RR, MP11, LRSC, LRSCF, ADD2, LBD, LBC,
-        FORWARDED,
+        FORWARDED, SBF, ANNOTATED, FENCED,
     ];
+    let mut comparison = Comparison {
+        seen: 0,
+        difference: None,
+    };
     for text in texts {
-        let mut comparison = Comparison::new();
         compare(rt.alloc(), text, &[0, 1, 2], &mut comparison)?;
-        assert_eq!(rt; comparison.difference, None, "in {text}");
-    }
-    Ok(())
-}
-
-#[test]
-fn rules_agree_on_forwarding(rt: HostRuntime) -> Result<(), Fail> {
-    let mut comparison = Comparison::new();
-    compare(rt.alloc(), SBF, &[0, 1, 2], &mut comparison)?;
-    assert_eq!(rt; comparison.difference, None);
-    Ok(())
-}
-
-#[test]
-fn each_rule_has_a_case(rt: HostRuntime) -> Result<(), Fail> {
-    let mut comparison = Comparison::new();
-    for text in [ANNOTATED, FENCED, CO_RR, MPA, LBC, FORWARDED] {
-        compare(rt.alloc(), text, &[0, 1], &mut comparison)?;
         assert_eq!(rt; comparison.difference, None, "in {text}");
     }
     compare(rt.alloc(), POINTER, &[4096, 4112, 4128], &mut comparison)?;
     assert_eq!(rt; comparison.difference, None);
-    for n in 1..14 {
-        assert!(rt; comparison.seen[n], "rule {n} has no case");
-    }
-    Ok(())
-}
-
-/// The first pair of steps of the run on which the dependencies differ from the plain program's.
-fn dependency_difference(alloc: Global, run: &Trace) -> Result<Option<(usize, usize)>, Fault> {
-    let steps = run.steps();
-    if steps.len() > 32 {
-        return Ok(Some((steps.len(), 0)));
-    }
-    let deps = Deps::of(alloc, run)?;
-    for i in 0..steps.len() {
-        for j in 0..steps.len() {
-            if deps.addr(i, j) != address_depends(steps, i, j)
-                || deps.data(i, j) != data_depends(steps, i, j)
-                || deps.ctrl(i, j) != control_depends(steps, i, j)
-            {
-                return Ok(Some((i, j)));
-            }
-        }
-    }
-    Ok(None)
-}
-
-/// The first difference in the dependencies of the test's runs in which loads take these words, which must rise.
-fn first_difference(
-    alloc: Global,
-    text: &str,
-    words: &[u32],
-) -> Result<Option<(usize, usize)>, Fault>
-    requires { IsStrictlyIncreasing words.now }
-{
-    let test = read_test(alloc, text.as_bytes())?;
-    for runs_of_hart in &runs_of(alloc, &test, words)? {
-        for run in runs_of_hart {
-            let found = dependency_difference(alloc, run)?;
-            if found.is_some() {
-                return Ok(found);
-            }
-        }
-    }
-    Ok(None)
-}
-
-#[test]
-fn dependencies_agree(rt: HostRuntime) -> Result<(), Fail> {
-    let alloc = rt.alloc();
-    let texts = [
-        SB, MP, LB, MPA, SBX, SBXA, MPB, TWO_WRITES, CO_RR, MP11, LRSC, LRSCF, ADD2, LBD, SBF, LBC,
-        FORWARDED, ANNOTATED, FENCED,
-    ];
-    for text in texts {
-        let found = first_difference(alloc, text, &[0, 1, 2])?;
-        assert_eq!(rt; found, None, "in {text}");
-    }
-    assert_eq!(rt;
-        first_difference(alloc, POINTER, &[4096, 4112, 4128])?,
-        None
-    );
+    // Each of the 13 rules has had a case.
+    assert_eq!(rt; comparison.seen, 0b11_1111_1111_1110);
     Ok(())
 }

@@ -1,12 +1,8 @@
-//! Tests of what stands below the checkers, on litmus tests as text: slots, fenced tests, runs, dependencies, rules.
+//! Tests of what stands below the checkers, on litmus tests as text: slots, runs, value sets, dependencies, rules, laws.
 #![tactic(auto)]
 
 #[cfg(test)]
 mod agreement;
-#[cfg(test)]
-mod dependencies;
-#[cfg(test)]
-mod fenced;
 #[cfg(test)]
 mod laws;
 #[cfg(test)]

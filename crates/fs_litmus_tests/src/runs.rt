@@ -1,176 +1,174 @@
-//! What choices make of a hart, and all runs over sets of words.
-ghost use Rattle.std.specs.Prelude.{All};
+//! What choices make of a hart, the dependencies in its runs, and all runs over sets of words.
 ghost use Rattle.std.specs.List.Sorted.{IsStrictlyIncreasing};
 
-use fs_examples::{BACK, LRSC, LRSCY, MPB, POINTER, with_line};
-use fs_hart::{Choice, Run, Trace, Words, trace_of, traces_over};
-use fs_instr::Reg;
+use fs_deps::Deps;
+use fs_examples::{FORWARDED, LBC, LRSC, LRSCY, MPA, MPB, POINTER, runs_of, told};
+use fs_hart::{Choice, Run, Trace, trace_of};
 use fs_kinds::Fault;
 use fs_litmus::read_test;
-use std::alloc::Global;
+use std::alloc::{AllocError, Global};
 use std::test::Fail;
 
-/// What the choices make of the hart of the test that the text reads as. `BadWitness` where there is no such hart.
-fn run_of(alloc: Global, text: &str, hart: u8, choices: &[Choice]) -> Result<Run, Fault> {
-    let test = read_test(alloc, text.as_bytes())?;
-    if usize::from(hart) >= test.codes.as_slice().len() {
-        return Err(Fault::BadWitness);
-    }
-    trace_of(alloc, &test, hart, choices)
-}
+/// Loads from the address that it has loaded.
+const LOADED: &str = "RISCV Loaded
+{ 0:x6=x; x=y; }
+ P0          ;
+ lw x5,0(x6) ;
+ lw x7,0(x5) ;
+exists (0:x7=0)
+";
 
-/// All whole runs of the hart over the sets. `BadWitness` where there is no such hart.
-fn runs_over(alloc: Global, text: &str, hart: u8, sets: &[Words]) -> Result<Vec<Trace>, Fault>
-    requires { All IsStrictlyIncreasing sets.now }
-{
-    let test = read_test(alloc, text.as_bytes())?;
-    if usize::from(hart) >= test.codes.as_slice().len() {
-        return Err(Fault::BadWitness);
-    }
-    traces_over(alloc, &test, hart, sets)
-}
-
-/// The words that the run's steps load and store, where they do.
-fn words_of(alloc: Global, trace: &Trace) -> Result<Vec<(Option<u32>, Option<u32>)>, Fault> {
-    let mut words = Vec::new(alloc);
+/// Writes the words that the steps load, and behind `=` those that the others store; `-0` for a step that does neither, and `|` at the end.
+fn write_words(trace: &Trace, text: &mut String) -> Result<(), AllocError> {
     for step in trace.steps() {
-        words.push((step.loaded, step.stored))?;
+        let (sign, word) = match (step.loaded, step.stored) {
+            (Some(word), _) => ("", word),
+            (None, Some(word)) => ("=", word),
+            (None, None) => ("-", 0),
+        };
+        write!(text, "{sign}{word} ")?;
     }
-    Ok(words)
+    text.push_str("| ")
 }
 
-#[test]
-fn choices_must_fit_the_run(rt: HostRuntime) -> Result<(), Fail> {
-    let alloc = rt.alloc();
-    let short = run_of(alloc, MPB, 1, &[Choice::Word(1)])?;
-    assert!(rt; matches!(short, Run::Short));
-    let words = [Choice::Word(1), Choice::Word(0), Choice::Word(0)];
-    let long = run_of(alloc, MPB, 1, &words)?;
-    assert!(rt; matches!(long, Run::Long));
-    let wrong = run_of(alloc, MPB, 1, &[Choice::Success])?;
-    assert!(rt; matches!(wrong, Run::BadChoice));
-    Ok(())
-}
-
-#[test]
-fn an_sc_to_another_word_can_only_fail(rt: HostRuntime) -> Result<(), Fail> {
-    let alloc = rt.alloc();
-    let bad = run_of(alloc, LRSCY, 0, &[Choice::Word(0), Choice::Success])?;
-    assert!(rt; matches!(bad, Run::BadSc));
-    match run_of(alloc, LRSCY, 0, &[Choice::Word(0), Choice::Failure])? {
-        Run::Whole(trace) => {
-            assert_eq!(rt;
-                Reg::of("x7").map(|register| trace.final_reg(register)),
-                Some(1)
-            );
+/// Writes the dependencies between the first six steps, where there are as many: `03:4` for an address dependency of step 3 on step 0,
+/// 2 in place of 4 for one of data and 1 for one of control, and the sum where there are several.
+fn write_dependencies(deps: &Deps, text: &mut String) -> Result<(), AllocError> {
+    for pair in 0..36usize {
+        let (from, to) = (pair / 6, pair % 6);
+        let address = 4 * u8::from(deps.addr(from, to));
+        let data = 2 * u8::from(deps.data(from, to));
+        let code = address + data + u8::from(deps.ctrl(from, to));
+        if code > 0 {
+            write!(text, "{from}{to}:{code} ")?;
         }
-        _ => assert!(rt; false),
     }
     Ok(())
 }
 
-#[test]
-fn an_access_of_no_location_goes_astray(rt: HostRuntime) -> Result<(), Fail> {
-    let alloc = rt.alloc();
-    let forward = with_line(alloc, BACK, 5, " nop ;")?;
-    let text = with_line(alloc, forward.as_str(), 2, "{ 0:x6=5; }")?;
-    match runs_over(alloc, text.as_str(), 0, &[]) {
-        Ok(_) => assert!(rt; false),
-        Err(fault) => assert_eq!(rt; fault, Fault::Astray { hart: 0, at: 0 }),
+/// The words and the dependencies of the run.
+fn trace_text(alloc: Global, trace: &Trace) -> Result<String, Fault> {
+    if trace.steps().len() > 32 {
+        return Err(Fault::BadWitness);
     }
-    Ok(())
-}
-
-#[test]
-fn words_rise_and_success_comes_before_failure(rt: HostRuntime) -> Result<(), Fail> {
-    let alloc = rt.alloc();
-    let sets = [Words::new(Vec::from_slice(alloc, &[0, 2])?)];
-    let runs = runs_over(alloc, LRSC, 0, &sets)?;
-    let wanted = [
-        [(Some(0), None), (None, Some(1))],
-        [(Some(0), None), (None, None)],
-        [(Some(2), None), (None, Some(1))],
-        [(Some(2), None), (None, None)],
-    ];
-    assert_eq!(rt; runs.len(), 4);
-    for (run, words) in runs.iter().zip(wanted) {
-        let found = words_of(alloc, run)?;
-        assert_eq!(rt; found.as_slice(), words.as_slice());
-    }
-    Ok(())
-}
-
-#[test]
-fn a_choice_that_cannot_be_is_left_out(rt: HostRuntime) -> Result<(), Fail> {
-    let alloc = rt.alloc();
-    let sets = [
-        Words::new(Vec::from_slice(alloc, &[3, 7])?),
-        Words::new(Vec::from_slice(alloc, &[0])?),
-    ];
-    let runs = runs_over(alloc, LRSCY, 0, &sets)?;
-    assert_eq!(rt; runs.len(), 2);
-    for (run, word) in runs.iter().zip([3, 7]) {
-        let found = words_of(alloc, run)?;
-        assert_eq!(rt;
-            found.as_slice(),
-            [(Some(word), None), (None, None)].as_slice()
-        );
-    }
-    Ok(())
-}
-
-#[test]
-fn a_loaded_address_leads_on(rt: HostRuntime) -> Result<(), Fail> {
-    let alloc = rt.alloc();
-    // x, z and y have the addresses 4096, 4112 and 4128.
-    let address_of_y = [
-        Words::new(Vec::from_slice(alloc, &[4128])?),
-        Words::new(Vec::from_slice(alloc, &[0])?),
-        Words::new(Vec::from_slice(alloc, &[5, 6])?),
-    ];
-    let runs = runs_over(alloc, POINTER, 0, &address_of_y)?;
-    assert_eq!(rt; runs.len(), 2);
-    for (run, word) in runs.iter().zip([5, 6]) {
-        let wanted = [(Some(4128), None), (Some(word), None), (None, Some(0))];
-        let found = words_of(alloc, run)?;
-        assert_eq!(rt; found.as_slice(), wanted.as_slice());
-    }
-    let no_address = [
-        Words::new(Vec::from_slice(alloc, &[4112, 4113])?),
-        Words::new(Vec::from_slice(alloc, &[0])?),
-        Words::new(Vec::from_slice(alloc, &[5, 6])?),
-    ];
-    match runs_over(alloc, POINTER, 0, &no_address) {
-        Ok(_) => assert!(rt; false),
-        Err(fault) => assert_eq!(rt; fault, Fault::Astray { hart: 0, at: 1 }),
-    }
-    Ok(())
-}
-
-/// A test with so many loads of one word in P0, and a store to it in P1.
-pub(crate) fn loads(alloc: Global, count: usize) -> Result<String, Fault> {
-    let mut text = String::from_str(
-        alloc,
-        "RISCV Loads\n{ 0:x6=x; 1:x5=1; 1:x6=x; }\nP0 | P1 ;\n",
-    )?;
-    text.push_str("lw x5,0(x6) | sw x5,0(x6) ;\n")?;
-    for _ in 1..count {
-        text.push_str("lw x5,0(x6) | ;\n")?;
-    }
-    text.push_str("exists (0:x5=1)\n")?;
+    let deps = Deps::of(alloc, trace)?;
+    let mut text = String::new(alloc);
+    write_words(trace, &mut text)?;
+    write_dependencies(&deps, &mut text)?;
     Ok(text)
 }
 
-#[test]
-fn counts_the_choice_lists(rt: HostRuntime) -> Result<(), Fail> {
-    let alloc = rt.alloc();
-    let sets = [Words::new(Vec::from_slice(alloc, &[0, 1])?)];
-    let few = loads(alloc, 5)?;
-    assert_eq!(rt; runs_over(alloc, few.as_str(), 0, &sets)?.len(), 32);
-    let many = loads(alloc, 17)?;
-    match runs_over(alloc, many.as_str(), 0, &sets) {
-        Ok(_) => assert!(rt; false),
-        Err(fault) => assert_eq!(rt; fault, Fault::TooManyTraces),
+/// The words and the dependencies of the run that the choices make of the hart; or why there is no such run.
+fn run_text(alloc: Global, text: &str, hart: u8, choices: &[Choice]) -> Result<String, Fault> {
+    let test = read_test(alloc, text.as_bytes())?;
+    if usize::from(hart) >= test.codes.as_slice().len() {
+        return Err(Fault::BadWitness);
     }
+    let why = match trace_of(alloc, &test, hart, choices)? {
+        Run::Whole(trace) => return trace_text(alloc, &trace),
+        Run::Short => "short",
+        Run::Long => "long",
+        Run::BadChoice => "bad choice",
+        Run::BadSc => "bad sc.w",
+        Run::Astray(_) => "astray",
+    };
+    Ok(String::from_str(alloc, why)?)
+}
+
+#[test]
+fn choices_make_runs(rt: HostRuntime) -> Result<(), Fail> {
+    let rows: [(&str, u8, &[Choice], &str); 10] = [
+        (MPB, 1, &[Choice::Word(1)], "short"),
+        (
+            MPB,
+            1,
+            &[Choice::Word(1), Choice::Word(0), Choice::Word(0)],
+            "long",
+        ),
+        (MPB, 1, &[Choice::Success], "bad choice"),
+        (LRSCY, 0, &[Choice::Word(0), Choice::Success], "bad sc.w"),
+        (LRSCY, 0, &[Choice::Word(0), Choice::Failure], "0 -0 | "),
+        // An address depends on a load through arithmetic,
+        (
+            MPA,
+            1,
+            &[Choice::Word(1), Choice::Word(0)],
+            "1 -0 -0 0 | 03:4 13:4 23:4 ",
+        ),
+        // a branch controls what follows it,
+        (
+            MPB,
+            1,
+            &[Choice::Word(1), Choice::Word(0)],
+            "1 -0 0 | 02:1 ",
+        ),
+        (LBC, 0, &[Choice::Word(1)], "1 -0 -0 =1 | 02:1 03:1 23:2 "),
+        // and a load carries nothing.
+        (
+            FORWARDED,
+            0,
+            &[Choice::Word(0), Choice::Word(0)],
+            "0 =0 0 | 01:2 ",
+        ),
+        (
+            POINTER,
+            0,
+            &[Choice::Word(4128), Choice::Word(0)],
+            "4128 0 =0 | 01:4 ",
+        ),
+    ];
+    for (text, hart, choices, wanted) in rows {
+        let found = told(rt.alloc(), run_text(rt.alloc(), text, hart, choices))?;
+        assert_eq!(rt; found.as_str(), wanted, "of {text}");
+    }
+    Ok(())
+}
+
+/// The words of the runs of the first hart.
+fn first_runs(alloc: Global, runs: &[Vec<Trace>]) -> Result<String, AllocError> {
+    let mut text = String::new(alloc);
+    if let Some(first) = runs.first() {
+        for trace in first {
+            write_words(trace, &mut text)?;
+        }
+    }
+    Ok(text)
+}
+
+/// The words of all whole runs of hart 0, where loads take these words, which must rise.
+fn runs_text(alloc: Global, text: &str, words: &[u32]) -> Result<String, Fault>
+    requires { IsStrictlyIncreasing words.now }
+{
+    let test = read_test(alloc, text.as_bytes())?;
+    let runs = runs_of(alloc, &test, words)?;
+    Ok(first_runs(alloc, &runs)?)
+}
+
+/// Writes the words of these runs, or the line of the fault, with `/` behind them.
+fn write_runs(
+    alloc: Global,
+    text: &str,
+    words: &[u32],
+    written: &mut String,
+) -> Result<(), AllocError>
+    requires { IsStrictlyIncreasing words.now }
+{
+    let line = told(alloc, runs_text(alloc, text, words))?;
+    write!(written, "{line}/ ")
+}
+
+/// Words rise and success comes before failure; what can't be is left out; a loaded address leads on, or astray. x and y have the
+/// addresses 4096 and 4112.
+#[test]
+fn runs_come_in_order(rt: HostRuntime) -> Result<(), Fail> {
+    let mut found = String::new(rt.alloc());
+    write_runs(rt.alloc(), LRSC, &[0, 2], &mut found)?;
+    write_runs(rt.alloc(), LRSCY, &[3, 7], &mut found)?;
+    write_runs(rt.alloc(), LOADED, &[4096, 4112], &mut found)?;
+    write_runs(rt.alloc(), LOADED, &[4112, 4113], &mut found)?;
+    assert_eq!(rt;
+        found.as_str(),
+        "0 =1 | 0 -0 | 2 =1 | 2 -0 | / 3 -0 | 7 -0 | / 4096 4096 | 4096 4112 | 4112 4096 | 4112 4112 | / fault F14 Astray P0:1/ "
+    );
     Ok(())
 }

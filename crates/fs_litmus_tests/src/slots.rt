@@ -1,42 +1,63 @@
-//! Which slots a test has.
-use fs_examples::{MP, MPB};
+//! Which slots a test has, and where they are in the fenced test, read back from its printed form.
+use fs_examples::{MP, MPB, placement_of, told};
 use fs_kinds::{Fault, Slot};
 use fs_litmus::{read_test, slots};
-use std::alloc::Global;
+use fs_round_trip::fence;
+use std::alloc::{AllocError, Global};
 use std::test::Fail;
 
-/// The slots of the test that the text reads as.
-fn slots_of(alloc: Global, text: &str) -> Result<Vec<Slot>, Fault> {
-    let test = read_test(alloc, text.as_bytes())?;
-    slots(alloc, &test)
-}
-
-#[test]
-fn finds_the_slots_of_message_passing(rt: HostRuntime) -> Result<(), Fail> {
-    let found = slots_of(rt.alloc(), MP)?;
-    let wanted = [Slot { hart: 0, at: 3 }, Slot { hart: 1, at: 1 }];
-    assert_eq!(rt; found.as_slice(), wanted.as_slice());
-    Ok(())
-}
-
-#[test]
-fn counts_a_branch_as_an_instruction(rt: HostRuntime) -> Result<(), Fail> {
-    let found = slots_of(rt.alloc(), MPB)?;
-    let wanted = [Slot { hart: 0, at: 3 }, Slot { hart: 1, at: 2 }];
-    assert_eq!(rt; found.as_slice(), wanted.as_slice());
-    Ok(())
-}
-
-#[test]
-fn finds_none_without_an_earlier_access(rt: HostRuntime) -> Result<(), Fail> {
-    let test = "RISCV T
+/// No hart has an access before another one.
+const NO_SLOT: &str = "RISCV T
 { }
 P0 | P1 ;
 lw x5,0(x6) | fence rw,rw ;
 fence w,w | sw x5,0(x6) ;
 exists (0:x5=0)
 ";
-    let found = slots_of(rt.alloc(), test)?;
-    assert_eq!(rt; found.as_slice().len(), 0);
+
+/// 32 loads, which leave no room for a fence.
+const FULL: &str = "RISCV Full
+{ 0:x6=x; }
+P0 ;
+lw x5,0(x6) ; lw x5,0(x6) ; lw x5,0(x6) ; lw x5,0(x6) ; lw x5,0(x6) ; lw x5,0(x6) ; lw x5,0(x6) ; lw x5,0(x6) ;
+lw x5,0(x6) ; lw x5,0(x6) ; lw x5,0(x6) ; lw x5,0(x6) ; lw x5,0(x6) ; lw x5,0(x6) ; lw x5,0(x6) ; lw x5,0(x6) ;
+lw x5,0(x6) ; lw x5,0(x6) ; lw x5,0(x6) ; lw x5,0(x6) ; lw x5,0(x6) ; lw x5,0(x6) ; lw x5,0(x6) ; lw x5,0(x6) ;
+lw x5,0(x6) ; lw x5,0(x6) ; lw x5,0(x6) ; lw x5,0(x6) ; lw x5,0(x6) ; lw x5,0(x6) ; lw x5,0(x6) ; lw x5,0(x6) ;
+exists (0:x5=0)
+";
+
+/// The slots in print.
+fn slots_text(alloc: Global, slots: &[Slot]) -> Result<String, AllocError> {
+    let mut text = String::new(alloc);
+    for slot in slots {
+        write!(text, "{slot} ")?;
+    }
+    Ok(text)
+}
+
+/// The slots of the test that the text reads as, once the fences stand in it that these words name.
+fn fenced_slots(alloc: Global, text: &str, words: &str) -> Result<String, Fault> {
+    let test = read_test(alloc, text.as_bytes())?;
+    let placement = placement_of(alloc, &test, words)?;
+    let fenced = fence(alloc, &test, &placement)?;
+    let found = slots(alloc, &fenced)?;
+    Ok(slots_text(alloc, &found)?)
+}
+
+#[test]
+fn slots_move_with_their_instructions(rt: HostRuntime) -> Result<(), Fail> {
+    let rows = [
+        (MP, "", "P0:3 P1:1 "),
+        (MP, "P0:3=w,w P1:1=r,r", "P0:4 P1:2 "),
+        (MPB, "", "P0:3 P1:2 "),
+        (MPB, "P1:2=r,r", "P0:3 P1:3 "),
+        (NO_SLOT, "", ""),
+        (FULL, "P0:31=r,r", "fault F9 TooBig instructions"),
+        (FULL, "P0:32=r,r", "fault F12 BadFence"),
+    ];
+    for (text, words, wanted) in rows {
+        let found = told(rt.alloc(), fenced_slots(rt.alloc(), text, words))?;
+        assert_eq!(rt; found.as_str(), wanted, "with {words} in {text}");
+    }
     Ok(())
 }

@@ -1,13 +1,20 @@
-//! Value sets, and the faults that are met while they are found.
+//! Value sets, the faults that are met while they are found, and what tests allow over them.
 
-use crate::runs::loads;
-use fs_examples::{ADD2, BACK, CO_RR, LBD, LRSC, MP, MPA, MPB, POINTER, SB, with_line};
+use fs_examples::{ADD2, CO_RR, LBD, LRSC, MP, MPA, MPB, POINTER, SB, told};
 use fs_kinds::Fault;
 use fs_litmus::{read_fences, read_test};
 use fs_plain::allows_over;
 use fs_values::Values;
-use std::alloc::Global;
+use std::alloc::{AllocError, Global};
 use std::test::Fail;
+
+/// Loads from an address that is no location's.
+const ASTRAY: &str = "RISCV Astray
+{ 0:x6=5; }
+ P0          ;
+ lw x5,0(x6) ;
+exists (0:x5=0)
+";
 
 /// Loads an address that another hart overwrites with 1, so that a run goes astray once a load may return it.
 const OVERWRITTEN: &str = "RISCV Overwritten
@@ -27,88 +34,44 @@ const OVERWRITTEN_ASTRAY: &str = "RISCV Overwritten+Astray
 exists (0:x7=0)
 ";
 
-/// Are these the value sets of the test that the text reads as, from that of location 0 on?
-fn are_values(alloc: Global, text: &str, wanted: &[&[u32]]) -> Result<bool, Fault> {
+/// Writes the value set of each location, and then whether the outcome is allowed over them.
+fn answer_text(alloc: Global, values: &Values, is_allowed: bool) -> Result<String, AllocError> {
+    let mut text = String::new(alloc);
+    for set in values.as_slice() {
+        write!(text, "{:?} ", set.as_slice())?;
+    }
+    text.push_str(if is_allowed { "allowed" } else { "forbidden" })?;
+    Ok(text)
+}
+
+/// The value sets of the test that the text reads as, and whether it allows its outcome where loads take words of these.
+fn values_text(alloc: Global, text: &str) -> Result<String, Fault> {
     let test = read_test(alloc, text.as_bytes())?;
     let values = Values::of(alloc, &test)?;
-    let sets = values.as_slice();
-    Ok(
-        sets.len() == wanted.len()
-            && sets
-                .iter()
-                .zip(wanted)
-                .all(|(set, words)| set.as_slice() == *words),
-    )
+    let placement = read_fences(alloc, &test, None, &[])?;
+    let is_allowed = allows_over(alloc, &test, &placement, values.as_slice())?;
+    Ok(answer_text(alloc, &values, is_allowed)?)
 }
 
 #[test]
 fn values_of_known_tests(rt: HostRuntime) -> Result<(), Fail> {
-    let rows: [(&str, &[&[u32]]); 6] = [
-        (ADD2, &[&[0, 1, 2]]),
-        (LBD, &[&[0], &[0]]),
-        (SB, &[&[0, 1], &[0, 1]]),
-        (MPB, &[&[0, 1], &[0, 1]]),
-        (CO_RR, &[&[0, 1]]),
-        (POINTER, &[&[4128], &[0], &[0]]),
-    ];
-    for (text, wanted) in rows {
-        let found = are_values(rt.alloc(), text, wanted)?;
-        assert!(rt; found, "in {text}");
-    }
-    Ok(())
-}
-
-/// The fault that is met while the values of the test are found.
-fn fault_of(alloc: Global, text: &str) -> Result<Option<Fault>, Fault> {
-    let test = read_test(alloc, text.as_bytes())?;
-    match Values::of(alloc, &test) {
-        Ok(_) => Ok(None),
-        Err(fault) => Ok(Some(fault)),
-    }
-}
-
-#[test]
-fn the_first_fault_is_met(rt: HostRuntime) -> Result<(), Fail> {
-    let alloc = rt.alloc();
-    let forward = with_line(alloc, BACK, 5, " nop ;")?;
-    let astray = with_line(alloc, forward.as_str(), 2, "{ 0:x6=5; }")?;
-    let few = loads(alloc, 12)?;
-    let many = loads(alloc, 17)?;
     let rows = [
-        (MP, None),
-        (few.as_str(), None),
-        (many.as_str(), Some(Fault::TooManyTraces)),
-        (astray.as_str(), Some(Fault::Astray { hart: 0, at: 0 })),
-        (OVERWRITTEN, Some(Fault::Astray { hart: 0, at: 1 })),
-        (OVERWRITTEN_ASTRAY, Some(Fault::Astray { hart: 2, at: 0 })),
+        (ADD2, "[0, 1, 2] forbidden"),
+        (LBD, "[0] [0] forbidden"),
+        (SB, "[0, 1] [0, 1] allowed"),
+        (MP, "[0, 1] [0, 1] allowed"),
+        (MPA, "[0, 1] [0, 1] allowed"),
+        (MPB, "[0, 1] [0, 1] allowed"),
+        (CO_RR, "[0, 1] forbidden"),
+        (LRSC, "[0, 1, 2] forbidden"),
+        (POINTER, "[4128] [0] [0] allowed"),
+        (ASTRAY, "fault F14 Astray P0:0"),
+        (OVERWRITTEN, "fault F14 Astray P0:1"),
+        (OVERWRITTEN_ASTRAY, "fault F14 Astray P2:0"),
     ];
     for (text, wanted) in rows {
-        assert_eq!(rt; fault_of(alloc, text)?, wanted, "in {text}");
-    }
-    Ok(())
-}
-
-/// Does the test allow its outcome, where loads take words of its value sets?
-fn is_allowed(alloc: Global, text: &str) -> Result<bool, Fault> {
-    let test = read_test(alloc, text.as_bytes())?;
-    let placement = read_fences(alloc, &test, None, &[])?;
-    let values = Values::of(alloc, &test)?;
-    allows_over(alloc, &test, &placement, values.as_slice())
-}
-
-#[test]
-fn known_tests_are_allowed_or_not_over_their_values(rt: HostRuntime) -> Result<(), Fail> {
-    let rows = [
-        (SB, true),
-        (MP, true),
-        (MPA, true),
-        (CO_RR, false),
-        (LBD, false),
-        (LRSC, false),
-        (ADD2, false),
-    ];
-    for (text, wanted) in rows {
-        assert_eq!(rt; is_allowed(rt.alloc(), text)?, wanted, "in {text}");
+        let found = told(rt.alloc(), values_text(rt.alloc(), text))?;
+        assert_eq!(rt; found.as_str(), wanted, "in {text}");
     }
     Ok(())
 }

@@ -1,9 +1,9 @@
 //! Readers and writers that fail in mid-stream.
 use fs_io::{read_bytes, write_text};
 use fs_kinds::Fault;
+use std::alloc::Global;
 use std::io;
-use std::io::{Cursor, ErrorKind, Read, Write};
-use std::test::Fail;
+use std::io::{ErrorKind, Read, Write};
 
 /// Gives one byte a read, and fails at the read of number `fails_at`, counted from 0.
 #[derive(Drop)]
@@ -55,57 +55,58 @@ impl Write for FailingWriter {
     }
 }
 
-#[test]
-fn reads_up_to_the_limit(rt: HostRuntime) -> Result<(), Fail> {
-    let alloc = rt.alloc();
-    let whole = read_bytes(alloc, &mut Cursor::new("fence"), 5)?;
-    assert_eq!(rt; whole.as_slice(), b"fence".as_slice());
-    let over = read_bytes(alloc, &mut Cursor::new("fence"), 4);
-    assert!(rt; matches!(over, Err(Fault::ReadFault)));
-    Ok(())
-}
-
-#[test]
-fn a_failing_read_is_a_fault(rt: HostRuntime) -> Result<(), Fail> {
-    for fails_at in 0..6 {
-        let mut reader = FailingReader {
-            reads: 0,
-            fails_at,
-            bytes: 5,
-        };
-        let answer = read_bytes(rt.alloc(), &mut reader, 9);
-        assert!(rt; matches!(answer, Err(Fault::ReadFault)), "at {fails_at}");
-    }
+/// How many of five bytes are read, where the read of this number fails.
+fn read_length(alloc: Global, fails_at: usize) -> Result<usize, Fault> {
     let mut reader = FailingReader {
         reads: 0,
-        fails_at: 6,
+        fails_at,
         bytes: 5,
     };
-    let whole = read_bytes(rt.alloc(), &mut reader, 9)?;
-    assert_eq!(rt; whole.as_slice(), [7, 7, 7, 7, 7].as_slice());
-    Ok(())
+    let whole = read_bytes(alloc, &mut reader, 9)?;
+    Ok(whole.len())
 }
 
 #[test]
-fn a_failing_write_leaves_a_prefix(rt: HostRuntime) -> Result<(), Fail> {
-    let text = b"fence w,w";
-    for (room, gives_zero) in [(0, false), (1, true), (2, false), (5, true), (8, false)] {
-        let mut writer = FailingWriter {
-            bytes: Vec::new(rt.alloc()),
-            room,
-            gives_zero,
+fn a_failing_read_is_a_fault(rt: HostRuntime) {
+    for fails_at in 0..8 {
+        let wanted = if fails_at < 6 {
+            Err(Fault::ReadFault)
+        } else {
+            Ok(5)
         };
-        let answer = write_text(&mut writer, text);
-        assert!(rt; matches!(answer, Err(Fault::WriteFault)), "at {room}");
-        assert!(rt; room <= text.len());
-        assert_eq!(rt; writer.bytes.as_slice(), &text[..room]);
+        assert_eq!(rt; read_length(rt.alloc(), fails_at), wanted, "at {fails_at}");
     }
+}
+
+/// What is written.
+const TEXT: &[u8] = b"fence w,w";
+
+/// Is a writer with this room left with so many bytes of the text, and is there a fault where they aren't all?
+fn leaves_prefix(alloc: Global, room: usize, gives_zero: bool) -> bool {
     let mut writer = FailingWriter {
-        bytes: Vec::new(rt.alloc()),
-        room: 9,
-        gives_zero: false,
+        bytes: Vec::new(alloc),
+        room,
+        gives_zero,
     };
-    write_text(&mut writer, text)?;
-    assert_eq!(rt; writer.bytes.as_slice(), text.as_slice());
-    Ok(())
+    let answer = write_text(&mut writer, TEXT);
+    let is_whole = room >= TEXT.len();
+    let is_told = match answer {
+        Ok(()) => is_whole,
+        Err(fault) => !is_whole && fault == Fault::WriteFault,
+    };
+    is_told && TEXT.get(..room) == Some(writer.bytes.as_slice())
+}
+
+#[test]
+fn a_failing_write_leaves_a_prefix(rt: HostRuntime) {
+    for (room, gives_zero) in [
+        (0, false),
+        (1, true),
+        (2, false),
+        (5, true),
+        (8, false),
+        (9, false),
+    ] {
+        assert!(rt; leaves_prefix(rt.alloc(), room, gives_zero), "at {room}");
+    }
 }

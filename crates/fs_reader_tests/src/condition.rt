@@ -1,68 +1,63 @@
-//! Examples, and what no clause says: that hostile conditions are read in little time and memory and on a small stack.
+//! Conditions, and which trees and atoms they have.
 
-use fs_condition::{Condition, Tree, read_condition};
+use fs_condition::{Atom, Condition, Tree, read_condition};
 use fs_tokens::{Stop, Target, Value, tokens};
 use std::alloc::{AllocError, Global};
 use std::test::Fail;
 
-pub(crate) fn push_target(out: &mut String, target: Target) -> Result<(), AllocError> {
+/// The hart of a target with its colon, which a location lacks, and the name.
+pub(crate) fn target_parts<'a>(target: Target<'a>) -> (&'a str, &'a str, &'a str) {
     match target {
-        Target::Register { hart, register } => {
-            out.push_str(hart)?;
-            out.push_str(":")?;
-            out.push_str(register)
-        }
-        Target::Location(name) => out.push_str(name),
+        Target::Register { hart, register } => (hart, ":", register),
+        Target::Location(name) => ("", "", name),
     }
 }
 
-pub(crate) fn push_value(out: &mut String, value: Value) -> Result<(), AllocError> {
+/// The sign of a value, which is `&` for an address, and its digits or name.
+pub(crate) fn value_parts<'a>(value: Value<'a>) -> (&'a str, &'a str) {
     match value {
-        Value::Number { negative, digits } => {
-            if negative {
-                out.push_str("-")?;
-            }
-            out.push_str(digits)
-        }
-        Value::Address(name) => {
-            out.push_str("&")?;
-            out.push_str(name)
-        }
+        Value::Number { negative, digits } => (if negative { "-" } else { "" }, digits),
+        Value::Address(name) => ("&", name),
     }
 }
 
-// The tree, each connective in parentheses; true and false are T and F, an address is &.
+// Writes an atom, with a space behind it.
+fn push_atom(out: &mut String, atom: &Atom) -> Result<(), AllocError> {
+    let (hart, colon, name) = target_parts(atom.target);
+    let (sign, word) = value_parts(atom.value);
+    write!(out, "{hart}{colon}{name}={sign}{word} ")
+}
+
+// Writes the tree, each connective before what it joins: `&`, `|` and `~`. True and false are T and F.
 fn push_tree(out: &mut String, tree: &Tree) -> Result<(), AllocError> {
     match tree {
-        Tree::Atom(atom) => {
-            push_target(out, atom.target)?;
-            out.push_str("=")?;
-            push_value(out, atom.value)
-        }
-        Tree::True => out.push_str("T"),
-        Tree::False => out.push_str("F"),
+        Tree::Atom(atom) => push_atom(out, atom),
+        Tree::True => out.push_str("T "),
+        Tree::False => out.push_str("F "),
         Tree::Deny(inner) => {
-            out.push_str("~")?;
+            out.push_str("~ ")?;
             push_tree(out, inner)
         }
-        Tree::Both(left, right) => {
-            out.push_str("(")?;
+        Tree::Both(left, right) | Tree::Either(left, right) => {
+            let is_both = matches!(tree, Tree::Both(..));
+            out.push_str(if is_both { "& " } else { "| " })?;
             push_tree(out, left)?;
-            out.push_str(" /\\ ")?;
-            push_tree(out, right)?;
-            out.push_str(")")
-        }
-        Tree::Either(left, right) => {
-            out.push_str("(")?;
-            push_tree(out, left)?;
-            out.push_str(" \\/ ")?;
-            push_tree(out, right)?;
-            out.push_str(")")
+            push_tree(out, right)
         }
     }
 }
 
-// The tree, or that it is too deep, and then the atoms; or how many tokens are left where it stops.
+// Writes the targets of the atoms.
+fn push_targets(out: &mut String, atoms: &[Atom]) -> Result<(), AllocError> {
+    out.push_str(";")?;
+    for atom in atoms {
+        let (hart, colon, name) = target_parts(atom.target);
+        write!(out, " {hart}{colon}{name}")?;
+    }
+    Ok(())
+}
+
+// The tree, or that it is too deep, and then the targets of the atoms; or how many tokens are left where it stops.
 fn shown(alloc: Global, text: &str) -> Result<String, AllocError> {
     let (tokens, _) = tokens(alloc, text.as_bytes(), 0)?;
     match read_condition(alloc, &tokens) {
@@ -70,12 +65,9 @@ fn shown(alloc: Global, text: &str) -> Result<String, AllocError> {
             let mut out = String::new(alloc);
             match &tree {
                 Some(tree) => push_tree(&mut out, tree)?,
-                None => out.push_str("deep")?,
+                None => out.push_str("deep ")?,
             }
-            for atom in &atoms {
-                out.push_str("; ")?;
-                push_target(&mut out, atom.target)?;
-            }
+            push_targets(&mut out, &atoms)?;
             Ok(out)
         }
         Err(Stop::At(rest)) => format!(in alloc; "{} left", rest.len()),
@@ -83,100 +75,84 @@ fn shown(alloc: Global, text: &str) -> Result<String, AllocError> {
     }
 }
 
-// How many atoms a condition has, and whether it has a tree; or how many tokens are left.
-fn counted(alloc: Global, text: &str) -> Result<(usize, bool), AllocError> {
-    let (tokens, _) = tokens(alloc, text.as_bytes(), 0)?;
-    match read_condition(alloc, &tokens) {
-        Ok(condition) => Ok((condition.atoms.len(), condition.tree.is_some())),
-        Err(Stop::At(rest)) => Ok((rest.len(), false)),
-        Err(Stop::Memory) => Err(AllocError),
-    }
-}
-
-fn repeated(
-    alloc: Global,
-    before: &str,
-    middle: &str,
-    after: &str,
-    n: usize,
-) -> Result<String, AllocError> {
+// The condition `x=1` with so many of these before and after it.
+fn shown_around(alloc: Global, before: &str, after: &str, n: usize) -> Result<String, AllocError> {
     let mut text = String::new(alloc);
     for _ in 0..n {
         text.push_str(before)?;
     }
-    text.push_str(middle)?;
+    text.push_str("x=1")?;
     for _ in 0..n {
         text.push_str(after)?;
     }
-    Ok(text)
+    shown(alloc, &text)
 }
 
-/// How connectives bind and associate, which atoms there are, and that no word is reserved.
+// How connectives bind and associate, which atoms there are, and that no word is reserved.
 #[test]
 fn reads_conditions(rt: HostRuntime) -> Result<(), Fail> {
-    for (text, want) in [
+    for (text, wanted) in [
         (
             "x=1 /\\ y=2 \\/ z=3 /\\ w=4",
-            "((x=1 /\\ y=2) \\/ (z=3 /\\ w=4)); x; y; z; w",
+            "| & x=1 y=2 & z=3 w=4 ; x y z w",
         ),
-        ("x=1 \\/ y=2 \\/ z=3", "((x=1 \\/ y=2) \\/ z=3); x; y; z"),
-        ("x=1 /\\ y=2 /\\ z=3", "((x=1 /\\ y=2) /\\ z=3); x; y; z"),
-        ("x=1 /\\ (y=2 \\/ z=3)", "(x=1 /\\ (y=2 \\/ z=3)); x; y; z"),
-        ("~x=1 /\\ not ~y=2", "(~x=1 /\\ ~~y=2); x; y"),
-        (
-            "not (x=1 /\\ y=2) \\/ z=3",
-            "(~(x=1 /\\ y=2) \\/ z=3); x; y; z",
-        ),
-        ("((x=1))", "x=1; x"),
-        ("1:x5=1", "1:x5=1; 1:x5"),
-        ("0x1:t.0=-7", "0x1:t.0=-7; 0x1:t.0"),
-        ("[x]=y", "x=&y; x"),
-        ("x=0x10", "x=0x10; x"),
+        ("x=1 \\/ y=2 \\/ z=3", "| | x=1 y=2 z=3 ; x y z"),
+        ("x=1 /\\ y=2 /\\ z=3", "& & x=1 y=2 z=3 ; x y z"),
+        ("x=1 /\\ (y=2 \\/ z=3)", "& x=1 | y=2 z=3 ; x y z"),
+        ("~x=1 /\\ not ~y=2", "& ~ x=1 ~ ~ y=2 ; x y"),
+        ("not (x=1 /\\ y=2) \\/ z=3", "| ~ & x=1 y=2 z=3 ; x y z"),
+        ("((x=1))", "x=1 ; x"),
+        ("1:x5=1", "1:x5=1 ; 1:x5"),
+        ("0x1:t.0=-7", "0x1:t.0=-7 ; 0x1:t.0"),
+        ("[x]=y", "x=&y ; x"),
+        ("x=0x10", "x=0x10 ; x"),
         (
             "exists=1 /\\ int=forall",
-            "(exists=1 /\\ int=&forall); exists; int",
+            "& exists=1 int=&forall ; exists int",
         ),
-        ("true=1", "true=1; true"),
-        ("not=1", "not=1; not"),
-        ("false=true", "false=&true; false"),
-        ("not not=1", "~not=1; not"),
-        ("not not not=1", "~~not=1; not"),
-        ("not true", "~T"),
-        ("not false=1", "~false=1; false"),
-        ("true /\\ x=1", "(T /\\ x=1); x"),
-        ("~true=1", "~true=1; true"),
-        ("(false) \\/ true", "(F \\/ T)"),
+        ("true=1", "true=1 ; true"),
+        ("not=1", "not=1 ; not"),
+        ("false=true", "false=&true ; false"),
+        ("not not=1", "~ not=1 ; not"),
+        ("not not not=1", "~ ~ not=1 ; not"),
+        ("not true", "~ T ;"),
+        ("not false=1", "~ false=1 ; false"),
+        ("true /\\ x=1", "& T x=1 ; x"),
+        ("~true=1", "~ true=1 ; true"),
+        ("(false) \\/ true", "| F T ;"),
     ] {
         let found = shown(rt.alloc(), text)?;
-        assert_eq!(rt; found.as_str(), want, "in {text}");
+        assert_eq!(rt; found.as_str(), wanted, "in {text}");
     }
     Ok(())
 }
 
 #[test]
 fn stops_at_the_first_bad_token(rt: HostRuntime) -> Result<(), Fail> {
-    for (text, left) in [
-        ("", 0),
-        ("x", 0),
-        ("(x=1", 0),
-        ("not", 0),
-        ("5=1", 2),
-        ("x=1 y", 1),
-        ("x=1)", 1),
-        ("()", 1),
-        ("true true", 1),
-        ("[5]=1", 4),
-        ("x=-y /\\ z=1", 5),
-        ("x==1", 2),
-        ("x=1 /\\ \\/ y=1", 4),
-        ("x=1 ; y=1", 4),
-        ("x=$1", 2),
+    for (text, wanted) in [
+        ("", "0 left"),
+        ("x", "0 left"),
+        ("(x=1", "0 left"),
+        ("not", "0 left"),
+        ("5=1", "2 left"),
+        ("x=1 y", "1 left"),
+        ("x=1)", "1 left"),
+        ("()", "1 left"),
+        ("true true", "1 left"),
+        ("[5]=1", "4 left"),
+        ("x=-y /\\ z=1", "5 left"),
+        ("x==1", "2 left"),
+        ("x=1 /\\ \\/ y=1", "4 left"),
+        ("x=1 ; y=1", "4 left"),
+        ("x=$1", "2 left"),
     ] {
-        assert_eq!(rt; counted(rt.alloc(), text)?, (left, false), "in {text}");
+        let found = shown(rt.alloc(), text)?;
+        assert_eq!(rt; found.as_str(), wanted, "in {text}");
     }
     Ok(())
 }
 
+// Conditions of depth 64 have a tree, and deeper ones have none.
 #[test]
 fn counts_the_depth(rt: HostRuntime) -> Result<(), Fail> {
     for (before, after, n, fine) in [
@@ -193,29 +169,12 @@ fn counts_the_depth(rt: HostRuntime) -> Result<(), Fail> {
         ("y=1 /\\ (", ")", 64, true),
         ("y=1 \\/ (", ")", 65, false),
     ] {
-        let text = repeated(rt.alloc(), before, "x=1", after, n)?;
-        let (_, has_tree) = counted(rt.alloc(), &text)?;
-        assert_eq!(rt; has_tree, fine, "at {n} times {before} and {after}");
-    }
-    Ok(())
-}
-
-/// Hostile conditions are read to their end, or to the token where they break, and give no tree.
-#[test]
-fn reads_long_and_deep_conditions(rt: HostRuntime) -> Result<(), Fail> {
-    for (before, middle, after, n, wanted) in [
-        ("(", "x=1", ")", 500_000, 1),
-        ("~", "x=1", "", 1_000_000, 1),
-        ("~(", "x=1", ")", 300_000, 1),
-        ("(", "", "", 1_048_576, 0),
-        ("~", "", "", 1_048_576, 0),
-        ("", "x=1", "/\\x=1", 200_000, 200_001),
-        ("(x=1/\\", "x=1", ")", 150_000, 150_001),
-        ("(", "", ")", 500_000, 500_000),
-    ] {
-        let text = repeated(rt.alloc(), before, middle, after, n)?;
-        let found = counted(rt.alloc(), &text)?;
-        assert_eq!(rt; found, (wanted, false), "at {n} times {before} and {after}");
+        let found = shown_around(rt.alloc(), before, after, n)?;
+        let is_deep = found.as_str().starts_with("deep ");
+        assert!(rt;
+            is_deep != fine,
+            "at {n} times {before} and {after}: {found}"
+        );
     }
     Ok(())
 }

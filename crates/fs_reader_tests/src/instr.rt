@@ -1,7 +1,6 @@
 //! Instructions as a litmus test writes them, and as they are printed.
 
-use fs_instr::{Instr, Letters, Op, Refused, Reg, read_instr, read_tokens, write_instr};
-use fs_tokens::tokens;
+use fs_instr::{Reg, read_instr, write_instr};
 use std::alloc::{AllocError, Global};
 use std::test::Fail;
 
@@ -37,6 +36,16 @@ fn prints_what_it_reads(rt: HostRuntime) -> Result<(), Fail> {
         ("jal zero,L", "jal x0,L0"),
         ("addi x5,x5,-2048", "addi x5,x5,-2048"),
         ("sw x5 , 4 (x6) (* c *)\n", "sw x5,4(x6)"),
+    ] {
+        let found = printed(rt.alloc(), text)?;
+        assert_eq!(rt; found.as_str(), wanted, "at {text}");
+    }
+    Ok(())
+}
+
+#[test]
+fn refuses_what_it_does_not_read(rt: HostRuntime) -> Result<(), Fail> {
+    for (text, wanted) in [
         ("lr.w.rl x5,(x6)", ANNOTATION),
         ("sc.w.aq x5,x7,0(x6)", ANNOTATION),
         ("lr.w.rl x5,4(x6)", SYNTAX),
@@ -65,34 +74,29 @@ fn prints_what_it_reads(rt: HostRuntime) -> Result<(), Fail> {
     Ok(())
 }
 
-#[test]
-fn gives_the_roles(rt: HostRuntime) -> Result<(), Fail> {
-    let Ok(parsed) = read_instr("amoadd.w a0,zero,(t0)") else {
-        assert!(&rt; false);
-        return Ok(());
-    };
-    let amo = parsed.instr;
-    assert_eq!(&rt; amo.dest(), Reg::of("x10"));
-    assert_eq!(&rt; amo.sources(), [Reg::of("x5"), None]);
-    assert_eq!(&rt; amo.address_source(), Reg::of("x5"));
-    assert_eq!(&rt; amo.data_source(), None);
-    assert!(&rt; amo.is_memory() && !amo.carries() && !amo.is_conditional());
-    assert!(&rt; amo.target().is_none());
-    let jump = Instr::Jump { target: 0 }.with_target(7);
-    assert_eq!(&rt; jump.target(), Some(7));
-    assert_eq!(&rt; Op::of("j"), Some(Op::J));
-    assert_eq!(&rt; Letters::ALL.text(), "iorw");
-    assert_eq!(&rt; Reg::x(31).number(), 31);
-    Ok(())
+// Are these the register that the instruction writes, and the sources of its address and of its word? An empty name stands for none.
+fn has_roles(text: &str, dest: &str, address: &str, data: &str) -> bool {
+    match read_instr(text) {
+        Ok(parsed) => {
+            parsed.instr.dest() == Reg::of(dest)
+                && parsed.instr.address_source() == Reg::of(address)
+                && parsed.instr.data_source() == Reg::of(data)
+        }
+        Err(_) => false,
+    }
 }
 
 #[test]
-fn reads_a_label(rt: HostRuntime) -> Result<(), Fail> {
-    let (cell, closed) = tokens(rt.alloc(), b"beqz t6,LC00", 3)?;
-    match read_tokens(&cell) {
-        Ok(parsed) => assert_eq!(&rt; parsed.label, Some("LC00")),
-        Err(refused) => assert_eq!(&rt; refused, Refused::Form),
+fn gives_the_roles(rt: HostRuntime) {
+    for (text, dest, address, data) in [
+        ("amoadd.w a0,zero,(t0)", "x10", "x5", ""),
+        ("amoadd.w a0,a1,(t0)", "x10", "x5", "x11"),
+        ("lw x7,4(x6)", "x7", "x6", ""),
+        ("sw x7,4(x6)", "", "x6", "x7"),
+        ("addi x7,x6,1", "x7", "", ""),
+        ("bnez x5,L", "", "", ""),
+        ("fence rw,w", "", "", ""),
+    ] {
+        assert!(rt; has_roles(text, dest, address, data), "of {text}");
     }
-    assert!(&rt; closed);
-    Ok(())
 }

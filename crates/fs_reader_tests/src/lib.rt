@@ -1,4 +1,4 @@
-//! Tests of the layers of the reader by themselves: on bytes, kinds and prices, sections, conditions, instructions, cells, and the printed form.
+//! Tests of the layers of the reader by themselves: on bytes, prices, sections, conditions, instructions and cells.
 //! They stand apart, so that no layer is proved twice for the sake of its tests.
 #![tactic(auto)]
 
@@ -14,5 +14,3 @@ mod form;
 mod instr;
 #[cfg(test)]
 mod kinds;
-#[cfg(test)]
-mod syntax;

@@ -1,5 +1,5 @@
-//! Tests of `solve`: what it prints for tests known from the literature, and that its answers are those of a plain program that tries
-//! all placements.
+//! Tests of `solve`: what it prints for tests known from the literature and out of thin air, and that its answers are those of a plain
+//! program that tries all placements.
 #![tactic(auto)]
 
 #[cfg(test)]

@@ -152,13 +152,13 @@ fn write_rows(first: &Column, second: &Column, text: &mut String) -> Result<(), 
 }
 
 /// The test of this number. Its outcome is mostly a cycle of two harts: each one's last access comes before the other's first one. One
-/// in 32 has five memory instructions, and the others four.
+/// in nine has five memory instructions, and the others four.
 pub(crate) fn made_test(alloc: Global, number: usize) -> Result<String, AllocError> {
     let mut digits = Digits {
         rest: scrambled(number),
     };
     let first = column_of(alloc, 0, 2, &mut digits)?;
-    let count = if number % 32 == 0 { 3 } else { 2 };
+    let count = if number % 9 == 0 { 3 } else { 2 };
     let second = column_of(alloc, 1, count, &mut digits)?;
     let mut text = format!(in alloc; "RISCV Made{number}\n{{\n")?;
     for hart in 0..2 {
