@@ -14,6 +14,7 @@ in them than it stumbles over.
 
 import itertools
 import json
+import math
 import re
 import sys
 
@@ -38,8 +39,16 @@ OTHER_NUMBER = object()
 """Stands for each number that isn't a whole number from 0 to 2^64 - 1. No key takes it."""
 
 
+def in_range(text):
+    """This text of a number, where a double can hold one of its size; a larger one makes no file."""
+    if math.isinf(float(text)):
+        raise ValueError(text)
+    return text
+
+
 def whole_or_other(text):
     """The whole number that JSON writes so. `-0` is none."""
+    text = in_range(text)
     if text.startswith('-') or len(text) > 20 or int(text) >= 2 ** 64:
         return OTHER_NUMBER
     return int(text)
@@ -52,7 +61,7 @@ def no_constant(text):
 
 def json_of(data):
     """The value that these bytes write, RFC 8259 in UTF-8; of a doubled key the last one counts. Else a ValueError."""
-    return json.loads(data.decode('utf-8'), parse_int=whole_or_other, parse_float=lambda text: OTHER_NUMBER,
+    return json.loads(data.decode('utf-8'), parse_int=whole_or_other, parse_float=lambda text: in_range(text) and OTHER_NUMBER,
                       parse_constant=no_constant)
 
 

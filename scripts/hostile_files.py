@@ -1,10 +1,12 @@
 """Hostile files for `rvfence place` and `rvfence solve`, and hostile witnesses for `rvfence order`, each with its answer: the line of
 its fault, or READ, or what `order` says. The answers are those of docs/FORMAT.md. None is taken from the program: they are derived where
 the file is made, as the comments say, and for the files that are changed or composed by a second reader of the formats."""
+import json
 import os
 import random
 import re
 
+import check_certificate
 from reference import ANSWERED, READ, fault_of, is_witness
 
 TOP = os.path.dirname(os.path.dirname(os.path.realpath(__file__)))
@@ -479,6 +481,65 @@ def witnesses():
             yield f"a witness with byte {at} {byte:#04x}", text, ANSWERED if is_witness(text, 2) else WITNESS
     yield from witness_signs()
     yield from witness_parts()
+
+
+class CertificateJudge:
+    """What `check` answers to a certificate of SB, by scripts/check_certificate.py."""
+
+    def __init__(self):
+        self.test = check_certificate.read(f"{TOP}/examples/SB.litmus", check_certificate.test_of)
+        self.prices = check_certificate.read(f"{TOP}/examples/prices.json", check_certificate.prices_of)
+
+    def verdict(self, text):
+        try:
+            checker = check_certificate.Checker(self.test, self.prices, check_certificate.certificate_of(text))
+            checker.check()
+        except check_certificate.NotACertificate:
+            return "fault F18 BadCertificate"
+        except check_certificate.Refused as reason:
+            return f"no: {reason}"
+        return "\n".join(["yes", *checker.lines()])
+
+
+def large_certificates(whole):
+    """Certificates of SB with much of one thing, in which nothing may take more time or memory than the bytes."""
+    cycle, witness = whole["cycles"][0], whole["witnesses"][0]
+    yield "8,000 cycles", dict(whole, cycles=[cycle] * 8_000)
+    yield "a cycle of 65 links", dict(whole, cycles=[(cycle * 17)[:65]])
+    yield "a cycle of 64 links", dict(whole, cycles=[cycle * 16])
+    yield "10,000 witnesses", dict(whole, witnesses=whole["witnesses"] + [witness] * 10_000)
+    yield "200,000 items", dict(whole, tree=["c"] * 200_000)
+    yield "200,000 splits", dict(whole, tree=[0, 1] * 100_000)
+    yield "100,000 items behind", dict(whole, tree=whole["tree"] + ["c"] * 100_000)
+    yield "an item that names 200,000 witnesses", dict(whole, tree=[["b", [0] * 200_000], *whole["tree"][1:]])
+    yield "items that name 10,000 witnesses each", dict(whole, tree=[["b", [1] * 10_000] if it == ["b", [1]] else it for it in whole["tree"]])
+    yield "an order of 100,000 operations", dict(whole, witnesses=[dict(witness, order=["P0:2"] * 100_000)])
+    yield "100,000 lists of choices", dict(whole, witnesses=[dict(witness, choices=[[]] * 100_000)])
+    yield "a list of 100,000 choices", dict(whole, witnesses=[dict(witness, choices=[[0] * 100_000, [0]])])
+    yield "100,000 fences", dict(whole, answer={"cost": 18, "fences": ["P0:2=w,r"] * 100_000})
+    yield "a fence of 1,000,000 bytes", dict(whole, answer={"cost": 18, "fences": ["P0:2=w,r" * 125_000]})
+    yield "a name of 1,000,000 bytes", dict(whole, cycles=[[["P" + "0" * 1_000_000 + ":1", "p4"], *cycle[1:]]])
+    yield "a name past the last number", dict(whole, cycles=[[["P0:" + "9" * 500_000, "p4"], *cycle[1:]]])
+
+
+def certificates():
+    """Every beginning of a certificate for SB, and the certificate with each byte replaced by some telling ones; then the large ones."""
+    judge = CertificateJudge()
+    with open(f"{TOP}/examples/certificates/SB.json", encoding="utf-8") as file:
+        read = json.load(file)
+    whole = json.dumps(read, separators=(",", ":")).encode()
+    for count in range(len(whole)):
+        yield f"the first {count} bytes of a certificate", whole[:count], judge.verdict(whole[:count])
+    for at in range(len(whole)):
+        for byte in b'"[]{,: 0129w\xff':
+            text = whole[:at] + bytes([byte]) + whole[at + 1 :]
+            yield f"a certificate with byte {at} {byte:#04x}", text, judge.verdict(text)
+    for name, certificate in large_certificates(read):
+        text = json.dumps(certificate, separators=(",", ":")).encode()
+        yield f"a certificate with {name}", text, judge.verdict(text)
+    for sign in (b"[", b'{"', b'{"tree":', b'"', b" ", b"0", b"[[", b"\xff"):
+        text = sign * (1_048_576 // len(sign))
+        yield f"a mebibyte of {sign!r} for a certificate", text, "fault F18 BadCertificate"
 
 
 # All the kinds of hostile tests.
