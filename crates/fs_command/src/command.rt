@@ -139,7 +139,7 @@ const NODES_HELP: &str = "Most nodes that the search may make, 1 to 1000000";
 const MOST_NODES: u32 = 1_000_000;
 
 /// What a command line asks for. Files go by their paths.
-#[derive(Debug, Drop)]
+#[derive(Drop)]
 pub enum Request<'a> {
     Place(Place<'a>),
     Order(Order<'a>),
@@ -148,7 +148,7 @@ pub enum Request<'a> {
 }
 
 /// What `place` was asked for.
-#[derive(Debug, Drop)]
+#[derive(Drop)]
 pub struct Place<'a> {
     pub test: &'a str,
     pub fences: Vec<String>,
@@ -156,7 +156,7 @@ pub struct Place<'a> {
 }
 
 /// What `order` was asked for.
-#[derive(Debug, Drop)]
+#[derive(Drop)]
 pub struct Order<'a> {
     pub test: &'a str,
     pub witness: &'a str,
@@ -164,7 +164,7 @@ pub struct Order<'a> {
 }
 
 /// What `solve` was asked for.
-#[derive(Debug, Drop)]
+#[derive(Drop)]
 pub struct Solve<'a> {
     pub test: &'a str,
     pub prices: &'a str,
@@ -175,7 +175,7 @@ pub struct Solve<'a> {
 }
 
 /// What `check` was asked for.
-#[derive(Debug, Drop)]
+#[derive(Drop)]
 pub struct Check<'a> {
     pub test: &'a str,
     pub prices: &'a str,
@@ -185,6 +185,10 @@ pub struct Check<'a> {
 /// The request that the words make, the program's name first. An error holds the text for the user, and help is one.
 pub fn read_request<'a>(alloc: Global, words: &'a [String]) -> Result<Request<'a>, Error> {
     let matches = whole_command(alloc)?.try_get_matches_from(words)?;
+    Ok(request_of(alloc, &matches)?)
+}
+
+fn request_of<'a>(alloc: Global, matches: &ArgMatches<'a>) -> Result<Request<'a>, AllocError> {
     if let Some(found) = matches.subcommand_matches("order") {
         return Ok(Request::Order(order_of(alloc, found)?));
     }
@@ -194,11 +198,8 @@ pub fn read_request<'a>(alloc: Global, words: &'a [String]) -> Result<Request<'a
     if let Some(found) = matches.subcommand_matches("check") {
         return Ok(Request::Check(check_of(found)));
     }
-    let place = match matches.subcommand_matches("place") {
-        Some(found) => place_of(alloc, found)?,
-        None => place_of(alloc, &matches)?,
-    };
-    Ok(Request::Place(place))
+    let found = matches.subcommand_matches("place").unwrap_or(matches);
+    Ok(Request::Place(place_of(alloc, found)?))
 }
 
 fn place_of<'a>(alloc: Global, found: &ArgMatches<'a>) -> Result<Place<'a>, AllocError> {
@@ -247,72 +248,84 @@ fn whole_command<'a>(alloc: Global) -> Result<Command<'a>, AllocError> {
         .about("Fences for RISC-V litmus tests under RVWMO")
         .after_help(PROGRAM_HELP)
         .subcommand_required(true);
-    program
-        .subcommand(solve_command(alloc)?)?
-        .subcommand(place_command(alloc)?)?
-        .subcommand(order_command(alloc)?)?
-        .subcommand(check_command(alloc)?)
+    let program = with_command(Ok(program), solve_command(alloc));
+    let program = with_command(program, place_command(alloc));
+    let program = with_command(program, order_command(alloc));
+    with_command(program, check_command(alloc))
+}
+
+/// The program with one more command, where memory was there for both.
+fn with_command<'a>(
+    program: Result<Command<'a>, AllocError>,
+    command: Result<Command<'a>, AllocError>,
+) -> Result<Command<'a>, AllocError> {
+    program?.subcommand(command?)
+}
+
+/// The command with one more argument, where memory was there for it so far.
+fn with_argument<'a>(
+    command: Result<Command<'a>, AllocError>,
+    argument: Arg<'a>,
+) -> Result<Command<'a>, AllocError> {
+    command?.arg(argument)
 }
 
 fn place_command<'a>(alloc: Global) -> Result<Command<'a>, AllocError> {
-    let file = Arg::new(alloc, "FILE").help(FILE_HELP).required(true);
-    let fence = Arg::new(alloc, "FENCE").help(FENCE_HELP).num_args(0..);
-    let prices = Arg::new(alloc, "prices")
-        .long("prices")
-        .value_name("PRICES")
-        .help(PRICES_HELP);
-    Command::new(alloc, "place")
+    let command = Command::new(alloc, "place")
         .about(PLACE_ABOUT)
-        .after_help(PLACE_HELP)
-        .arg(file)?
-        .arg(fence)?
-        .arg(prices)
+        .after_help(PLACE_HELP);
+    let command = with_argument(Ok(command), required(alloc, "FILE", FILE_HELP));
+    let command = with_argument(command, fences(alloc, FENCE_HELP));
+    with_argument(command, option(alloc, "prices", "PRICES", PRICES_HELP))
 }
 
 fn order_command<'a>(alloc: Global) -> Result<Command<'a>, AllocError> {
-    let file = Arg::new(alloc, "FILE").help(FILE_HELP).required(true);
-    let witness = Arg::new(alloc, "WITNESS").help(WITNESS_HELP).required(true);
-    let fence = Arg::new(alloc, "FENCE").help(FENCE_HELP).num_args(0..);
-    Command::new(alloc, "order")
+    let command = Command::new(alloc, "order")
         .about(ORDER_ABOUT)
-        .after_help(ORDER_HELP)
-        .arg(file)?
-        .arg(witness)?
-        .arg(fence)
+        .after_help(ORDER_HELP);
+    let command = with_argument(Ok(command), required(alloc, "FILE", FILE_HELP));
+    let command = with_argument(command, required(alloc, "WITNESS", WITNESS_HELP));
+    with_argument(command, fences(alloc, FENCE_HELP))
 }
 
 fn solve_command<'a>(alloc: Global) -> Result<Command<'a>, AllocError> {
-    let file = Arg::new(alloc, "FILE").help(FILE_HELP).required(true);
-    let prices = Arg::new(alloc, "PRICES").help(PRICES_HELP).required(true);
-    let nodes = Arg::new(alloc, "nodes")
-        .long("nodes")
-        .value_name("N")
-        .help(NODES_HELP)
-        .value_parser(value_parser!(u32).range(1..=i64::from(MOST_NODES)))
-        .default_value("1000000");
-    let certificate = Arg::new(alloc, "cert")
-        .long("cert")
-        .value_name("PATH")
-        .help(CERT_HELP);
-    Command::new(alloc, "solve")
+    let command = Command::new(alloc, "solve")
         .about(SOLVE_ABOUT)
-        .after_help(SOLVE_HELP)
-        .arg(file)?
-        .arg(prices)?
-        .arg(nodes)?
-        .arg(certificate)
+        .after_help(SOLVE_HELP);
+    let command = with_argument(Ok(command), required(alloc, "FILE", FILE_HELP));
+    let command = with_argument(command, required(alloc, "PRICES", PRICES_HELP));
+    let command = with_argument(command, nodes(alloc, NODES_HELP));
+    with_argument(command, option(alloc, "cert", "PATH", CERT_HELP))
 }
 
 fn check_command<'a>(alloc: Global) -> Result<Command<'a>, AllocError> {
-    let file = Arg::new(alloc, "FILE").help(FILE_HELP).required(true);
-    let prices = Arg::new(alloc, "PRICES").help(PRICES_HELP).required(true);
-    let certificate = Arg::new(alloc, "CERTIFICATE")
-        .help(CERTIFICATE_HELP)
-        .required(true);
-    Command::new(alloc, "check")
+    let command = Command::new(alloc, "check")
         .about(CHECK_ABOUT)
-        .after_help(CHECK_HELP)
-        .arg(file)?
-        .arg(prices)?
-        .arg(certificate)
+        .after_help(CHECK_HELP);
+    let command = with_argument(Ok(command), required(alloc, "FILE", FILE_HELP));
+    let command = with_argument(command, required(alloc, "PRICES", PRICES_HELP));
+    with_argument(command, required(alloc, "CERTIFICATE", CERTIFICATE_HELP))
+}
+
+/// A word that must be there.
+fn required<'a>(alloc: Global, name: &'a str, help: &'a str) -> Arg<'a> {
+    Arg::new(alloc, name).help(help).required(true)
+}
+
+/// A word after `--`, with a value.
+fn option<'a>(alloc: Global, name: &'a str, value: &'a str, help: &'a str) -> Arg<'a> {
+    Arg::new(alloc, name)
+        .long(name)
+        .value_name(value)
+        .help(help)
+}
+
+fn fences<'a>(alloc: Global, help: &'a str) -> Arg<'a> {
+    Arg::new(alloc, "FENCE").help(help).num_args(0..)
+}
+
+fn nodes<'a>(alloc: Global, help: &'a str) -> Arg<'a> {
+    option(alloc, "nodes", "N", help)
+        .value_parser(value_parser!(u32).range(1..=i64::from(MOST_NODES)))
+        .default_value("1000000")
 }

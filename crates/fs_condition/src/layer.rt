@@ -47,7 +47,7 @@ fn product<'a>(
     let subformula = denied(alloc, denials, unit)?;
     match before {
         None => Ok(subformula),
-        Some(before) => Ok(before.connected(alloc, Connective::And, subformula)?),
+        Some(before) => before.connected(alloc, Connective::And, subformula),
     }
 }
 
@@ -109,7 +109,7 @@ impl<'a> Layer<'a> {
         let subformula = product(alloc, before, denials, unit)?;
         match sum {
             None => Ok(subformula),
-            Some(sum) => Ok(sum.connected(alloc, Connective::Or, subformula)?),
+            Some(sum) => sum.connected(alloc, Connective::Or, subformula),
         }
     }
 }

@@ -139,7 +139,7 @@ fn after<'a>(
                 below,
             }))
         }
-        Kind::Sign(Mark::CloseParen) => Ok(close(alloc, unit, layer, below)?),
+        Kind::Sign(Mark::CloseParen) => close(alloc, unit, layer, below),
         _ => Ok(None),
     }
 }
@@ -197,23 +197,23 @@ fn step<'a>(
         below,
     } = reader;
     match place {
-        Place::Begin => Ok(begin(layer, below, kind)?),
+        Place::Begin => begin(layer, below, kind),
         Place::AfterNot(word) => match kind {
             Kind::Sign(Mark::Equals) => Ok(Some(named(word, layer, below))),
-            _ => Ok(begin(layer.with_denial(), below, kind)?),
+            _ => begin(layer.with_denial(), below, kind),
         },
         Place::AfterTrue(word) => match kind {
             Kind::Sign(Mark::Equals) => Ok(Some(named(word, layer, below))),
             _ => {
                 let unit = Subformula::leaf(alloc, Tree::True)?;
-                Ok(after(alloc, unit, layer, below, kind)?)
+                after(alloc, unit, layer, below, kind)
             }
         },
         Place::AfterFalse(word) => match kind {
             Kind::Sign(Mark::Equals) => Ok(Some(named(word, layer, below))),
             _ => {
                 let unit = Subformula::leaf(alloc, Tree::False)?;
-                Ok(after(alloc, unit, layer, below, kind)?)
+                after(alloc, unit, layer, below, kind)
             }
         },
         Place::InAtom(place) => match in_atom(alloc, atoms, place, kind)? {
@@ -224,7 +224,7 @@ fn step<'a>(
             })),
             None => Ok(None),
         },
-        Place::AfterUnit(unit) => Ok(after(alloc, unit, layer, below, kind)?),
+        Place::AfterUnit(unit) => after(alloc, unit, layer, below, kind),
     }
 }
 

@@ -1,6 +1,8 @@
 //! The operands of an instruction, read part by part. An instruction has fewer than 20 tokens.
 
 ghost use Rattle.std.specs.Prelude.{◌≡◌, option_map};
+ghost use Rattle.fs_instr.specs.declared.operands.Operands.{Operands};
+ghost use Rattle.fs_instr.specs.declared.operands.OperandPart.TheVariants.{Immediate, Below, NoOffset};
 ghost use Rattle.fs_instr.specs.Operands.{filled, toks, take_word, take_name, is_mark, take_sign, take_letters, take_unsigned, take_number, immediate_of, below_of, constant_of, read_part, read_parts, blank};
 
 use crate::reg::Reg;
@@ -8,7 +10,7 @@ use fs_mnemonics::Letters;
 use fs_tokens::{Kind, Mark, Token, number_of};
 
 /// A part of the operands, in the order of the text.
-#[derive(Clone, Copy, Debug, PartialEq, Eq)]
+#[derive(Clone, Copy)]
 pub enum OperandPart {
     /// The destination.
     Rd,
@@ -37,7 +39,7 @@ pub enum OperandPart {
 }
 
 /// The operands of an instruction; those that its row lacks are as in `BLANK`.
-#[derive(Clone, Copy, Debug, PartialEq, Eq)]
+#[derive(Clone, Copy)]
 pub struct Operands {
     pub rd: Reg,
     pub first: Reg,
@@ -196,6 +198,48 @@ fn constant_of(minus: bool, number: u32) -> u32
     }
 }
 
+fn read_immediate<'b, 'a>(
+    operands: &mut Operands,
+    label: Option<&'a str>,
+    tokens: &'b [Token<'a>],
+) -> Option<(Option<&'a str>, &'b [Token<'a>])>
+    ensures { option_map (λ x. (filled operands.new x.0, toks x.1.now)) result ≡ read_part Immediate (filled operands.old label.entry) (toks tokens.now) }
+{
+    let (minus, number, rest) = take_number(tokens)?;
+    operands.imm = immediate_of(minus, number)?;
+    Some((label, rest))
+}
+
+fn read_below<'b, 'a>(
+    limit: u32,
+    operands: &mut Operands,
+    label: Option<&'a str>,
+    tokens: &'b [Token<'a>],
+) -> Option<(Option<&'a str>, &'b [Token<'a>])>
+    ensures { option_map (λ x. (filled operands.new x.0, toks x.1.now)) result ≡ read_part (Below limit) (filled operands.old label.entry) (toks tokens.now) }
+{
+    let (minus, number, rest) = take_number(tokens)?;
+    operands.constant = below_of(limit, minus, number)?;
+    Some((label, rest))
+}
+
+fn read_no_offset<'b, 'a>(
+    label: Option<&'a str>,
+    tokens: &'b [Token<'a>],
+) -> Option<(Option<&'a str>, &'b [Token<'a>])>
+    ensures { (o : Operands) → option_map (λ x. (filled o x.0, toks x.1.now)) result ≡ read_part NoOffset (filled o label.entry) (toks tokens.now) }
+{
+    if take_sign(Mark::OpenParen, tokens).is_some() {
+        return Some((label, tokens));
+    }
+    let (_, number, rest) = take_number(tokens)?;
+    if number == 0 {
+        Some((label, rest))
+    } else {
+        None
+    }
+}
+
 #[tactic(auto, unfolding(crate::specs::Operands::take_register))]
 fn read_part<'b, 'a>(
     part: OperandPart,
@@ -234,32 +278,14 @@ fn read_part<'b, 'a>(
             let rest = take_sign(mark, tokens)?;
             Some((label, rest))
         }
-        OperandPart::Immediate => {
-            let (minus, number, rest) = take_number(tokens)?;
-            operands.imm = immediate_of(minus, number)?;
-            Some((label, rest))
-        }
-        OperandPart::Below(limit) => {
-            let (minus, number, rest) = take_number(tokens)?;
-            operands.constant = below_of(limit, minus, number)?;
-            Some((label, rest))
-        }
+        OperandPart::Immediate => read_immediate(operands, label, tokens),
+        OperandPart::Below(limit) => read_below(limit, operands, label, tokens),
         OperandPart::Constant => {
             let (minus, number, rest) = take_number(tokens)?;
             operands.constant = constant_of(minus, number);
             Some((label, rest))
         }
-        OperandPart::NoOffset => {
-            if take_sign(Mark::OpenParen, tokens).is_some() {
-                return Some((label, tokens));
-            }
-            let (_, number, rest) = take_number(tokens)?;
-            if number == 0 {
-                Some((label, rest))
-            } else {
-                None
-            }
-        }
+        OperandPart::NoOffset => read_no_offset(label, tokens),
         OperandPart::Label => {
             let (word, rest) = take_name(tokens)?;
             Some((Some(word), rest))

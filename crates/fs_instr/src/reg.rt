@@ -1,6 +1,7 @@
 //! Registers, by number and by the names of the calling convention (the manual's assembly programmer's handbook).
 
-ghost use Rattle.std.specs.Prelude.{◌≡◌, ◌<◌};
+ghost use Rattle.std.specs.Prelude.{◌≡◌, ◌<◌, map, nat_lt, true};
+ghost use Rattle.std.specs.List.{list_all};
 ghost use Rattle.fs_mnemonics.specs.Rows.{look_up};
 ghost use Rattle.fs_instr.specs.Registers.{low_x, middle_x, high_x, first_names, arguments, last_names, named, register_of};
 
@@ -24,147 +25,140 @@ impl Model for Reg {
     ghost inverse = { λ n. record { number = n } };
 }
 
-macro_rules! registers {
-    (low_x $use:ident $($arguments:tt)*) => {
-        $use! { [$($arguments)*]
-            "x0" => 0;
-            "x1" => 1;
-            "x2" => 2;
-            "x3" => 3;
-            "x4" => 4;
-            "x5" => 5;
-            "x6" => 6;
-            "x7" => 7;
-            "x8" => 8;
-            "x9" => 9;
-            "x10" => 10;
+// The register of the first row with this word.
+fn look_up(rows: &[(&str, u8)], word: &str) -> Option<Reg>
+    requires { list_all (λ row. nat_lt row.1 32) rows.now ≡ true }
+    ensures { result ≡ look_up (map (λ row. (row.0.now, row.1)) rows.now) word.now }
+{
+    match rows.split_first() {
+        Some(((name, number), rest)) => {
+            if word == *name {
+                Some(Reg { number: *number })
+            } else {
+                look_up(rest, word)
+            }
         }
-    };
-    (middle_x $use:ident $($arguments:tt)*) => {
-        $use! { [$($arguments)*]
-            "x11" => 11;
-            "x12" => 12;
-            "x13" => 13;
-            "x14" => 14;
-            "x15" => 15;
-            "x16" => 16;
-            "x17" => 17;
-            "x18" => 18;
-            "x19" => 19;
-            "x20" => 20;
-            "x21" => 21;
-        }
-    };
-    (high_x $use:ident $($arguments:tt)*) => {
-        $use! { [$($arguments)*]
-            "x22" => 22;
-            "x23" => 23;
-            "x24" => 24;
-            "x25" => 25;
-            "x26" => 26;
-            "x27" => 27;
-            "x28" => 28;
-            "x29" => 29;
-            "x30" => 30;
-            "x31" => 31;
-        }
-    };
-    (first_name $use:ident $($arguments:tt)*) => {
-        $use! { [$($arguments)*]
-            "zero" => 0;
-            "ra" => 1;
-            "sp" => 2;
-            "gp" => 3;
-            "tp" => 4;
-            "t0" => 5;
-            "t1" => 6;
-            "t2" => 7;
-            "s0" => 8;
-            "fp" => 8;
-            "s1" => 9;
-        }
-    };
-    (argument $use:ident $($arguments:tt)*) => {
-        $use! { [$($arguments)*]
-            "a0" => 10;
-            "a1" => 11;
-            "a2" => 12;
-            "a3" => 13;
-            "a4" => 14;
-            "a5" => 15;
-            "a6" => 16;
-            "a7" => 17;
-        }
-    };
-    (last_name $use:ident $($arguments:tt)*) => {
-        $use! { [$($arguments)*]
-            "s2" => 18;
-            "s3" => 19;
-            "s4" => 20;
-            "s5" => 21;
-            "s6" => 22;
-            "s7" => 23;
-            "s8" => 24;
-            "s9" => 25;
-            "s10" => 26;
-            "s11" => 27;
-            "t3" => 28;
-            "t4" => 29;
-            "t5" => 30;
-            "t6" => 31;
-        }
-    };
-}
-
-macro_rules! find {
-    ([$word:ident] $($text:literal => $number:literal;)*) => {
-        match $word {
-            $($text => Some(Reg { number: $number }),)*
-            _ => None,
-        }
-    };
+        None => None,
+    }
 }
 
 #[tactic(auto, unfolding(crate::specs::Registers::low_x))]
 fn low_x(word: &str) -> Option<Reg>
     ensures { result ≡ look_up low_x word.now }
 {
-    registers!(low_x find word)
+    let rows = [
+        ("x0", 0),
+        ("x1", 1),
+        ("x2", 2),
+        ("x3", 3),
+        ("x4", 4),
+        ("x5", 5),
+        ("x6", 6),
+        ("x7", 7),
+        ("x8", 8),
+        ("x9", 9),
+        ("x10", 10),
+    ];
+    look_up(&rows, word)
 }
 
 #[tactic(auto, unfolding(crate::specs::Registers::middle_x))]
 fn middle_x(word: &str) -> Option<Reg>
     ensures { result ≡ look_up middle_x word.now }
 {
-    registers!(middle_x find word)
+    let rows = [
+        ("x11", 11),
+        ("x12", 12),
+        ("x13", 13),
+        ("x14", 14),
+        ("x15", 15),
+        ("x16", 16),
+        ("x17", 17),
+        ("x18", 18),
+        ("x19", 19),
+        ("x20", 20),
+        ("x21", 21),
+    ];
+    look_up(&rows, word)
 }
 
 #[tactic(auto, unfolding(crate::specs::Registers::high_x))]
 fn high_x(word: &str) -> Option<Reg>
     ensures { result ≡ look_up high_x word.now }
 {
-    registers!(high_x find word)
+    let rows = [
+        ("x22", 22),
+        ("x23", 23),
+        ("x24", 24),
+        ("x25", 25),
+        ("x26", 26),
+        ("x27", 27),
+        ("x28", 28),
+        ("x29", 29),
+        ("x30", 30),
+        ("x31", 31),
+    ];
+    look_up(&rows, word)
 }
 
 #[tactic(auto, unfolding(crate::specs::Registers::first_names))]
 fn first_name(word: &str) -> Option<Reg>
     ensures { result ≡ look_up first_names word.now }
 {
-    registers!(first_name find word)
+    let rows = [
+        ("zero", 0),
+        ("ra", 1),
+        ("sp", 2),
+        ("gp", 3),
+        ("tp", 4),
+        ("t0", 5),
+        ("t1", 6),
+        ("t2", 7),
+        ("s0", 8),
+        ("fp", 8),
+        ("s1", 9),
+    ];
+    look_up(&rows, word)
 }
 
 #[tactic(auto, unfolding(crate::specs::Registers::arguments))]
 fn argument(word: &str) -> Option<Reg>
     ensures { result ≡ look_up arguments word.now }
 {
-    registers!(argument find word)
+    let rows = [
+        ("a0", 10),
+        ("a1", 11),
+        ("a2", 12),
+        ("a3", 13),
+        ("a4", 14),
+        ("a5", 15),
+        ("a6", 16),
+        ("a7", 17),
+    ];
+    look_up(&rows, word)
 }
 
 #[tactic(auto, unfolding(crate::specs::Registers::last_names))]
 fn last_name(word: &str) -> Option<Reg>
     ensures { result ≡ look_up last_names word.now }
 {
-    registers!(last_name find word)
+    let rows = [
+        ("s2", 18),
+        ("s3", 19),
+        ("s4", 20),
+        ("s5", 21),
+        ("s6", 22),
+        ("s7", 23),
+        ("s8", 24),
+        ("s9", 25),
+        ("s10", 26),
+        ("s11", 27),
+        ("t3", 28),
+        ("t4", 29),
+        ("t5", 30),
+        ("t6", 31),
+    ];
+    look_up(&rows, word)
 }
 
 impl Reg {

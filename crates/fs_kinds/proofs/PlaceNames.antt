@@ -36,6 +36,9 @@ le_of_not_lt {n} {m} not_less = let less : m < suc n = lt_of_not-le not_less in 
 some_of : (bs : List ℕ) → is_numeral bs ≡ true → 0 < length bs
 some_of bs numeral = grind (arith, nat_tests)
 
+pub none_some : {A : Type 0} {x : A} → None ≡ Some x → ⊥
+none_some e = absurd (cc)
+
 small : (n : ℕ) → n < 256 → byte_of n ≡ Some n
 small n low = grind (arith, nat_tests)
 

@@ -1,6 +1,6 @@
 //! The kinds of fence, and which pairs of operations they order.
-ghost use Rattle.std.specs.Prelude.{◌≡◌, ◌≢◌, ◌<◌, IfSome, IfNone, Some, slice_get};
-ghost use Rattle.fs_kinds.specs.Kind.{orders, no_stronger, table_index, word, kind_of};
+ghost use Rattle.std.specs.Prelude.{◌≡◌, ◌≢◌, ◌<◌, IfSome, IfNone, Some, slice_get, ◌&&◌};
+ghost use Rattle.fs_kinds.specs.Kind.{ReadRead, ReadWrite, WriteRead, WriteWrite, pairs_of, orders, no_stronger, table_index, word, kind_of};
 
 /// A kind of fence, as `fence p,s` of the base instruction set with letters from `r` and `w`, or
 /// `fence.tso`. The variants stand in table order.
@@ -33,6 +33,45 @@ pub enum Kind {
 pub struct Classes {
     pub reads: bool,
     pub writes: bool,
+}
+
+/// Which pairs of operations are ordered: an operation of the first class before one of the second.
+#[derive(Clone, Copy)]
+struct Pairs {
+    read_read: bool,
+    read_write: bool,
+    write_read: bool,
+    write_write: bool,
+}
+
+const READ: Classes = Classes {
+    reads: true,
+    writes: false,
+};
+
+const WRITE: Classes = Classes {
+    reads: false,
+    writes: true,
+};
+
+const BOTH: Classes = Classes {
+    reads: true,
+    writes: true,
+};
+
+/// Each class of the first before each class of the second.
+fn product(first: Classes, second: Classes) -> Pairs
+    ensures read_read { result.read_read ≡ (first.reads && second.reads) }
+    ensures read_write { result.read_write ≡ (first.reads && second.writes) }
+    ensures write_read { result.write_read ≡ (first.writes && second.reads) }
+    ensures write_write { result.write_write ≡ (first.writes && second.writes) }
+{
+    Pairs {
+        read_read: first.reads && second.reads,
+        read_write: first.reads && second.writes,
+        write_read: first.writes && second.reads,
+        write_write: first.writes && second.writes,
+    }
 }
 
 /// The kinds with their words, in table order.
@@ -84,39 +123,54 @@ impl Kind {
         kinds!(of text)
     }
 
+    /// The pairs of operations that a fence of this kind orders.
+    fn pairs(self) -> Pairs
+        ensures read_read { result.read_read ≡ pairs_of self ReadRead }
+        ensures read_write { result.read_write ≡ pairs_of self ReadWrite }
+        ensures write_read { result.write_read ≡ pairs_of self WriteRead }
+        ensures write_write { result.write_write ≡ pairs_of self WriteWrite }
+    {
+        match self {
+            Kind::RR => product(READ, READ),
+            Kind::RW => product(READ, WRITE),
+            Kind::RRw => product(READ, BOTH),
+            Kind::WR => product(WRITE, READ),
+            Kind::WW => product(WRITE, WRITE),
+            Kind::WRw => product(WRITE, BOTH),
+            Kind::RwR => product(BOTH, READ),
+            Kind::RwW => product(BOTH, WRITE),
+            Kind::RwRw => product(BOTH, BOTH),
+            Kind::Tso => Pairs {
+                read_read: true,
+                read_write: true,
+                write_read: false,
+                write_write: true,
+            },
+        }
+    }
+
     /// Does a fence of this kind order an operation of classes `first` before one of classes `second`?
     pub fn orders(self, first: Classes, second: Classes) -> bool
         ensures { result ≡ orders self first second }
     {
-        match self {
-            Kind::RR => first.reads && second.reads,
-            Kind::RW => first.reads && second.writes,
-            Kind::RRw => first.reads && (second.reads || second.writes),
-            Kind::WR => first.writes && second.reads,
-            Kind::WW => first.writes && second.writes,
-            Kind::WRw => first.writes && (second.reads || second.writes),
-            Kind::RwR => (first.reads || first.writes) && second.reads,
-            Kind::RwW => (first.reads || first.writes) && second.writes,
-            Kind::RwRw => (first.reads || first.writes) && (second.reads || second.writes),
-            Kind::Tso => {
-                first.reads && (second.reads || second.writes) || first.writes && second.writes
-            }
-        }
+        let ordered = self.pairs();
+        let both = product(first, second);
+        ordered.read_read && both.read_read
+            || ordered.read_write && both.read_write
+            || ordered.write_read && both.write_read
+            || ordered.write_write && both.write_write
     }
+
     /// Is each pair of operations that this kind orders ordered by `other` too?
     pub fn no_stronger(self, other: Kind) -> bool
         ensures { result ≡ no_stronger self other }
     {
-        let read = Classes {
-            reads: true,
-            writes: false,
-        };
-        let write = Classes {
-            reads: false,
-            writes: true,
-        };
-        let keeps = |first, second| !self.orders(first, second) || other.orders(first, second);
-        keeps(read, read) && keeps(read, write) && keeps(write, read) && keeps(write, write)
+        let ordered = self.pairs();
+        let by_other = other.pairs();
+        (!ordered.read_read || by_other.read_read)
+            && (!ordered.read_write || by_other.read_write)
+            && (!ordered.write_read || by_other.write_read)
+            && (!ordered.write_write || by_other.write_write)
     }
 
     /// The kind's place in the table, from 0 to 9, which is its place in `ALL`.

@@ -149,8 +149,9 @@ impl Placement {
         ensures { result ≡ precedes self.now other.now }
     {
         for (entry, above) in self.as_slice().iter().zip(other.as_slice()) {
-            if entry.rank() != above.rank() {
-                return entry.rank() < above.rank();
+            let (here, there) = (entry.rank(), above.rank());
+            if here != there {
+                return here < there;
             }
         }
         false

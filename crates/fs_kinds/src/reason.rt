@@ -86,7 +86,7 @@ impl fmt::Display for Reason {
         match self {
             Reason::Choices { hart } => write!(f, "choices P{hart}"),
             Reason::Astray { hart, at } => write!(f, "astray P{hart}:{at}"),
-            Reason::Order => write!(f, "order"),
+            Reason::Order => f.write_str("order"),
             Reason::Load { load } => write!(f, "load {load}"),
             Reason::Rule {
                 rule,
@@ -94,11 +94,11 @@ impl fmt::Display for Reason {
                 second,
             } => write!(f, "rule {rule} {first} {second}"),
             Reason::Atomic { load, store } => write!(f, "atomic {load} {store}"),
-            Reason::Outcome => write!(f, "outcome"),
-            Reason::Answer => write!(f, "answer"),
-            Reason::Cycles => write!(f, "cycles"),
+            Reason::Outcome => f.write_str("outcome"),
+            Reason::Answer => f.write_str("answer"),
+            Reason::Cycles => f.write_str("cycles"),
             Reason::Cycle { index } => write!(f, "cycle {index}"),
-            Reason::Tree => write!(f, "tree"),
+            Reason::Tree => f.write_str("tree"),
             Reason::Node { index } => write!(f, "node {index}"),
             Reason::Witness { index } => write!(f, "witness {index}"),
         }

@@ -35,6 +35,18 @@ fn outcome_at(columns: usize, names: &Names, holder: Holder, word: u32) -> Outco
     }
 }
 
+// Each of the two in a box.
+fn boxed(
+    alloc: Global,
+    left: Outcome,
+    right: Outcome,
+) -> Result<(Box<Outcome>, Box<Outcome>), AllocError>
+    ensures { IfOk result (λ boxes. (boxes.0.value ≡ left) × (boxes.1.value ≡ right)) }
+{
+    let left = Box::new(alloc, left)?;
+    Ok((left, Box::new(alloc, right)?))
+}
+
 /// The condition that a tree is, in a test of harts and locations within the limits; nothing where an atom names what isn't
 /// there. Recursion goes as deep as the tree, whose depth is within the limit.
 pub fn outcome_of(
@@ -66,8 +78,8 @@ pub fn outcome_of(
             let Some(right) = outcome_of(alloc, columns, names, right)? else {
                 return Ok(None);
             };
-            let left = Box::new(alloc, left)?;
-            Ok(Some(Outcome::Both(left, Box::new(alloc, right)?)))
+            let (left, right) = boxed(alloc, left, right)?;
+            Ok(Some(Outcome::Both(left, right)))
         }
         Tree::Either(left, right) => {
             let Some(left) = outcome_of(alloc, columns, names, left)? else {
@@ -76,8 +88,8 @@ pub fn outcome_of(
             let Some(right) = outcome_of(alloc, columns, names, right)? else {
                 return Ok(None);
             };
-            let left = Box::new(alloc, left)?;
-            Ok(Some(Outcome::Either(left, Box::new(alloc, right)?)))
+            let (left, right) = boxed(alloc, left, right)?;
+            Ok(Some(Outcome::Either(left, right)))
         }
     }
 }

@@ -176,6 +176,51 @@ fn read_kept(alloc: Global, form: &Form) -> Result<Vec<HartCode>, Fault>
     read_codes(alloc, form.columns, &form.cells)
 }
 
+// The test of what was read, where it is within the limits.
+fn within_limits(
+    alloc: Global,
+    title: &str,
+    form: &Form,
+    condition: &Condition,
+    kept: &[HartCode],
+    names: &Names,
+    settings: &[Setting],
+) -> Result<Test, Fault>
+    requires codes { (codes : List (List Instr))
+        × AreCodes form.now.columns (flatten (form_of form.now).rows) codes × AreKept codes kept.now }
+    requires only { (codes : List (List Instr))
+        → AreCodes form.now.columns (flatten (form_of form.now).rows) codes → AreKept codes kept.now }
+    requires sound { (f : Fault) → ¬ IsFault form.now.columns (flatten (form_of form.now).rows) f }
+    requires named { (s : Syntax) → Means condition.now s → names.now ≡ names_in (form_of form.now) s }
+    requires set { settings_after form.now.columns names.now []
+        (entry_bindings (form_of form.now).entries) ≡ Some settings.now }
+    requires there { (s : Syntax) → Means condition.now s → are_there form.now.columns names.now (atoms_of s) ≡ true }
+    requires bound { (s : Syntax) → Means condition.now s → (f : Fault) → ¬ IsBindingFault (form_of form.now) s f }
+    ensures name { IfOk result (λ t. t.name ≡ title.now) }
+    ensures means { IfOk result (λ t. (s : Syntax) → Means condition.now s → MeanTest (form_of form.now) s t) }
+    ensures limits { IfOk result (λ t. (s : Syntax) → Means condition.now s → IsWithinLimits (form_of form.now) s t) }
+    ensures bounded { IfOk result (λ t. (s : Syntax) → Means condition.now s → IsBounded t) }
+    ensures clean { IfOk result (λ t. (s : Syntax) → Means condition.now s → (f : Fault) → ¬ IsFormFault (form_of form.now) s f) }
+    ensures first { IfErr result (λ f. f ≢ Fault.Memory → (s : Syntax) → Means condition.now s
+        → IsFirst (IsFormFault (form_of form.now) s) f) }
+{
+    if form.columns > MOST_HARTS {
+        return Err(Fault::TooBig { what: Limit::Harts });
+    }
+    let codes = read_short_codes(alloc, kept)?;
+    if names.len() > MOST_LOCATIONS {
+        return Err(Fault::TooBig {
+            what: Limit::Locations,
+        });
+    }
+    let outcome = read_outcome(alloc, form.columns, names, condition)?;
+    let quantifier = quantifier_of(form.quantifier);
+    let columns = form.columns as u32;
+    Ok(build(
+        alloc, title, columns, quantifier, codes, names, settings, outcome,
+    )?)
+}
+
 /// The test that a form and its condition mean.
 pub fn interpret<'a>(
     alloc: Global,
@@ -196,19 +241,5 @@ pub fn interpret<'a>(
     let kept = read_kept(alloc, form)?;
     let names = read_names(alloc, form, condition)?;
     let settings = read_bindings(alloc, &names, form, condition)?;
-    if form.columns > MOST_HARTS {
-        return Err(Fault::TooBig { what: Limit::Harts });
-    }
-    let codes = read_short_codes(alloc, &kept)?;
-    if names.len() > MOST_LOCATIONS {
-        return Err(Fault::TooBig {
-            what: Limit::Locations,
-        });
-    }
-    let outcome = read_outcome(alloc, form.columns, &names, condition)?;
-    let quantifier = quantifier_of(form.quantifier);
-    let columns = form.columns as u32;
-    Ok(build(
-        alloc, title, columns, quantifier, codes, &names, &settings, outcome,
-    )?)
+    within_limits(alloc, title, form, condition, &kept, &names, &settings)
 }

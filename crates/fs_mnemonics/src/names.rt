@@ -1,7 +1,7 @@
 //! The names of the instruction table (RV32I and the A extension of the unprivileged manual, 20191213), with their suffixes
 //! spelled out: a name is one of these texts, letter by letter.
 
-ghost use Rattle.std.specs.Prelude.{◌≡◌, Some};
+ghost use Rattle.std.specs.Prelude.{◌≡◌, Some, map};
 ghost use Rattle.fs_mnemonics.specs.Rows.{look_up};
 ghost use Rattle.fs_mnemonics.specs.Names.{register_names, immediate_names, branch_names, single_names, plain_names, acquiring_names, releasing_names, both_names, both_apart_names, register_text, immediate_text, branch_text, single_text, plain, acquiring, releasing, both, annotation_of, name_text, op_of, all_names};
 ghost use Rattle.std.specs.List.{IsDistinct};
@@ -238,11 +238,24 @@ macro_rules! names {
 
 macro_rules! find {
     ([$word:ident] $($text:literal => $op:expr,)*) => {
-        match $word {
-            $($text => Some($op),)*
-            _ => None,
-        }
+        look_up(&[$(($text, $op)),*], $word)
     };
+}
+
+// What the first row with this word holds.
+fn look_up(rows: &[(&str, Op)], word: &str) -> Option<Op>
+    ensures { result ≡ look_up (map (λ row. (row.0.now, row.1)) rows.now) word.now }
+{
+    match rows.split_first() {
+        Some(((name, op), rest)) => {
+            if word == *name {
+                Some(*op)
+            } else {
+                look_up(rest, word)
+            }
+        }
+        None => None,
+    }
 }
 
 #[tactic(auto, unfolding(crate::specs::Names::register_names))]

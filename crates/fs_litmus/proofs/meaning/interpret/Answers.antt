@@ -1,54 +1,6 @@
-use Rattle.std.proofs.Common.{◌<◌, ◌≤◌, sym, ap, ◌∙◌, subst, arith, length, Some}
-use Rattle.std.specs.Prelude.{sum_by, count_by}
-use Rattle.fs_instr.specs.Instructions.{is_memory}
-use Rattle.fs_code.specs.Codes.{AreKept}
-use Rattle.fs_kinds.specs.FaultOrder.{IsFirst}
-use Rattle.fs_litmus.specs.Faults.{IsFormFault}
-use Rattle.fs_litmus.proofs.FormFaults.{handed, first_code, first_binding, first_harts, first_code_limit, first_locations, first_depth, none_passed, no_form_fault}
+use Rattle.fs_litmus.proofs.FormFaults.{handed, first_code, first_binding}
 use Rattle.fs_form.specs.Form.{form_of}
-use Rattle.fs_litmus.specs.Starts.{starts_of, AreLocations}
-use Rattle.fs_condition.specs.Grammar.{Syntax}
-use Rattle.fs_condition.specs.Answer.{Means}
-use Rattle.fs_syntax.specs.Condition.{SpeaksOf}
-use Rattle.fs_litmus.proofs.Interpreting.{IsMade, means, limits, bounded}
 use Rattle.fs_litmus.proofs.meaning.interpret.Goals as goal
-
-made : (c : goal.After-drop-kept-2) (s : Syntax) → Means c.args.condition.now s → IsMade (form_of c.args.form.now) s c.in_ok-build.field-0
-made c s m =
-    let kept = c.in_ok-kept.ensures.codes in
-    let same = c.deref.ensures.value in
-    let held = subst (λ k. AreKept kept.0 k) (sym same) kept.2 in
-    let short = c.in_ok-codes.ensures.codes kept.0 held in
-    record {
-      names = c.in_ok-names.names;
-      settings = c.in_ok-settings.settings.items;
-      kept = c.in_ok-kept.kept.items;
-      read = kept.0;
-      are_codes = kept.1;
-      codes = c.in_ok-build.ensures.codes ∙ short;
-      within = c.in_ok-codes.ensures.within kept.0 held;
-      accesses = subst (λ cs. sum_by (count_by is_memory) cs ≤ 48) (sym c.in_ok-build.ensures.codes) c.in_ok-codes.ensures.accesses;
-      harts = omega (arith, c.if-form-gt-MOST_HARTS.false);
-      few = let n = c.len.ensures in omega (arith, c.if-len-gt-MOST_LOCATIONS.false, n);
-      are_names = c.in_ok-names.ensures s m;
-      are_settings = c.in_ok-settings.ensures.ok;
-      starts = c.in_ok-build.ensures.starts ∙ ap (starts_of c.args.form.now.columns) c.deref-2.ensures.value;
-      locations = subst (λ xs. AreLocations c.in_ok-names.names xs c.in_ok-build.field-0.locations) c.deref-2.ensures.value c.in_ok-build.ensures.locations;
-      quantifier = c.in_ok-build.ensures.quantifier ∙ c.quantifier_of-quantifier.ensures;
-      condition = let o = c.in_ok-outcome.ensures.value s m in record { depth = o.depth; means = o.means ∙ ap Some (sym c.in_ok-build.ensures.condition) };
-      there = subst (λ x. SpeaksOf c.args.form.now.columns (length c.in_ok-names.names) x) (sym c.in_ok-build.ensures.condition) c.in_ok-outcome.ensures.there;
-    }
-
-pub returns-clause-means : goal.returns-clause-means
-returns-clause-means c = λ s m. means (form_of c.args.form.now) s c.in_ok-build.field-0 (made c s m)
-
-pub returns-clause-limits : goal.returns-clause-limits
-returns-clause-limits c = λ s m. limits (form_of c.args.form.now) s c.in_ok-build.field-0 (made c s m)
-
-pub returns-clause-bounded : goal.returns-clause-bounded
-returns-clause-bounded c = λ s m. bounded (form_of c.args.form.now) s c.in_ok-build.field-0 (made c s m)
-
--- ---- faults
 
 pub returns-in_err-kept-clause-first : goal.returns-in_err-kept-clause-first
 returns-in_err-kept-clause-first c =
@@ -58,45 +10,3 @@ pub returns-in_err-settings-clause-first : goal.returns-in_err-settings-clause-f
 returns-in_err-settings-clause-first c =
     handed _ _ _ c.from_residual-in_err-settings.ensures.1
     (λ other s m. first_binding (form_of c.args.form.now) s c.in_ok-kept.ensures.clean _ (c.in_err-settings.ensures.first other s m))
-
-pub returns-then-form-gt-MOST_HARTS-clause-first : goal.returns-then-form-gt-MOST_HARTS-clause-first
-returns-then-form-gt-MOST_HARTS-clause-first c =
-    λ _ s m. first_harts (form_of c.args.form.now) s c.in_ok-kept.ensures.clean (c.in_ok-settings.ensures.clean s m) (omega (arith, c.if-form-gt-MOST_HARTS.true))
-
-pub returns-in_err-codes-clause-first : goal.returns-in_err-codes-clause-first
-returns-in_err-codes-clause-first c =
-    let kept = c.in_ok-kept.ensures.codes in
-    handed _ _ _ c.from_residual-in_err-codes.ensures.1
-    (λ other s m. first_code_limit (form_of c.args.form.now) s c.in_ok-kept.ensures.clean (c.in_ok-settings.ensures.clean s m) (omega (arith, c.if-form-gt-MOST_HARTS.false)) kept.0 kept.1 _
-    (λ codes are. c.in_err-codes.ensures.first other codes (subst (λ k. AreKept codes k) (sym c.deref.ensures.value) (c.in_ok-kept.ensures.only codes are))))
-
-pub returns-then-len-gt-MOST_LOCATIONS-clause-first : goal.returns-then-len-gt-MOST_LOCATIONS-clause-first
-returns-then-len-gt-MOST_LOCATIONS-clause-first c = λ _ s m.
-    let n = c.len.ensures in
-    first_locations (form_of c.args.form.now) s c.in_ok-kept.ensures.clean (c.in_ok-settings.ensures.clean s m) (omega (arith, c.if-form-gt-MOST_HARTS.false))
-    (λ codes are. c.in_ok-codes.ensures.clean codes (subst (λ k. AreKept codes k) (sym c.deref.ensures.value) (c.in_ok-kept.ensures.only codes are)))
-    (subst (λ names. 8 < length names) (c.in_ok-names.ensures s m) (omega (arith, c.if-len-gt-MOST_LOCATIONS.true, n)))
-
-pub returns-in_err-outcome-clause-first : goal.returns-in_err-outcome-clause-first
-returns-in_err-outcome-clause-first c =
-    let n = c.len.ensures in
-    handed _ _ _ c.from_residual-in_err-outcome.ensures.1
-    (λ other s m.
-    let form = form_of c.args.form.now in
-    let deep = c.in_err-outcome.ensures.deep other s m (c.in_ok-settings.ensures.there s m) in
-    subst (IsFirst (IsFormFault form s)) (sym deep.0)
-    (first_depth form s c.in_ok-kept.ensures.clean (c.in_ok-settings.ensures.clean s m) (omega (arith, c.if-form-gt-MOST_HARTS.false))
-    (λ codes are. c.in_ok-codes.ensures.clean codes (subst (λ k. AreKept codes k) (sym c.deref.ensures.value) (c.in_ok-kept.ensures.only codes are)))
-    (subst (λ names. length names ≤ 8) (c.in_ok-names.ensures s m) (omega (arith, c.if-len-gt-MOST_LOCATIONS.false, n)))
-    deep.1))
-
-pub returns-clause-clean : goal.returns-clause-clean
-returns-clause-clean c = λ s m.
-    let form = form_of c.args.form.now in
-    let n = c.len.ensures in
-    let outcome = c.in_ok-outcome.ensures.value s m in
-    no_form_fault form s c.in_ok-kept.ensures.clean (c.in_ok-settings.ensures.clean s m)
-    (none_passed form s (omega (arith, c.if-form-gt-MOST_HARTS.false))
-    (λ codes are. c.in_ok-codes.ensures.clean codes (subst (λ k. AreKept codes k) (sym c.deref.ensures.value) (c.in_ok-kept.ensures.only codes are)))
-    (subst (λ names. length names ≤ 8) (c.in_ok-names.ensures s m) (omega (arith, c.if-len-gt-MOST_LOCATIONS.false, n)))
-    outcome.depth)

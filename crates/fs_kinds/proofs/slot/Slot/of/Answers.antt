@@ -1,5 +1,5 @@
 use Rattle.std.proofs.Common.{◌∙◌, sym}
-use Rattle.fs_kinds.proofs.PlaceNames.{place-named, slot-named, slot-numbers}
+use Rattle.fs_kinds.proofs.PlaceNames.{place-named, slot-named, slot-numbers, none_some}
 use Rattle.fs_kinds.proofs.slot.Slot.of.Goals as goal
 
 pub returns-in_err-hart-clause-none : goal.returns-in_err-hart-clause-none
@@ -13,7 +13,7 @@ returns-in_err-hart-2-clause-none c =
     (λ slot is named.
     let numbers = slot-numbers c.args.text.now found.0 slot found.1 is named in
     let none = sym c.in_err-hart-2.was ∙ found.2 ∙ numbers.0 in
-    absurd (cc))
+    none_some none)
 
 pub returns-in_err-at-clause-none : goal.returns-in_err-at-clause-none
 returns-in_err-at-clause-none c =
@@ -22,7 +22,7 @@ returns-in_err-at-clause-none c =
     (λ slot is named.
     let numbers = slot-numbers c.args.text.now found.0 slot found.1 is named in
     let none = sym c.in_err-at.was ∙ found.3 ∙ numbers.1 in
-    absurd (cc))
+    none_some none)
 
 pub returns-clause-named : goal.returns-clause-named
 returns-clause-named c =
