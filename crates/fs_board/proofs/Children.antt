@@ -1,5 +1,5 @@
 -- Lemmas on nodes that are held, and on children.
-use Rattle.std.proofs.Common.{◌≡◌, ℕ, zero, suc, ◌≤◌, Bool, true, false, Option, Some, None, List, [], ◌∷◌, length, map, refl, arith, ◌∙◌, ap}
+use Rattle.std.proofs.Common.{◌≡◌, ℕ, zero, suc, ◌+◌, ◌^◌, ◌<◌, ◌≤◌, Fits, w64, Bool, true, false, Option, Some, None, List, [], ◌∷◌, ◌++◌, length, map, refl, arith, ◌∙◌, ap, length-append}
 use Rattle.std.specs.Prelude.{IfSome, slice_get, drop, All, if◌then◌else◌, option_and_then, nat_lt}
 use Rattle.std.proofs.lemmas.Bool.Decides.{nat_tests}
 use Rattle.std.proofs.lemmas.List.Elements.{All-nil, All-cons}
@@ -22,6 +22,30 @@ all_open (part ∷ parts) = All-cons (λ (n : Node). n.status ≡ Open) (open_no
 
 pub not_less : (m n : ℕ) → n ≤ m → nat_lt m n ≡ false
 not_less m n le = grind (arith, nat_tests)
+
+-- what the code has counted is what the board counts
+pub room_for : (a b c k m n : ℕ) → a ≡ k → b ≡ m → c ≡ n → a + b ≤ c + 1 → k + m ≤ n + 1
+room_for a b c k m n i j l h = omega arith
+
+pub room_grown : (marked nodes kids : List Node) (many room : ℕ) → length marked ≡ length nodes → length kids ≡ many → length nodes + many ≤ room → length (marked ++ kids) ≤ room
+room_grown marked nodes kids many room i j h = omega (arith, length-append marked kids)
+
+-- ---- sums and places, over plain numbers
+
+pub one_free : (n m : ℕ) → n + 1 ≤ m → n < m
+one_free n m room = omega arith
+
+pub limit_fits : (a n : ℕ) → a ≡ n → n ≤ 1000000 → Fits w64 (a + 1)
+limit_fits a n is low = omega arith
+
+pub sum_fits : (a b len cap : ℕ) → a < 2 ^ 63 → b ≡ len → len ≤ cap → cap < 2 ^ 63 → Fits w64 (a + b)
+sum_fits a b len cap low is within few = omega arith
+
+pub next_fits : (a b len cap : ℕ) → a < b → b ≡ len → len ≤ cap → cap < 2 ^ 63 → Fits w64 (a + 1)
+next_fits a b len cap low is within few = omega arith
+
+pub is_more : (a b c k m n : ℕ) → a ≡ k → b ≡ m → c ≡ n → c + 1 < a + b → nat_lt (n + 1) (k + m) ≡ true
+is_more a b c k m n i j l h = let low : n + 1 < k + m = omega arith in grind (arith, nat_tests)
 
 found : (test : Status → Bool) (ns : List Node) (k : ℕ) (part : Part) → option_and_then (λ node. if test node.status then Some node.part else None) (slice_get ns k) ≡ Some part
     → (n : Node) × (slice_get ns k ≡ Some n) × (n.part ≡ part)

@@ -8,3 +8,4 @@ pub mod Replays
 pub mod Children
 pub mod Cuts
 pub mod Bests
+pub mod Mapped

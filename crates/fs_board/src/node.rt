@@ -15,7 +15,7 @@ use std::marker::Model;
 use std::sync::Arc;
 
 /// What became of a node.
-#[derive(Clone, Copy, Debug, PartialEq, Eq)]
+#[derive(Clone, Copy)]
 pub enum Status {
     Open,
     /// A worker holds it.
@@ -51,10 +51,7 @@ impl Status {
     pub fn is_held_by(self, worker: u8) -> bool
         ensures { result ≡ is_held_by worker (status_of self) }
     {
-        match self {
-            Status::Held(holder) => worker == holder,
-            _ => false,
-        }
+        matches!(self, Status::Held(holder) if worker == holder)
     }
 }
 

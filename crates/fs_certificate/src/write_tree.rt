@@ -1,6 +1,7 @@
 //! The JSON values of trees.
 
-ghost use Rattle.std.specs.Prelude.{◌≡◌, IfOk, map};
+ghost use Rattle.std.specs.Prelude.{◌≡◌, ◌∷◌, [], IfOk, map};
+ghost use Rattle.serde_json.specs.Data.{string};
 ghost use Rattle.serde_json.specs.View.{view};
 ghost use Rattle.fs_answer.specs.Texts.{array_of, item_value, number};
 ghost use Rattle.fs_certificate.specs.Kept.{item_of};
@@ -27,12 +28,19 @@ fn item_value(alloc: Global, item: &Item) -> Result<Value, AllocError>
     match item {
         Item::SplitAt(slot) => Ok(Value::from(*slot)),
         Item::Costly => json!(in alloc; "c"),
-        Item::Refuted(witness) => json!(in alloc; ["w", *witness]),
+        Item::Refuted(witness) => marked_value(alloc, "w", Value::from(*witness)),
         Item::Bounded(witnesses) => {
             let numbers = numbers_value(alloc, witnesses.as_slice())?;
-            json!(in alloc; ["b", numbers])
+            marked_value(alloc, "b", numbers)
         }
     }
+}
+
+/// The JSON array of a mark and a value.
+fn marked_value(alloc: Global, mark: &str, value: Value) -> Result<Value, AllocError>
+    ensures { IfOk result (λ made. view made ≡ array_of (string mark.now ∷ view value ∷ [])) }
+{
+    json!(in alloc; [mark, value])
 }
 
 /// The JSON array of the numbers.

@@ -1,10 +1,12 @@
 //! Is a witness an execution that the memory model allows?
 
-ghost use Rattle.std.specs.Prelude.{◌≡◌, ◌<◌, ◌≤◌, [], All, IfOk, IfErr, IsErrOf, IfSome, IfNone, IsOkUnless, Some, length, option_map};
+ghost use Rattle.std.specs.Prelude.{◌≡◌, ◌<◌, ◌≤◌, [], All, IfOk, IfErr, IsErrOf, IfSome, IfNone, IsOkUnless, Some, length, map, option_map};
 ghost use Rattle.fs_kinds.specs.Limits.{most_harts, most_numbered};
 ghost use Rattle.fs_kinds.specs.declared.fault.Fault.TheVariants.{Memory};
 ghost use Rattle.fs_syntax.specs.Test.{IsBounded, IsStart};
-ghost use Rattle.fs_model.specs.Operations.{accesses};
+ghost use Rattle.fs_model.specs.Numbers.{numbers_below};
+ghost use Rattle.fs_model.specs.Operations.{PreExecution, accesses, operations as operations_of};
+ghost use Rattle.fs_model.specs.Source.{source_in};
 ghost use Rattle.fs_model.specs.Execution.{initial_words};
 ghost use Rattle.fs_model.specs.Reasons.{LoadsRightly, KeepsRules};
 ghost use Rattle.fs_model.specs.Witness.{Witness, name_of};
@@ -24,7 +26,7 @@ use fs_cand::{Candidate, Sources, StoreOrder, Traces};
 use fs_hart::Operations;
 use fs_kinds::{Fault, OperationName, Placement, Reason};
 use fs_syntax::Test;
-use std::alloc::Global;
+use std::alloc::{AllocError, Global};
 
 /// What is said of a witness.
 #[derive(Clone, Copy, Debug, PartialEq, Eq)]
@@ -194,6 +196,24 @@ fn listed(
     }
 }
 
+// The order of the candidate's operations.
+fn order_of(alloc: Global, candidate: &Candidate, listed: &[u8]) -> Result<Ordered, Fault>
+    requires { length candidate.now.operations ≤ most_numbered }
+    ensures ok { IfOk result (λ order. order ≡ record { operations = candidate.now.operations; listed = listed.now }) }
+    ensures err { IsOkUnless result Memory }
+{
+    let operations = Operations::new(Vec::from_slice(alloc, candidate.operations.as_slice())?);
+    Ordered::new(alloc, operations, listed)
+}
+
+// The sources of the operations in this order.
+fn sources_of(alloc: Global, order: &Ordered) -> Result<Sources, AllocError>
+    ensures { IfOk result (λ sources. (x : PreExecution) → order.now.operations ≡ operations_of x
+        → sources ≡ map (source_in x order.now.listed) (numbers_below (length order.now.operations))) }
+{
+    Ok(Sources::new(Vec::from_slice(alloc, order.sources())?))
+}
+
 // The runs with this order of their operations.
 fn arrange(
     alloc: Global,
@@ -207,10 +227,10 @@ fn arrange(
     ensures same { IfOk result (IsArranged candidate listed.items) }
     ensures err { IsOkUnless result Memory }
 {
+    let order = order_of(alloc, &candidate, &listed)?;
+    let source = sources_of(alloc, &order)?;
     let mut candidate = candidate;
-    let operations = Operations::new(Vec::from_slice(alloc, candidate.operations.as_slice())?);
-    let order = Ordered::new(alloc, operations, &listed)?;
-    candidate.source = Sources::new(Vec::from_slice(alloc, order.sources())?);
+    candidate.source = source;
     Ok(OrderedCandidate { candidate, order })
 }
 

@@ -1,13 +1,14 @@
 //! What is made once for a test, before any placement.
 
-ghost use Rattle.std.specs.Prelude.{◌≡◌, ◌≢◌, ◌≤◌, ◌<◌, ◌^◌, All, IfOk, OnOk, IfErr, IsOkUnless};
+ghost use Rattle.std.specs.Prelude.{◌≡◌, ◌≢◌, ◌≤◌, ◌<◌, ◌^◌, Some, All, length, slice_get, IfOk, OnOk, IfErr, IsOkUnless};
 ghost use Rattle.fs_kinds.specs.declared.fault.Fault.{Fault as RunFault};
 ghost use Rattle.fs_kinds.specs.declared.fault.Fault.TheVariants.{Memory};
 ghost use Rattle.fs_syntax.specs.Test.{IsBounded, IsStart};
 ghost use Rattle.fs_answer.specs.CandidateFaults.{IsCandidateFault};
+ghost use Rattle.fs_answer.specs.Candidates.{Candidate as Defined};
 ghost use Rattle.fs_answer.specs.Listings.{IsListing};
 ghost use Rattle.fs_thin_air.specs.ThinAir.{BeginsWithWords, CanBeListed};
-ghost use Rattle.fs_judge.specs.inner.Bases.{ArePrejudged};
+ghost use Rattle.fs_judge.specs.inner.Bases.{IsPrejudged, ArePrejudged};
 
 use crate::prejudged::Prejudged;
 use fs_evidence::Question;
@@ -72,6 +73,17 @@ fn most_prejudged(test: &Test) -> usize
     (MOST_PLACES / steps.max(1)).min(MOST_PREJUDGED)
 }
 
+// The showing candidate of this number, prejudged.
+fn prejudged_at(alloc: Global, showing: &Showing, number: usize) -> Result<Prejudged, Fault>
+    requires listing { IsListing showing.now.test showing.now.candidates }
+    requires number { number < length showing.now.candidates }
+    ensures ok { (c : Defined) → slice_get showing.now.candidates number ≡ Some c → IfOk result (IsPrejudged showing.now.test c) }
+    ensures err { IsOkUnless result Memory }
+{
+    let candidate = showing.get(alloc, number)?;
+    Prejudged::of(alloc, &candidate)
+}
+
 // The first showing candidates, prejudged. For each the cost of `Prejudged::of`.
 pub(crate) fn firsts_of(alloc: Global, showing: &Showing) -> Result<Vec<Prejudged>, Fault>
     requires { IsListing showing.now.test showing.now.candidates }
@@ -81,8 +93,7 @@ pub(crate) fn firsts_of(alloc: Global, showing: &Showing) -> Result<Vec<Prejudge
     let mut firsts = Vec::new(alloc);
     let most = showing.len().min(most_prejudged(showing.test()));
     for number in 0..most {
-        let candidate = showing.get(alloc, number)?;
-        firsts.push(Prejudged::of(alloc, &candidate)?)?;
+        firsts.push(prejudged_at(alloc, showing, number)?)?;
     }
     Ok(firsts)
 }

@@ -51,6 +51,28 @@ fn copy(alloc: Global, links: &[Link]) -> Result<List<Link>, AllocError>
     Ok(List::new(copy))
 }
 
+// What is found of the showing candidate of this number, which has this base.
+fn judged_with(
+    alloc: Global,
+    test: &Test,
+    showing: &Showing,
+    base: &Base,
+    number: usize,
+    placement: &Placement,
+    first: &[Slot],
+) -> Result<Finding, Fault>
+    requires listable { CanBeListed test.now }
+    requires test { showing.now.test ≡ test.now }
+    requires listing { IsListing test.now showing.now.candidates }
+    requires number { number < length showing.now.candidates }
+    requires base { (c : Defined) → slice_get showing.now.candidates number ≡ Some c → IsBase test.now c base.now }
+    ensures ok { (c : Defined) → slice_get showing.now.candidates number ≡ Some c → IfOk result (IsFinding test.now placement.now c) }
+    ensures err { IsOkUnless result Memory }
+{
+    let candidate = showing.get(alloc, number)?;
+    judged(alloc, test, placement, &candidate, base, first)
+}
+
 // What is found of the showing candidate of this number, which is prejudged so.
 fn judged_further(
     alloc: Global,
@@ -70,12 +92,30 @@ fn judged_further(
     ensures err { IsOkUnless result Memory }
 {
     match prejudged {
-        Prejudged::Live(base) => {
-            let candidate = showing.get(alloc, number)?;
-            judged(alloc, test, placement, &candidate, base, first)
-        }
+        Prejudged::Live(base) => judged_with(alloc, test, showing, base, number, placement, first),
         Prejudged::Dead(links) => Ok(Finding::Cyclic(copy(alloc, links)?)),
     }
+}
+
+// What is found of the showing candidate of this number, which isn't prejudged.
+fn judged_anew(
+    alloc: Global,
+    test: &Test,
+    showing: &Showing,
+    number: usize,
+    placement: &Placement,
+    first: &[Slot],
+) -> Result<Finding, Fault>
+    requires listable { CanBeListed test.now }
+    requires test { showing.now.test ≡ test.now }
+    requires listing { IsListing test.now showing.now.candidates }
+    requires number { number < length showing.now.candidates }
+    ensures ok { (c : Defined) → slice_get showing.now.candidates number ≡ Some c → IfOk result (IsFinding test.now placement.now c) }
+    ensures err { IsOkUnless result Memory }
+{
+    let candidate = showing.get(alloc, number)?;
+    let base = Base::of(alloc, &candidate)?;
+    judged(alloc, test, placement, &candidate, &base, first)
 }
 
 // What is found of the showing candidate of this number.
@@ -97,11 +137,7 @@ fn judged_at(
         Some(prejudged) => {
             judged_further(alloc, test, showing, prejudged, number, placement, first)
         }
-        None => {
-            let candidate = showing.get(alloc, number)?;
-            let base = Base::of(alloc, &candidate)?;
-            judged(alloc, test, placement, &candidate, &base, first)
-        }
+        None => judged_anew(alloc, test, showing, number, placement, first),
     }
 }
 

@@ -10,3 +10,4 @@ pub mod Extending
 pub mod Choosing
 pub mod Counting
 pub mod Listed
+pub mod Growing

@@ -1,5 +1,5 @@
 -- The listed runs of all harts over the value sets are all runs.
-use Rattle.std.proofs.Common.{◌≡◌, ◌∙◌, ℕ, ◌<◌, None, List, [], ◌∷◌, map, length, refl, sym, ap, subst, arith}
+use Rattle.std.proofs.Common.{◌≡◌, ◌∙◌, ℕ, ◌<◌, None, List, [], ◌∷◌, map, length, refl, sym, ap, subst, arith, ◌+◌, ◌-◌, ◌≤◌, Fits, w8}
 use Rattle.std.specs.Prelude.{◌↔◌, Result, Ok, Err, IsOkUnless}
 use Rattle.std.specs.Result.{IsErrAnd}
 use Rattle.fs_kinds.specs.declared.fault.Fault.{Fault}
@@ -98,3 +98,17 @@ pub no_fault_but_memory : {T : Type 0} (t : Test) (sets : List (List ℕ)) (hart
     → IsErrAnd r (λ g. g ≡ f) → HasNoFault t (IsOffered sets) → hart < length t.codes → IsTraceFault t hart sets f → IsOkUnless r fault.Memory
 no_fault_but_memory t sets hart f (Ok x) h clean low is = tt
 no_fault_but_memory t sets hart f (Err g) h clean low is = h ∙ only_memory t sets hart f is (clean hart f low)
+
+-- ---- over plain numbers, so that nothing else is read
+
+pub hart_fits : (hart n m : ℕ) → hart < n → n ≡ m → m ≤ 8 → Fits w8 hart
+hart_fits hart n m low is few = omega arith
+
+pub count_fits : (n m : ℕ) → n ≡ m → m ≤ 8 → Fits w8 n
+count_fits n m is few = omega arith
+
+pub below_same : (a n m : ℕ) → a < n → n ≡ m → a < m
+below_same a n m low is = omega arith
+
+pub nearer : (n i : ℕ) → i < n → n - (i + 1) < n - i
+nearer n i low = omega arith

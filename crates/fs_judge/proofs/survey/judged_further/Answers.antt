@@ -2,13 +2,11 @@ use Rattle.std.proofs.Common.{◌∙◌, List, sym, subst}
 use Rattle.fs_answer.specs.Certificate.{Link}
 use Rattle.fs_answer.specs.Valid.{IsCycle}
 use Rattle.fs_judge.specs.inner.Bases.{IsPrejudged}
-use Rattle.fs_cand.specs.Candidates.{candidate_of}
-use Rattle.fs_judge.proofs.Prepared.{showing_at}
 use Rattle.fs_judge.proofs.survey.judged_further.Goals as goal
 
-pub judged-requires-clause-showing : goal.judged-requires-clause-showing
-judged-requires-clause-showing c =
-    showing_at c.args.test.now c.args.showing.now.candidates c.args.number (candidate_of c.in_ok-candidate-in-Live.candidate) c.requires.listing c.in_ok-candidate-in-Live.ensures.ok
+pub judged_with-requires-clause-base : goal.judged_with-requires-clause-base
+judged_with-requires-clause-base c = λ candidate there.
+    subst (IsPrejudged c.args.test.now candidate) c.in-Live.is (c.requires.prejudged candidate there)
 
 pub returns-in_ok-copy-in-Dead-clause-ok : goal.returns-in_ok-copy-in-Dead-clause-ok
 returns-in_ok-copy-in-Dead-clause-ok c = λ candidate there.

@@ -3,6 +3,7 @@ use Rattle.std.proofs.lemmas.List.{nil_from_length}
 use Rattle.fs_plain.specs.Allowing.{AreWhole, ShowsAmong, ShowsFrom}
 use Rattle.fs_plain.proofs.Extending.{extended, popped, when_no}
 use Rattle.fs_plain.proofs.Choosing.{answered, last_shows, last_showed, none_more, none_shows, whole_last, WholeHowever}
+use Rattle.fs_plain.proofs.Growing.{nearer}
 use Rattle.fs_plain.proofs.allowing.+shows_among.Goals as goal
 
 pub shows_in_some_order-requires-clause-whole : goal.shows_in_some_order-requires-clause-whole
@@ -62,3 +63,6 @@ returns-clause-ok t c =
     c.loop-trace.invariant.1
     (subst (λ ls. ShowsAmong test placement ls traces)
     (c.in-Some.ensures.cases.0 ∙ ap (λ l. l ∷ rest) (sym c.as_slice-trace-items.ensures)) among)
+
+pub loop-trace-smaller : goal.loop-trace-smaller
+loop-trace-smaller t c = nearer (length c.as_slice-trace-items.result.now) c.loop-trace.trace-index c.loop-trace-test.true

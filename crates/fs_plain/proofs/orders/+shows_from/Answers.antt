@@ -3,6 +3,7 @@ use Rattle.fs_model.specs.Numbers.{has_number}
 use Rattle.fs_plain.specs.Allowing.{ShowsFrom}
 use Rattle.fs_plain.proofs.Extending.{none_more, none_shows, next_new, extended, popped, when_no}
 use Rattle.fs_model.proofs.ListedNumbers.{has_number_any}
+use Rattle.fs_plain.proofs.Growing.{number_fits, nearer}
 use Rattle.fs_plain.proofs.orders.+shows_from.Goals as goal
 use Rattle.fs_plain.proofs.orders.+shows_from.Goals.{then-not-has_number+in_ok-push+in_ok-found+else-found, else-not-has_number}
 
@@ -44,3 +45,12 @@ returns-clause-ok t c =
     none_shows c.args.test.now c.args.placement.now c.args.traces.now c.args.order.now.items c.args.count c.requires.count
     (λ same. c.if-len-count.false (omega (arith, c.len.ensures, c.args.order.now.ok.0, same)))
     (λ b low. c.loop-a.invariant.1 b (omega (arith, low, c.loop-a-test.false, c.loop-a.auto.a-end)))
+
+pub overflow_cast-a : goal.overflow_cast-a
+overflow_cast-a t c = number_fits c.loop-a.a c.args.count (omega (arith, c.loop-a-test.true)) c.requires.few
+
+pub overflow_cast-a-then-not-has_number : goal.overflow_cast-a-then-not-has_number
+overflow_cast-a-then-not-has_number t c = number_fits c.loop-a.a c.args.count (omega (arith, c.loop-a-test.true)) c.requires.few
+
+pub loop-a-smaller : goal.loop-a-smaller
+loop-a-smaller t c = nearer _ c.loop-a.a c.loop-a-test.true

@@ -9,6 +9,7 @@ use Rattle.fs_showing.specs.inner.Listed.{capped, number_of_orders}
 use Rattle.fs_showing.specs.inner.Places.{runs_at}
 use Rattle.fs_showing.proofs.Preparing.{can_be_prepared}
 use Rattle.fs_showing.proofs.Totals.{factors}
+use Rattle.fs_showing.proofs.AllRuns.{count_fits}
 use Rattle.fs_showing.proofs.total.count_with.Goals as goal
 
 pub operations-requires-clause-harts : goal.operations-requires-clause-harts
@@ -31,3 +32,6 @@ returns-clause-ok c =
     c.count_raw.ensures.exact x is
     ∙ ap (λ ls. capped (product_of_lengths (all_sources x) * product_by number_of_orders (map (own_stores x) (numbers_below (length ls))))) c.as_slice-2.ensures
     ∙ ap capped (factors t (steps_in traces))
+
+pub overflow_cast-locations : goal.overflow_cast-locations
+overflow_cast-locations c = count_fits _ (length c.args.test.now.locations) (ap length c.as_slice-2.ensures) c.requires.test.locations

@@ -1,5 +1,6 @@
 use Rattle.std.proofs.Common.{◌≡◌, ◌++◌, ◌∷◌, [], Some, map, refl, sym, ◌∙◌, ap, subst}
 use Rattle.std.specs.Prelude.{slice_get}
+use Rattle.std.proofs.lemmas.Option.{slice_get_within}
 use Rattle.std.specs.Arc.{arc_value}
 use Rattle.fs_history.specs.Board.{Board, Node, Status, Closed, with_status}
 use Rattle.fs_history.specs.Histories.{with_witnesses}
@@ -7,6 +8,7 @@ use Rattle.fs_evidence.specs.Evidence.{witness_in}
 use Rattle.fs_board.specs.Growth.{Tree, AreWitnesses, board_of, marked, with_more}
 use Rattle.fs_board.specs.View.{Search, IsReplay, Answers, entry_of, event_of, status_of}
 use Rattle.fs_board.proofs.Backed.{backed_more, more_witnesses}
+use Rattle.fs_board.proofs.Children.{one_free}
 use Rattle.fs_board.proofs.Replays.{StepsFrom, with_log, replays, answered, room_marked}
 use Rattle.fs_board.proofs.board.Board.cover.Goals as goal
 
@@ -56,3 +58,13 @@ returns-clause-step c =
     ap (λ l. let x : Board = record (with_status z c.args.node n.part s.board) { witnesses = l } in x) (more_witnesses tree.witnesses ws) in
     rw closed (subst (λ (b : Board). Answers c.args.self.now (with_log s b c.push_within.new.list.items) c.args.worker e Closed) (sym made)
     (answered c.args.self.now s new c.push_within.new.list.items c.args.worker e Closed c.self.view_is step log))
+
+pub push_within-requires : goal.push_within-requires
+push_within-requires c = one_free _ _ c.in_ok-reserve.ensures.ok
+
+pub cover-requires-clause-there : goal.cover-requires-clause-there
+cover-requires-clause-there c =
+    let s : Search = record { question = c.self.inside.question.value; board = board_of c.self.inside.tree; log = c.self.inside.log.items } in
+    let n : Node = c.requires.may.0 in
+    slice_get_within s.board.nodes c.args.node n
+    (subst (λ (x : Search). slice_get x.board.nodes c.args.node ≡ Some n) (sym c.self.view_is) c.requires.may.1)

@@ -1,9 +1,11 @@
 use Rattle.std.proofs.Common.{◌≡◌, ◌++◌, ◌∷◌, [], Some, refl, sym, ◌∙◌, ap, subst}
 use Rattle.std.specs.Prelude.{slice_get}
+use Rattle.std.proofs.lemmas.Option.{slice_get_within}
 use Rattle.fs_answer.specs.Parts.{Part}
-use Rattle.fs_history.specs.Board.{Board, Held, Given, with_status}
+use Rattle.fs_history.specs.Board.{Board, Node, Held, Given, with_status}
 use Rattle.fs_board.specs.Growth.{Tree, board_of, marked}
 use Rattle.fs_board.specs.View.{Search, entry_of, event_of}
+use Rattle.fs_board.proofs.Children.{one_free}
 use Rattle.fs_board.proofs.Replays.{StepsFrom, replays, answered, room_marked}
 use Rattle.fs_board.proofs.board.Board.hand_out.Goals as goal
 
@@ -40,3 +42,13 @@ returns-clause-step c =
     let now : Tree = marked (Held c.args.worker) c.args.node part c.self.inside.tree in
     let held : c.mark.new.self ≡ now = c.mark.ensures c.requires.there.0 there ∙ ap (λ p. marked (Held c.args.worker) c.args.node p c.self.inside.tree) c.requires.there.2 in
     rw held (answered c.args.self.now s new c.push_within.new.list.items c.args.worker e r c.self.view_is step log)
+
+pub push_within-requires : goal.push_within-requires
+push_within-requires c = one_free _ _ c.in_ok-reserve.ensures.ok
+
+pub mark-requires-clause-there : goal.mark-requires-clause-there
+mark-requires-clause-there c =
+    let s : Search = record { question = c.self.inside.question.value; board = board_of c.self.inside.tree; log = c.self.inside.log.items } in
+    let n : Node = c.requires.there.0 in
+    slice_get_within s.board.nodes c.args.node n
+    (subst (λ (x : Search). slice_get x.board.nodes c.args.node ≡ Some n) (sym c.self.view_is) c.requires.there.1)

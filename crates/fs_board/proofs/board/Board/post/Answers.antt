@@ -1,5 +1,6 @@
 use Rattle.std.proofs.Common.{◌≡◌, ◌++◌, ◌∷◌, [], Some, sym, ◌∙◌, ap, subst, refl}
 use Rattle.std.specs.Prelude.{if◌then◌else◌}
+use Rattle.std.proofs.lemmas.Option.{slice_get_within}
 use Rattle.fs_model.specs.Allows.{Allows}
 use Rattle.fs_answer.specs.Parts.{Part, floor}
 use Rattle.fs_history.specs.Board.{Board, Posted, Post, Closed, is_held_by, part_at, better_of, with_status}
@@ -8,7 +9,7 @@ use Rattle.fs_board.specs.Growth.{Tree, IsBound, is_best, board_of, marked, with
 use Rattle.fs_board.specs.View.{Search, IsReplay, Answers, entry_of}
 use Rattle.fs_board.proofs.Backed.{best_kept, backed_bound}
 use Rattle.fs_board.proofs.Bests.{best_is_bound}
-use Rattle.fs_board.proofs.Children.{node_with}
+use Rattle.fs_board.proofs.Children.{node_with, one_free}
 use Rattle.fs_board.proofs.Replays.{StepsFrom, with_log, replays, answered, room_marked}
 use Rattle.fs_board.proofs.board.Board.post.Goals as goal
 
@@ -76,3 +77,13 @@ returns-clause-step c =
     let made : board_of now ≡ new = ap (λ b. let x : Board = record (with_status Posted c.args.node part s.board) { bound = b } in x) bound in
     rw posted (subst (λ (b : Board). Answers c.args.self.now (with_log s b c.push_within.new.list.items) c.args.worker (Post c.args.node p) Closed) (sym made)
     (answered c.args.self.now s new c.push_within.new.list.items c.args.worker (Post c.args.node p) Closed c.self.view_is step log))
+
+pub push_within-requires : goal.push_within-requires
+push_within-requires c = one_free _ _ c.in_ok-reserve.ensures.ok
+
+pub post-requires : goal.post-requires
+post-requires c =
+    let s : Search = record { question = c.self.inside.question.value; board = board_of c.self.inside.tree; log = c.self.inside.log.items } in
+    let part : Part = c.in-Some.part.now.value in
+    let n = node_with (is_held_by c.args.worker) s.board c.args.node part (sym c.in-Some.ensures) in
+    slice_get_within s.board.nodes c.args.node n.0 n.1

@@ -3,6 +3,7 @@ use Rattle.fs_model.specs.Operations.{operations}
 use Rattle.fs_model.specs.Execution.{pre_execution}
 use Rattle.fs_hart.specs.Steps.{steps_in}
 use Rattle.fs_showing.specs.inner.Chosen.{AreChoices}
+use Rattle.fs_showing.proofs.AllRuns.{count_fits}
 use Rattle.fs_showing.proofs.prepared.Prepared.of.Goals as goal
 
 pub operations-requires-clause-harts : goal.operations-requires-clause-harts
@@ -36,3 +37,6 @@ returns-clause-ok c =
       short = c.requires.runs.short;
       few = omega (arith, long, few);
     }
+
+pub overflow_cast-locations : goal.overflow_cast-locations
+overflow_cast-locations c = count_fits _ (length c.args.test.now.locations) (ap length c.as_slice-2.ensures) c.requires.test.locations
