@@ -8,7 +8,8 @@ use Rattle.fs_kinds.specs.declared.slot.Slot.{Slot}
 use Rattle.fs_kinds.specs.PriceTable.{PriceTable, cost}
 use Rattle.fs_kinds.specs.Slot.{fence_word}
 use Rattle.fs_syntax.specs.declared.test.Test.{Test}
-use Rattle.fs_model.specs.Allows.{Allows, IsPlacement, IsCheapest}
+use Rattle.fs_model.specs.Allows.{Allows, IsPlacement, IsCheapest, RefutesAll}
+use Rattle.fs_model.specs.Execution.{Execution}
 use Rattle.fs_model.specs.Witness.{Witness}
 use Rattle.fs_answer.specs.Judged.{Cause}
 
@@ -66,3 +67,9 @@ pub record IsLeastCost (t : Test) (prices : PriceTable) (p : List Entry) : Type 
 abbrev pub IsBest : Version → Test → PriceTable → List Entry → Type 0
 IsBest First = IsLeastCost
 IsBest Second = IsCheapest
+
+-- what it shows of an answer: the placement is the best one, as the version has it; or none is right, since an execution shows the
+-- outcome with rw,rw in every slot
+abbrev pub IsRight : Version → Test → PriceTable → Option (List Entry) → Type 0
+IsRight version t prices (Some p) = IsBest version t prices p
+IsRight version t prices None = (e : Execution) × RefutesAll t e

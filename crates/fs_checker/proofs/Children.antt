@@ -4,18 +4,14 @@ use Rattle.std.specs.Prelude.{filter, get_or, if◌then◌else◌}
 use Rattle.std.proofs.lemmas.List.{at_drop_more}
 use Rattle.fs_kinds.specs.declared.kind.Kind.{Kind}
 use Rattle.fs_kinds.specs.declared.slot.Slot.{Slot}
-use Rattle.fs_kinds.specs.Kind.{all_kinds}
 use Rattle.fs_kinds.specs.PriceTable.{PriceTable, is_offered}
 use Rattle.fs_kinds.specs.Slot.{is_same_slot}
 use Rattle.fs_syntax.specs.declared.test.Test.{Test}
 use Rattle.fs_syntax.specs.Slots.{slots}
 use Rattle.fs_answer.specs.Parts.{Part, decide, child_parts, options}
+use Rattle.fs_checker.specs.inner.Breaks.{all_options}
 use Rattle.fs_checker.specs.inner.Leaves.{slots_in_part}
 use Rattle.fs_checker.specs.inner.Walks.{AreOfTest}
-
--- all ways to decide a slot
-abbrev pub ways : List (Option Kind)
-ways = None ∷ map (λ kind. Some kind) all_kinds
 
 offered_first : (prices : PriceTable) (f : Option Kind → Part) (kind : Option Kind) (kinds : List (Option Kind)) → is_offered prices kind ≡ true
     → map f (filter (is_offered prices) (kind ∷ kinds)) ≡ f kind ∷ map f (filter (is_offered prices) kinds)
@@ -23,14 +19,14 @@ offered_first prices f kind kinds offered = ap (λ b. map f (if b then kind ∷ 
 
 -- an offered way before those that are there already
 pub one_more : (prices : PriceTable) (f : Option Kind → Part) (way : ℕ) (d : Option Kind) (old : List Part) → 0 < way → way ≤ 11
-    → is_offered prices (get_or ways (way - 1) d) ≡ true
-    → f (get_or ways (way - 1) d) ∷ (map f (filter (is_offered prices) (drop way ways)) ++ old) ≡ map f (filter (is_offered prices) (drop (way - 1) ways)) ++ old
+    → is_offered prices (get_or all_options (way - 1) d) ≡ true
+    → f (get_or all_options (way - 1) d) ∷ (map f (filter (is_offered prices) (drop way all_options)) ++ old) ≡ map f (filter (is_offered prices) (drop (way - 1) all_options)) ++ old
 one_more prices f way d old some most offered =
     let next : way - 1 + 1 ≡ way = omega arith in
-    let first = at_drop_more (λ kinds. map f (filter (is_offered prices) kinds) ++ old) ways (way - 1) d (omega arith) in
+    let first = at_drop_more (λ kinds. map f (filter (is_offered prices) kinds) ++ old) all_options (way - 1) d (omega arith) in
     sym (first
-    ∙ (ap (λ n. map f (filter (is_offered prices) (get_or ways (way - 1) d ∷ drop n ways)) ++ old) next
-    ∙ ap (λ parts. parts ++ old) (offered_first prices f (get_or ways (way - 1) d) (drop way ways) offered)))
+    ∙ (ap (λ n. map f (filter (is_offered prices) (get_or all_options (way - 1) d ∷ drop n all_options)) ++ old) next
+    ∙ ap (λ parts. parts ++ old) (offered_first prices f (get_or all_options (way - 1) d) (drop way all_options) offered)))
 
 same_slots : (slot : Slot) (kind : Option Kind) (part : Part) → slots_in_part (decide slot part kind) ≡ slots_in_part part
 same_slots slot kind [] = refl

@@ -1,21 +1,19 @@
--- When witnesses bound a part, by the pairs that they keep at its slots.
+-- When witnesses bound a part, by what it costs at its slots to break them.
 use Rattle.std.proofs.Common.{◌≡◌, ℕ, zero, suc, ◌+◌, ◌<◌, Bool, true, false, ◌&&◌, ◌||◌, not, Option, None, Some, List, [], ◌∷◌, ◌++◌, map, length, take, refl, sym, ap, ap₂, ◌∙◌, arith, subst}
-use Rattle.fs_evidence.specs.declared.evidence.Pairs.{Pairs}
-use Rattle.std.specs.Prelude.{cond, if◌then◌else◌, nat_lt, filter, get_or, slice_get}
+use Rattle.std.specs.Prelude.{cond, nat_lt, get_or, slice_get}
 use Rattle.std.specs.List.{list_any, list_all, count_by, flat_map}
 use Rattle.std.proofs.lemmas.Bool.Decides.{nat_tests}
-use Rattle.fs_kinds.specs.declared.kind.Kind.{Kind}
+use Rattle.std.proofs.lemmas.List.Sums.{sum_by-cons}
 use Rattle.fs_kinds.specs.declared.placement.Entry.{Entry}
 use Rattle.fs_kinds.specs.declared.slot.Slot.{Slot}
 use Rattle.fs_kinds.specs.PriceTable.{PriceTable, entry_cost}
-use Rattle.fs_answer.specs.Parts.{Part, Decision, options}
-use Rattle.fs_answer.specs.Pruning.{breaks, breaking_ways, breaking_at, is_empty, is_breakable, least, least_break, share_a_slot, are_apart, sum_of, lower_bound, is_no_better, is_pruned}
+use Rattle.fs_answer.specs.Parts.{Part, Decision}
+use Rattle.fs_answer.specs.Pruning.{breaking_at, is_breakable, least, least_break, share_a_slot, are_apart, sum_of, lower_bound, is_no_better, is_pruned}
 use Rattle.fs_answer.specs.Widths.{Width}
-use Rattle.fs_checker.specs.inner.Leaves.{slots_in_part}
 use Rattle.fs_evidence.specs.Evidence.{pairs_at, widths_of}
-use Rattle.std.proofs.lemmas.List.Sums.{sum_by-cons}
-use Rattle.fs_checker.specs.inner.Breaks.{widths_at, everywhere, lesser_of, least_in, breaks_at, is_breakable_at, break_apart, bound_of, is_bounded}
-use Rattle.fs_checker.proofs.Breaks.{lesser_assoc}
+use Rattle.fs_checker.specs.inner.Leaves.{slots_in_part}
+use Rattle.fs_checker.specs.inner.Breaks.{lesser_of, break_at, breaks_of, breaks_at, least_in, is_open, is_breakable_at, break_apart, bound_of, is_bounded}
+use Rattle.fs_checker.proofs.Breaks.{lesser_assoc, some_break, least_first}
 
 -- ---- counts
 
@@ -35,9 +33,9 @@ count-map p f (x ∷ xs) =
 
 -- ---- what loops over the numbers of witnesses need
 
-pub count_widths : (prices : PriceTable) (k : ℕ) (d : Decision) (shown : List (Option (List Pairs))) (js : List ℕ)
-    → count_by (λ j. is_breakable_at prices k d (widths_at shown j)) js ≡ count_by (is_breakable_at prices k d) (map (widths_at shown) js)
-count_widths prices k d shown js = sym (count-map (is_breakable_at prices k d) (widths_at shown) js)
+pub count_breaks : (k : ℕ) (d : Decision) (breaks : List (List (Option ℕ))) (js : List ℕ)
+    → count_by (λ j. is_breakable_at k d (breaks_at breaks j)) js ≡ count_by (is_breakable_at k d) (map (breaks_at breaks) js)
+count_breaks k d breaks js = sym (count-map (is_breakable_at k d) (breaks_at breaks) js)
 
 sum_swap : (k m n : Option ℕ) → sum_of k (sum_of m n) ≡ sum_of m (sum_of k n)
 sum_swap None None n = refl
@@ -52,56 +50,44 @@ sum_none : (m : Option ℕ) → sum_of m None ≡ None
 sum_none None = refl
 sum_none (Some m) = refl
 
-module _ (prices : PriceTable) (part : Part) (shown : List (Option (List Pairs))) where
+module _ (prices : PriceTable) (part : Part) (breaks : List (List (Option ℕ))) where
   pub bound_more : (js : List ℕ) (i d : ℕ) → i < length js
-      → bound_of prices part (map (widths_at shown) (take (i + 1) js)) ≡ sum_of (least_in prices part (widths_at shown (get_or js i d))) (bound_of prices part (map (widths_at shown) (take i js)))
+      → bound_of prices part (map (breaks_at breaks) (take (i + 1) js)) ≡ sum_of (least_in part (breaks_at breaks (get_or js i d))) (bound_of prices part (map (breaks_at breaks) (take i js)))
   bound_more [] i d l = absurd (omega arith)
   bound_more (j ∷ js) zero d l = refl
   bound_more (j ∷ js) (suc i) d l =
       let e : suc i + 1 ≡ suc (i + 1) = omega arith in
-      rw e (ap (sum_of (least_in prices part (widths_at shown j))) (bound_more js i d (omega arith))
-      ∙ sum_swap (least_in prices part (widths_at shown j)) (least_in prices part (widths_at shown (get_or js i d))) (bound_of prices part (map (widths_at shown) (take i js))))
+      rw e (ap (sum_of (least_in part (breaks_at breaks j))) (bound_more js i d (omega arith))
+      ∙ sum_swap (least_in part (breaks_at breaks j)) (least_in part (breaks_at breaks (get_or js i d))) (bound_of prices part (map (breaks_at breaks) (take i js))))
 
   pub bound_none : (js : List ℕ) (i d : ℕ) → i < length js
-      → least_in prices part (widths_at shown (get_or js i d)) ≡ None → bound_of prices part (map (widths_at shown) js) ≡ None
+      → least_in part (breaks_at breaks (get_or js i d)) ≡ None → bound_of prices part (map (breaks_at breaks) js) ≡ None
   bound_none [] i d l none = absurd (omega arith)
-  bound_none (j ∷ js) zero d l none = ap (λ n. sum_of n (bound_of prices part (map (widths_at shown) js))) none
+  bound_none (j ∷ js) zero d l none = ap (λ n. sum_of n (bound_of prices part (map (breaks_at breaks) js))) none
   bound_none (j ∷ js) (suc i) d l none =
-      ap (sum_of (least_in prices part (widths_at shown j))) (bound_none js i d (omega arith) none) ∙ sum_none (least_in prices part (widths_at shown j))
+      ap (sum_of (least_in part (breaks_at breaks j))) (bound_none js i d (omega arith) none) ∙ sum_none (least_in part (breaks_at breaks j))
 
--- ---- a width, and the pairs that it keeps at the slots of a part
+-- ---- a width, and what it costs at these slots to break an execution of it
+
+abbrev pub breaks_on : PriceTable → List Slot → Width → List (Option ℕ)
+breaks_on prices ss w = breaks_of prices ss (widths_of w ss)
 
 module _ (prices : PriceTable) (w : Width) where
-  abbrev at_slot : Slot → Option Kind → Entry
-  at_slot slot kind = record { slot = slot; kind = kind }
-
-  same_breaks : (slot : Slot) (kinds : List (Option Kind))
-      → filter (breaks w) (map (at_slot slot) kinds) ≡ filter (breaks (everywhere (pairs_at w slot))) (map (at_slot slot) kinds)
-  same_breaks slot [] = refl
-  same_breaks slot (kind ∷ kinds) = ap (λ es. if breaks w (at_slot slot kind) then at_slot slot kind ∷ es else es) (same_breaks slot kinds)
-
-  same_ways : (slot : Slot) (decided : Option (Option Kind))
-      → breaking_ways prices w slot decided ≡ breaking_ways prices (everywhere (pairs_at w slot)) slot decided
-  same_ways slot None = same_breaks slot (options prices)
-  same_ways slot (Some kind) = refl
-
   least_append : (es fs : List Entry) → least (map (entry_cost prices) (es ++ fs)) ≡ lesser_of (least (map (entry_cost prices) es)) (least (map (entry_cost prices) fs))
   least_append [] fs = refl
   least_append (e ∷ es) fs =
       ap (lesser_of (Some (entry_cost prices e))) (least_append es fs)
       ∙ lesser_assoc (Some (entry_cost prices e)) (least (map (entry_cost prices) es)) (least (map (entry_cost prices) fs))
 
-  pub same_least : (part : Part) → least_in prices part (widths_of w (slots_in_part part)) ≡ least_break prices part w
+  pub same_least : (part : Part) → least_in part (breaks_on prices (slots_in_part part) w) ≡ least_break prices part w
   same_least [] = refl
   same_least (d ∷ part) =
-      ap₂ (λ es n. lesser_of (least (map (entry_cost prices) es)) n) (sym (same_ways d.slot d.decided)) (same_least part)
-      ∙ sym (least_append (breaking_at prices w d) (flat_map (breaking_at prices w) part))
-
-  same_breakable : (d : Decision) → is_breakable prices (everywhere (pairs_at w d.slot)) d ≡ is_breakable prices w d
-  same_breakable d = ap (λ es. not (is_empty es)) (sym (same_ways d.slot d.decided))
+      least_first prices w d.slot d.decided (least_in part (breaks_on prices (slots_in_part part) w))
+      ∙ (ap (lesser_of (least (map (entry_cost prices) (breaking_at prices w d)))) (same_least part)
+      ∙ sym (least_append (breaking_at prices w d) (flat_map (breaking_at prices w) part)))
 
 pub same_bound : (prices : PriceTable) (part : Part) (ws : List Width)
-    → bound_of prices part (map (λ w. widths_of w (slots_in_part part)) ws) ≡ lower_bound prices part ws
+    → bound_of prices part (map (breaks_on prices (slots_in_part part)) ws) ≡ lower_bound prices part ws
 same_bound prices part [] = refl
 same_bound prices part (w ∷ ws) = ap₂ sum_of (same_least prices w part) (same_bound prices part ws)
 
@@ -113,19 +99,19 @@ module _ (prices : PriceTable) where
   StandAt ss k part = (j : ℕ) (d : Decision) → slice_get part j ≡ Some d → slice_get ss (k + j) ≡ Some d.slot
 
   at_width : (ss : List Slot) (k : ℕ) (d : Decision) (w : Width) → slice_get ss k ≡ Some d.slot
-      → is_breakable_at prices k d (widths_of w ss) ≡ is_breakable prices w d
-  at_width ss k d w at = ap (breaks_at prices d) (got ss k at) ∙ same_breakable prices w d
+      → is_breakable_at k d (breaks_on prices ss w) ≡ is_breakable prices w d
+  at_width ss k d w at = ap (is_open d) (got ss k at) ∙ some_break prices w d.slot d.decided
     where
-      got : (ss : List Slot) (k : ℕ) → slice_get ss k ≡ Some d.slot → slice_get (widths_of w ss) k ≡ Some (pairs_at w d.slot)
+      got : (ss : List Slot) (k : ℕ) → slice_get ss k ≡ Some d.slot → slice_get (breaks_on prices ss w) k ≡ Some (break_at prices d.slot (pairs_at w d.slot))
       got [] k at = absurd (cc)
-      got (s ∷ ss) zero at = let same : s ≡ d.slot = cc in ap (λ u. Some (pairs_at w u)) same
+      got (s ∷ ss) zero at = let same : s ≡ d.slot = cc in ap (λ u. Some (break_at prices u (pairs_at w u))) same
       got (s ∷ ss) (suc k) at = got ss k at
 
   count_at : (ss : List Slot) (k : ℕ) (d : Decision) (ws : List Width) → slice_get ss k ≡ Some d.slot
-      → count_by (is_breakable_at prices k d) (map (λ w. widths_of w ss) ws) ≡ count_by (λ w. is_breakable prices w d) ws
+      → count_by (is_breakable_at k d) (map (breaks_on prices ss) ws) ≡ count_by (λ w. is_breakable prices w d) ws
   count_at ss k d [] at = refl
   count_at ss k d (w ∷ ws) at =
-      count-cons (is_breakable_at prices k d) (widths_of w ss) (map (λ w. widths_of w ss) ws)
+      count-cons (is_breakable_at k d) (breaks_on prices ss w) (map (breaks_on prices ss) ws)
       ∙ (ap₂ (λ b n. count_one b + n) (at_width ss k d w at) (count_at ss k d ws at)
       ∙ sym (count-cons (λ w. is_breakable prices w d) w ws))
 
@@ -133,7 +119,7 @@ module _ (prices : PriceTable) where
   one_at ws d = nat_lt (count_by (λ w. is_breakable prices w d) ws) 2
 
   slot_by_slot : (ss : List Slot) (k : ℕ) (part : Part) (ws : List Width) → StandAt ss k part
-      → break_apart prices k part (map (λ w. widths_of w ss) ws) ≡ list_all (one_at ws) part
+      → break_apart k part (map (breaks_on prices ss) ws) ≡ list_all (one_at ws) part
   slot_by_slot ss k [] ws stand = refl
   slot_by_slot ss k (d ∷ part) ws stand =
       let z : k + 0 ≡ k = omega arith in
@@ -228,9 +214,9 @@ module _ (prices : PriceTable) where
       got (e ∷ part) zero at = let same : e ≡ d = cc in ap (λ (x : Decision). Some x.slot) same
       got (e ∷ part) (suc j) at = got part j at
 
-  pub same_apart : (part : Part) (ws : List Width) → break_apart prices 0 part (map (λ w. widths_of w (slots_in_part part)) ws) ≡ are_apart prices part ws
+  pub same_apart : (part : Part) (ws : List Width) → break_apart 0 part (map (breaks_on prices (slots_in_part part)) ws) ≡ are_apart prices part ws
   same_apart part ws = slot_by_slot (slots_in_part part) 0 part ws (stand_whole part) ∙ pair_by_pair part ws
 
   pub same_pruned : (bound : Option (List Entry)) (part : Part) (ws : List Width)
-      → is_bounded prices bound part (map (λ w. widths_of w (slots_in_part part)) ws) ≡ is_pruned prices bound part ws
+      → is_bounded prices bound part (map (breaks_on prices (slots_in_part part)) ws) ≡ is_pruned prices bound part ws
   same_pruned bound part ws = ap₂ (λ b n. b && is_no_better prices bound part n) (same_apart part ws) (same_bound prices part ws)

@@ -8,6 +8,7 @@ use Rattle.fs_kinds.specs.declared.kind.Kind.{Kind}
 use Rattle.fs_kinds.specs.declared.placement.Entry.{Entry}
 use Rattle.fs_kinds.specs.Placement.{slots_of}
 use Rattle.fs_kinds.specs.PriceTable.{PriceTable}
+use Rattle.fs_kinds.specs.declared.slot.Slot.{Slot}
 use Rattle.fs_kinds.specs.Slot.{is_rising}
 use Rattle.fs_syntax.specs.declared.test.Test.{Test}
 use Rattle.fs_syntax.specs.Test.{IsBounded}
@@ -27,9 +28,9 @@ use Rattle.fs_evidence.specs.Evidence.{pairs_at, widths_of}
 use Rattle.fs_laws.proofs.ExactWidths.{exact}
 use Rattle.fs_laws.proofs.Weakening.{execution-weaker}
 use Rattle.fs_check.proofs.Shown.{one_shown}
-use Rattle.fs_checker.specs.inner.Breaks.{fits, is_kept, is_shown_with, is_shown_under, widths_in, widths_at, is_bounded}
+use Rattle.fs_checker.specs.inner.Breaks.{fits, is_kept, is_shown_with, is_shown_under, widths_in, breaks_of, all_breaks, breaks_at, is_bounded}
 use Rattle.fs_checker.specs.inner.Leaves.{Decides, slots_in_part, ShowsWidths, AreShown}
-use Rattle.fs_checker.proofs.Pruned.{same_pruned}
+use Rattle.fs_checker.proofs.Pruned.{breaks_on, same_pruned}
 
 -- ---- deciding
 
@@ -53,6 +54,13 @@ got_both R [] (y ∷ ys) k h = absurd h
 got_both R (x ∷ xs) [] k h = absurd h
 got_both R (x ∷ xs) (y ∷ ys) zero h = inr (x, y, refl, refl, h.0)
 got_both R (x ∷ xs) (y ∷ ys) (suc k) h = got_both R xs ys k h.1
+
+-- what it costs to break a witness, where its widths are known
+got_breaks : (prices : PriceTable) (ss : List Slot) (shown : List (Option (List Pairs))) (j : ℕ) (widths : List Pairs) → slice_get shown j ≡ Some (Some widths)
+    → breaks_at (all_breaks prices ss shown) j ≡ breaks_of prices ss widths
+got_breaks prices ss [] j widths at = absurd (cc)
+got_breaks prices ss (kept ∷ shown) zero widths at = ap (λ k. breaks_of prices ss (widths_in k)) (some_is kept (Some widths) at)
+got_breaks prices ss (kept ∷ shown) (suc j) widths at = got_breaks prices ss shown j widths at
 
 -- ---- the slots of a part
 
@@ -126,14 +134,14 @@ module _ (t : Test) (bounded : IsBounded t) (part : Part) (same : slots_in_part 
 
     -- its execution, and the widths that are kept
     pub known : (j : ℕ) → is_shown_under kind part shown j ≡ true
-        → (e : Execution) × RefutesBy t ws p j e × (widths_at shown j ≡ widths_of (width t e) (slots t))
+        → (e : Execution) × RefutesBy t ws p j e × (slice_get shown j ≡ Some (Some (widths_of (width t e) (slots t))))
     known j is = elim (got_both (ShowsWidths t) ws shown j are) [
       | inl (no_witness, no_kept) ↦ (let both : false ≡ true = sym (ap (is_shown_with kind part) no_kept) ∙ is in absurd (cc))
       | inr (w, kept, at, at_kept, shows) ↦ of_shown w kept at at_kept shows
     ]
       where
         of_shown : (w : Witness) (kept : Option (List Pairs)) → slice_get ws j ≡ Some w → slice_get shown j ≡ Some kept → ShowsWidths t w kept
-            → (e : Execution) × RefutesBy t ws p j e × (widths_at shown j ≡ widths_of (width t e) (slots t))
+            → (e : Execution) × RefutesBy t ws p j e × (slice_get shown j ≡ Some (Some (widths_of (width t e) (slots t))))
         of_shown w None at at_kept none = let both : false ≡ true = sym (ap (is_shown_with kind part) at_kept) ∙ is in absurd (cc)
         of_shown w (Some widths) at at_kept (e, (of, shows), are_widths) = (
           e,
@@ -148,7 +156,7 @@ module _ (t : Test) (bounded : IsBounded t) (part : Part) (same : slots_in_part 
               },
             ),
           ),
-          ap widths_in at_kept ∙ are_widths,
+          at_kept ∙ ap (λ ps. Some (Some ps)) are_widths,
         )
 
 -- ---- a leaf that witnesses are to bound
@@ -195,17 +203,20 @@ module _ (t : Test) (bounded : IsBounded t) (part : Part) (same : slots_in_part 
   pub all_shown : (js : List ℕ) → find fails js ≡ None → All (Refutes t ws (floor part)) js
   all_shown js e = All-from_recursion (Refutes t ws (floor part)) js (all_by js e)
 
-  -- their executions, and the widths that are kept
-  each : (js : List ℕ) → find fails js ≡ None
-      → (es : List Execution) × AllZip (RefutesBy t ws (floor part)) js es × (map (widths_at shown) js ≡ map (λ w. widths_of w (slots_in_part part)) (map (width t) es))
-  each [] e = ([], tt, refl)
-  each (x ∷ xs) none =
+  -- their executions, and what it costs to break them
+  each : (prices : PriceTable) (js : List ℕ) → find fails js ≡ None
+      → (es : List Execution) × AllZip (RefutesBy t ws (floor part)) js es
+      × (map (breaks_at (all_breaks prices (slots t) shown)) js ≡ map (breaks_on prices (slots_in_part part)) (map (width t) es))
+  each prices [] e = ([], tt, refl)
+  each prices (x ∷ xs) none =
       let split = shown_first (is_shown_under None part shown x) x (find fails xs) none in
       let one = known t bounded part same None ws shown are x split.0 in
-      let rest = each xs split.1 in (
+      let rest = each prices xs split.1 in (
         one.0 ∷ rest.0,
         (one.1, rest.1),
-        ap₂ (λ v vs. v ∷ vs) (one.2 ∙ ap (widths_of (width t one.0)) (sym same)) rest.2,
+        ap₂ (λ v vs. v ∷ vs)
+            (got_breaks prices (slots t) shown x (widths_of (width t one.0) (slots t)) one.2 ∙ ap (λ ss. breaks_on prices ss (width t one.0)) (sym same))
+            rest.2,
       )
 
   one_by : (j : ℕ) (e f : Execution) → RefutesBy t ws (floor part) j e → RefutesBy t ws (floor part) j f → e ≡ f
@@ -221,15 +232,21 @@ module _ (t : Test) (bounded : IsBounded t) (part : Part) (same : slots_in_part 
   one_each (j ∷ js) (e ∷ es) [] h k = absurd k
   one_each (j ∷ js) (e ∷ es) (f ∷ fs) h k = ap₂ (λ x xs. x ∷ xs) (one_by j e f h.0 k.0) (one_each js es fs h.1 k.1)
 
-  module _ (prices : PriceTable) (p : List Entry) (js : List ℕ) (none : find fails js ≡ None) where
-    pruned_is : is_bounded prices (Some p) part (map (widths_at shown) js) ≡ is_pruned prices (Some p) part (map (width t) (each js none).0)
-    pruned_is = ap (is_bounded prices (Some p) part) (each js none).2 ∙ same_pruned prices (Some p) part (map (width t) (each js none).0)
+  module _ (prices : PriceTable) (p : List Entry) (js : List ℕ) (none : find fails js ≡ None)
+      (breaks : List (List (Option ℕ))) (are_breaks : breaks ≡ all_breaks prices (slots t) shown) where
+    abbrev bounds : Bool
+    bounds = is_bounded prices (Some p) part (map (breaks_at breaks) js)
 
-    pub bound_holds : is_bounded prices (Some p) part (map (widths_at shown) js) ≡ true → Bounds t prices ws p part js
-    bound_holds is = ((each js none).0, (each js none).1, sym pruned_is ∙ is)
+    pruned_is : bounds ≡ is_pruned prices (Some p) part (map (width t) (each prices js none).0)
+    pruned_is =
+        ap (λ bs. is_bounded prices (Some p) part (map (breaks_at bs) js)) are_breaks
+        ∙ (ap (is_bounded prices (Some p) part) (each prices js none).2 ∙ same_pruned prices (Some p) part (map (width t) (each prices js none).0))
 
-    pub bound_fails : is_bounded prices (Some p) part (map (widths_at shown) js) ≡ false → Bounds t prices ws p part js → ⊥
+    pub bound_holds : bounds ≡ true → Bounds t prices ws p part js
+    bound_holds is = ((each prices js none).0, (each prices js none).1, sym pruned_is ∙ is)
+
+    pub bound_fails : bounds ≡ false → Bounds t prices ws p part js → ⊥
     bound_fails is (es, by, pruned) =
-        let same_es = one_each js es (each js none).0 by (each js none).1 in
+        let same_es = one_each js es (each prices js none).0 by (each prices js none).1 in
         let both : true ≡ false = sym pruned ∙ (ap (λ fs. is_pruned prices (Some p) part (map (width t) fs)) same_es ∙ (sym pruned_is ∙ is)) in
         cc

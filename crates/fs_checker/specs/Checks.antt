@@ -5,12 +5,11 @@ use Rattle.fs_kinds.specs.declared.fault.Fault.TheVariants.{BadCertificate}
 use Rattle.fs_kinds.specs.PriceTable.{PriceTable}
 use Rattle.fs_syntax.specs.declared.test.Test.{Test}
 use Rattle.fs_answer.specs.CandidateFaults.{IsCandidateFault}
-use Rattle.fs_answer.specs.Certificate.{Certificate}
+use Rattle.fs_answer.specs.Certificate.{Certificate, IsRight}
 use Rattle.fs_answer.specs.CertificateFile.{IsCertificateFile}
 use Rattle.fs_answer.specs.Refusals.{IsRefusal}
 use Rattle.fs_answer.specs.Valid.{IsValid}
 use Rattle.fs_certificate.specs.Kept.{KeepsCertificate}
-use Rattle.fs_tree.specs.Rightness.{IsRight}
 use Rattle.fs_checker.specs.declared.verdict.CheckVerdict.{CheckVerdict}
 use Rattle.fs_checker.specs.declared.verdict.CheckVerdict.TheVariants.{Yes, No}
 

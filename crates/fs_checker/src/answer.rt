@@ -29,8 +29,10 @@ fn kind_at(words: &[String], number: usize, slot: Slot) -> Option<Kind>
     ensures low { IfSome result (λ kind. number < length words.now) }
     ensures none { IfNone result ((kind : Kind) → slice_get (map string_bytes words.now) number ≢ Some (fence_word slot kind)) }
 {
-    let word = words.get(number)?;
-    kind_of(word.as_str(), slot)
+    match words.get(number) {
+        Some(word) => kind_of(word.as_str(), slot),
+        None => None,
+    }
 }
 
 // The placement with the fences that the words name, where they name fences of offered kinds at its slots, in slot order.

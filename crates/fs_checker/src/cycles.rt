@@ -1,9 +1,10 @@
 //! The cycles of a certificate: one of the judged relation for each candidate that shows the outcome.
 
-ghost use Rattle.std.specs.Prelude.{◌≡◌, ◌<◌, List, length, option_map, slice_index, IfOk, IsOkUnless};
+ghost use Rattle.std.specs.Prelude.{◌≡◌, ◌<◌, List, length, option_map, slice_get, slice_index, IfOk, IsOkUnless};
 ghost use Rattle.std.specs.List.{AllZip, position};
 ghost use Rattle.fs_kinds.specs.declared.fault.Fault.TheVariants.{Memory};
 ghost use Rattle.fs_syntax.specs.Test.{IsBounded};
+ghost use Rattle.fs_model.specs.Witness.{step_name};
 ghost use Rattle.fs_hart.specs.Steps.{steps_in};
 ghost use Rattle.fs_answer.specs.Certificate.{Link};
 ghost use Rattle.fs_answer.specs.Listings.{IsListing};
@@ -16,7 +17,7 @@ ghost use Rattle.fs_certificate.specs.Kept.{KeepsCycle};
 use crate::edges::is_edge;
 use fs_cand::Candidate;
 use fs_certificate::CertificateLink;
-use fs_hart::{Trace, steps_of};
+use fs_hart::{Step, Trace, steps_of};
 use fs_kinds::{Fault, OperationName, Placement, Reason};
 use fs_list::List;
 use fs_model::Operation;
@@ -26,13 +27,22 @@ use std::alloc::Global;
 /// How many links a cycle may have.
 const MOST_LINKS: usize = 64;
 
+// The name of the operation that this step of a hart's run makes, where there is such a step.
+fn step_name(steps: &[Step], hart: u8, place: u8) -> Option<OperationName>
+    ensures { result ≡ option_map (step_name hart) (slice_get steps.now place) }
+{
+    let step = steps.get(usize::from(place))?;
+    Some(OperationName { hart, at: step.at })
+}
+
 // The name of the operation: its hart and the position of its instruction. An initial store has none.
 fn name(traces: &[Trace], operation: &Operation) -> Option<OperationName>
     ensures { result ≡ name_in (steps_in traces.now) operation.now }
 {
-    let hart = operation.hart?;
-    let step = steps_of(traces, Some(hart)).get(usize::from(operation.place))?;
-    Some(OperationName { hart, at: step.at })
+    match operation.hart {
+        Some(hart) => step_name(steps_of(traces, Some(hart)), hart, operation.place),
+        None => None,
+    }
 }
 
 // Are both there, and the same?

@@ -14,6 +14,7 @@ ghost use Rattle.fs_checker.specs.inner.Judgements.{IsPlacedVerdict, IsJudgement
 ghost use Rattle.fs_checker.specs.inner.Walks.{IsWalked};
 
 use crate::answer::answered_placement;
+use crate::breaking::all_breaks;
 use crate::candidates::test_of;
 use crate::cycles::first_bad_cycle;
 use crate::tree::Grounds;
@@ -43,12 +44,14 @@ fn first_bad_item(
 {
     let slots = slots(alloc, test)?;
     let shown = shown_widths(alloc, test, &certificate.witnesses)?;
+    let breaks = all_breaks(alloc, prices, &slots, &shown)?;
     let grounds = Grounds {
         version: certificate.version,
         prices,
         slots: &slots,
         answer: placement.as_slice(),
         shown: &shown,
+        breaks: &breaks,
     };
     Ok(grounds.first_failing(alloc, &certificate.tree)?)
 }
@@ -87,8 +90,9 @@ fn judgement_of(placement: Placement, failure: Option<Reason>) -> Judgement
 }
 
 /// What is said of a certificate whose answer is the fences of these words at this cost, where these candidates show the outcome. The
-/// cost: for each link of a cycle one test of an edge; for each witness that of `check_order` and of its widths; and for each item of
-/// the tree at most the slots times the kinds, times the witnesses that it names. The error is `Memory`.
+/// cost: for each link of a cycle one test of an edge; for each witness that of `check_order` and of its widths, and the slots times the
+/// kinds; and for each item of the tree the slots times the kinds where it is a split, and else the slots times the witnesses that it
+/// names. The error is `Memory`.
 pub(crate) fn judge_fenced(
     alloc: Global,
     showing: &Showing,

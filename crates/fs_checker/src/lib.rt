@@ -3,6 +3,7 @@
 
 mod answer;
 mod bounds;
+mod breaking;
 mod candidates;
 mod costs;
 mod cycles;

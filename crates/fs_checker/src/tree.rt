@@ -8,6 +8,7 @@ ghost use Rattle.fs_answer.specs.Parts.{undecided, is_undecided};
 ghost use Rattle.fs_answer.specs.Certificate.{Certificate, SplitAt, Costly, Refuted, Bounded};
 ghost use Rattle.fs_answer.specs.Valid.{is_costly};
 ghost use Rattle.fs_answer.specs.Refusals.{is_free};
+ghost use Rattle.fs_checker.specs.inner.Breaks.{all_breaks};
 ghost use Rattle.fs_checker.specs.inner.Leaves.{slots_in_part, AreShown};
 ghost use Rattle.fs_certificate.specs.Kept.{version_of, item_of};
 ghost use Rattle.fs_checker.specs.inner.Walks.{AreOfTest, AreGrounds, IsTaken, IsLeaf, IsWalked};
@@ -22,7 +23,7 @@ use fs_kinds::{Entry, Prices, Reason, Slot};
 use fs_list::List;
 use std::alloc::{AllocError, Global};
 
-/// By what the leaves of a tree are judged: the answer's placement, and what is kept of the witnesses.
+/// By what the leaves of a tree are judged: the answer's placement, what is kept of the witnesses, and what it costs to break them.
 #[derive(Clone, Copy)]
 pub(crate) struct Grounds<'a> {
     pub(crate) version: Version,
@@ -30,6 +31,7 @@ pub(crate) struct Grounds<'a> {
     pub(crate) slots: &'a [Slot],
     pub(crate) answer: &'a [Entry],
     pub(crate) shown: &'a [Option<List<Pairs>>],
+    pub(crate) breaks: &'a [List<Option<u32>>],
 }
 
 impl Grounds<'_> {
@@ -71,9 +73,17 @@ impl Grounds<'_> {
     /// Why the leaf that the witnesses of these numbers are to bound fails.
     fn bounded_reason(&self, part: &[Decision], numbers: &[u64], index: usize) -> Option<Reason>
         ensures { (t : Test) (c : Certificate) → IsBounded t → slots_in_part part.now ≡ slots t → AreShown t c.witnesses self.now.shown.now
+            → self.now.breaks.now ≡ all_breaks self.now.prices.now (slots t) self.now.shown.now
             → IsLeaf t self.now.prices.now c self.now.answer.now part.now (Bounded numbers.now) index result }
     {
-        match judge_bounded(self.prices, self.answer, part, self.shown, numbers) {
+        match judge_bounded(
+            self.prices,
+            self.answer,
+            part,
+            self.shown,
+            self.breaks,
+            numbers,
+        ) {
             Bounding::Holds => None,
             Bounding::Unshown(number) => Some(Reason::Witness { index: number }),
             Bounding::Fails => Some(Reason::Node { index }),
@@ -123,7 +133,7 @@ impl Grounds<'_> {
         item: &Item,
         index: usize,
     ) -> Result<Option<Reason>, AllocError>
-        ensures { (t : Test) (c : Certificate) → AreGrounds t c self.now.version self.now.slots.now self.now.shown.now → AreOfTest t stack.old
+        ensures { (t : Test) (c : Certificate) → AreGrounds t self.now.prices.now c self.now.version self.now.slots.now self.now.shown.now self.now.breaks.now → AreOfTest t stack.old
             → IfOk result (λ why. IsTaken t self.now.prices.now c self.now.answer.now stack.old (item_of item.now) index why stack.new) }
     {
         let Some(part) = stack.pop() else {
@@ -144,7 +154,7 @@ impl Grounds<'_> {
         alloc: Global,
         tree: &[Item],
     ) -> Result<Option<Reason>, AllocError>
-        ensures { (t : Test) (c : Certificate) → AreGrounds t c self.now.version self.now.slots.now self.now.shown.now
+        ensures { (t : Test) (c : Certificate) → AreGrounds t self.now.prices.now c self.now.version self.now.slots.now self.now.shown.now self.now.breaks.now
             → IfOk result (IsWalked t self.now.prices.now c self.now.answer.now (undecided t ∷ []) (map item_of tree.now)) }
     {
         let mut stack = Stack::new(alloc, self.slots)?;

@@ -91,8 +91,8 @@ fn check_certificate(
 /// file's bytes, as `Certificate::from_bytes` reads them. The test is bounded, and its harts start with whole registers. The fault is
 /// `BadCertificate` where the bytes are no certificate file; else `TooManyTraces`, `Astray` or `TooManyCandidates` where the
 /// candidates of the test can't be listed; or `Memory`. The cost: that of listing the candidates; for each link of a cycle one test of
-/// an edge; for each witness that of `check_order` and of its widths; and for each item of the tree at most the slots times the kinds,
-/// times the witnesses that it names. Nothing of the search is called.
+/// an edge; for each witness that of `check_order` and of its widths, and the slots times the kinds; and for each item of the tree the
+/// slots times the kinds where it is a split, and else the slots times the witnesses that it names. Nothing of the search is called.
 pub fn check(
     alloc: Global,
     test: Arc<Test>,

@@ -14,6 +14,7 @@ use Rattle.fs_answer.specs.Refusals.{Fails}
 use Rattle.fs_evidence.specs.declared.evidence.Pairs.{Pairs}
 use Rattle.fs_certificate.specs.declared.certificate.Version.{Version as CodeVersion}
 use Rattle.fs_certificate.specs.Kept.{version_of}
+use Rattle.fs_checker.specs.inner.Breaks.{all_breaks}
 use Rattle.fs_checker.specs.inner.Leaves.{slots_in_part, AreShown}
 
 -- each part has the slots of the test
@@ -21,12 +22,15 @@ abbrev pub AreOfTest : Test → List Part → Type 0
 AreOfTest t [] = Unit {0}
 AreOfTest t (part ∷ parts) = (slots_in_part part ≡ slots t) × AreOfTest t parts
 
--- the version and the slots are those of the certificate and of the test, and this is what is kept of the witnesses
-pub record AreGrounds (t : Test) (c : Certificate) (version : CodeVersion) (its_slots : List Slot) (shown : List (Option (List Pairs))) : Type 0 where
+-- the version and the slots are those of the certificate and of the test, and this is what is kept of the witnesses, and
+-- what it costs to break them
+pub record AreGrounds (t : Test) (prices : PriceTable) (c : Certificate) (version : CodeVersion) (its_slots : List Slot) (shown : List (Option (List Pairs)))
+    (breaks : List (List (Option ℕ))) : Type 0 where
   pub bounded : IsBounded t
   pub version_is : c.version ≡ version_of version
   pub slots_are : its_slots ≡ slots t
   pub shown_are : AreShown t c.witnesses shown
+  pub breaks_are : breaks ≡ all_breaks prices (slots t) shown
 
 -- What is left leads to the whole: where the items left cover the parts left, or fail for a reason, so do all items the parts at the
 -- beginning. The numbers are those of the first item, and of the first that is left.
