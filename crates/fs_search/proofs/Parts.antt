@@ -18,7 +18,7 @@ use Rattle.fs_answer.specs.Parts.{Part, Decision, filled_with, floor, filled}
 use Rattle.fs_bound.specs.Bounds.{slots_in_part}
 use Rattle.fs_tree.proofs.Places.{at-append}
 use Rattle.fs_evidence.specs.Evidence.{Question, Shown, IsWitnessFor}
-use Rattle.fs_search.specs.inner.Steps.{AreWitnesses}
+use Rattle.fs_board.specs.Growth.{AreWitnesses}
 
 pub slots-filled : (kind : Option Kind) (part : Part) → slots_of (filled_with kind part) ≡ slots_in_part part
 slots-filled kind [] = refl

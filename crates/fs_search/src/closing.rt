@@ -1,9 +1,8 @@
 //! The ways to be done with a node.
 
-ghost use Rattle.std.specs.Prelude.{◌≡◌, ◌≢◌, ◌<◌, IfOk, IfErr, MatchOption, OnOk, OnErr, IsOkUnless, length, true, false, IsTrue, is_none};
+ghost use Rattle.std.specs.Prelude.{◌≡◌, ◌≢◌, ◌<◌, IfOk, IfErr, MatchOption, OnOk, OnErr, IsOkUnless, length, true, false, is_none};
 ghost use Rattle.std.specs.List.{list_any};
 ghost use Rattle.std.specs.Arc.{arc_value};
-ghost use Rattle.fs_kinds.specs.Placement.{slots_of};
 ghost use Rattle.fs_syntax.specs.Slots.{slots};
 ghost use Rattle.fs_model.specs.Execution.{Execution};
 ghost use Rattle.fs_model.specs.Allows.{Allows};
@@ -15,16 +14,17 @@ ghost use Rattle.fs_history.specs.Histories.{HoldsNode};
 ghost use Rattle.fs_history.specs.Sizes.{tree_size};
 ghost use Rattle.fs_evidence.specs.Evidence.{IsWitnessFor, witness_in, placement_in};
 ghost use Rattle.fs_board.specs.View.{reply_of};
-ghost use Rattle.fs_judge.specs.Verdicts.{IsVerdict};
 ghost use Rattle.fs_search.specs.Histories.{GoesOn};
-ghost use Rattle.fs_search.specs.inner.Steps.{IsTried, MovesOn, AreWitnesses, IsTaken, is_closed, is_split_so};
+ghost use Rattle.fs_board.specs.Growth.{AreWitnesses};
+ghost use Rattle.fs_search.specs.inner.Steps.{IsTried, MovesOn, IsTaken, is_closed, is_split_so};
 
+use crate::choosing::decide;
 use crate::store::Store;
 use crate::taking::{Child, WORKER};
 use fs_board::{Board, Part, Reply};
 use fs_evidence::{Forbidden, Witness};
 use fs_judge::{Problem, Verdict};
-use fs_kinds::{Fault, Placement, Slot};
+use fs_kinds::{Fault, Slot};
 use std::alloc::{AllocError, Global};
 use std::sync::Arc;
 
@@ -56,7 +56,7 @@ pub(crate) fn try_bound(
     ensures ok { IfOk result (λ closed. IsTried board.old board.new closed) }
     ensures err { OnErr result (GoesOn board.old board.new) }
 {
-    let picked = store.pick(alloc, board, part)?;
+    let picked = store.pick(alloc, &board.question().prices, board.bound(), part)?;
     if picked.is_empty() {
         return Ok(false);
     }
@@ -94,24 +94,6 @@ pub(crate) fn try_post(
     let forbidden = Arc::new(alloc, forbidden)?;
     let reply = board.post(alloc, WORKER, node, forbidden)?;
     Ok(is_closed(&reply))
-}
-
-/// A quick look, and where that finds nothing the whole verdict.
-pub(crate) fn decide(
-    alloc: Global,
-    problem: &mut Problem,
-    placement: &Placement,
-    first: &[Slot],
-) -> Result<Verdict, Fault>
-    requires { slots_of placement.now ≡ slots problem.old.test }
-    ensures value { problem.new ≡ problem.old }
-    ensures ok { IfOk result (λ v. IsVerdict problem.old.test placement.now v) }
-    ensures err { IsOkUnless result Fault.Memory }
-{
-    if let Some(witness) = problem.look(alloc, placement, first)? {
-        return Ok(Verdict::Allowed(witness));
-    }
-    problem.verdict(alloc, placement, first)
 }
 
 /// The first child and how many there are, where the node was split.

@@ -2,6 +2,7 @@
 #![tactic(auto)]
 
 mod answer;
+mod choosing;
 mod closing;
 mod codes;
 mod solving;
@@ -11,5 +12,9 @@ mod taking;
 mod tries;
 
 pub use answer::{Answer, Solved};
-pub use solving::solve;
+pub use choosing::{
+    decide, is_filled_new, is_floor_new, judge_floor, look_at_filled, stored_over_filled,
+};
+pub use solving::{conclude, solve};
+pub use store::Store;
 pub use sweep::search;

@@ -129,6 +129,41 @@ fn answer_by_ends(alloc: Global, problem: &mut Problem) -> Result<Solved, Fault>
     }
 }
 
+/// Ends the search of a board, whatever open and held nodes it has, and reads the answer from it: the cheapest placement that forbids the
+/// outcome, of several the first, or a witness that none does. F16 comes only where fences are needed, `rw,rw` in every slot is enough,
+/// and the tree of all placements has more nodes below its root than the board's limit; or F19. What is handed out with the answer, `solve`
+/// says.
+pub fn conclude(alloc: Global, problem: &mut Problem, board: Board) -> Result<Solved, Fault>
+    requires bounded { IsBounded problem.old.test }
+    requires prices { IsPriceTable problem.old.prices }
+    requires same { board.question ≡ problem.old }
+    requires clean { (f : Fault) → IsCandidateFault problem.old.test f → ⊥ }
+    ensures ok { IfOk result (λ s. IsAnswer problem.old.test problem.old.prices s.answer) }
+    ensures board { IfOk result (λ s. IfSome s.board (IsBoardOf problem.old board.board.limit s.answer)) }
+    ensures lost { IfOk result (λ s. IfNone s.board
+        (board.board.limit < tree_size problem.old.prices (length (slots problem.old.test)))) }
+    ensures ends { IfOk result (λ s. IfNone s.board (IsAtAnEnd problem.old.test s.answer)) }
+    ensures least { IfOk result (λ s. IfNone s.board (IsShownLeast problem.old.test s.answer s.least)) }
+    ensures err { IfErr result (λ f. f ≢ Fault.Memory → IsSolveFault problem.old board.board.limit f) }
+{
+    let mut board = board;
+    match search(alloc, problem, &mut board) {
+        Ok(()) => {
+            let answer = answer_of(alloc, problem, &board)?;
+            Ok(Solved {
+                answer,
+                board: Some(board),
+                least: None,
+            })
+        }
+        Err(Fault::NodeLimit) => {
+            let solved = answer_by_ends(alloc, problem)?;
+            Ok(solved)
+        }
+        Err(fault) => Err(fault),
+    }
+}
+
 /// The answer to a question: the cheapest placement that forbids the outcome, of several the first, or a witness that none does. No node
 /// of the search has a number above the limit. F16 comes only where fences are needed, `rw,rw` in every slot is enough, and the tree of
 /// all placements has more nodes below its root than the limit. F13 to F15 come where the candidates can't be listed; or F19.
@@ -153,20 +188,7 @@ pub fn solve(alloc: Global, question: Arc<Question>, limit: usize) -> Result<Sol
 {
     let asked = Arc::try_clone(&question)?;
     let mut problem = Problem::new(alloc, asked)?;
-    let mut board = Board::new(alloc, question, limit)?;
-    match search(alloc, &mut problem, &mut board) {
-        Ok(()) => {
-            let answer = answer_of(alloc, &mut problem, &board)?;
-            Ok(Solved {
-                answer,
-                board: Some(board),
-                least: None,
-            })
-        }
-        Err(Fault::NodeLimit) => {
-            let solved = answer_by_ends(alloc, &mut problem)?;
-            Ok(solved)
-        }
-        Err(fault) => Err(fault),
-    }
+    let board = Board::new(alloc, question, limit)?;
+    let solved = conclude(alloc, &mut problem, board)?;
+    Ok(solved)
 }

@@ -1,13 +1,13 @@
-//! The witnesses that the search has met, and which of them it tries at a node.
+//! The witnesses that a search has met, and which of them it tries at a node.
 
 ghost use Rattle.std.specs.Prelude.{ℕ, ◌≡◌, ◌++◌, ◌∷◌, [], Some, IfOk, IfSome, OnOk, OnErr, slice_get, map};
 ghost use Rattle.std.specs.Arc.{arc_value};
 ghost use Rattle.fs_syntax.specs.declared.test.Test.{Test};
-ghost use Rattle.fs_search.specs.inner.Steps.{AreWitnesses};
+ghost use Rattle.fs_board.specs.Growth.{AreWitnesses};
 
 use crate::codes::{Codes, bits_of_kind, bits_of_pairs};
-use fs_board::{Board, Decision, Part};
-use fs_evidence::{Pairs, Witness};
+use fs_board::{Decision, Part};
+use fs_evidence::{Forbidden, Pairs, Witness};
 use fs_kinds::{Entry, Kind, Prices, Slot};
 use std::alloc::{AllocError, Global};
 use std::marker::Model;
@@ -33,9 +33,9 @@ impl Model for Known {
     ghost view = { λ k. arc_value k.witness };
 }
 
-/// The witnesses that the search has met, the newest last.
+/// The witnesses that a search has met, the newest last.
 #[derive(Drop)]
-pub(crate) struct Store {
+pub struct Store {
     known: Vec<Known>,
 }
 
@@ -127,12 +127,39 @@ impl Known {
 
 impl Store {
     /// No witness yet.
-    pub(crate) fn new(alloc: Global) -> Store
+    pub fn new(alloc: Global) -> Store
         ensures { result ≡ [] }
     {
         Store {
             known: Vec::new(alloc),
         }
+    }
+
+    /// Has a stored witness these widths?
+    pub fn has_widths(&self, witness: &Witness) -> bool {
+        let codes = Codes::of_widths(witness.widths.as_slice());
+        self.known.iter().any(|known| codes.is_within(&known.kept) && known.kept.is_within(&codes))
+    }
+
+    /// Stores a witness. The decisions are those of any node. At `Err` nothing is changed.
+    pub fn keep(
+        &mut self,
+        alloc: Global,
+        prices: &Prices,
+        decisions: &[Decision],
+        witness: Arc<Witness>,
+    ) -> Result<(), AllocError>
+        ensures ok { OnOk result (self.new ≡ self.old ++ arc_value witness ∷ []) }
+        ensures err { OnErr result (self.new ≡ self.old) }
+    {
+        let kept = Codes::of_widths(witness.widths.as_slice());
+        let breaks = breaks_of(alloc, prices, decisions, witness.widths.as_slice())?;
+        self.known.push(Known {
+            witness,
+            kept,
+            breaks,
+        })?;
+        Ok(())
     }
 
     /// Stores a witness, and hands it out. At `Err` nothing is changed.
@@ -147,15 +174,9 @@ impl Store {
         ensures ok { OnOk result (self.new ≡ self.old ++ witness ∷ []) }
         ensures err { OnErr result (self.new ≡ self.old) }
     {
-        let kept = Codes::of_widths(witness.widths.as_slice());
-        let breaks = breaks_of(alloc, prices, decisions, witness.widths.as_slice())?;
         let witness = Arc::new(alloc, witness)?;
         let shared = Arc::try_clone(&witness)?;
-        self.known.push(Known {
-            witness,
-            kept,
-            breaks,
-        })?;
+        self.keep(alloc, prices, decisions, witness)?;
         Ok(shared)
     }
 
@@ -220,11 +241,12 @@ impl Store {
     }
 
     /// Witnesses that bound the node of this part and cost too much to break together, taken greedily: each that shares no breakable slot
-    /// with those taken. None where that doesn't close the node.
-    pub(crate) fn pick(
+    /// with those taken. None where that doesn't close the node, with this bound.
+    pub fn pick(
         &self,
         alloc: Global,
-        board: &Board,
+        prices: &Prices,
+        bound: Option<&Arc<Forbidden>>,
         part: &Part,
     ) -> Result<Vec<Arc<Witness>>, AllocError>
         ensures { IfOk result (λ picked. (t : Test) → AreWitnesses t self.now → AreWitnesses t (map arc_value picked.items)) }
@@ -232,9 +254,9 @@ impl Store {
         let floor = part.floor(alloc)?;
         let codes = Codes::of_placement(floor.as_slice());
         let offers = self.offers(alloc, &codes, part.as_slice())?;
-        let limit = Limit::of(board, floor.as_slice());
+        let limit = Limit::of(prices, bound, floor.as_slice());
         let mut sum = Sum {
-            total: cost(&board.question().prices, floor.as_slice()),
+            total: cost(prices, floor.as_slice()),
             places: 0,
         };
         let mut picked = Vec::new(alloc);
@@ -287,8 +309,8 @@ struct Limit {
 impl Limit {
     /// The limit at a node of this floor: at equal cost the bound wins where the floor isn't before it. With no bound it is what can't be
     /// had at all.
-    fn of(board: &Board, floor: &[Entry]) -> Limit {
-        match board.bound() {
+    fn of(prices: &Prices, bound: Option<&Arc<Forbidden>>, floor: &[Entry]) -> Limit {
+        match bound {
             None => Limit {
                 cost: NEVER,
                 is_enough: true,
@@ -296,7 +318,7 @@ impl Limit {
             Some(bound) => {
                 let best = bound.placement.as_slice();
                 Limit {
-                    cost: cost(&board.question().prices, best),
+                    cost: cost(prices, best),
                     is_enough: !is_before(floor, best),
                 }
             }

@@ -6,7 +6,8 @@ ghost use Rattle.fs_syntax.specs.Slots.{slots};
 ghost use Rattle.fs_history.specs.Board.{is_finished};
 ghost use Rattle.fs_history.specs.Sizes.{tree_size};
 ghost use Rattle.fs_search.specs.Histories.{GoesOn};
-ghost use Rattle.fs_search.specs.inner.Steps.{MovesOn, AreWitnesses, IsTaken};
+ghost use Rattle.fs_board.specs.Growth.{AreWitnesses};
+ghost use Rattle.fs_search.specs.inner.Steps.{MovesOn, IsTaken};
 
 use crate::closing::{settle, split_node};
 use crate::store::Store;

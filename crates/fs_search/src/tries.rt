@@ -1,32 +1,23 @@
 //! What is tried at each node before it is split.
 
-ghost use Rattle.std.specs.Prelude.{◌≡◌, IfOk, OnErr, IsOkUnless};
+ghost use Rattle.std.specs.Prelude.{◌≡◌, IfOk, IsOkUnless};
 ghost use Rattle.std.specs.Arc.{arc_value};
 ghost use Rattle.fs_syntax.specs.Slots.{slots};
-ghost use Rattle.fs_kinds.specs.Placement.{slots_of};
 ghost use Rattle.fs_bound.specs.Bounds.{slots_in_part};
 ghost use Rattle.fs_search.specs.Histories.{GoesOn};
-ghost use Rattle.fs_search.specs.inner.Steps.{IsTried, AreWitnesses};
+ghost use Rattle.fs_board.specs.Growth.{AreWitnesses};
+ghost use Rattle.fs_search.specs.inner.Steps.{IsTried};
 
-use crate::closing::{decide, try_bound, try_cost, try_post, try_witness};
+use crate::choosing::{
+    is_filled_new, is_floor_new, judge_floor, look_at_filled, stored_over_filled,
+};
+use crate::closing::{try_bound, try_cost, try_post, try_witness};
 use crate::store::Store;
 use crate::taking::Taken;
-use fs_board::{Board, Part};
-use fs_judge::{Problem, Verdict};
-use fs_kinds::{Fault, Kind, Slot};
+use fs_board::Board;
+use fs_judge::Problem;
+use fs_kinds::Fault;
 use std::alloc::Global;
-use std::sync::Arc;
-
-/// What was decided at the slot at which the node's parent was split. None of another node.
-fn newest_decision(taken: &Taken) -> Option<Option<Kind>> {
-    let slot = taken.slot?;
-    let decision = taken
-        .part
-        .as_slice()
-        .iter()
-        .find(|decision| decision.slot == slot)?;
-    decision.decided
-}
 
 /// Closes the node by what costs no judging: by cost alone, or by the stored witnesses that bound it.
 fn try_costs(alloc: Global, board: &mut Board, store: &Store, taken: &Taken) -> Result<bool, Fault>
@@ -48,11 +39,9 @@ fn try_stored(alloc: Global, board: &mut Board, store: &Store, taken: &Taken) ->
     ensures goes { GoesOn board.old board.new }
     ensures err { IsOkUnless result Fault.Memory }
 {
-    let filled = taken.part.filled(alloc)?;
-    let Some(found) = store.newest_over(filled.as_slice()) else {
+    let Some(witness) = stored_over_filled(alloc, store, &taken.part)? else {
         return Ok(false);
     };
-    let witness = Arc::try_clone(found)?;
     Ok(try_witness(alloc, board, taken.node, witness)?)
 }
 
@@ -72,18 +61,9 @@ fn try_filled(
     ensures goes { GoesOn board.old board.new }
     ensures err { IsOkUnless result Fault.Memory }
 {
-    let filled = taken.part.filled(alloc)?;
-    let open = taken.part.undecided_slots(alloc)?;
-    let looked = problem.look(alloc, &filled, &open)?;
-    let Some(found) = looked else {
+    let Some(witness) = look_at_filled(alloc, problem, store, &taken.part)? else {
         return Ok(false);
     };
-    let witness = store.add(
-        alloc,
-        &board.question().prices,
-        taken.part.as_slice(),
-        found,
-    )?;
     Ok(try_witness(alloc, board, taken.node, witness)?)
 }
 
@@ -104,23 +84,9 @@ fn try_floor(
     ensures goes { GoesOn board.old board.new }
     ensures err { IsOkUnless result Fault.Memory }
 {
-    let floor = taken.part.floor(alloc)?;
-    if store.newest_over(floor.as_slice()).is_some() {
-        return Ok(false);
-    }
-    let open = taken.part.undecided_slots(alloc)?;
-    let verdict = decide(alloc, problem, &floor, &open)?;
-    match verdict {
-        Verdict::Allowed(found) => {
-            store.add(
-                alloc,
-                &board.question().prices,
-                taken.part.as_slice(),
-                found,
-            )?;
-            Ok(false)
-        }
-        Verdict::Forbids(forbidden) => Ok(try_post(alloc, board, taken.node, forbidden)?),
+    match judge_floor(alloc, problem, store, &taken.part)? {
+        Some(forbidden) => Ok(try_post(alloc, board, taken.node, forbidden)?),
+        None => Ok(false),
     }
 }
 
@@ -142,17 +108,13 @@ fn try_judged(
     ensures goes { GoesOn board.old board.new }
     ensures err { IsOkUnless result Fault.Memory }
 {
-    let newest = newest_decision(taken);
-    if newest == Some(None) {
-        return try_filled(alloc, problem, board, store, taken);
-    }
-    if newest == Some(Some(Kind::RwRw)) {
-        return try_floor(alloc, problem, board, store, taken);
-    }
-    if try_filled(alloc, problem, board, store, taken)? {
+    if is_filled_new(&taken.part, taken.slot) && try_filled(alloc, problem, board, store, taken)? {
         return Ok(true);
     }
-    try_floor(alloc, problem, board, store, taken)
+    if is_floor_new(&taken.part, taken.slot) {
+        return try_floor(alloc, problem, board, store, taken);
+    }
+    Ok(false)
 }
 
 /// Closes the node, where something does: what costs nothing first.

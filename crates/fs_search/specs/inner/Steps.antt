@@ -1,13 +1,10 @@
 -- What one step of a search does to its board: it tries to close a node, or it is done with one.
-use Rattle.std.specs.Prelude.{◌≡◌, ℕ, ◌<◌, ◌≤◌, Bool, true, false, ◌&&◌, not, Some, List, slice_get}
-use Rattle.fs_syntax.specs.declared.test.Test.{Test}
+use Rattle.std.specs.Prelude.{◌≡◌, ℕ, ◌<◌, ◌≤◌, Bool, true, false, ◌&&◌, not}
 use Rattle.fs_syntax.specs.Slots.{slots}
-use Rattle.fs_model.specs.Execution.{Execution}
 use Rattle.fs_answer.specs.Parts.{Part}
 use Rattle.fs_bound.specs.Bounds.{slots_in_part}
 use Rattle.fs_history.specs.Board.{Board, Status, Reply, Closed, Given, Children, is_open, is_held}
 use Rattle.fs_history.specs.Histories.{HoldsNode}
-use Rattle.fs_evidence.specs.Evidence.{Shown, IsWitnessFor}
 use Rattle.fs_board.specs.Counts.{count_of}
 use Rattle.fs_board.specs.View.{Search}
 use Rattle.fs_search.specs.Histories.{GoesOn}
@@ -45,10 +42,6 @@ pub record Stays (old new : Search) : Type 0 where
 abbrev pub IsTried : Search → Search → (closed : Bool) → Type 0
 IsTried old new true = MovesOn old new
 IsTried old new false = Stays old new
-
--- each of these is a witness of the test
-abbrev pub AreWitnesses : Test → List Shown → Type 0
-AreWitnesses t ws = (k : ℕ) (w : Shown) → slice_get ws k ≡ Some w → (e : Execution) × IsWitnessFor t w e
 
 -- worker 0 holds the node, whose part has the test's slots, and fewer nodes are done than there may be
 pub record IsTaken (s : Search) (k : ℕ) (part : Part) : Type 0 where

@@ -1,6 +1,7 @@
 use Rattle.std.proofs.Common.{◌≡◌, ◌+◌, ◌-◌}
 use Rattle.fs_search.specs.Histories.{GoesOn}
-use Rattle.fs_search.specs.inner.Steps.{AreWitnesses, done}
+use Rattle.fs_board.specs.Growth.{AreWitnesses}
+use Rattle.fs_search.specs.inner.Steps.{done}
 use Rattle.fs_search.proofs.sweep.search.Given as goal
 
 abbrev pub invariant-loop-children : goal.invariant-loop-children

@@ -1,7 +1,7 @@
 use Rattle.std.proofs.Common.{map}
 use Rattle.std.specs.Arc.{arc_value}
 use Rattle.fs_syntax.specs.declared.test.Test.{Test}
-use Rattle.fs_search.specs.inner.Steps.{AreWitnesses}
+use Rattle.fs_board.specs.Growth.{AreWitnesses}
 use Rattle.fs_search.proofs.store.Store.pick.Given as goal
 
 abbrev pub invariant-loop-offer : goal.invariant-loop-offer

@@ -1,12 +1,11 @@
-use Rattle.std.proofs.Common.{subst, ap, ◌∙◌}
-use Rattle.fs_answer.specs.Parts.{floor}
+use Rattle.std.proofs.Common.{subst}
 use Rattle.fs_judge.specs.Verdicts.{IsVerdict}
 use Rattle.fs_search.proofs.Parts.{floor-slots, one-more}
-use Rattle.fs_search.proofs.tries.try_floor.Goals as goal
+use Rattle.fs_search.proofs.choosing.judge_floor.Goals as goal
 
 pub decide-requires : goal.decide-requires
 decide-requires c =
-    floor-slots c.args.taken.now.part.value c.in_ok-floor.floor _ (c.in_ok-floor.ensures ∙ ap floor c.deref.ensures) c.requires.slots
+    floor-slots c.args.part.now c.in_ok-floor.floor _ c.in_ok-floor.ensures c.requires.slots
 
 pub returns-in-Allowed-clause-known : goal.returns-in-Allowed-clause-known
 returns-in-Allowed-clause-known c =
