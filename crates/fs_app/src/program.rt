@@ -1,10 +1,11 @@
 //! A run of the program: from the words of its command line to what it prints and its exit status.
-use crate::order::run_order;
+use crate::whole::write_whole;
 use clap::Error;
 use clap::error::ErrorKind;
 use fs_command::{Check, Order, Place, Request, Solve, read_request};
 use fs_io::{Output, Status, read_bytes, write_text};
 use fs_kinds::Fault;
+use fs_order::run_order;
 use fs_place::run_place;
 use fs_solve::{run_certified, run_solve};
 use fs_verify::run_check;
@@ -127,7 +128,7 @@ fn answer_solve<R: Files + Input + AllocGlobal>(
         return run_solve(rt.alloc(), &test, &prices, limit);
     };
     let certified = run_certified(rt.alloc(), &test, &prices, limit)?;
-    write_file(rt, path, certified.certificate.as_bytes())?;
+    write_whole(rt, path, certified.certificate.as_bytes())?;
     Ok(certified.output)
 }
 
@@ -154,14 +155,5 @@ fn read_file<R: Files + AllocGlobal>(rt: &R, path: &str, limit: usize) -> Result
     match File::open(rt, path) {
         Ok(mut file) => read_bytes(rt.alloc(), &mut file, limit),
         Err(_) => Err(Fault::ReadFault),
-    }
-}
-
-/// Makes the file, or empties it where it is there, and writes the bytes. A `WriteFault` where it can't be made or written; then it may
-/// hold their beginning.
-fn write_file<R: Files>(rt: &R, path: &str, bytes: &[u8]) -> Result<(), Fault> {
-    match File::create(rt, path) {
-        Ok(mut file) => write_text(&mut file, bytes),
-        Err(_) => Err(Fault::WriteFault),
     }
 }

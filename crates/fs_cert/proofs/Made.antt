@@ -28,7 +28,7 @@ use Rattle.fs_answer.specs.WitnessFile.{KeepsWitness}
 use Rattle.fs_bound.proofs.Floors.{cost-alone}
 use Rattle.fs_bound.proofs.Ranked.{better-irreflexive}
 use Rattle.fs_evidence.specs.Evidence.{Question, Refuted}
-use Rattle.fs_cert.specs.Certified.{Certifies}
+use Rattle.fs_cert.specs.Certified.{Certifies, CertifiesNone}
 use Rattle.fs_cert.specs.inner.Copies.{AreCopiedWitnesses}
 use Rattle.fs_cert.specs.inner.Fenced.{IsFenced}
 use Rattle.fs_cert.specs.inner.Items.{AreSayable}
@@ -124,38 +124,41 @@ certificate_by w = record { version = Second; answer = NoneForbids; cycles = [];
 
 pub none_certifies : (t : Test) (prices : PriceTable) (made : Kept) (w : Witness) (e : Execution) → version_of made.version ≡ Second
     → answer_of made.answer ≡ NoneForbids → made.cycles ≡ [] → made.tree ≡ [] → AreCopiedWitnesses made.witnesses (w ∷ []) → IsOfWitness t w e
-    → RefutesAll t e → Certifies t prices None made
+    → RefutesAll t e → CertifiesNone t prices w made
 none_certifies t prices made w e version answer cycles tree copied given refutes = record {
-  certificate = certificate_by w;
-  keeps = record {
-    version = sym version;
-    answer = sym answer;
-    cycles = subst (λ l. AllZip KeepsCycle l []) (sym cycles) tt;
-    tree = ap (map item_of) (sym tree);
-    witnesses = copies_keep made.witnesses (w ∷ []) copied;
+  certifies = record {
+    certificate = certificate_by w;
+    keeps = record {
+      version = sym version;
+      answer = sym answer;
+      cycles = subst (λ l. AllZip KeepsCycle l []) (sym cycles) tt;
+      tree = ap (map item_of) (sym tree);
+      witnesses = copies_keep made.witnesses (w ∷ []) copied;
+    };
+    second = refl;
+    valid = record {
+      answered = refl;
+      cycles = refl;
+      tree = refl;
+      witness = w;
+      only = refl;
+      execution = e;
+      given = given;
+      refutes = refutes;
+    };
+    in_range = record {
+      cycles = All-nil _;
+      witnesses = copies_named made.witnesses (w ∷ []) copied;
+    };
+    sayable = record {
+      cost = zero-least;
+      cycles = All-nil _;
+      items = refl;
+      numbers = All-nil _;
+      words = copies_worded made.witnesses (w ∷ []) copied;
+    };
   };
-  second = refl;
-  valid = record {
-    answered = refl;
-    cycles = refl;
-    tree = refl;
-    witness = w;
-    only = refl;
-    execution = e;
-    given = given;
-    refutes = refutes;
-  };
-  in_range = record {
-    cycles = All-nil _;
-    witnesses = copies_named made.witnesses (w ∷ []) copied;
-  };
-  sayable = record {
-    cost = zero-least;
-    cycles = All-nil _;
-    items = refl;
-    numbers = All-nil _;
-    words = copies_worded made.witnesses (w ∷ []) copied;
-  };
+  only = refl;
 }
   where
     zero-least : 0 ≤ most_number

@@ -1,8 +1,9 @@
 -- What a certificate that was made says.
-use Rattle.std.specs.Prelude.{◌≡◌, ◌≢◌, Option, List, AllPairs}
+use Rattle.std.specs.Prelude.{◌≡◌, ◌≢◌, Option, None, List, [], ◌∷◌, AllPairs}
 use Rattle.fs_kinds.specs.declared.placement.Entry.{Entry}
 use Rattle.fs_kinds.specs.PriceTable.{PriceTable}
 use Rattle.fs_syntax.specs.declared.test.Test.{Test}
+use Rattle.fs_model.specs.Witness.{Witness}
 use Rattle.fs_answer.specs.Certificate as said
 use Rattle.fs_answer.specs.CertificateFile.{CanBeSaid}
 use Rattle.fs_answer.specs.Valid.{IsValid}
@@ -18,6 +19,11 @@ pub record Certifies (t : Test) (prices : PriceTable) (answer : Option (List Ent
   pub valid : IsValid t prices certificate answer
   pub in_range : AreInRange certificate
   pub sayable : CanBeSaid certificate
+
+-- It is one of none, by this witness.
+pub record CertifiesNone (t : Test) (prices : PriceTable) (w : Witness) (kept : Certificate) : Type 0 where
+  pub certifies : Certifies t prices None kept
+  pub only : certifies.certificate.witnesses ≡ w ∷ []
 
 -- no two of them are the same
 abbrev pub AreDistinct : List WitnessFile → Type 0

@@ -11,7 +11,7 @@ ghost use Rattle.fs_model.specs.Execution.{Execution};
 ghost use Rattle.fs_answer.specs.Valid.{HasCycles};
 ghost use Rattle.fs_evidence.specs.Evidence.{IsWitnessFor};
 ghost use Rattle.fs_history.specs.Board.{is_finished};
-ghost use Rattle.fs_cert.specs.Certified.{Certifies, HasEachOnce};
+ghost use Rattle.fs_cert.specs.Certified.{Certifies, CertifiesNone, HasEachOnce};
 ghost use Rattle.fs_cert.specs.inner.Fenced.{IsFenced};
 
 use crate::answered::answer_of;
@@ -93,11 +93,11 @@ pub fn from_least(
     )
 }
 
-/// The certificate of the answer none, by a witness of a test that shows the outcome even with `rw,rw` in every slot. The error is want
+/// The certificate of the answer none, by this witness, of a test that shows the outcome even with `rw,rw` in every slot. The error is want
 /// of memory.
 pub fn from_witness(alloc: Global, witness: &Witness) -> Result<Certificate, AllocError>
     ensures { IfOk result (λ made. (t : Test) (prices : PriceTable) (e : Execution)
-        → IsWitnessFor t witness.now e → RefutesAll t e → Certifies t prices None made) }
+        → IsWitnessFor t witness.now e → RefutesAll t e → CertifiesNone t prices witness.now.witness made) }
 {
     let mut witnesses = Vec::new(alloc);
     witnesses.push(witness_of(alloc, witness)?)?;

@@ -1,5 +1,5 @@
 -- `check` says yes to the certificate of `solve --cert`.
-use Rattle.std.proofs.Common.{◌≡◌, inl, inr, ℕ, Option, None, Some, List, ◌++◌, sym, ap, subst, ◌∙◌}
+use Rattle.std.proofs.Common.{◌≡◌, inl, inr, ℕ, Option, None, Some, List, [], ◌∷◌, ◌++◌, sym, ap, subst, ◌∙◌}
 use Rattle.fs_kinds.specs.declared.placement.Entry.{Entry}
 use Rattle.fs_kinds.specs.PriceTable.{cost}
 use Rattle.fs_syntax.specs.Test.{IsSame}
@@ -7,7 +7,7 @@ use Rattle.fs_litmus.proofs.ReadsTest.{is_test}
 use Rattle.fs_litmus.proofs.ReadsOnce.{reads_once}
 use Rattle.fs_same.proofs.KeptCertificates.{valid_same}
 use Rattle.fs_answer.specs.Certificate.{Certificate}
-use Rattle.fs_answer.specs.Texts.{fenced_lines}
+use Rattle.fs_answer.specs.Texts.{fenced_lines, none_lines}
 use Rattle.fs_answer.specs.Valid.{IsValid}
 use Rattle.fs_checker.proofs.OneFile.{file_once}
 use Rattle.fs_verdicts.proofs.Verdicts.{one_answer, not_refused}
@@ -15,11 +15,11 @@ use Rattle.fs_io.specs.declared.status.Status.{Status}
 use Rattle.fs_promise.specs.Checked.{IsYesTo}
 use Rattle.fs_promise.proofs.SameCertificates.{same_certificates}
 use Rattle.fs_promise.proofs.SamePrices.{agree, same_costs}
-use Rattle.fs_solve.specs.Solve.{IsCertified, PrintsPlaced}
+use Rattle.fs_solve.specs.Solve.{IsCertified, IsWitnessed, PrintsPlaced}
 use Rattle.fs_verify.specs.Check.{IsChecked, yes_line}
 
 pub accepted : (test prices text certificate verdict : List ℕ) (status end : Status) → IsCertified test prices text status certificate
-    → IsChecked test prices certificate verdict end → IsYesTo text status verdict end
+    → IsChecked test prices certificate verdict end → IsYesTo text verdict end
 accepted test prices text certificate verdict status end s k =
     let t = s.the_test in
     let u = k.the_test in
@@ -38,12 +38,15 @@ accepted test prices text certificate verdict status end s k =
           let printed : PrintsPlaced t s.table (Some p) text status = subst (λ (o : Option (List Entry)). PrintsPlaced t s.table o text status) found s.answer in
           let costs : cost s.table p ≡ cost k.table p = same_costs u s.table k.table prices_are bounded p a.valid.answered.placement.slots in
           let below : fenced_lines (cost k.table p) p ≡ text = sym (printed.1 ∙ ap (λ n. fenced_lines n p) costs) in
-          (a.ends, inl (printed.2, a.shown ∙ ap (λ (lines : List ℕ). yes_line ++ lines) below))
+          (a.ends, a.shown ∙ ap (λ (lines : List ℕ). yes_line ++ lines) below)
       | inr other ↦ elim other [
         | inl a ↦
             let found : s.placed ≡ None = one_answer u k.table c s.placed None bounded valid a.valid in
-            let printed : PrintsPlaced t s.table None text status = subst (λ (o : Option (List Entry)). PrintsPlaced t s.table o text status) found s.answer in
-            (a.ends, inr (printed.ends, (a.valid.witness, a.shown)))
+            let printed : IsWitnessed None s.certified.certificate.witnesses text =
+            subst (λ (o : Option (List Entry)). IsWitnessed o s.certified.certificate.witnesses text) found s.witnessed in
+            let witnesses : a.valid.witness ∷ [] ≡ printed.0 ∷ [] = sym a.valid.only ∙ (sym (ap (λ (d : Certificate). d.witnesses) one) ∙ printed.1) in
+            let witness : a.valid.witness ≡ printed.0 = cc in
+            (a.ends, a.shown ∙ ap (λ (lines : List ℕ). yes_line ++ lines) (ap none_lines witness ∙ sym printed.2))
         | inr a ↦ absurd (not_refused u k.table c s.placed a.why bounded valid a.refused)
       ]
     ]

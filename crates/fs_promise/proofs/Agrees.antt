@@ -31,7 +31,7 @@ use Rattle.fs_promise.specs.Headline.{IsPossible, CheapestRulesOut, NothingRules
 use Rattle.fs_solve.specs.Solve.{IsSolved}
 use Rattle.fs_promise.proofs.Meaning.{holds, same_itself}
 use Rattle.fs_promise.specs.Agreement.{SaysYes, Place, SaysNoToAnswer, SaysYesToWitness, HaveOnePlacement, OrderAgrees}
-use Rattle.fs_app.specs.Order.{verdict_status}
+use Rattle.fs_order.specs.Order.{verdict_status}
 use Rattle.fs_promise.proofs.Placing.{one_placement, words_place}
 use Rattle.fs_promise.proofs.Witnesses.{witness_file}
 use Rattle.fs_promise.proofs.WitnessTexts.{line_says}
@@ -116,8 +116,8 @@ module _ (test : List ℕ) (t : Test) (reads : Reads test t) where
 pub agrees : (test prices text : List ℕ) (status : Status) → IsSolved test prices text status → OrderAgrees test prices text
 agrees test prices text status solved t table reads priced =
     elim (holds test prices text status solved t table reads priced).1 [
-      | inl a ↦ inl (refuses test t reads table text a)
-      | inr a ↦ inr (accepts test t reads text a)
+      | inl a ↦ inl (refuses test t reads table text a.1)
+      | inr a ↦ inr (accepts test t reads text a.1)
     ]
 
 pub places : (bytes : List ℕ) (t : Test) → Reads bytes t → HaveOnePlacement t

@@ -4,6 +4,7 @@ mod LineEnds
 mod Meaning
 mod OneAnswer
 mod Placing
+mod ReadLines
 mod SameCertificates
 mod SamePrices
 mod WitnessTexts

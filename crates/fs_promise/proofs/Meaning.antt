@@ -83,13 +83,13 @@ none_of_same t u text status s a = record {
   ends = a.ends;
 }
 
-pub holds : (test prices text : List ℕ) (status : Status) → IsSolved test prices text status → IsTrueOfFiles test prices text
+pub holds : (test prices text : List ℕ) (status : Status) → IsSolved test prices text status → IsTrueOfFiles test prices text status
 holds test prices text status s t table reads priced =
     let same : IsSame s.the_test t = reads_once test s.the_test t s.reads reads in
     let h : IsTest t = is_test test t reads in (
       λ f fault. s.listed f ((candidate_fault_same s.the_test t same f).1 fault),
       elim s.answer [
-        | inl a ↦ inl (cheapest t h table s.table text status (agree prices table s.table priced s.priced) (cheapest_of_same s.the_test t s.table text status same a))
-        | inr a ↦ inr (none t h text status (none_of_same s.the_test t text status same a))
+        | inl a ↦ inl (a.ends, cheapest t h table s.table text status (agree prices table s.table priced s.priced) (cheapest_of_same s.the_test t s.table text status same a))
+        | inr a ↦ inr (a.ends, none t h text status (none_of_same s.the_test t text status same a))
       ],
     )

@@ -5,11 +5,9 @@ use Rattle.std.proofs.lemmas.Bool.{and_parts, and_from, or_cases, or_left, or_ri
 use Rattle.fs_kinds.specs.declared.kind.Kind.{Kind}
 use Rattle.fs_kinds.specs.declared.slot.Slot.{Slot}
 use Rattle.fs_kinds.specs.declared.placement.Entry.{Entry}
-use Rattle.fs_kinds.specs.Kind.{word}
 use Rattle.fs_kinds.specs.Placement.{slots_of, all_with, has_slot, kind_at, with_kind}
-use Rattle.fs_kinds.specs.Slot.{IsSlot, slot_name, fence_word, is_same_slot, is_before, is_rising}
+use Rattle.fs_kinds.specs.Slot.{IsSlot, fence_word, is_same_slot, is_before, is_rising}
 use Rattle.fs_kinds.proofs.Entries.{slots_of-all_with, slots_of-with_kind}
-use Rattle.fs_kinds.proofs.Names.{cut-same, not_in_name, slot_name-injective, word-injective}
 use Rattle.fs_syntax.specs.declared.test.Test.{Test}
 use Rattle.fs_syntax.specs.Placed.{word_of, fits, placed}
 use Rattle.fs_syntax.specs.Slots.{slots}
@@ -17,22 +15,17 @@ use Rattle.fs_syntax.specs.Test.{IsBounded}
 use Rattle.fs_syntax.proofs.Rising.{rising-slots_from}
 use Rattle.fs_syntax.proofs.SlotLists.{same_slot, same_slot-refl}
 use Rattle.fs_answer.specs.Certificate.{fence_words, words_at}
-use Rattle.fs_promise.proofs.SamePrices.{AreSlots, slots_small}
+use Rattle.fs_verdicts.proofs.Worded.{same_fence, small_slots}
+use Rattle.fs_promise.proofs.SamePrices.{AreSlots}
 use Rattle.fs_promise.specs.Agreement.{Place}
 
 -- ---- words place one placement at most
 
 -- a word is that of one fence
-split_word : (s : Slot) (kind : Kind) → fence_word s kind ≡ slot_name s ++ (61 ∷ word kind)
-split_word s kind = append_assoc (slot_name s) (61 ∷ []) (word kind)
-
 fence_once : (f g : Slot × Kind) → IsSlot f.0 → IsSlot g.0 → word_of f ≡ word_of g → f ≡ g
 fence_once f g left right e =
-    let cut = cut-same 61 (slot_name f.0) (slot_name g.0) (word f.1) (word g.1) (not_in_name 61 f.0 left (omega arith) (omega arith))
-    (not_in_name 61 g.0 right (omega arith) (omega arith)) (sym (split_word f.0 f.1) ∙ e ∙ split_word g.0 g.1) in
-    let slot : f.0 ≡ g.0 = slot_name-injective f.0 g.0 left right cut.0 in
-    let kind : f.1 ≡ g.1 = word-injective f.1 g.1 cut.1 in
-    ap (λ (s : Slot). (s, f.1)) slot ∙ ap (λ (k : Kind). (g.0, k)) kind
+    let one = same_fence f.0 g.0 f.1 g.1 left right e in
+    ap (λ (s : Slot). (s, f.1)) one.0 ∙ ap (λ (k : Kind). (g.0, k)) one.1
 
 slot_there : (s : Slot) (p : List Entry) → AreSlots (slots_of p) → has_slot s p ≡ true → IsSlot s
 slot_there s [] small has = absurd (false≢true has)
@@ -76,20 +69,20 @@ placed_once (f ∷ fences) (g ∷ others) p a b small same left right =
 
 pub one_placement : (t : Test) → IsBounded t → (words : List (List ℕ)) (p q : List Entry) → Place t words p → Place t words q → p ≡ q
 one_placement t bounded words p q h k =
-    placed_once h.0 k.0 (all_with None (slots t)) p q (subst AreSlots (sym (slots_of-all_with None (slots t))) (slots_small t bounded))
+    placed_once h.0 k.0 (all_with None (slots t)) p q (subst AreSlots (sym (slots_of-all_with None (slots t))) (small_slots t bounded))
     (h.1 ∙ sym k.1) h.2 k.2
 
 -- ---- each placement has words
 
-abbrev fences_at : Slot → Option Kind → List (Slot × Kind)
+abbrev pub fences_at : Slot → Option Kind → List (Slot × Kind)
 fences_at s None = []
 fences_at s (Some kind) = (s, kind) ∷ []
 
-abbrev fences_of : List Entry → List (Slot × Kind)
+abbrev pub fences_of : List Entry → List (Slot × Kind)
 fences_of [] = []
 fences_of (e ∷ p) = fences_at e.slot e.kind ++ fences_of p
 
-words_are : (p : List Entry) → map word_of (fences_of p) ≡ fence_words p
+pub words_are : (p : List Entry) → map word_of (fences_of p) ≡ fence_words p
 words_are [] = refl
 words_are (e ∷ p) = at e.kind (words_are p)
   where

@@ -17,7 +17,8 @@ use Rattle.fs_answer.specs.Parts.{Part, Decision, undecided, floor, decide, opti
 use Rattle.fs_answer.specs.Pruning.{breaks, breaking_ways, breaking_at, is_empty, is_breakable, least, least_break, share_a_slot, are_apart, sum_of, lower_bound, is_no_better, is_pruned}
 use Rattle.fs_answer.specs.Valid.{is_costly, Covers, IsValid}
 use Rattle.fs_answer.specs.Widths.{Width, width}
-use Rattle.fs_promise.proofs.SamePrices.{Agree, AreSlots, slots_small, entry_same, cost_same, offered_same, same_placement, same_costs}
+use Rattle.fs_verdicts.proofs.Worded.{small_slots}
+use Rattle.fs_promise.proofs.SamePrices.{Agree, AreSlots, entry_same, cost_same, offered_same, same_placement, same_costs}
 
 -- ---- the slots of parts have numbers of one byte
 
@@ -160,7 +161,7 @@ pub same_certificates : (t : Test) (table other : PriceTable) → Agree table ot
 same_certificates t table other same h c None valid = valid
 same_certificates t table other same h c (Some p) valid =
     let is = valid.answered.placement in
-    let small = slots_small t h in
+    let small = small_slots t h in
     record {
       answered = record {
         placement = (same_placement t table other same h p).0 is;

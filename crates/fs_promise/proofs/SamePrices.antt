@@ -1,21 +1,19 @@
 -- Two tables of the same bytes give each placement over the slots of a test the same cost.
-use Rattle.std.proofs.Common.{◌≡◌, ◌≤◌, ◌<◌, ◌↔◌, ℕ, zero, suc, ◌+◌, List, [], ◌∷◌, ◌++◌, map, filter, length, flat_map, Bool, true, false, Option, None, Some, is_some, unwrap_or, All, refl, ap, sym, ◌∙◌, subst, arith, cond}
-use Rattle.std.specs.List.{enumerate_from, range_with_len, fold}
-use Rattle.std.proofs.lemmas.List.Elements.{All-head, All-tail}
+use Rattle.std.proofs.Common.{◌≡◌, ◌↔◌, ℕ, ◌+◌, List, [], ◌∷◌, Option, None, Some, is_some, unwrap_or, refl, ap, sym, ◌∙◌, subst}
+use Rattle.std.specs.List.{AllByRecursion, fold}
 use Rattle.serde_json.specs.Data.{Members}
-use Rattle.fs_instr.specs.declared.instr.Instr.{Instr}
 use Rattle.fs_kinds.specs.declared.kind.Kind.{Kind}
 use Rattle.fs_kinds.specs.declared.placement.Entry.{Entry}
 use Rattle.fs_kinds.specs.declared.slot.Slot.{Slot}
-use Rattle.fs_kinds.specs.Limits.{most_instructions}
 use Rattle.fs_kinds.specs.Placement.{slots_of}
 use Rattle.fs_kinds.specs.PriceTable.{PriceTable, price_of, weight_of, kind_cost, entry_cost, cost, is_offered, are_offered}
 use Rattle.fs_kinds.specs.PriceObject.{ArePrices, IsTableOf}
 use Rattle.fs_kinds.specs.Slot.{IsSlot}
 use Rattle.fs_syntax.specs.declared.test.Test.{Test}
-use Rattle.fs_syntax.specs.Slots.{is_slot, slot_at, slots_in, slots}
+use Rattle.fs_syntax.specs.Slots.{slots}
 use Rattle.fs_syntax.specs.Test.{IsBounded}
 use Rattle.fs_model.specs.Allows.{IsPlacement}
+use Rattle.fs_verdicts.proofs.Worded.{small_slots}
 use Rattle.fs_solve.specs.Solve.{ArePricesOf}
 
 -- the same price for each kind, and the same weight for each slot
@@ -35,38 +33,11 @@ agree bytes table other left right =
       weight = λ s is. here.weight s is ∙ sym (right.2.weight s is);
     }
 
--- ---- the slots of a test have numbers of one byte
-
-abbrev pub AreSlots : List Slot → Type 0
-AreSlots [] = Unit {0}
-AreSlots (s ∷ ss) = IsSlot s × AreSlots ss
-
-are_slots-append : (ss rs : List Slot) → AreSlots ss → AreSlots rs → AreSlots (ss ++ rs)
-are_slots-append [] rs h k = k
-are_slots-append (s ∷ ss) rs h k = (h.0, are_slots-append ss rs h.1 k)
-
-kept : (b : Bool) (hart n : ℕ) (ns : List ℕ) → IsSlot (slot_at hart n) → AreSlots (map (slot_at hart) ns) → AreSlots (map (slot_at hart) (cond b (n ∷ ns) ns))
-kept true hart n ns is rest = (is, rest)
-kept false hart n ns is rest = rest
-
-positions : (test : ℕ → Bool) (hart n count : ℕ) → hart < 256 → n + count ≤ 256 → AreSlots (map (slot_at hart) (filter test (range_with_len n count)))
-positions test hart n zero low most = tt
-positions test hart n (suc count) low most =
-    kept (test n) hart n (filter test (range_with_len (n + 1) count)) (low, omega arith) (positions test hart (n + 1) count low (omega arith))
-
-in_codes : (n : ℕ) (codes : List (List Instr)) → n + length codes ≤ 256 → All (λ code. length code ≤ most_instructions) codes
-    → AreSlots (flat_map (λ numbered. slots_in numbered.0 numbered.1) (enumerate_from n codes))
-in_codes n [] most short = tt
-in_codes n (code ∷ codes) most short =
-    let here : length code ≤ most_instructions = All-head (λ c. length c ≤ most_instructions) code codes short in
-    are_slots-append (slots_in n code) (flat_map (λ numbered. slots_in numbered.0 numbered.1) (enumerate_from (n + 1) codes))
-    (positions (is_slot code) n 0 (length code) (omega arith) (omega (arith, here)))
-    (in_codes (n + 1) codes (omega arith) (All-tail (λ c. length c ≤ most_instructions) code codes short))
-
-pub slots_small : (t : Test) → IsBounded t → AreSlots (slots t)
-slots_small t h = let harts = h.harts in in_codes 0 t.codes (omega (arith, harts)) h.lengths
-
 -- ---- costs
+
+-- their numbers are of one byte
+abbrev pub AreSlots : List Slot → Type 0
+AreSlots = AllByRecursion IsSlot
 
 module _ (table other : PriceTable) (same : Agree table other) where
   kind_cost_same : (kind : Option Kind) → kind_cost table kind ≡ kind_cost other kind
@@ -95,7 +66,7 @@ module _ (table other : PriceTable) (same : Agree table other) where
   all_offered_same (e ∷ p) = rw (offered_same e.kind, all_offered_same p) refl
 
 pub same_costs : (t : Test) (table other : PriceTable) → Agree table other → IsBounded t → (p : List Entry) → slots_of p ≡ slots t → cost table p ≡ cost other p
-same_costs t table other same h p over = cost_same table other same p (subst AreSlots (sym over) (slots_small t h))
+same_costs t table other same h p over = cost_same table other same p (subst AreSlots (sym over) (small_slots t h))
 
 pub same_placement : (t : Test) (table other : PriceTable) → Agree table other → IsBounded t → (p : List Entry) → IsPlacement t table p ↔ IsPlacement t other p
 same_placement t table other same h p = (

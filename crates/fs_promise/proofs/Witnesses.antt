@@ -1,5 +1,5 @@
--- Each execution is that of a witness, whose text is a file that says it.
-use Rattle.std.proofs.Common.{◌≡◌, ℕ, suc, ◌<◌, ◌++◌, Bool, true, false, nat_lt, ◌&&◌, Option, None, Some, is_some, option_map, List, [], ◌∷◌, map, length, refl, subst, ◌∙◌, arith, if◌then◌else◌}
+-- Each execution is that of a witness, and the text of each witness of an execution is a file that says it.
+use Rattle.std.proofs.Common.{◌≡◌, ℕ, suc, ◌<◌, ◌++◌, Bool, true, false, nat_lt, ◌&&◌, Option, None, Some, is_some, option_map, List, [], ◌∷◌, map, length, refl, sym, subst, ◌∙◌, arith, if◌then◌else◌}
 use Rattle.std.specs.List.{slice_index_or}
 use Rattle.std.specs.Option.{option_to_list}
 use Rattle.std.proofs.lemmas.Bool.{and_parts, or_right, ltb-true}
@@ -56,9 +56,9 @@ run_small n code h [] run = tt
 run_small n code h (s ∷ ss) run =
     each-append IsSmallChoice (option_to_list (choice_by s.instr s)) (choices_of ss) (step_small n h s s.instr run.0.2) (run_small n code (after_step h s) ss run.1)
 
-each_mapped : {A B : Type 0} (f : A → B) (Q : B → Type 0) (d : A) (xs : List A) → ((k : ℕ) → k < length xs → Q (f (slice_index_or xs k d))) → Each Q (map f xs)
-each_mapped f Q d [] each = tt
-each_mapped f Q d (x ∷ xs) each = (each 0 (omega arith), each_mapped f Q d xs (λ k low. each (suc k) (omega (arith, low))))
+each_at : {A : Type 0} (Q : A → Type 0) (d : A) (xs : List A) → ((k : ℕ) → k < length xs → Q (slice_index_or xs k d)) → Each Q xs
+each_at Q d [] each = tt
+each_at Q d (x ∷ xs) each = (each 0 (omega arith), each_at Q d xs (λ k low. each (suc k) (omega (arith, low))))
 
 -- ---- names
 
@@ -94,7 +94,16 @@ named x (a ∷ order) small below =
       small = (small_name found.0 (small a found.0 found.1), rest.small);
     }
 
--- ---- the witness of an execution
+some_same : (names others : List Name) → map (λ name. Some name) names ≡ map (λ name. Some name) others → names ≡ others
+some_same [] [] e = refl
+some_same [] (o ∷ others) e = absurd (cc)
+some_same (n ∷ names) [] e = absurd (cc)
+some_same (n ∷ names) (o ∷ others) e =
+    let first : n ≡ o = cc in
+    let rest : map (λ name. Some name) names ≡ map (λ name. Some name) others = cc in
+    cons_same first (some_same names others rest)
+
+-- ---- the witnesses of an execution
 
 module _ (t : Test) (p : List Entry) (e : Execution) (bounded : IsBounded t) (is : IsExecution t p e) where
   abbrev x : PreExecution
@@ -123,14 +132,21 @@ module _ (t : Test) (p : List Entry) (e : Execution) (bounded : IsBounded t) (is
     order = are_named.are;
   }
 
-  small_choices : Each (Each IsSmallChoice) choices
-  small_choices = each_mapped choices_of (Each IsSmallChoice) [] e.traces
-      (λ hart low. run_small (length t.locations) (code_of t hart) _ (steps_of e.traces hart) (is.runs hart (omega (arith, low, is.harts))).0)
+  module _ (w : Witness) (given : IsOfWitness t w e) where
+    small_choices : Each (Each IsSmallChoice) w.choices
+    small_choices = each_at (Each IsSmallChoice) [] w.choices
+        (λ hart low.
+        let here : hart < length t.codes = omega (arith, low, given.lists) in
+        subst (Each IsSmallChoice) (sym (given.runs hart here).1)
+        (run_small (length t.locations) (code_of t hart) _ (steps_of e.traces hart) (is.runs hart here).0))
 
-  says : IsWitnessFile (length t.codes) (witness_text witness) witness
-  says =
-      subst (λ (harts : ℕ). IsWitnessFile harts (witness_text witness) witness) of.lists
-      (text_says witness (record { choices = small_choices; names = are_named.small }))
+    small_names : Each IsSmallName w.order
+    small_names = subst (Each IsSmallName) (some_same are_named.names w.order (sym are_named.are ∙ given.order)) are_named.small
+
+    pub given_file : IsWitnessFile (length t.codes) (witness_text w) w
+    given_file =
+        subst (λ (harts : ℕ). IsWitnessFile harts (witness_text w) w) given.lists
+        (text_says w (record { choices = small_choices; names = small_names }))
 
   pub witness_file : (w : Witness) × IsOfWitness t w e × IsWitnessFile (length t.codes) (witness_text w) w
-  witness_file = (witness, of, says)
+  witness_file = (witness, of, given_file witness of)

@@ -1,8 +1,11 @@
 -- What `check` prints below a yes is true.
-use Rattle.std.proofs.Common.{◌≡◌, ◌<◌, inl, inr, ℕ, List, refl, sym, subst, ap}
+use Rattle.std.proofs.Common.{◌≡◌, ◌<◌, inl, inr, ℕ, Some, List, refl, sym, subst, ap}
+use Rattle.fs_kinds.specs.declared.kind.Kind.TheVariants.{RwRw}
 use Rattle.fs_kinds.specs.declared.placement.Entry.{Entry}
+use Rattle.fs_kinds.specs.Placement.{all_with}
 use Rattle.fs_kinds.specs.PriceTable.{PriceTable, cost}
 use Rattle.fs_syntax.specs.declared.test.Test.{Test}
+use Rattle.fs_syntax.specs.Slots.{slots}
 use Rattle.fs_syntax.specs.Test.{IsTest, IsSame}
 use Rattle.fs_litmus.proofs.ReadsTest.{is_test}
 use Rattle.fs_litmus.proofs.ReadsOnce.{reads_once}
@@ -16,9 +19,11 @@ use Rattle.fs_answer.specs.Texts.{fenced_lines, none_lines}
 use Rattle.fs_checker.proofs.OneFile.{file_once}
 use Rattle.fs_laws.proofs.Filled.{filled-shows}
 use Rattle.fs_io.specs.declared.status.Status.TheVariants.{Success, Denied}
-use Rattle.fs_promise.specs.Checked.{LeastRulesOut, WitnessAllows, IsBestAnswer, IsTrueYes}
+use Rattle.fs_promise.specs.Checked.{LeastRulesOut, IsBestAnswer, IsTrueYes}
+use Rattle.fs_promise.specs.Headline.{NothingRulesOut}
 use Rattle.fs_promise.proofs.Meaning.{cheapest, ruled_out, stays}
 use Rattle.fs_promise.proofs.SamePrices.{Agree, agree, same_placement, same_costs}
+use Rattle.fs_promise.proofs.Witnesses.{given_file}
 use Rattle.fs_verify.specs.Check.{IsChecked}
 
 not_denied : Success ≡ Denied → ⊥
@@ -44,10 +49,11 @@ module _ (t : Test) (h : IsTest t) where
   best Second table other p same a =
       cheapest t h table other (fenced_lines (cost other p) p) Success same (record { placement = p; cheapest = a; shown = refl; ends = refl })
 
-  allows : (w : Witness) (e : Execution) → IsOfWitness t w e → RefutesAll t e → WitnessAllows t (none_lines w)
+  allows : (w : Witness) (e : Execution) → IsOfWitness t w e → RefutesAll t e → NothingRulesOut t (none_lines w)
   allows w e given refutes = record {
     witness = w;
     shown = refl;
+    says = given_file t (all_with (Some RwRw) (slots t)) e h.bounded refutes.execution w given;
     shows = (e, given, refutes.execution, refutes.outcome);
     possible = λ q over. stays t h q (e, filled-shows t e refutes q over);
   }

@@ -12,7 +12,7 @@ use Rattle.fs_answer.specs.Certificate.{fence_words}
 use Rattle.fs_answer.specs.Texts.{line, fenced_lines}
 use Rattle.fs_io.specs.declared.status.Status.TheVariants.{Success}
 use Rattle.fs_solve.specs.Solve.{ArePricesOf}
-use Rattle.fs_app.specs.Order.{IsOrderAnswer}
+use Rattle.fs_order.specs.Order.{IsOrderAnswer}
 
 -- `order` says yes to the witness file, with these words as fences
 abbrev pub SaysYes : (test witness : List ℕ) → (words : List (List ℕ)) → Type 0

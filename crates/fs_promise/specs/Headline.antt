@@ -14,6 +14,8 @@ use Rattle.fs_model.specs.Reasons.{IsYes}
 use Rattle.fs_model.specs.Witness.{Witness}
 use Rattle.fs_answer.specs.Texts.{fenced_lines, none_lines, witness_text}
 use Rattle.fs_answer.specs.WitnessFile.{IsWitnessFile}
+use Rattle.fs_io.specs.declared.status.Status.{Status}
+use Rattle.fs_io.specs.declared.status.Status.TheVariants.{Success, Denied}
 use Rattle.fs_laws.specs.Fenced.{no_fences}
 use Rattle.fs_solve.specs.Solve.{ArePricesOf, HasNoCandidateFault}
 
@@ -51,8 +53,10 @@ pub record NothingRulesOut (t : Test) (text : List ℕ) : Type 0 where
   pub shows : IsYes t (all_with (Some RwRw) (slots t)) witness
   pub possible : (q : List Entry) → slots_of q ≡ slots t → StaysPossible t q
 
--- Of every test and prices that the bytes read as, one of the two is so; and the test's candidates can be listed.
-abbrev pub IsTrueOfFiles : (test prices text : List ℕ) → Type 0
-IsTrueOfFiles test prices text =
+-- Of every test and prices that the bytes read as, one of the two is so, and the status says which; and the test's candidates can be
+-- listed.
+abbrev pub IsTrueOfFiles : (test prices text : List ℕ) → Status → Type 0
+IsTrueOfFiles test prices text status =
     (t : Test) (table : PriceTable) → Reads test t → ArePricesOf prices table
-    → HasNoCandidateFault t × (CheapestRulesOut t table text ⊎ NothingRulesOut t text)
+    → HasNoCandidateFault t
+    × (((status ≡ Success) × CheapestRulesOut t table text) ⊎ ((status ≡ Denied) × NothingRulesOut t text))

@@ -1,3 +1,4 @@
 pub mod Agreement
 pub mod Checked
 pub mod Headline
+pub mod Lines

@@ -5,13 +5,14 @@ ghost use Rattle.fs_syntax.specs.declared.test.Test.{Test};
 ghost use Rattle.fs_litmus.specs.Reads.{Reads};
 ghost use Rattle.fs_io.specs.declared.status.Status.{Status};
 ghost use Rattle.fs_solve.specs.Solve.{IsSolved};
-ghost use Rattle.fs_app.specs.Order.{IsOrderAnswer};
+ghost use Rattle.fs_order.specs.Order.{IsOrderAnswer};
 ghost use Rattle.fs_promise.specs.Agreement.{OrderAgrees, HaveOnePlacement};
 
 /// A law: `order` agrees with `solve`. Where `solve` prints `none` and a witness, `order` says yes to that witness as a file, with its
 /// line end or without, with `rw,rw` in every slot and with any other fences. Where it prints a placement, `order` says yes to no
 /// witness file with these fences, and for each better placement over the same slots and kinds (one that costs less, or as much and
-/// is earlier) it says yes to some witness file with the fences of that.
+/// is earlier) it says yes to some witness file with the fences of that. It says yes where yes is what it prints if it answers: a run may
+/// still lack memory.
 pub fn order_agrees()
     ensures { (test prices text : List ℕ) (status : Status) → IsSolved test prices text status → OrderAgrees test prices text }
 {}

@@ -16,10 +16,10 @@ pub fn yes_is_true()
         → IsTrueYes test prices certificate text }
 {}
 
-/// A law: what `solve --cert` writes gets a yes. Where `check` answers of the certificate, for the bytes of the same test and prices,
-/// it isn't refused. Below the `yes` stands what `solve` printed, where that is a placement; where it is `none`, there stand `none`
-/// and the certificate's witness.
+/// A law: where `check` answers of what `solve --cert` wrote, for the bytes of the same test and prices, it says yes, and below the
+/// `yes` stands what `solve` printed, byte for byte. Faults are no answers: the contract of `run_check` says which may come, and F18 isn't
+/// among them here, since the certificate is one.
 pub fn certified_is_accepted()
     ensures { (test prices text certificate verdict : List ℕ) (status end : Status) → IsCertified test prices text status certificate
-        → IsChecked test prices certificate verdict end → IsYesTo text status verdict end }
+        → IsChecked test prices certificate verdict end → IsYesTo text verdict end }
 {}

@@ -1,5 +1,5 @@
 -- What `solve` prints, and the fault that it answers.
-use Rattle.std.specs.Prelude.{◌≡◌, ◌⊎◌, ℕ, Option, None, Some, List, length}
+use Rattle.std.specs.Prelude.{◌≡◌, ◌⊎◌, ℕ, Option, None, Some, List, [], ◌∷◌, length}
 use Rattle.fs_kinds.specs.declared.fault.Fault.{Fault}
 use Rattle.fs_kinds.specs.declared.fault.Fault.TheVariants.{Memory}
 use Rattle.fs_kinds.specs.declared.placement.Entry.{Entry}
@@ -70,7 +70,12 @@ pub record IsCertificateOf (t : Test) (prices : PriceTable) (answer : Option (Li
   pub second : certificate.version ≡ said.Second
   pub valid : IsValid t prices certificate answer
 
--- as `IsSolved`, and the certificate is one of the answer that is printed
+-- where there is no placement, the one of these witnesses is printed
+abbrev pub IsWitnessed : Option (List Entry) → List Witness → List ℕ → Type 0
+IsWitnessed (Some p) witnesses text = Unit {0}
+IsWitnessed None witnesses text = (w : Witness) × (witnesses ≡ w ∷ []) × (text ≡ none_lines w)
+
+-- as `IsSolved`, and the certificate is one of the answer that is printed: of the placement, or of `none` by the same witness
 pub record IsCertified (test prices text : List ℕ) (status : Status) (certificate : List ℕ) : Type 0 where
   pub the_test : Test
   pub table : PriceTable
@@ -80,6 +85,7 @@ pub record IsCertified (test prices text : List ℕ) (status : Status) (certific
   pub placed : Option (List Entry)
   pub answer : PrintsPlaced the_test table placed text status
   pub certified : IsCertificateOf the_test table placed certificate
+  pub witnessed : IsWitnessed placed certified.certificate.witnesses text
 
 -- the first fault: of the prices, else of the test, else of its candidates and then of the search; want of memory may come in place
 -- of any answer

@@ -1,19 +1,18 @@
 //! What `solve` answers.
 
-ghost use Rattle.std.specs.Prelude.{◌≡◌, ◌≢◌, ◌≤◌, ℕ, List, None, IfOk, IfErr, IsOkUnless, string_bytes, true};
+ghost use Rattle.std.specs.Prelude.{◌≡◌, ◌≢◌, ◌≤◌, ℕ, List, None, IfOk, IfErr, IsOkUnless, string_bytes};
 ghost use Rattle.std.specs.Arc.{arc_value};
 ghost use Rattle.fs_kinds.specs.PriceTable.{PriceTable, IsPriceTable};
 ghost use Rattle.fs_syntax.specs.declared.test.Test.{Test as Tests};
-ghost use Rattle.fs_syntax.specs.Test.{IsBounded, IsTest};
+ghost use Rattle.fs_syntax.specs.Test.{IsTest};
 ghost use Rattle.fs_litmus.specs.Reads.{Reads};
 ghost use Rattle.fs_evidence.specs.Evidence.{Question as Asked};
-ghost use Rattle.fs_history.specs.Board.{is_finished};
 ghost use Rattle.fs_search.specs.Answers.{IsAnswer, IsShownLeast, IsSolveFault, placement_of};
 ghost use Rattle.fs_cert.specs.Certified.{Certifies};
-ghost use Rattle.fs_solve.specs.Solve.{ArePricesOf, PrintsPlaced, IsSolved, IsCertificateOf, IsCertified, IsFirstSolveFault};
+ghost use Rattle.fs_solve.specs.Solve.{ArePricesOf, PrintsPlaced, IsSolved, IsCertified, IsFirstSolveFault};
 ghost use Rattle.fs_solve.specs.inner.Found.{IsFound, IsFoundFor};
+ghost use Rattle.fs_solve.specs.inner.Made.{CertifiesAnswer, PrintsWitness, SaysAnswer};
 
-use fs_board::Board;
 use fs_cert::{from_board, from_least, from_witness};
 use fs_certificate::Certificate;
 use fs_evidence::{Forbidden, Question};
@@ -60,7 +59,7 @@ pub fn run_solve(alloc: Global, test: &[u8], prices: &[u8], limit: usize) -> Res
 }
 
 /// What `run_solve` answers, with the text of a certificate of the second version, which is valid for the test and the prices with the
-/// answer that is printed. The faults are those of `run_solve`.
+/// answer that is printed; where that is `none`, its witness is the printed one. The faults are those of `run_solve`.
 pub fn run_certified(
     alloc: Global,
     test: &[u8],
@@ -131,14 +130,22 @@ fn find_read(alloc: Global, test: Test, prices: Prices, limit: usize) -> Result<
 fn question_of(alloc: Global, test: Test, prices: Prices) -> Result<Arc<Question>, AllocError>
     ensures { IfOk result (λ question. arc_value question ≡ record { test = test; prices = prices }) }
 {
-    let test = Arc::new(alloc, test)?;
+    let test = shared(alloc, test)?;
     Ok(Arc::new(alloc, Question { test, prices })?)
+}
+
+/// The test, to be shared.
+fn shared(alloc: Global, test: Test) -> Result<Arc<Test>, AllocError>
+    ensures { IfOk result (λ shared. arc_value shared ≡ test) }
+{
+    Ok(Arc::new(alloc, test)?)
 }
 
 /// The answer in print, and the status that goes with it.
 fn answer_output(alloc: Global, answer: &Answer) -> Result<Output, Fault>
     ensures answer { IfOk result (λ output. (t : Tests) (prices : PriceTable) → IsAnswer t prices answer.now
         → PrintsPlaced t prices (placement_of answer.now) (string_bytes output.text) output.status) }
+    ensures witness { IfOk result (λ output. PrintsWitness answer.now (string_bytes output.text)) }
     ensures err { IsOkUnless result Fault.Memory }
 {
     match answer {
@@ -157,7 +164,7 @@ fn answer_output(alloc: Global, answer: &Answer) -> Result<Output, Fault>
 fn certificate_text(alloc: Global, question: &Question, solved: &Solved) -> Result<String, Fault>
     requires { (q : Asked) × (limit : ℕ) × IsFoundFor q limit question.now solved.now }
     ensures ok { IfOk result (λ text.
-        IsCertificateOf question.now.test question.now.prices (placement_of solved.now.answer) (string_bytes text)) }
+        SaysAnswer question.now.test question.now.prices solved.now.answer (string_bytes text)) }
     ensures err { IsOkUnless result Fault.Memory }
 {
     let made = certificate_of(alloc, question, solved)?;
@@ -168,7 +175,7 @@ fn certificate_text(alloc: Global, question: &Question, solved: &Solved) -> Resu
 /// The certificate of the answer.
 fn certificate_of(alloc: Global, question: &Question, solved: &Solved) -> Result<Certificate, Fault>
     requires { (q : Asked) × (limit : ℕ) × IsFoundFor q limit question.now solved.now }
-    ensures ok { IfOk result (Certifies question.now.test question.now.prices (placement_of solved.now.answer)) }
+    ensures ok { IfOk result (CertifiesAnswer question.now.test question.now.prices solved.now.answer) }
     ensures err { IsOkUnless result Fault.Memory }
 {
     match &solved.answer {
@@ -177,7 +184,7 @@ fn certificate_of(alloc: Global, question: &Question, solved: &Solved) -> Result
     }
 }
 
-/// The certificate of an answer that is a placement.
+/// The certificate of an answer that is a placement: of the board's bound, where there is a board.
 fn fenced_certificate(
     alloc: Global,
     question: &Question,
@@ -189,23 +196,11 @@ fn fenced_certificate(
     ensures err { IsOkUnless result Fault.Memory }
 {
     match solved.board() {
-        Some(board) => bound_certificate(alloc, board),
+        Some(board) => match from_board(alloc, board)? {
+            Some(certificate) => Ok(certificate),
+            None => unreachable!(),
+        },
         None => least_certificate(alloc, question, &solved.answer, &solved.least),
-    }
-}
-
-/// The certificate of a finished board's bound, which is there.
-fn bound_certificate(alloc: Global, board: &Board) -> Result<Certificate, Fault>
-    requires bounded { IsBounded board.now.question.test }
-    requires finished { is_finished board.now.board ≡ true }
-    requires some { board.now.board.bound ≡ None → ⊥ }
-    ensures ok { IfOk result (Certifies board.now.question.test board.now.question.prices board.now.board.bound) }
-    ensures err { IsOkUnless result Fault.Memory }
-{
-    let made = from_board(alloc, board)?;
-    match made {
-        Some(certificate) => Ok(certificate),
-        None => unreachable!(),
     }
 }
 

@@ -1,5 +1,5 @@
 mod Listed
-mod Worded
+pub mod Worded
 mod Firsts
 mod Walks
 pub mod Verdicts

@@ -42,13 +42,13 @@ in_codes hart (code ∷ codes) few each =
     (in_hart hart (is_slot code) 0 (length code) (omega (arith, few)) (let long = each 0 (omega arith) in omega (arith, long)))
     (in_codes (hart + 1) codes (omega (arith, few)) (λ k low. each (suc k) (omega (arith, low))))
 
-small_slots : (t : Test) → IsBounded t → AllByRecursion IsSlot (slots t)
+pub small_slots : (t : Test) → IsBounded t → AllByRecursion IsSlot (slots t)
 small_slots t bounded =
     in_codes 0 t.codes (omega (arith, bounded.harts)) (λ k low. All-get_or (λ code. length code ≤ 32) t.codes k [] low bounded.lengths)
 
 -- ---- a word is that of one fence
 
-same_fence : (s u : Slot) (k l : Kind) → IsSlot s → IsSlot u → fence_word s k ≡ fence_word u l → (s ≡ u) × (k ≡ l)
+pub same_fence : (s u : Slot) (k l : Kind) → IsSlot s → IsSlot u → fence_word s k ≡ fence_word u l → (s ≡ u) × (k ≡ l)
 same_fence s u k l is-s is-u e =
     let whole : slot_name s ++ (61 ∷ word k) ≡ slot_name u ++ (61 ∷ word l) =
     sym (append_assoc (slot_name s) (61 ∷ []) (word k)) ∙ e ∙ append_assoc (slot_name u) (61 ∷ []) (word l) in

@@ -22,4 +22,4 @@ returns-clause-answer c = is-solved _ _ c.args.limit _ _ _ _ c.in_ok-found.ensur
 pub returns-clause-certificate : goal.returns-clause-certificate
 returns-clause-certificate c =
     is-certified _ _ c.args.limit _ _ _ _ _ _ c.deref.ensures c.in_ok-found.ensures.answer c.in_ok-output.ensures.answer
-    c.in_ok-certificate.ensures.ok
+    c.in_ok-output.ensures.witness c.in_ok-certificate.ensures.ok

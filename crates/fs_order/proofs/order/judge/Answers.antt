@@ -1,7 +1,7 @@
 use Rattle.std.proofs.Common.{Err, ap}
 use Rattle.fs_place.proofs.Faults.{IfErr-handed}
-use Rattle.fs_app.proofs.OrderFaults.{order-fences}
-use Rattle.fs_app.proofs.order.judge.Goals as goal
+use Rattle.fs_order.proofs.OrderFaults.{order-fences}
+use Rattle.fs_order.proofs.order.judge.Goals as goal
 
 pub returns-in_err-placement-clause-fault : goal.returns-in_err-placement-clause-fault
 returns-in_err-placement-clause-fault c =

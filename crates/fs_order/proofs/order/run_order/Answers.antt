@@ -1,6 +1,6 @@
 use Rattle.fs_place.proofs.Faults.{IfErr-handed}
-use Rattle.fs_app.proofs.OrderFaults.{order-test}
-use Rattle.fs_app.proofs.order.run_order.Goals as goal
+use Rattle.fs_order.proofs.OrderFaults.{order-test}
+use Rattle.fs_order.proofs.order.run_order.Goals as goal
 
 pub returns-in_err-test-clause-fault : goal.returns-in_err-test-clause-fault
 returns-in_err-test-clause-fault c =

@@ -4,7 +4,7 @@ ghost use Rattle.fs_syntax.specs.Placed.{IsPlaced};
 ghost use Rattle.fs_syntax.specs.Slots.{slots};
 ghost use Rattle.fs_syntax.specs.Test.{IsTest};
 ghost use Rattle.fs_litmus.specs.Reads.{Reads};
-ghost use Rattle.fs_app.specs.Order.{IsOrderAnswer, IsFirstOrderFault, verdict_line, verdict_status};
+ghost use Rattle.fs_order.specs.Order.{IsOrderAnswer, IsFirstOrderFault, verdict_line, verdict_status};
 
 use fs_check::{OrderVerdict, check_order};
 use fs_io::{Output, Status};

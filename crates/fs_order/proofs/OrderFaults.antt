@@ -11,7 +11,7 @@ use Rattle.fs_litmus.specs.Faults.{IsTestFault}
 use Rattle.fs_model.specs.Witness.{Witness}
 use Rattle.fs_answer.specs.WitnessFile.{IsWitnessFile, IsWitnessFault}
 use Rattle.fs_place.specs.Place.{IsBadFences}
-use Rattle.fs_app.specs.Order.{IsFirstOrderFault, of_test, of_fences, of_witness, of_memory}
+use Rattle.fs_order.specs.Order.{IsFirstOrderFault, of_test, of_fences, of_witness, of_memory}
 use Rattle.fs_place.proofs.Faults.{is_memory}
 
 module _ (test witness : List ℕ) (fences : List (List ℕ)) where
