@@ -1,0 +1,2 @@
+pub mod Ring
+pub mod inner

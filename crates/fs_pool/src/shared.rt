@@ -1,0 +1,179 @@
+//! What the lock keeps.
+
+ghost use Rattle.std.specs.Prelude.{◌≡◌, ◌≢◌, [], IfOk, OnErr, length};
+ghost use Rattle.fs_board.specs.View.{Answers, event_of, reply_of};
+ghost use Rattle.fs_pool.specs.Asked.{IsAsked, IsMade, Tells};
+
+use crate::asked::Asked;
+use fs_board::{Board, Event, Reply, Status};
+use std::alloc::{AllocError, Global};
+use std::marker::{Model, PhantomData};
+use std::sync::Arc;
+
+/// The most workers.
+const WORKERS: usize = 16;
+
+/// The board, how many nodes each worker holds, and who has left. What is asked is the same as long as the lock lives.
+#[derive(Drop)]
+pub(crate) struct Shared<A: Asked> {
+    board: Board,
+    held: [usize; 16],
+    left: [bool; 16],
+    asked: PhantomData<A>,
+}
+
+impl<A: Asked> Model for Shared<A> {
+    ghost use Rattle.std.specs.Coded.{codes};
+    ghost use Rattle.fs_syntax.specs.contracts.outcome.Outcome as outcome;
+    ghost use Rattle.fs_board.specs.View.{Search};
+    ghost use Rattle.fs_pool.specs.Asked.{IsAsked};
+
+    ghost Value = { Search };
+
+    ghost view = { λ s. s.board };
+
+    ghost coded = { Prim.hlevel (codes, outcome.the_row.coded) };
+
+    ghost invariant = { λ s. IsAsked s.board A.question A.limit };
+}
+
+impl<A: Asked> Shared<A> {
+    pub(crate) fn new(board: Board) -> Shared<A>
+        requires { IsAsked board A.question A.limit }
+        ensures { result ≡ board }
+    {
+        Shared {
+            board,
+            held: [0; 16],
+            left: [false; 16],
+            asked: PhantomData,
+        }
+    }
+
+    /// The board.
+    pub(crate) fn into_board(self) -> Board
+        ensures value { result ≡ self }
+        ensures asked { IsAsked result A.question A.limit }
+    {
+        let Shared {
+            board,
+            held: _,
+            left: _,
+            asked: _,
+        } = self;
+        board
+    }
+
+    /// Makes an event: the number that it has in the log, and the reply. An error changes nothing.
+    #[tactic(auto, using(crate::proofs::Telling::tells_asked, crate::proofs::Telling::made_asked, crate::proofs::Telling::still_asked))]
+    pub(crate) fn call(
+        &mut self,
+        alloc: Global,
+        worker: u8,
+        event: &Event,
+    ) -> Result<(usize, Reply), AllocError>
+        requires { IsMade A.question event.now }
+        ensures made { IfOk result (λ r. Answers self.old self.new worker (event_of event.now) (reply_of r.1)) }
+        ensures number { IfOk result (λ r. r.0 ≡ length self.old.log) }
+        ensures tells { IfOk result (λ r. Tells A.question r.1) }
+        ensures unchanged { OnErr result (self.new ≡ self.old) }
+    {
+        let holder = self.holder_before(event);
+        let number = self.board.log().len();
+        let reply = answer(&mut self.board, alloc, worker, event)?;
+        self.count(worker, holder, &reply);
+        Ok((number, reply))
+    }
+
+    /// Who holds the node that is to be adopted.
+    fn holder_before(&self, event: &Event) -> Option<u8> {
+        let Event::Adopt(node) = event else {
+            return None;
+        };
+        match self.board.status(*node) {
+            Some(Status::Held(worker)) => Some(worker),
+            _ => None,
+        }
+    }
+
+    /// Counts a node that was handed to the worker, by whoever held it, or that it has no more.
+    fn count(&mut self, worker: u8, holder: Option<u8>, reply: &Reply)
+        ensures { self.new ≡ self.old }
+    {
+        match reply {
+            Reply::Node(_, _) => {
+                if let Some(holder) = holder {
+                    lower(&mut self.held, holder);
+                }
+                raise(&mut self.held, worker);
+            }
+            Reply::Children(_, _) | Reply::Closed => lower(&mut self.held, worker),
+            _ => {}
+        }
+    }
+
+    /// Must one who takes a node wait? So it is where none is open, and another worker that hasn't left holds one.
+    pub(crate) fn must_wait(&self, worker: u8) -> bool {
+        self.board.open_count() == 0
+            && (0..WORKERS).any(|other| self.may_bring(other) && other != usize::from(worker))
+    }
+
+    /// Does the worker hold a node, and hasn't left?
+    fn may_bring(&self, worker: usize) -> bool {
+        worker < WORKERS && self.held[worker] > 0 && !self.left[worker]
+    }
+
+    /// Marks the worker as one that has left.
+    pub(crate) fn leave(&mut self, worker: u8)
+        ensures { self.new ≡ self.old }
+    {
+        let worker = usize::from(worker);
+        if worker < WORKERS {
+            self.left[worker] = true;
+        }
+    }
+}
+
+/// One more node for the worker.
+fn raise(held: &mut [usize; 16], worker: u8) {
+    let worker = usize::from(worker);
+    if worker < WORKERS {
+        held[worker] = held[worker].saturating_add(1);
+    }
+}
+
+/// One node less.
+fn lower(held: &mut [usize; 16], worker: u8) {
+    let worker = usize::from(worker);
+    if worker < WORKERS {
+        held[worker] = held[worker].saturating_sub(1);
+    }
+}
+
+/// The event on the board.
+#[tactic(auto, using(crate::proofs::Telling::unpeeked, crate::proofs::Telling::peeked))]
+fn answer(board: &mut Board, alloc: Global, worker: u8, event: &Event) -> Result<Reply, AllocError>
+    requires { IsMade board.old.question event.now }
+    ensures step { IfOk result (λ r. Answers board.old board.new worker (event_of event.now) (reply_of r)) }
+    ensures tells { IfOk result (Tells board.old.question) }
+    ensures unchanged { OnErr result (board.new ≡ board.old) }
+{
+    let _legal = board.log();
+    match event {
+        Event::Take => board.take(worker),
+        Event::Claim(node) => board.claim(worker, *node),
+        Event::Adopt(node) => board.adopt(worker, *node),
+        Event::Split(node, slot) => board.split(alloc, worker, *node, *slot),
+        Event::CutCost(node) => board.cut_cost(alloc, worker, *node),
+        Event::CutWitness(node, witness) => {
+            board.cut_witness(alloc, worker, *node, Arc::try_clone(witness)?)
+        }
+        Event::CutBound(node, witnesses) => {
+            board.cut_bound(alloc, worker, *node, witnesses.as_slice())
+        }
+        Event::Post(node, forbidden) => {
+            board.post(alloc, worker, *node, Arc::try_clone(forbidden)?)
+        }
+        Event::Peek(from) => board.peek(alloc, worker, *from),
+    }
+}
