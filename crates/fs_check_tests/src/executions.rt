@@ -1,19 +1,18 @@
-//! Whole executions: what `check_order` and `shown_by` say of them, what a plain program says that computes the definition, and how
+//! Whole executions: what `check_order` says of them, what a plain program says that computes the definition, and how
 //! many of them are known to show the outcome.
 ghost use Rattle.std.specs.Prelude.{◌≡◌, ◌≤◌, All, length};
 ghost use Rattle.std.specs.List.Sorted.{IsStrictlyIncreasing};
 ghost use Rattle.fs_syntax.specs.Test.{IsBounded, IsStart};
 ghost use Rattle.fs_cand.specs.Candidates.{AreShort};
 
-use fs_answer::read_witness;
 use fs_axioms::count_accesses;
 use fs_cand::Traces;
-use fs_check::{OrderVerdict, check_order, shown_by};
+use fs_check::{OrderVerdict, check_order};
 use fs_examples::{
     ADD2, CO_RR, Digits, FORWARDED, LB, LBC, LBD, LRSC, LRSCF, MANY, MP, MP11, MPA, MPB, POINTER,
     SB, SBF, SBX, SBXA, TWO_WRITES, order_of, picked, placement_of, runs_of, runs_over,
 };
-use fs_hart::{Operation, Steps, Trace, operations};
+use fs_hart::{Operation, Step, Steps, Trace, operations};
 use fs_instr::Instr;
 use fs_kinds::{Fault, Placement};
 use fs_litmus::{Test, read_test};
@@ -22,20 +21,21 @@ use fs_values::Values;
 use std::alloc::{AllocError, Global};
 use std::test::Fail;
 
+/// Writes the choice of the step, where it has one, as a witness file has it.
+fn write_choice(step: &Step, text: &mut String) -> Result<(), AllocError> {
+    let comma = if text.len() > 1 { "," } else { "" };
+    match (step.instr, step.loaded) {
+        (Instr::Sc { .. }, _) => write!(text, "{comma}{}", step.stored.is_some()),
+        (_, Some(word)) => write!(text, "{comma}{word}"),
+        _ => Ok(()),
+    }
+}
+
 /// The choices of a run, as a witness file has them.
 fn choices_text(alloc: Global, run: &Trace) -> Result<String, AllocError> {
     let mut text = String::from_str(alloc, "[")?;
     for step in run.steps() {
-        let choice = match (step.instr, step.loaded) {
-            (Instr::Sc { .. }, _) if step.stored.is_some() => String::from_str(alloc, "true")?,
-            (Instr::Sc { .. }, _) => String::from_str(alloc, "false")?,
-            (_, Some(word)) => format!(in alloc; "{word}")?,
-            _ => continue,
-        };
-        if text.len() > 1 {
-            text.push_str(",")?;
-        }
-        text.push_str(choice.as_str())?;
+        write_choice(step, &mut text)?;
     }
     text.push_str("]")?;
     Ok(text)
@@ -133,13 +133,14 @@ fn compare_orders(
     Ok(())
 }
 
-/// Compares on all these runs, a list for each hart, and all orders of their operations, with the fences that the words name.
+/// Compares on all these runs, a list for each hart, and all orders of their operations, with the fences that the words name: how many
+/// executions show the outcome, or `usize::MAX` where the two differ on an order.
 fn compare_runs(
     alloc: Global,
     test: &Test,
     runs: &[Vec<Trace>],
     words: &str,
-) -> Result<Count, Fault>
+) -> Result<usize, Fault>
     requires test { IsBounded test.now }
     requires starts { All IsStart test.now.starts }
 {
@@ -152,16 +153,20 @@ fn compare_runs(
         let mut digits = Digits { rest: number };
         let traces = picked(alloc, runs, &mut digits)?;
         if digits.rest > 0 {
-            return Ok(count);
+            break;
         }
         compare_orders(alloc, test, &traces, &placement, &mut count)?;
     }
-    Ok(count)
+    Ok(if count.differing == 0 {
+        count.showing
+    } else {
+        usize::MAX
+    })
 }
 
-/// Compares on all runs in which loads take these words, which must rise, and all orders of their operations, with the fences that the
-/// words name.
-fn compare(alloc: Global, text: &str, loaded: &[u32], words: &str) -> Result<Count, Fault>
+/// How many executions show the outcome where loads take these words, which must rise, with the fences that the words name; and no
+/// such number where the two differ on an order.
+fn showing(alloc: Global, text: &str, loaded: &[u32], words: &str) -> Result<usize, Fault>
     requires { IsStrictlyIncreasing loaded.now }
 {
     let test = read_test(alloc, text.as_bytes())?;
@@ -192,8 +197,8 @@ fn so_many_executions_show_the_outcome(rt: HostRuntime) -> Result<(), Fail> {
         (FORWARDED, 2),
     ];
     for (text, wanted) in rows {
-        let count = compare(rt.alloc(), text, &[0, 1, 2], "")?;
-        assert_eq!(rt; (count.showing, count.differing), (wanted, 0), "in {text}");
+        let found = showing(rt.alloc(), text, &[0, 1, 2], "")?;
+        assert_eq!(rt; found, wanted, "in {text}");
     }
     Ok(())
 }
@@ -221,21 +226,17 @@ fn fences_leave_fewer_executions(rt: HostRuntime) -> Result<(), Fail> {
         (LRSCF, "P0:1=rw,rw", 1),
     ];
     for (text, words, wanted) in rows {
-        let count = compare(rt.alloc(), text, &[0, 1, 2], words)?;
-        assert_eq!(rt;
-            (count.showing, count.differing),
-            (wanted, 0),
-            "{words} in {text}"
-        );
+        let found = showing(rt.alloc(), text, &[0, 1, 2], words)?;
+        assert_eq!(rt; found, wanted, "{words} in {text}");
     }
     // A hart may load its own store before others see it, so the two loads of the outcome that return own stores bind nothing.
-    let count = compare(rt.alloc(), SBF, &[0, 1], "")?;
-    assert_eq!(rt; (count.showing, count.differing), (180, 0));
+    let found = showing(rt.alloc(), SBF, &[0, 1], "")?;
+    assert_eq!(rt; found, 180);
     Ok(())
 }
 
 /// Compares on the runs over the words that the locations begin with: nothing else is stored.
-fn compare_pointer(alloc: Global) -> Result<Count, Fault> {
+fn compare_pointer(alloc: Global) -> Result<usize, Fault> {
     let test = read_test(alloc, POINTER.as_bytes())?;
     let values = Values::of(alloc, &test)?;
     let runs = runs_over(alloc, &test, values.as_slice())?;
@@ -245,38 +246,7 @@ fn compare_pointer(alloc: Global) -> Result<Count, Fault> {
 /// The loaded address binds the store behind the second load too: it may only be the last or the second one.
 #[test]
 fn an_address_comes_before_what_follows_it(rt: HostRuntime) -> Result<(), Fail> {
-    let count = compare_pointer(rt.alloc())?;
-    assert_eq!(rt; (count.showing, count.differing), (2, 0));
-    Ok(())
-}
-
-/// Does the witness give an execution with the fences that the words name, which shows the outcome?
-fn is_shown(alloc: Global, words: &str, witness: &str) -> Result<bool, Fault> {
-    let test = read_test(alloc, SB.as_bytes())?;
-    let file = read_witness(alloc, 2, witness.as_bytes())?;
-    let placement = placement_of(alloc, &test, words)?;
-    Ok(shown_by(alloc, &test, &placement, &file)?.is_some())
-}
-
-/// In the first execution both loads come before both stores, and in the second one hart 1's operations come in program order.
-#[test]
-fn witnesses_show_the_outcome_or_do_not(rt: HostRuntime) -> Result<(), Fail> {
-    let early = r#"{"choices":[[0],[0]],"order":["P0:2","P1:2","P0:1","P1:1"]}"#;
-    let one = r#"{"choices":[[0],[0]],"order":["P0:2","P1:1","P1:2","P0:1"]}"#;
-    let wrong = r#"{"choices":[[0],[1]],"order":["P0:2","P1:2","P0:1","P1:1"]}"#;
-    let rows = [
-        ("", early, true),
-        ("P1:2=w,r", early, false),
-        ("P1:2=w,r", one, true),
-        ("P0:2=w,r", one, false),
-        ("", wrong, false),
-    ];
-    for (words, witness, wanted) in rows {
-        assert_eq!(rt;
-            is_shown(rt.alloc(), words, witness)?,
-            wanted,
-            "{words} {witness}"
-        );
-    }
+    let found = compare_pointer(rt.alloc())?;
+    assert_eq!(rt; found, 2);
     Ok(())
 }

@@ -7,7 +7,7 @@ use fs_board::{Board, Reply};
 use fs_evidence::{Forbidden, Witness};
 use fs_examples::{MP11, PRICES, SB, TWO_WRITES, cost_of, question_of, write_fences};
 use fs_judge::{Problem, Verdict};
-use fs_kinds::{Fault, Slot};
+use fs_kinds::{Fault, OperationName, Slot};
 use std::alloc::{AllocError, Global};
 use std::sync::Arc;
 use std::test::Fail;
@@ -115,12 +115,18 @@ fn write_bound(board: &Board, text: &mut String) -> Result<(), AllocError> {
     }
 }
 
-/// Writes the operations of the witnesses in their orders, with a space before each.
+/// Writes the operations, with a space before each.
+fn write_names(names: &[OperationName], text: &mut String) -> Result<(), AllocError> {
+    for name in names {
+        write!(text, " P{}:{}", name.hart, name.at)?;
+    }
+    Ok(())
+}
+
+/// Writes the operations of the witnesses in their orders.
 fn write_orders(witnesses: &[Arc<Witness>], text: &mut String) -> Result<(), AllocError> {
     for witness in witnesses {
-        for name in &witness.order {
-            write!(text, " {name}")?;
-        }
+        write_names(witness.order.as_slice(), text)?;
     }
     Ok(())
 }

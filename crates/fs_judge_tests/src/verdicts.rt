@@ -1,7 +1,7 @@
 //! What is said of placements, and the candidates in their order.
 use crate::questions::verdict_on;
-use fs_cand::Candidate;
-use fs_examples::{ADD2, LBD, MPA, PRICES, SB, SBF, question_of};
+use fs_examples::{ADD2, CO_RR, LBD, LRSC, MP, MPA, PRICES, SB, SBF, question_of};
+use fs_hart::{Step, Trace};
 use fs_judge::{Problem, Verdict};
 use fs_kinds::Fault;
 use fs_litmus::read_test;
@@ -42,15 +42,21 @@ fn verdicts_on_known_placements(rt: HostRuntime) -> Result<(), Fail> {
     Ok(())
 }
 
-/// Writes the words that the harts load, a list for each.
-fn write_loads(candidate: &Candidate, text: &mut String) -> Result<(), AllocError> {
-    for trace in &candidate.traces {
-        text.push_str("[")?;
-        for step in trace.steps() {
-            if let Some(word) = step.loaded {
-                write!(text, "{word}")?;
-            }
+/// Writes the words that a hart loads.
+fn write_words(steps: &[Step], text: &mut String) -> Result<(), AllocError> {
+    for step in steps {
+        if let Some(word) = step.loaded {
+            write!(text, "{word}")?;
         }
+    }
+    Ok(())
+}
+
+/// Writes the words that the harts load, a list for each.
+fn write_loads(traces: &[Trace], text: &mut String) -> Result<(), AllocError> {
+    for trace in traces {
+        text.push_str("[")?;
+        write_words(trace.steps(), text)?;
         text.push_str("]")?;
     }
     text.push_str(" ")
@@ -64,7 +70,7 @@ fn loads_of(alloc: Global, text: &str) -> Result<String, Fault> {
     let mut loads = String::new(alloc);
     for number in 0..showing.len() {
         let candidate = showing.get(alloc, number)?;
-        write_loads(&candidate, &mut loads)?;
+        write_loads(candidate.traces.as_slice(), &mut loads)?;
     }
     Ok(loads)
 }
@@ -72,7 +78,14 @@ fn loads_of(alloc: Global, text: &str) -> Result<String, Fault> {
 #[test]
 fn candidates_come_in_order(rt: HostRuntime) -> Result<(), Fail> {
     // Where both AMOs return 0, either order of their stores is a candidate.
-    let rows = [(ADD2, "[0][0] [0][0] [0][1] [1][0] "), (LBD, "")];
+    let rows = [
+        (ADD2, "[0][0] [0][0] [0][1] [1][0] "),
+        (SB, "[0][0] "),
+        (MP, "[][10] "),
+        (CO_RR, "[][10] "),
+        (LRSC, ""),
+        (LBD, ""),
+    ];
     for (text, wanted) in rows {
         let loads = loads_of(rt.alloc(), text)?;
         assert_eq!(rt; loads.as_str(), wanted, "in {text}");

@@ -1,5 +1,0 @@
-//! Tests of certificates: those of answers that a search finds.
-#![tactic(auto)]
-
-#[cfg(test)]
-mod found;

@@ -1,5 +1,0 @@
-//! Tests of the checker, on certificates as text.
-#![tactic(auto)]
-
-#[cfg(test)]
-mod certificates;
