@@ -9,3 +9,4 @@ pub mod Final
 pub mod Growing
 pub mod Covering
 pub mod Splitting
+pub mod Ended

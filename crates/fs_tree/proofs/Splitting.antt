@@ -16,7 +16,7 @@ use Rattle.fs_tree.proofs.Leaves.{opened}
 
 -- ---- places
 
-still-there : {X : Type 0} (xs : List X) (k : ℕ) (x y : X) (j : ℕ) (z : X) → slice_get xs k ≡ Some x → slice_get xs j ≡ Some z
+pub still-there : {X : Type 0} (xs : List X) (k : ℕ) (x y : X) (j : ℕ) (z : X) → slice_get xs k ≡ Some x → slice_get xs j ≡ Some z
     → (slice_get (slice_set xs k y) j ≡ Some z) ⊎ ((z ≡ x) × (slice_get (slice_set xs k y) j ≡ Some y))
 still-there [] k x y j z at there = absurd (cc)
 still-there (w ∷ ws) zero x y zero z at there = inr (cc, refl)
@@ -24,7 +24,7 @@ still-there (w ∷ ws) zero x y (suc j) z at there = inl there
 still-there (w ∷ ws) (suc k) x y zero z at there = inl there
 still-there (w ∷ ws) (suc k) x y (suc j) z at there = still-there ws k x y j z at there
 
-at-set-place : {X : Type 0} (xs : List X) (k : ℕ) (y : X) (j : ℕ) (x : X) → slice_get (slice_set xs k y) j ≡ Some x
+pub at-set-place : {X : Type 0} (xs : List X) (k : ℕ) (y : X) (j : ℕ) (x : X) → slice_get (slice_set xs k y) j ≡ Some x
     → ((j ≡ k) × (x ≡ y)) ⊎ (slice_get xs j ≡ Some x)
 at-set-place [] k y j x at = inr at
 at-set-place (z ∷ zs) zero y zero x at = inl (refl, cc)

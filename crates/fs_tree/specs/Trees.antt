@@ -1,5 +1,5 @@
--- What the laws of the search tree speak of: the leaves of a board's tree, its parts, and how much a node may still grow.
-use Rattle.std.specs.Prelude.{◌≡◌, ℕ, ◌+◌, ◌<◌, Bool, true, false, not, ◌&&◌, Some, is_none, if◌then◌else◌, List, slice_get}
+-- What the laws of the search tree speak of: the leaves of a board's tree, its parts, how much a node may still grow, and what is done with.
+use Rattle.std.specs.Prelude.{◌≡◌, ℕ, ◌+◌, ◌<◌, ◌==◌, Bool, true, false, not, ◌&&◌, Some, is_none, if◌then◌else◌, List, slice_get}
 use Rattle.std.specs.List.{count_by}
 use Rattle.fs_kinds.specs.declared.placement.Entry.{Entry}
 use Rattle.fs_kinds.specs.declared.slot.Slot.{Slot}
@@ -8,7 +8,7 @@ use Rattle.fs_syntax.specs.declared.test.Test.{Test}
 use Rattle.fs_syntax.specs.Slots.{slots}
 use Rattle.fs_answer.specs.Parts.{Part, floor, is_under, is_undecided, child_parts}
 use Rattle.fs_bound.specs.Bounds.{slots_in_part}
-use Rattle.fs_history.specs.Board.{Board, Node, Status, Split}
+use Rattle.fs_history.specs.Board.{Board, Node, Status, Open, Held, Split, Event, Reply, SplitAt, CutCost, CutWitness, CutBound, Post, Children, Closed}
 use Rattle.fs_history.specs.Sizes.{tree_size}
 
 -- ---- nodes
@@ -16,6 +16,21 @@ use Rattle.fs_history.specs.Sizes.{tree_size}
 abbrev pub is_split : Status → Bool
 is_split (Split slot first) = true
 is_split _ = false
+
+-- the node is done with: it was split, or closed by cost, by witnesses or by a post
+abbrev pub is_ended : Status → Bool
+is_ended Open = false
+is_ended (Held worker) = false
+is_ended _ = true
+
+-- the event splits or closes the node of this number, as its reply says
+abbrev pub ends_node : ℕ → Event → Reply → Bool
+ends_node k (SplitAt j slot) (Children first count) = k == j
+ends_node k (CutCost j) Closed = k == j
+ends_node k (CutWitness j witness) Closed = k == j
+ends_node k (CutBound j witnesses) Closed = k == j
+ends_node k (Post j p) Closed = k == j
+ends_node k event reply = false
 
 -- the board's node of this number
 abbrev pub IsNode : Board → ℕ → Node → Type 0
