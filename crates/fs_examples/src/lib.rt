@@ -6,11 +6,9 @@ mod listing;
 mod questions;
 mod texts;
 
-pub use listing::{
-    Digits, MANY, copy, order_of, picked, placements_of, runs_of, runs_over, same_sets,
-};
+pub use listing::{Digits, MANY, copy, order_of, picked, placements_of, runs_of, runs_over};
 pub use questions::{PRICES, cost_of, placement_of, question_of, told, write_fences};
 pub use texts::{
-    ADD2, ANNOTATED, BACK, CO_RR, FENCED, FORWARDED, LB, LBC, LBD, LRSC, LRSCF, LRSCY, MP, MP11,
-    MPA, MPB, POINTER, SB, SBF, SBX, SBXA, TWO_WRITES, with_line,
+    ADD2, ANNOTATED, CO_RR, FENCED, FORWARDED, LB, LBC, LBD, LRSC, LRSCF, LRSCY, MP, MP11, MPA,
+    MPB, POINTER, SB, SBF, SBX, SBXA, TWO_WRITES,
 };

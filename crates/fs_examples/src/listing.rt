@@ -30,7 +30,7 @@ impl Digits {
 }
 
 /// For each of so many locations the set of the words, which must rise.
-pub fn same_sets(alloc: Global, locations: usize, words: &[u32]) -> Result<Vec<Words>, AllocError>
+fn same_sets(alloc: Global, locations: usize, words: &[u32]) -> Result<Vec<Words>, AllocError>
     requires { IsStrictlyIncreasing words.now }
     ensures { IfOk result (λ sets. All IsStrictlyIncreasing sets.items) }
 {

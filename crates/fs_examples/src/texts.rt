@@ -1,5 +1,4 @@
 //! Litmus tests as text: those known from the literature, and small ones of few instructions.
-use std::alloc::{AllocError, Global};
 
 /// Message passing.
 pub const MP: &str = "RISCV MP
@@ -27,15 +26,6 @@ pub const MPB: &str = "RISCV MPB
  ori x7,x0,1 | LC00: lw x7,0(x8) ;
  sw x7,0(x8) |                   ;
 exists (1:x5=1 /\\ 1:x7=0)
-";
-
-/// A branch back.
-pub const BACK: &str = "RISCV BACK
-{ 0:x6=x; }
- P0 ;
- L0: lw x5,0(x6) ;
- bne x5,x0,L0 ;
-exists (0:x5=0)
 ";
 
 /// Store buffering.
@@ -274,18 +264,3 @@ pub const FENCED: &str = "RISCV Fenced
  lw x7,0(x6) | sw x9,0(x8) ;
 exists (0:x7=0)
 ";
-
-/// The text with another line of this number, counted from 1.
-pub fn with_line(
-    alloc: Global,
-    text: &str,
-    number: usize,
-    line: &str,
-) -> Result<String, AllocError> {
-    let mut changed = String::new(alloc);
-    for (at, old) in text.lines().enumerate() {
-        changed.push_str(if at + 1 == number { line } else { old })?;
-        changed.push_str("\n")?;
-    }
-    Ok(changed)
-}

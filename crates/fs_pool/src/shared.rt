@@ -1,6 +1,8 @@
 //! What the lock keeps.
 
-ghost use Rattle.std.specs.Prelude.{◌≡◌, ◌≢◌, [], IfOk, OnErr, length};
+ghost use Rattle.std.specs.Prelude.{◌≡◌, ◌≢◌, [], IfOk, OnErr, IsTrue, length};
+ghost use Rattle.fs_history.specs.Board.{is_open};
+ghost use Rattle.fs_board.specs.Counts.{count_of};
 ghost use Rattle.fs_board.specs.View.{Answers, event_of, reply_of};
 ghost use Rattle.fs_pool.specs.Asked.{IsAsked, IsMade, Tells};
 
@@ -113,7 +115,9 @@ impl<A: Asked> Shared<A> {
     }
 
     /// Must one who takes a node wait? So it is where none is open, and another worker that hasn't left holds one.
-    pub(crate) fn must_wait(&self, worker: u8) -> bool {
+    pub(crate) fn must_wait(&self, worker: u8) -> bool
+        ensures { IsTrue result → count_of is_open self.now.board.nodes ≡ 0 }
+    {
         self.board.open_count() == 0
             && (0..WORKERS).any(|other| self.may_bring(other) && other != usize::from(worker))
     }
