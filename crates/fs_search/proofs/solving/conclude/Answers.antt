@@ -1,4 +1,4 @@
-use Rattle.std.proofs.Common.{◌≡◌, ◌<◌, Option, None, Some, IfSome, IfNone, length, sym, subst}
+use Rattle.std.proofs.Common.{◌≡◌, ◌<◌, Option, None, Some, IfSome, IfNone, length, sym, subst, ◌∙◌}
 use Rattle.fs_syntax.specs.Slots.{slots}
 use Rattle.fs_history.specs.Sizes.{tree_size}
 use Rattle.fs_evidence.specs.Evidence.{Question}
@@ -22,12 +22,12 @@ returns-in_err-solved-in-Err-NodeLimit-clause-err c =
     let q : Question = c.args.judge.now in
     let there = c.in-Err-NodeLimit.ensures.err (limit-not-memory c.in-Err-NodeLimit.field-0 c.in-Err-NodeLimit.field-0-is) in
     handed c.from_residual-in_err-solved-in-Err-NodeLimit.result _ _ c.from_residual-in_err-solved-in-Err-NodeLimit.ensures.1
-    (λ other. limit-fault q c.search.new.judge c.args.board.board.limit _ c.in-Err-NodeLimit.ensures.judge c.requires.clean
+    (λ other. limit-fault q c.problem-in-Err-NodeLimit.result.now c.args.board.board.limit _ (c.problem-in-Err-NodeLimit.ensures ∙ c.in-Err-NodeLimit.ensures.judge) c.requires.clean
     (large-tree c.args.board q c.requires.same there.1) (c.in_err-solved-in-Err-NodeLimit.ensures.err other))
 
 pub returns-in-Err-NodeLimit-clause-ok : goal.returns-in-Err-NodeLimit-clause-ok
 returns-in-Err-NodeLimit-clause-ok c =
-    subst (λ (x : Question). IsAnswer x.test x.prices c.in_ok-solved-in-Err-NodeLimit.solved.answer) c.in-Err-NodeLimit.ensures.judge
+    subst (λ (x : Question). IsAnswer x.test x.prices c.in_ok-solved-in-Err-NodeLimit.solved.answer) (c.problem-in-Err-NodeLimit.ensures ∙ c.in-Err-NodeLimit.ensures.judge)
     c.in_ok-solved-in-Err-NodeLimit.ensures.ok
 
 pub returns-in-Err-NodeLimit-clause-board : goal.returns-in-Err-NodeLimit-clause-board
@@ -44,10 +44,10 @@ pub returns-in-Err-NodeLimit-clause-ends : goal.returns-in-Err-NodeLimit-clause-
 returns-in-Err-NodeLimit-clause-ends c =
     let solved = c.in_ok-solved-in-Err-NodeLimit.solved in
     without solved.board
-    (subst (λ (x : Question). IsAtAnEnd x.test solved.answer) c.in-Err-NodeLimit.ensures.judge c.in_ok-solved-in-Err-NodeLimit.ensures.ends)
+    (subst (λ (x : Question). IsAtAnEnd x.test solved.answer) (c.problem-in-Err-NodeLimit.ensures ∙ c.in-Err-NodeLimit.ensures.judge) c.in_ok-solved-in-Err-NodeLimit.ensures.ends)
 
 pub returns-in-Err-NodeLimit-clause-least : goal.returns-in-Err-NodeLimit-clause-least
 returns-in-Err-NodeLimit-clause-least c =
     let solved = c.in_ok-solved-in-Err-NodeLimit.solved in
     without solved.board
-    (subst (λ (x : Question). IsShownLeast x.test solved.answer solved.least) c.in-Err-NodeLimit.ensures.judge c.in_ok-solved-in-Err-NodeLimit.ensures.least)
+    (subst (λ (x : Question). IsShownLeast x.test solved.answer solved.least) (c.problem-in-Err-NodeLimit.ensures ∙ c.in-Err-NodeLimit.ensures.judge) c.in_ok-solved-in-Err-NodeLimit.ensures.least)
