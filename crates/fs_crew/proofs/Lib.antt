@@ -1,0 +1,3 @@
+pub mod Crosses
+pub mod Faults
+pub mod Scouts
