@@ -3,6 +3,7 @@
 
 mod base;
 mod causes;
+mod judge;
 mod judging;
 mod links;
 mod prejudged;
@@ -11,5 +12,6 @@ mod problem;
 mod survey;
 mod verdict;
 
+pub use judge::Judge;
 pub use problem::Problem;
 pub use verdict::Verdict;

@@ -14,8 +14,8 @@ ghost use Rattle.fs_judge.specs.inner.Findings.{IsSurvey};
 use crate::prejudged::Prejudged;
 use crate::prepare::{firsts_of, live_among, showing_of, test_of};
 use crate::survey::{Survey, Survivor, first_survivor, judge_all};
-use crate::verdict::Verdict;
-use fs_evidence::{Forbidden, Question, Witness};
+use crate::verdict::{Verdict, verdict_of};
+use fs_evidence::Question;
 use fs_kinds::{Fault, Placement, Slot};
 use fs_showing::Showing;
 use std::alloc::Global;
@@ -25,14 +25,13 @@ use std::sync::Arc;
 /// A test and prices, with all that judging a placement takes: the showing candidates, and the first 65,536 of them, or fewer where
 /// the harts have many instructions, judged without placed fences. Of those that have a cycle then, and so with any fences, it keeps
 /// this cycle; of the others, the live ones, the judged relation without placed fences and the places where fences may stand.
-/// Contracts see the question.
+/// No call changes it, so several workers may share one. Contracts see the question.
 #[derive(Drop)]
 pub struct Problem {
     question: Arc<Question>,
     showing: Showing,
     firsts: Vec<Prejudged>,
     live: Vec<usize>,
-    last: usize,
 }
 
 impl Model for Problem {
@@ -71,8 +70,19 @@ impl Problem {
             showing,
             firsts,
             live,
-            last: 0,
         })
+    }
+
+    /// The same, to be shared by several judges.
+    pub fn shared(alloc: Global, question: Arc<Question>) -> Result<Arc<Problem>, Fault>
+        requires test { IsBounded (arc_value question).test }
+        requires starts { All IsStart (arc_value question).test.starts }
+        ensures value { IfOk result (λ p. arc_value p ≡ arc_value question) }
+        ensures clean { OnOk result ((f : Fault) → IsCandidateFault (arc_value question).test f → ⊥) }
+        ensures err { IfErr result (λ f. f ≢ Memory → IsCandidateFault (arc_value question).test f) }
+    {
+        let problem = Problem::new(alloc, question)?;
+        Ok(Arc::new(alloc, problem)?)
     }
 
     /// The test and the prices.
@@ -82,33 +92,32 @@ impl Problem {
         &self.question
     }
 
-    /// A quick look for an execution that shows the outcome with the placed fences: among the live candidates that are kept, the
-    /// last one found first. Its witness is widened at the first slots before the others. No witness promises nothing. The cost: for
-    /// each candidate the steps of its runs times the slots, and for the witness that of `widest_witness`. The error is F19.
-    pub fn look(
-        &mut self,
+    /// Whether the placement, one of the test's slots, forbids the outcome. The live candidates that are kept are judged first, and
+    /// where each has a cycle all showing candidates in their order. One without a cycle has a witness, widened at the first slots
+    /// before the others; where there is none, there is a cycle for each. What is answered doesn't depend on earlier calls, unlike what
+    /// a `Judge` answers. The cost: for each live candidate the steps of its runs times the slots, and for the witness that of
+    /// `widest_witness`. Where each has a cycle also: for each candidate that is prejudged with a cycle the links of this; for each
+    /// other one what it takes to make it, the steps of its runs times the slots, and its operations times the tests for causes; past
+    /// the first 65,536 also what judging it without fences takes. The error is F19.
+    pub fn verdict(
+        &self,
         alloc: Global,
         placement: &Placement,
         first: &[Slot],
-    ) -> Result<Option<Witness>, Fault>
-        ensures value { self.new ≡ self.old }
-        ensures ok { IfOk result (λ found. IfSome found (IsShownWith self.old.test placement.now)) }
+    ) -> Result<Verdict, Fault>
+        requires { slots_of placement.now ≡ slots self.now.test }
+        ensures ok { IfOk result (IsVerdict self.now.test placement.now) }
         ensures err { IsOkUnless result Memory }
     {
-        let found = self.found(alloc, placement, first)?;
-        match found {
-            Some(survivor) => {
-                self.last = survivor.number;
-                Ok(Some(survivor.witness))
-            }
-            None => Ok(None),
-        }
+        let survey = self.surveyed(alloc, &[], placement, first)?;
+        verdict_of(survey, placement)
     }
 
-    // A live candidate without a cycle, the last one found before the others.
-    fn found(
+    // A live candidate without a cycle, one of these numbers before the others.
+    pub(crate) fn found(
         &self,
         alloc: Global,
+        before: &[usize],
         placement: &Placement,
         first: &[Slot],
     ) -> Result<Option<Survivor>, Fault>
@@ -118,54 +127,26 @@ impl Problem {
         let test = test_of(&self.question);
         let showing = &self.showing;
         let firsts = self.firsts.as_slice();
-        let last = [self.last];
-        let again = first_survivor(alloc, test, showing, firsts, &last, placement, first)?;
+        let again = first_survivor(alloc, test, showing, firsts, before, placement, first)?;
         if again.is_some() {
             return Ok(again);
         }
         first_survivor(alloc, test, showing, firsts, &self.live, placement, first)
     }
 
-    /// Whether the placement, one of the test's slots, forbids the outcome: looks as `look` does, and where that finds nothing judges
-    /// all showing candidates in their order. One without a cycle has a witness, widened at the first slots before the others;
-    /// where there is none, there is a cycle for each. The cost beyond that of `look`, where this finds nothing: for each candidate
-    /// that is prejudged with a cycle the links of this; for each other one what it takes to make it, the steps of its runs times
-    /// the slots, and its operations times the tests for causes; past the first 65,536 also what judging it without fences takes. The
-    /// error is F19.
-    pub fn verdict(
-        &mut self,
-        alloc: Global,
-        placement: &Placement,
-        first: &[Slot],
-    ) -> Result<Verdict, Fault>
-        requires { slots_of placement.now ≡ slots self.old.test }
-        ensures value { self.new ≡ self.old }
-        ensures ok { IfOk result (IsVerdict self.old.test placement.now) }
-        ensures err { IsOkUnless result Memory }
-    {
-        match self.surveyed(alloc, placement, first)? {
-            Survey::Survives(survivor) => {
-                self.last = survivor.number;
-                Ok(Verdict::Allowed(survivor.witness))
-            }
-            Survey::Cycles(cycles) => {
-                let placement = placement.copy()?;
-                Ok(Verdict::Forbids(Forbidden { placement, cycles }))
-            }
-        }
-    }
-
-    // What is found of all showing candidates: no cycle's links are made where a prejudged candidate survives.
-    fn surveyed(
+    // What is found of all showing candidates, those of these numbers before the others: no cycle's links are made where a prejudged
+    // candidate survives.
+    pub(crate) fn surveyed(
         &self,
         alloc: Global,
+        before: &[usize],
         placement: &Placement,
         first: &[Slot],
     ) -> Result<Survey, Fault>
         ensures ok { IfOk result (IsSurvey self.now.test placement.now) }
         ensures err { IsOkUnless result Memory }
     {
-        if let Some(survivor) = self.found(alloc, placement, first)? {
+        if let Some(survivor) = self.found(alloc, before, placement, first)? {
             return Ok(Survey::Survives(survivor));
         }
         let test = test_of(&self.question);

@@ -37,6 +37,16 @@ pub(crate) enum Survey {
     Cycles(Cycles),
 }
 
+impl Survey {
+    // The number of the candidate without a cycle.
+    pub(crate) fn survivor(&self) -> Option<usize> {
+        match self {
+            Survey::Survives(survivor) => Some(survivor.number),
+            Survey::Cycles(_) => None,
+        }
+    }
+}
+
 // A list of the same links.
 fn copy(alloc: Global, links: &[Link]) -> Result<List<Link>, AllocError>
     ensures { IfOk result (λ copy. copy ≡ links.now) }

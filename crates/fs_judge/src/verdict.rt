@@ -1,6 +1,14 @@
 //! What is said of a placement.
 
+ghost use Rattle.std.specs.Prelude.{IfOk, IsOkUnless};
+ghost use Rattle.fs_kinds.specs.declared.fault.Fault.TheVariants.{Memory};
+ghost use Rattle.fs_syntax.specs.declared.test.Test.{Test};
+ghost use Rattle.fs_judge.specs.Verdicts.{IsVerdict};
+ghost use Rattle.fs_judge.specs.inner.Findings.{IsSurvey};
+
+use crate::survey::Survey;
 use fs_evidence::{Forbidden, Witness};
+use fs_kinds::{Fault, Placement};
 
 /// Whether a placement forbids the outcome.
 #[derive(Drop)]
@@ -9,4 +17,18 @@ pub enum Verdict {
     Allowed(Witness),
     /// It forbids the outcome, as a cycle for each showing candidate shows.
     Forbids(Forbidden),
+}
+
+// What was found of all showing candidates with the placed fences, as a verdict on the placement. The error is F19.
+pub(crate) fn verdict_of(survey: Survey, placement: &Placement) -> Result<Verdict, Fault>
+    ensures ok { (test : Test) → IsSurvey test placement.now survey → IfOk result (IsVerdict test placement.now) }
+    ensures err { IsOkUnless result Memory }
+{
+    match survey {
+        Survey::Survives(survivor) => Ok(Verdict::Allowed(survivor.witness)),
+        Survey::Cycles(cycles) => {
+            let placement = placement.copy()?;
+            Ok(Verdict::Forbids(Forbidden { placement, cycles }))
+        }
+    }
 }
