@@ -1,4 +1,4 @@
--- What a desk and a question are made of may cross threads.
+-- What a desk, a question and a problem are made of may cross threads.
 use denote.RattleType.{RattleType}
 use denote.Param.Send.{IsSend, IsSync, sendable}
 use denote.Param.SendFields.{declared_send, declared_sync}
@@ -18,30 +18,49 @@ use Rattle.fs_evidence.specs.contracts.question.Question as Question
 use Rattle.fs_board.specs.contracts.board.Board as Board
 use Rattle.fs_board.proofs.tree.Tree.TheSendSync as tree
 use Rattle.fs_board.proofs.event.LogEntry.TheSendSync as entry
+use Rattle.fs_hart.proofs.trace.Trace.TheSendSync as trace
+use Rattle.fs_showing.specs.contracts.showing.Showing as Showing
+use Rattle.fs_showing.proofs.place.Place.TheSendSync as place
+use Rattle.fs_judge.specs.contracts.problem.Problem as Problem
+use Rattle.fs_judge.proofs.prejudged.Prejudged.TheSendSync as prejudged
+use Rattle.fs_crew.proofs.Outcomes.{hole_send, hole_sync}
 
-pub test_send : IsSend Outcome.the_row → IsSend Test.the_row
-test_send o = declared_send Test.the_type (name.the_send, (search (instr.the_send, list.the_send, crosses, sendable) depth 20, (search (list.the_send, crosses, sendable) depth 20, (search (location.the_send, list.the_send, crosses, sendable) depth 20, (quantifier.the_send, (o, tt))))))
+outcome_send : IsSend Outcome.the_row
+outcome_send = search (hole_send, crosses, sendable) depth 20 fits 20000
 
-pub test_sync : IsSync Outcome.the_row → IsSync Test.the_row
-test_sync o = declared_sync Test.the_type (name.the_sync, (search (instr.the_sync, list.the_sync, crosses, sendable) depth 20, (search (list.the_sync, crosses, sendable) depth 20, (search (location.the_sync, list.the_sync, crosses, sendable) depth 20, (quantifier.the_sync, (o, tt))))))
+outcome_sync : IsSync Outcome.the_row
+outcome_sync = search (hole_sync, crosses, sendable) depth 20 fits 20000
 
-pub outcome_send : IsSend Outcome.the_hole → IsSend Outcome.the_row
-outcome_send s = search (crosses, sendable) depth 20 fits 20000
+test_send : IsSend Test.the_row
+test_send = declared_send Test.the_type (name.the_send, (search (instr.the_send, list.the_send, crosses, sendable) depth 20, (search (list.the_send, crosses, sendable) depth 20, (search (location.the_send, list.the_send, crosses, sendable) depth 20, (quantifier.the_send, (outcome_send, tt))))))
 
-pub outcome_sync : IsSync Outcome.the_hole → IsSync Outcome.the_row
-outcome_sync s = search (crosses, sendable) depth 20 fits 20000
+test_sync : IsSync Test.the_row
+test_sync = declared_sync Test.the_type (name.the_sync, (search (instr.the_sync, list.the_sync, crosses, sendable) depth 20, (search (list.the_sync, crosses, sendable) depth 20, (search (location.the_sync, list.the_sync, crosses, sendable) depth 20, (quantifier.the_sync, (outcome_sync, tt))))))
 
-pub question_send : IsSend Test.the_row → IsSync Test.the_row → IsSend Question.the_row
-question_send s y = search (prices.the_send, crosses, sendable) depth 40 fits 100000
+question_send : IsSend Question.the_row
+question_send = search (test_send, test_sync, prices.the_send, crosses, sendable) depth 40 fits 100000
 
-pub question_sync : IsSend Test.the_row → IsSync Test.the_row → IsSync Question.the_row
-question_sync s y = search (prices.the_sync, crosses, sendable) depth 40 fits 100000
+question_sync : IsSync Question.the_row
+question_sync = search (test_send, test_sync, prices.the_sync, crosses, sendable) depth 40 fits 100000
 
-pub board_send : IsSend Question.the_row → IsSync Question.the_row → IsSend Board.the_row
-board_send s y = search (tree.the_send, entry.the_send, crosses, sendable) depth 40 fits 100000
+board_send : IsSend Board.the_row
+board_send = search (question_send, question_sync, tree.the_send, entry.the_send, crosses, sendable) depth 40 fits 100000
 
-pub shared_send : (A : RattleType) (g : asked.Ghosts A.Denot) → IsSend A → IsSend Board.the_row → IsSend (Shared.the_row A g)
-shared_send A g a b = search (crosses, sendable) depth 40 fits 100000
+-- what is asked is a mark without bytes, so it may be of any type
+shared_send : (A : RattleType) (g : asked.Ghosts A.Denot) → IsSend (Shared.the_row A g)
+shared_send A g = search (board_send, crosses, sendable) depth 40 fits 100000
 
-pub desk_sync : (A : RattleType) (g : asked.Ghosts A.Denot) → IsSend (Shared.the_row A g) → IsSync (Desk.the_row A g)
-desk_sync A g s = search (crosses, sendable) depth 40 fits 100000
+pub desk_sync : (A : RattleType) (g : asked.Ghosts A.Denot) → IsSync (Desk.the_row A g)
+desk_sync A g = let s = shared_send A g in search (crosses, sendable) depth 40 fits 100000
+
+showing_send : IsSend Showing.the_row
+showing_send = search (test_send, test_sync, list.the_send, trace.the_send, place.the_send, crosses, sendable) depth 40 fits 100000
+
+showing_sync : IsSync Showing.the_row
+showing_sync = search (test_send, test_sync, list.the_sync, trace.the_sync, place.the_sync, crosses, sendable) depth 40 fits 100000
+
+pub problem_send : IsSend Problem.the_row
+problem_send = search (question_send, question_sync, showing_send, prejudged.the_send, crosses, sendable) depth 40 fits 100000
+
+pub problem_sync : IsSync Problem.the_row
+problem_sync = search (question_send, question_sync, showing_sync, prejudged.the_sync, crosses, sendable) depth 40 fits 100000

@@ -15,7 +15,7 @@ use crate::work::work;
 use fs_board::Board;
 use fs_evidence::Question;
 use fs_hands::{Hand, hands};
-use fs_judge::Problem;
+use fs_judge::{Judge, Problem};
 use fs_kinds::Fault;
 use fs_pool::{Asked, Desk, Pass, finish};
 use fs_search::{Solved, conclude};
@@ -49,19 +49,17 @@ fn work_all<A: Asked + Send + Sync, R: Threads + Wait + Sync, G: Gate + Sync>(
     alloc: Global,
     desk: &Desk<A>,
     gate: &G,
-    question: &Arc<Question>,
+    problem: &Arc<Problem>,
     jobs: Vec<(Pass<A>, Hand)>,
 ) -> Result<Vec<Pass<A>>, AllocError>
-    requires asked { arc_value question.now ≡ A.question }
-    requires test { IsBounded (arc_value question.now).test }
-    requires starts { All IsStart (arc_value question.now).test.starts }
+    requires { arc_value problem.now ≡ A.question }
 {
     thread::map_vec(
         rt,
         jobs,
         &|job: (Pass<A>, Hand)| {
             let (pass, hand) = job;
-            work(rt, alloc, desk, gate, pass, hand, question)
+            work(rt, alloc, desk, gate, pass, hand, problem)
         },
     )
 }
@@ -71,16 +69,14 @@ fn work_all<A: Asked + Send + Sync, R: Threads + Wait + Sync, G: Gate + Sync>(
 fn search_together<A: Asked + Send + Sync, R: Threads + Wait + Sync, G: Gate + Sync>(
     rt: &R,
     alloc: Global,
-    question: &Arc<Question>,
+    problem: &Arc<Problem>,
     board: Board,
     workers: u8,
     gate: &G,
 ) -> Result<Board, Fault>
     requires asked { IsAsked board A.question A.limit }
-    requires same { arc_value question.now ≡ A.question }
+    requires same { arc_value problem.now ≡ A.question }
     requires empty { board.log ≡ [] }
-    requires test { IsBounded (arc_value question.now).test }
-    requires starts { All IsStart (arc_value question.now).test.starts }
     requires some { 1 ≤ workers }
     requires few { workers ≤ 16 }
     ensures asked { IfOk result (λ b. IsAsked b A.question A.limit) }
@@ -88,7 +84,7 @@ fn search_together<A: Asked + Send + Sync, R: Threads + Wait + Sync, G: Gate + S
 {
     let (desk, passes) = Desk::<A>::new(alloc, board, workers)?;
     let jobs = side_by_side(alloc, passes, hands(alloc, workers)?)?;
-    let passes = work_all(rt, alloc, &desk, gate, question, jobs)?;
+    let passes = work_all(rt, alloc, &desk, gate, problem, jobs)?;
     match finish(desk, passes) {
         Ok(board) => Ok(board),
         Err(_) => Err(Fault::Unmatched),
@@ -97,7 +93,7 @@ fn search_together<A: Asked + Send + Sync, R: Threads + Wait + Sync, G: Gate + S
 
 /// The answer to a question, as `fs_search::solve` gives it, searched by this many workers. One worker needs neither threads nor a desk.
 /// More of them search together first, and what they leave is searched as by one. F22 where the board's log and what the workers saw of
-/// it don't agree; the other faults are those of `fs_search::solve`.
+/// it don't agree, which can't come of one worker; the other faults are those of `fs_search::solve`.
 pub fn solve<R: Threads + Wait + Sync, G: Gate + Sync>(
     rt: &R,
     alloc: Global,
@@ -121,14 +117,16 @@ pub fn solve<R: Threads + Wait + Sync, G: Gate + Sync>(
     ensures ends { IfOk result (λ s. IfNone s.board (IsAtAnEnd (arc_value question).test s.answer)) }
     ensures least { IfOk result (λ s. IfNone s.board (IsShownLeast (arc_value question).test s.answer s.least)) }
     ensures err { IfErr result (λ f. f ≢ Fault.Memory → f ≢ Fault.Unmatched → IsSolveFault (arc_value question) limit f) }
+    ensures alone { IfErr result (λ f. f ≡ Fault.Unmatched → 2 ≤ workers) }
 {
     if workers == 1 {
         return fs_search::solve(alloc, question, limit);
     }
     let asked = Arc::try_clone(&question)?;
-    let mut problem = Problem::new(alloc, asked)?;
-    let board = searched(rt, alloc, question, workers, limit, gate)?;
-    let solved = conclude(alloc, &mut problem, board)?;
+    let problem = Problem::shared(alloc, asked)?;
+    let board = searched(rt, alloc, question, &problem, workers, limit, gate)?;
+    let mut judge = Judge::new(problem);
+    let solved = conclude(alloc, &mut judge, board)?;
     Ok(solved)
 }
 
@@ -137,19 +135,19 @@ fn searched<R: Threads + Wait + Sync, G: Gate + Sync>(
     rt: &R,
     alloc: Global,
     question: Arc<Question>,
+    problem: &Arc<Problem>,
     workers: u8,
     limit: usize,
     gate: &G,
 ) -> Result<Board, Fault>
+    requires same { arc_value problem.now ≡ arc_value question }
     requires test { IsBounded (arc_value question).test }
-    requires starts { All IsStart (arc_value question).test.starts }
     requires alone { 1 ≤ workers }
     requires few { workers ≤ 16 }
     requires limit { limit ≤ 1000000 }
     ensures asked { IfOk result (λ b. IsAsked b (arc_value question) limit) }
     ensures err { IfErr result (λ f. f ≢ Fault.Memory → f ≡ Fault.Unmatched) }
 {
-    let asked = Arc::try_clone(&question)?;
-    let board = Board::new(alloc, asked, limit)?;
-    search_together::<Brand, R, G>(rt, alloc, &question, board, workers, gate)
+    let board = Board::new(alloc, question, limit)?;
+    search_together::<Brand, R, G>(rt, alloc, problem, board, workers, gate)
 }

@@ -12,11 +12,11 @@ ghost use Rattle.fs_pool.specs.Asked.{IsMade, Tells};
 
 use fs_board::{Decision, Event, Part, Reply};
 use fs_evidence::{Forbidden, Question, Witness};
-use fs_judge::{Problem, Verdict};
+use fs_judge::{Judge, Problem, Verdict};
 use fs_kinds::{Fault, Prices, Slot};
 use fs_list::List;
 use fs_search::{
-    Store, decide, is_filled_new, is_floor_new, judge_floor, look_at_filled, stored_over_filled,
+    Store, is_filled_new, is_floor_new, judge_floor, look_at_filled, stored_over_filled,
 };
 use std::alloc::{AllocError, Global};
 use std::marker::Model;
@@ -61,11 +61,11 @@ pub(crate) const WAYS: [Way; 6] = [
     Way::Last,
 ];
 
-/// The question, ready to be judged, the witnesses that were met, and what was seen of the board: the best placement posted, and how many
-/// witnesses there were. Contracts see the question.
+/// A judge of the question, the witnesses that were met, and what was seen of the board: the best placement posted, and how many witnesses
+/// there were. Contracts see the question.
 #[derive(Drop)]
 pub(crate) struct Scout {
-    problem: Problem,
+    judge: Judge,
     store: Store,
     bound: Option<Arc<Forbidden>>,
     seen: usize,
@@ -79,11 +79,11 @@ impl Model for Scout {
 
     ghost Value = { Asked };
 
-    ghost view = { λ s. s.problem };
+    ghost view = { λ s. s.judge };
 
     ghost coded = { Prim.hlevel (codes, outcome.the_row.coded) };
 
-    ghost invariant = { λ s. AreWitnesses s.problem.test s.store };
+    ghost invariant = { λ s. AreWitnesses s.judge.test s.store };
 }
 
 /// Stores the witness, unless a stored one has the same widths.
@@ -129,12 +129,12 @@ fn share(bound: &Option<Arc<Forbidden>>) -> Result<Option<Arc<Forbidden>>, Alloc
 }
 
 impl Scout {
-    /// A scout that has met no witness yet.
-    pub(crate) fn new(alloc: Global, problem: Problem) -> Scout
-        ensures { result ≡ problem }
+    /// A scout that has met no witness yet. Others may share the problem.
+    pub(crate) fn new(alloc: Global, problem: Arc<Problem>) -> Scout
+        ensures { result ≡ arc_value problem }
     {
         Scout {
-            problem,
+            judge: Judge::new(problem),
             store: Store::new(alloc),
             bound: None,
             seen: 0,
@@ -146,11 +146,21 @@ impl Scout {
         self.seen
     }
 
+    /// Closing by cost, where a posted placement was seen.
+    fn costly(&self, node: usize) -> Option<Event>
+        ensures { IfSome result (IsMade self.now) }
+    {
+        if self.bound.is_none() {
+            return None;
+        }
+        Some(Event::CutCost(node))
+    }
+
     /// Stored witnesses that bound the node.
     fn bounding(&self, alloc: Global, node: usize, part: &Part) -> Result<Option<Event>, AllocError>
         ensures { IfOk result (λ found. IfSome found (IsMade self.now)) }
     {
-        let prices = &self.problem.question().prices;
+        let prices = &self.judge.question().prices;
         let picked = self.store.pick(alloc, prices, self.bound.as_ref(), part)?;
         if picked.is_empty() {
             return Ok(None);
@@ -174,7 +184,7 @@ impl Scout {
         ensures made { IfOk result (λ found. IfSome found (IsMade self.old)) }
         ensures err { IsOkUnless result Fault.Memory }
     {
-        let found = look_at_filled(alloc, &mut self.problem, &mut self.store, part)?;
+        let found = look_at_filled(alloc, &mut self.judge, &mut self.store, part)?;
         let Some(witness) = found else {
             return Ok(None);
         };
@@ -188,7 +198,7 @@ impl Scout {
         ensures made { IfOk result (λ found. IfSome found (IsMade self.old)) }
         ensures err { IsOkUnless result Fault.Memory }
     {
-        let found = judge_floor(alloc, &mut self.problem, &mut self.store, part)?;
+        let found = judge_floor(alloc, &mut self.judge, &mut self.store, part)?;
         let Some(forbidden) = found else {
             return Ok(None);
         };
@@ -206,7 +216,8 @@ impl Scout {
             return Ok(Some(Event::Split(node, slot)));
         }
         let floor = part.floor(alloc)?;
-        match decide(alloc, &mut self.problem, &floor, &[])? {
+        let verdict = self.judge.verdict(alloc, &floor, &[])?;
+        match verdict {
             Verdict::Allowed(witness) => {
                 Ok(Some(Event::CutWitness(node, Arc::new(alloc, witness)?)))
             }
@@ -232,7 +243,7 @@ impl Scout {
         ensures err { IsOkUnless result Fault.Memory }
     {
         match way {
-            Way::Cost => Ok(Some(Event::CutCost(node))),
+            Way::Cost => Ok(self.costly(node)),
             Way::Bound => Ok(self.bounding(alloc, node, part)?),
             Way::Stored => Ok(self.stored(alloc, node, part)?),
             Way::Looked if is_filled_new(part, slot) => self.looked(alloc, node, part),
@@ -256,7 +267,7 @@ impl Scout {
             return Ok(());
         };
         let shared = share(bound)?;
-        let prices = &self.problem.question().prices;
+        let prices = &self.judge.question().prices;
         keep_all(
             alloc,
             &mut self.store,

@@ -1,8 +1,7 @@
 //! What a worker does: it takes nodes and is done with each, until there are none or something fails.
 
-ghost use Rattle.std.specs.Prelude.{◌≡◌, All, IfOk, IfSome};
+ghost use Rattle.std.specs.Prelude.{◌≡◌, IfSome};
 ghost use Rattle.std.specs.Arc.{arc_value};
-ghost use Rattle.fs_syntax.specs.Test.{IsBounded, IsStart};
 ghost use Rattle.fs_syntax.specs.Slots.{slots};
 ghost use Rattle.fs_bound.specs.Bounds.{slots_in_part};
 ghost use Rattle.fs_pool.specs.Asked.{IsMade};
@@ -10,10 +9,9 @@ ghost use Rattle.fs_pool.specs.Asked.{IsMade};
 use crate::gate::Gate;
 use crate::scout::{Scout, WAYS, Way};
 use fs_board::{Event, Part, Reply};
-use fs_evidence::Question;
 use fs_hands::Hand;
 use fs_judge::Problem;
-use fs_kinds::{Fault, Slot};
+use fs_kinds::Slot;
 use fs_pool::{Asked, Desk, Pass};
 use std::alloc::Global;
 use std::sync::{Arc, Wait};
@@ -38,8 +36,10 @@ struct Taken {
 enum Step {
     /// The next way is tried.
     Next,
-    /// The node is closed or split.
-    Done,
+    /// The node is closed by what the worker knew.
+    Closed,
+    /// The node is split, or a placement was posted: others may have found more by now.
+    Moved,
     /// The worker leaves, and the node stays held.
     Leave,
 }
@@ -82,10 +82,11 @@ fn given<A: Asked>(pass: &Pass<A>, slot: Option<Slot>) -> Option<Taken>
     }
 }
 
-/// What the desk's last reply to an event on a node means.
-fn step_after<A: Asked>(pass: &Pass<A>) -> Step {
+/// What the desk's last reply to an event on a node means, where the event was a post or another.
+fn step_after<A: Asked>(pass: &Pass<A>, is_post: bool) -> Step {
     match pass.reply() {
-        Some(Reply::Closed) | Some(Reply::Children(_, _)) => Step::Done,
+        Some(Reply::Closed) if !is_post => Step::Closed,
+        Some(Reply::Closed) | Some(Reply::Children(_, _)) => Step::Moved,
         Some(Reply::Full) => Step::Leave,
         _ => Step::Next,
     }
@@ -94,11 +95,7 @@ fn step_after<A: Asked>(pass: &Pass<A>) -> Step {
 /// Puts the oldest of the worker's own nodes on its hand where that is empty, for another to steal. What can't be put there stays on the
 /// board alone.
 fn offer(hand: &mut Hand, children: &mut Vec<Child>) {
-    if let Some(node) = hand.pop() {
-        hand.push(node).is_ok();
-        return;
-    }
-    if children.len() > 1 {
+    if children.len() > 1 && hand.is_empty() {
         let oldest = children.remove(0);
         hand.push(oldest.node).is_ok();
     }
@@ -176,11 +173,12 @@ fn try_way<A: Asked, R: Wait, G: Gate>(
     let Some(event) = found else {
         return (pass, Step::Next);
     };
+    let is_post = matches!(event, Event::Post(_, _));
     let (pass, is_made) = ask(rt, alloc, desk, gate, pass, event);
     if !is_made {
         return (pass, Step::Leave);
     }
-    let step = step_after(&pass);
+    let step = step_after(&pass, is_post);
     (pass, step)
 }
 
@@ -250,7 +248,7 @@ fn look_round<A: Asked, R: Wait, G: Gate>(
     (pass, is_learned)
 }
 
-/// Is done with a node, and sees what the others have found. False where the worker has to leave.
+/// Is done with a node, and sees what the others have found where it was split or posted. False where the worker has to leave.
 fn handle<A: Asked, R: Wait, G: Gate>(
     rt: &R,
     alloc: Global,
@@ -266,7 +264,10 @@ fn handle<A: Asked, R: Wait, G: Gate>(
     ensures value { scout.new ≡ scout.old }
 {
     let (pass, step) = settle(rt, alloc, desk, gate, pass, scout, taken);
-    if step != Step::Done || !push_children(&pass, children, taken) {
+    if step != Step::Moved {
+        return (pass, step == Step::Closed);
+    }
+    if !push_children(&pass, children, taken) {
         return (pass, false);
     }
     look_round(rt, alloc, desk, gate, pass, scout, &taken.part)
@@ -313,17 +314,6 @@ fn rounds<A: Asked, R: Wait, G: Gate>(
     pass
 }
 
-/// What a worker needs, made by itself: judging moves a mark in the problem, so no two workers have one.
-fn ready(alloc: Global, question: &Arc<Question>) -> Result<Scout, Fault>
-    requires test { IsBounded (arc_value question.now).test }
-    requires starts { All IsStart (arc_value question.now).test.starts }
-    ensures { IfOk result (λ s. s ≡ arc_value question.now) }
-{
-    let asked = Arc::try_clone(question)?;
-    let problem = Problem::new(alloc, asked)?;
-    Ok(Scout::new(alloc, problem))
-}
-
 /// Works until there is nothing to do or memory lacks, and leaves. A node that it isn't done with stays held.
 pub(crate) fn work<A: Asked, R: Wait, G: Gate>(
     rt: &R,
@@ -332,14 +322,15 @@ pub(crate) fn work<A: Asked, R: Wait, G: Gate>(
     gate: &G,
     pass: Pass<A>,
     hand: Hand,
-    question: &Arc<Question>,
+    problem: &Arc<Problem>,
 ) -> Pass<A>
-    requires asked { arc_value question.now ≡ A.question }
-    requires test { IsBounded (arc_value question.now).test }
-    requires starts { All IsStart (arc_value question.now).test.starts }
+    requires { arc_value problem.now ≡ A.question }
 {
-    let pass = match ready(alloc, question) {
-        Ok(scout) => rounds(rt, alloc, desk, gate, pass, hand, scout),
+    let pass = match Arc::try_clone(problem) {
+        Ok(shared) => {
+            let scout = Scout::new(alloc, shared);
+            rounds(rt, alloc, desk, gate, pass, hand, scout)
+        }
         Err(_) => pass,
     };
     desk.leave(rt, &pass);

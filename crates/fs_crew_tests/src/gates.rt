@@ -1,6 +1,6 @@
 //! Workers run at once, and judge at once.
 
-use crate::workers::line_of;
+use crate::workers::answered;
 use fs_crew::Gate;
 use fs_examples::SB;
 use std::sync::atomic::{AtomicBool, AtomicU64, Ordering};
@@ -105,7 +105,7 @@ fn gate_first(rt: HostRuntime) -> Result<(), Fail> {
         clock: &rt,
         held: Held::new(),
     };
-    let line = line_of(&rt, rt.alloc(), SB, 2, 1_000_000, &gate)?;
+    let line = answered(&rt, rt.alloc(), SB, 2, 1_000_000, &gate)?;
     assert!(rt; line.starts_with("fenced 18"));
     assert!(rt; gate.held.is_good());
     Ok(())
@@ -117,7 +117,7 @@ fn gate_overlap(rt: HostRuntime) -> Result<(), Fail> {
         clock: &rt,
         held: Held::new(),
     };
-    let line = line_of(&rt, rt.alloc(), SB, 2, 1_000_000, &gate)?;
+    let line = answered(&rt, rt.alloc(), SB, 2, 1_000_000, &gate)?;
     assert!(rt; line.starts_with("fenced 18"));
     assert!(rt; gate.held.is_good());
     Ok(())
