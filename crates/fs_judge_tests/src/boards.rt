@@ -31,15 +31,14 @@ enum Request {
 #[tactic(auto, using(crate::proofs::Asked::question_stays))]
 fn post(
     alloc: Global,
-    problem: &mut Problem,
+    problem: &Problem,
     board: &mut Board,
     worker: u8,
     node: usize,
     words: &str,
 ) -> Result<Reply, Fault>
-    requires test { IsBounded problem.old.test }
-    requires same { board.old.question ≡ problem.old }
-    ensures problem { problem.new ≡ problem.old }
+    requires test { IsBounded problem.now.test }
+    requires same { board.old.question ≡ problem.now }
     ensures same { OnOk result (board.new.question ≡ board.old.question) }
 {
     let verdict = verdict_on(alloc, problem, words)?;
@@ -56,15 +55,14 @@ fn post(
 #[tactic(auto, using(crate::proofs::Asked::question_stays))]
 fn cut_witness(
     alloc: Global,
-    problem: &mut Problem,
+    problem: &Problem,
     board: &mut Board,
     worker: u8,
     node: usize,
     words: &str,
 ) -> Result<Reply, Fault>
-    requires test { IsBounded problem.old.test }
-    requires same { board.old.question ≡ problem.old }
-    ensures problem { problem.new ≡ problem.old }
+    requires test { IsBounded problem.now.test }
+    requires same { board.old.question ≡ problem.now }
     ensures same { OnOk result (board.new.question ≡ board.old.question) }
 {
     let verdict = verdict_on(alloc, problem, words)?;
@@ -81,14 +79,13 @@ fn cut_witness(
 #[tactic(auto, using(crate::proofs::Asked::question_stays))]
 fn ask(
     alloc: Global,
-    problem: &mut Problem,
+    problem: &Problem,
     board: &mut Board,
     worker: u8,
     request: Request,
 ) -> Result<Reply, Fault>
-    requires test { IsBounded problem.old.test }
-    requires same { board.old.question ≡ problem.old }
-    ensures problem { problem.new ≡ problem.old }
+    requires test { IsBounded problem.now.test }
+    requires same { board.old.question ≡ problem.now }
     ensures same { OnOk result (board.new.question ≡ board.old.question) }
 {
     match request {
@@ -178,11 +175,11 @@ fn replies(
     requires { limit ≤ 1000000 }
 {
     let question = question_of(alloc, text, prices)?;
-    let mut problem = Problem::new(alloc, Arc::try_clone(&question)?)?;
+    let problem = Problem::new(alloc, Arc::try_clone(&question)?)?;
     let mut board = Board::new(alloc, question, limit)?;
     let mut written = String::new(alloc);
     for (worker, asked) in asks {
-        let reply = ask(alloc, &mut problem, &mut board, *worker, *asked)?;
+        let reply = ask(alloc, &problem, &mut board, *worker, *asked)?;
         write_reply(&reply, &mut written)?;
         if matches!(asked, Request::Post(..)) {
             write_bound(&board, &mut written)?;

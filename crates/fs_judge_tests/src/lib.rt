@@ -6,6 +6,8 @@ mod boards;
 #[cfg(test)]
 mod edges;
 #[cfg(test)]
+mod judges;
+#[cfg(test)]
 mod questions;
 #[cfg(test)]
 mod verdicts;

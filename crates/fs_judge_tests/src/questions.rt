@@ -24,14 +24,9 @@ pub(crate) fn placement_of(alloc: Global, test: &Test, words: &str) -> Result<Pl
 }
 
 /// The verdict on the placement that the words name.
-pub(crate) fn verdict_on(
-    alloc: Global,
-    problem: &mut Problem,
-    words: &str,
-) -> Result<Verdict, Fault>
-    requires { IsBounded problem.old.test }
-    ensures problem { problem.new ≡ problem.old }
-    ensures ok { IfOk result (λ verdict. (p : List Entry) × IsVerdict problem.old.test p verdict) }
+pub(crate) fn verdict_on(alloc: Global, problem: &Problem, words: &str) -> Result<Verdict, Fault>
+    requires { IsBounded problem.now.test }
+    ensures ok { IfOk result (λ verdict. (p : List Entry) × IsVerdict problem.now.test p verdict) }
 {
     let placement = placement_of(alloc, &problem.question().test, words)?;
     problem.verdict(alloc, &placement, &[])

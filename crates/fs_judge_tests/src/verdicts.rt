@@ -14,8 +14,8 @@ use std::test::Fail;
 /// What the verdict on the placement that the words name says.
 fn said_of(alloc: Global, text: &str, words: &str) -> Result<String, Fault> {
     let question = question_of(alloc, text, PRICES)?;
-    let mut problem = Problem::new(alloc, question)?;
-    let said = match verdict_on(alloc, &mut problem, words)? {
+    let problem = Problem::new(alloc, question)?;
+    let said = match verdict_on(alloc, &problem, words)? {
         Verdict::Allowed(_) => String::from_str(alloc, "allowed")?,
         Verdict::Forbids(forbidden) => {
             let count = forbidden.cycles.len();

@@ -46,10 +46,9 @@ fn placement_of(alloc: Global, test: &Test, words: &str) -> Result<Placement, Fa
 }
 
 /// The verdict on the placement that the words name.
-fn verdict_on(alloc: Global, problem: &mut Problem, words: &str) -> Result<Verdict, Fault>
-    requires { IsBounded problem.old.test }
-    ensures problem { problem.new ≡ problem.old }
-    ensures ok { IfOk result (λ verdict. (p : List Entry) × IsVerdict problem.old.test p verdict) }
+fn verdict_on(alloc: Global, problem: &Problem, words: &str) -> Result<Verdict, Fault>
+    requires { IsBounded problem.now.test }
+    ensures ok { IfOk result (λ verdict. (p : List Entry) × IsVerdict problem.now.test p verdict) }
 {
     let placement = placement_of(alloc, &problem.question().test, words)?;
     problem.verdict(alloc, &placement, &[])
@@ -59,14 +58,13 @@ fn verdict_on(alloc: Global, problem: &mut Problem, words: &str) -> Result<Verdi
 fn post<A: Asked, R: Wait>(
     rt: &R,
     alloc: Global,
-    problem: &mut Problem,
+    problem: &Problem,
     desk: &Desk<A>,
     pass: Pass<A>,
     node: usize,
 ) -> Result<Pass<A>, Fault>
-    requires test { IsBounded problem.old.test }
-    requires same { problem.old ≡ A.question }
-    ensures problem { problem.new ≡ problem.old }
+    requires test { IsBounded problem.now.test }
+    requires same { problem.now ≡ A.question }
 {
     let verdict = verdict_on(alloc, problem, "P0:2=w,r P1:2=w,r")?;
     let Verdict::Forbids(forbidden) = verdict else {
@@ -83,14 +81,13 @@ fn post<A: Asked, R: Wait>(
 fn ask<A: Asked, R: Wait>(
     rt: &R,
     alloc: Global,
-    problem: &mut Problem,
+    problem: &Problem,
     desk: &Desk<A>,
     pass: Pass<A>,
     request: Request,
 ) -> Result<Pass<A>, Fault>
-    requires test { IsBounded problem.old.test }
-    requires same { problem.old ≡ A.question }
-    ensures problem { problem.new ≡ problem.old }
+    requires test { IsBounded problem.now.test }
+    requires same { problem.now ≡ A.question }
 {
     let made = match request {
         Request::Take => desk.take(rt, alloc, pass),
@@ -132,14 +129,14 @@ fn write_reply(reply: &Reply, text: &mut String) -> Result<(), AllocError> {
 fn ask_all<A: Asked, R: Wait>(
     rt: &R,
     alloc: Global,
-    problem: &mut Problem,
+    problem: &Problem,
     desk: &Desk<A>,
     passes: &mut Vec<Pass<A>>,
     requests: &[(usize, Request)],
     text: &mut String,
 ) -> Result<(), Fault>
-    requires test { IsBounded problem.old.test }
-    requires same { problem.old ≡ A.question }
+    requires test { IsBounded problem.now.test }
+    requires same { problem.now ≡ A.question }
 {
     for (worker, request) in requests {
         if *worker < passes.len() {
@@ -186,19 +183,11 @@ fn told<A: Asked, R: Wait>(
     requires question { arc_value question ≡ A.question }
     requires limit { A.limit ≡ 14 }
 {
-    let mut problem = Problem::new(alloc, Arc::try_clone(&question)?)?;
+    let problem = Problem::new(alloc, Arc::try_clone(&question)?)?;
     let board = Board::new(alloc, question, 14)?;
     let (desk, mut passes) = Desk::<A>::new(alloc, board, 2)?;
     let mut text = String::new(alloc);
-    ask_all(
-        rt,
-        alloc,
-        &mut problem,
-        &desk,
-        &mut passes,
-        requests,
-        &mut text,
-    )?;
+    ask_all(rt, alloc, &problem, &desk, &mut passes, requests, &mut text)?;
     passes.truncate(kept);
     write_end(desk, passes, &mut text)?;
     Ok(text)

@@ -93,23 +93,17 @@ limit-fault q p limit f same clean large ends =
     inr (ends.0, record { needed = needed; enough = enough; large = large }, clean)
 
 -- no fence at all, which forbids the outcome, with its cost
-pub none-answer : (q r : Question) (p : List Entry) (prices : PriceTable) → r ≡ q → prices ≡ q.prices → p ≡ all_with None (slots r.test)
-    → (Allows r.test (all_with None (slots r.test)) → ⊥) → IsCheapest q.test q.prices p × (cost prices p ≡ cost q.prices p)
-none-answer q r p prices same priced is forbids =
-    let there : p ≡ all_with None (slots q.test) = is ∙ ap (λ (x : Question). all_with None (slots x.test)) same in
-    let nowhere = subst (λ (x : Question). Allows x.test (all_with None (slots x.test)) → ⊥) same forbids in
-    let denied : Allows q.test p → ⊥ = λ shown. nowhere (subst (Allows q.test) there shown) in
-    (none-cheapest q.test q.prices p there denied, ap (λ (x : PriceTable). cost x p) priced)
+pub none-answer : (q : Question) (p : List Entry) (prices : PriceTable) → prices ≡ q.prices → p ≡ all_with None (slots q.test)
+    → (Allows q.test (all_with None (slots q.test)) → ⊥) → IsCheapest q.test q.prices p × (cost prices p ≡ cost q.prices p)
+none-answer q p prices priced is forbids =
+    let denied : Allows q.test p → ⊥ = λ shown. forbids (subst (Allows q.test) is shown) in
+    (none-cheapest q.test q.prices p is denied, ap (λ (x : PriceTable). cost x p) priced)
 
 pub limit-not-memory : (f : Fault) → f ≡ NodeLimit → f ≢ Memory
 limit-not-memory f is other = let e : NodeLimit ≡ Memory = sym is ∙ other in absurd (cc)
 
 -- the cycles of no fence at all, as its placement has them
-pub least-shown : (t asked : Test) (f : Refuted) (p : List Entry) → t ≡ asked → f.placement ≡ p → f.placement ≡ all_with None (slots t)
+pub least-shown : (t : Test) (f : Refuted) (p : List Entry) → f.placement ≡ p → f.placement ≡ all_with None (slots t)
     → HasCycles t (all_with None (slots t)) f.cycles
-    → (f.placement ≡ p) × (f.placement ≡ all_with None (slots asked)) × HasCycles asked f.placement f.cycles
-least-shown t asked f p same copied is cycles = (
-  copied,
-  is ∙ ap (λ (x : Test). all_with None (slots x)) same,
-  subst (λ (x : Test). HasCycles x f.placement f.cycles) same (subst (λ (q : List Entry). HasCycles t q f.cycles) (sym is) cycles),
-)
+    → (f.placement ≡ p) × (f.placement ≡ all_with None (slots t)) × HasCycles t f.placement f.cycles
+least-shown t f p copied is cycles = (copied, is, subst (λ (q : List Entry). HasCycles t q f.cycles) (sym is) cycles)

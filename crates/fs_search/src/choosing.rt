@@ -2,7 +2,6 @@
 
 ghost use Rattle.std.specs.Prelude.{◌≡◌, ℕ, Some, IfOk, IfSome, IsOkUnless, slice_get};
 ghost use Rattle.std.specs.Arc.{arc_value};
-ghost use Rattle.fs_kinds.specs.Placement.{slots_of};
 ghost use Rattle.fs_syntax.specs.Slots.{slots};
 ghost use Rattle.fs_model.specs.Execution.{Execution};
 ghost use Rattle.fs_model.specs.Allows.{Allows};
@@ -10,33 +9,14 @@ ghost use Rattle.fs_answer.specs.Valid.{HasCycles};
 ghost use Rattle.fs_bound.specs.Bounds.{slots_in_part};
 ghost use Rattle.fs_board.specs.Growth.{AreWitnesses};
 ghost use Rattle.fs_evidence.specs.Evidence.{IsWitnessFor};
-ghost use Rattle.fs_judge.specs.Verdicts.{IsVerdict};
 
 use crate::store::Store;
 use fs_board::Part;
 use fs_evidence::{Forbidden, Witness};
-use fs_judge::{Problem, Verdict};
-use fs_kinds::{Fault, Kind, Placement, Slot};
+use fs_judge::{Judge, Verdict};
+use fs_kinds::{Fault, Kind, Slot};
 use std::alloc::{AllocError, Global};
 use std::sync::Arc;
-
-/// A quick look, and where that finds nothing the whole verdict.
-pub fn decide(
-    alloc: Global,
-    problem: &mut Problem,
-    placement: &Placement,
-    first: &[Slot],
-) -> Result<Verdict, Fault>
-    requires { slots_of placement.now ≡ slots problem.old.test }
-    ensures value { problem.new ≡ problem.old }
-    ensures ok { IfOk result (λ v. IsVerdict problem.old.test placement.now v) }
-    ensures err { IsOkUnless result Fault.Memory }
-{
-    if let Some(witness) = problem.look(alloc, placement, first)? {
-        return Ok(Verdict::Allowed(witness));
-    }
-    problem.verdict(alloc, placement, first)
-}
 
 /// What was decided last at the node of this part, whose parent was split at the slot. None of a node whose parent isn't known.
 fn newest_decision(part: &Part, slot: Option<Slot>) -> Option<Option<Kind>> {
@@ -76,39 +56,39 @@ pub fn stored_over_filled(
 /// Looks for a witness that shows the outcome with `rw,rw` in each undecided slot, and stores it.
 pub fn look_at_filled(
     alloc: Global,
-    problem: &mut Problem,
+    judge: &mut Judge,
     store: &mut Store,
     part: &Part,
 ) -> Result<Option<Arc<Witness>>, Fault>
-    requires { AreWitnesses problem.old.test store.old }
-    ensures problem { problem.new ≡ problem.old }
-    ensures known { AreWitnesses problem.old.test store.new }
-    ensures ok { IfOk result (λ found. IfSome found (λ w. (e : Execution) × IsWitnessFor problem.old.test (arc_value w) e)) }
+    requires { AreWitnesses judge.old.test store.old }
+    ensures judge { judge.new ≡ judge.old }
+    ensures known { AreWitnesses judge.old.test store.new }
+    ensures ok { IfOk result (λ found. IfSome found (λ w. (e : Execution) × IsWitnessFor judge.old.test (arc_value w) e)) }
     ensures err { IsOkUnless result Fault.Memory }
 {
     let filled = part.filled(alloc)?;
     let open = part.undecided_slots(alloc)?;
-    let looked = problem.look(alloc, &filled, &open)?;
+    let looked = judge.look(alloc, &filled, &open)?;
     let Some(found) = looked else {
         return Ok(None);
     };
-    let witness = store.add(alloc, &problem.question().prices, part.as_slice(), found)?;
+    let witness = store.add(alloc, &judge.question().prices, part.as_slice(), found)?;
     Ok(Some(witness))
 }
 
 /// Judges the least placement, unless a stored witness shows the outcome with it. Where it allows the outcome a witness is stored.
 pub fn judge_floor(
     alloc: Global,
-    problem: &mut Problem,
+    judge: &mut Judge,
     store: &mut Store,
     part: &Part,
 ) -> Result<Option<Forbidden>, Fault>
-    requires known { AreWitnesses problem.old.test store.old }
-    requires slots { slots_in_part part.now ≡ slots problem.old.test }
-    ensures problem { problem.new ≡ problem.old }
-    ensures known { AreWitnesses problem.old.test store.new }
-    ensures ok { IfOk result (λ found. IfSome found (λ f. HasCycles problem.old.test f.placement f.cycles
-        × (Allows problem.old.test f.placement → ⊥))) }
+    requires known { AreWitnesses judge.old.test store.old }
+    requires slots { slots_in_part part.now ≡ slots judge.old.test }
+    ensures judge { judge.new ≡ judge.old }
+    ensures known { AreWitnesses judge.old.test store.new }
+    ensures ok { IfOk result (λ found. IfSome found (λ f. HasCycles judge.old.test f.placement f.cycles
+        × (Allows judge.old.test f.placement → ⊥))) }
     ensures err { IsOkUnless result Fault.Memory }
 {
     let floor = part.floor(alloc)?;
@@ -116,10 +96,10 @@ pub fn judge_floor(
         return Ok(None);
     }
     let open = part.undecided_slots(alloc)?;
-    let verdict = decide(alloc, problem, &floor, &open)?;
+    let verdict = judge.verdict(alloc, &floor, &open)?;
     match verdict {
         Verdict::Allowed(found) => {
-            store.add(alloc, &problem.question().prices, part.as_slice(), found)?;
+            store.add(alloc, &judge.question().prices, part.as_slice(), found)?;
             Ok(None)
         }
         Verdict::Forbids(forbidden) => Ok(Some(forbidden)),

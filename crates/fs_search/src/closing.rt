@@ -18,12 +18,11 @@ ghost use Rattle.fs_search.specs.Histories.{GoesOn};
 ghost use Rattle.fs_board.specs.Growth.{AreWitnesses};
 ghost use Rattle.fs_search.specs.inner.Steps.{IsTried, MovesOn, IsTaken, is_closed, is_split_so};
 
-use crate::choosing::decide;
 use crate::store::Store;
 use crate::taking::{Child, WORKER};
 use fs_board::{Board, Part, Reply};
 use fs_evidence::{Forbidden, Witness};
-use fs_judge::{Problem, Verdict};
+use fs_judge::{Judge, Verdict};
 use fs_kinds::{Fault, Slot};
 use std::alloc::{AllocError, Global};
 use std::sync::Arc;
@@ -169,21 +168,21 @@ fn close_by_post(
 /// Closes a node with no undecided slot: its one placement forbids the outcome, and is posted, or allows it, and a witness shows that.
 pub(crate) fn settle(
     alloc: Global,
-    problem: &mut Problem,
+    judge: &mut Judge,
     board: &mut Board,
     node: usize,
     part: &Part,
 ) -> Result<(), Fault>
-    requires same { board.old.question ≡ problem.old }
+    requires same { board.old.question ≡ judge.old }
     requires taken { IsTaken board.old node part.now }
     requires decided { list_any (λ d. is_none d.decided) part.now ≡ false }
-    ensures problem { problem.new ≡ problem.old }
+    ensures judge { judge.new ≡ judge.old }
     ensures goes { GoesOn board.old board.new }
     ensures ok { OnOk result (MovesOn board.old board.new) }
     ensures err { IsOkUnless result Fault.Memory }
 {
     let floor = part.floor(alloc)?;
-    let verdict = decide(alloc, problem, &floor, &[])?;
+    let verdict = judge.verdict(alloc, &floor, &[])?;
     match verdict {
         Verdict::Allowed(witness) => {
             let shared = Arc::new(alloc, witness)?;

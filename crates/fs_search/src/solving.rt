@@ -17,7 +17,7 @@ use crate::answer::{Answer, Solved};
 use crate::sweep::search;
 use fs_board::Board;
 use fs_evidence::Question;
-use fs_judge::{Problem, Verdict};
+use fs_judge::{Judge, Problem, Verdict};
 use fs_kinds::{Fault, Kind, Placement, Prices};
 use fs_syntax::slots;
 use std::alloc::Global;
@@ -33,10 +33,9 @@ fn fenced(prices: &Prices, placement: Placement) -> Answer
 }
 
 /// The verdict on no fence at all.
-fn verdict_on_none(alloc: Global, problem: &mut Problem) -> Result<Verdict, Fault>
-    requires { IsBounded problem.old.test }
-    ensures value { problem.new ≡ problem.old }
-    ensures ok { IfOk result (λ v. IsVerdict problem.old.test (all_with None (slots problem.old.test)) v) }
+fn verdict_on_none(alloc: Global, problem: &Problem) -> Result<Verdict, Fault>
+    requires { IsBounded problem.now.test }
+    ensures ok { IfOk result (λ v. IsVerdict problem.now.test (all_with None (slots problem.now.test)) v) }
     ensures err { IsOkUnless result Fault.Memory }
 {
     let places = slots(alloc, &problem.question().test)?;
@@ -45,10 +44,9 @@ fn verdict_on_none(alloc: Global, problem: &mut Problem) -> Result<Verdict, Faul
 }
 
 /// The verdict on `rw,rw` in every slot.
-fn verdict_on_all(alloc: Global, problem: &mut Problem) -> Result<Verdict, Fault>
-    requires { IsBounded problem.old.test }
-    ensures value { problem.new ≡ problem.old }
-    ensures ok { IfOk result (λ v. IsVerdict problem.old.test (all_with (Some Kind.RwRw) (slots problem.old.test)) v) }
+fn verdict_on_all(alloc: Global, problem: &Problem) -> Result<Verdict, Fault>
+    requires { IsBounded problem.now.test }
+    ensures ok { IfOk result (λ v. IsVerdict problem.now.test (all_with (Some Kind.RwRw) (slots problem.now.test)) v) }
     ensures err { IsOkUnless result Fault.Memory }
 {
     let places = slots(alloc, &problem.question().test)?;
@@ -73,14 +71,14 @@ fn posted_answer(board: &Board) -> Result<Option<Answer>, Fault>
     Ok(Some(answer))
 }
 
-/// The answer of a finished board: its bound, or where it has none the witness for `rw,rw` in every slot.
-fn answer_of(alloc: Global, problem: &mut Problem, board: &Board) -> Result<Answer, Fault>
-    requires bounded { IsBounded problem.old.test }
-    requires prices { IsPriceTable problem.old.prices }
-    requires same { board.now.question ≡ problem.old }
+/// The answer of a finished board: its bound, or where it has none the witness for `rw,rw` in every slot. This is the problem's own, and
+/// not that of a judge, so that it is the same whatever was searched before.
+fn answer_of(alloc: Global, problem: &Problem, board: &Board) -> Result<Answer, Fault>
+    requires bounded { IsBounded problem.now.test }
+    requires prices { IsPriceTable problem.now.prices }
+    requires same { board.now.question ≡ problem.now }
     requires finished { is_finished board.now.board ≡ true }
-    ensures value { problem.new ≡ problem.old }
-    ensures ok { IfOk result (λ a. IsAnswer problem.old.test problem.old.prices a) }
+    ensures ok { IfOk result (λ a. IsAnswer problem.now.test problem.now.prices a) }
     ensures bound { IfOk result (λ a. board.now.board.bound ≡ placement_of a) }
     ensures err { IsOkUnless result Fault.Memory }
 {
@@ -96,16 +94,17 @@ fn answer_of(alloc: Global, problem: &mut Problem, board: &Board) -> Result<Answ
 }
 
 /// The answer where the search came to its limit: none where `rw,rw` in every slot isn't enough, no fence where none is needed. Else F16.
-fn answer_by_ends(alloc: Global, problem: &mut Problem) -> Result<Solved, Fault>
-    requires bounded { IsBounded problem.old.test }
-    requires prices { IsPriceTable problem.old.prices }
-    ensures ok { IfOk result (λ s. IsAnswer problem.old.test problem.old.prices s.answer) }
+/// As in `answer_of` the witness of none is the problem's own.
+fn answer_by_ends(alloc: Global, problem: &Problem) -> Result<Solved, Fault>
+    requires bounded { IsBounded problem.now.test }
+    requires prices { IsPriceTable problem.now.prices }
+    ensures ok { IfOk result (λ s. IsAnswer problem.now.test problem.now.prices s.answer) }
     ensures board { IfOk result (λ s. s.board ≡ None) }
-    ensures ends { IfOk result (λ s. IsAtAnEnd problem.old.test s.answer) }
-    ensures least { IfOk result (λ s. IsShownLeast problem.old.test s.answer s.least) }
+    ensures ends { IfOk result (λ s. IsAtAnEnd problem.now.test s.answer) }
+    ensures least { IfOk result (λ s. IsShownLeast problem.now.test s.answer s.least) }
     ensures err { IfErr result (λ f. f ≢ Fault.Memory → (f ≡ Fault.NodeLimit)
-        × Allows problem.old.test (all_with None (slots problem.old.test))
-        × (Allows problem.old.test (all_with (Some Kind.RwRw) (slots problem.old.test)) → ⊥)) }
+        × Allows problem.now.test (all_with None (slots problem.now.test))
+        × (Allows problem.now.test (all_with (Some Kind.RwRw) (slots problem.now.test)) → ⊥)) }
 {
     let on_all = verdict_on_all(alloc, problem)?;
     if let Verdict::Allowed(witness) = on_all {
@@ -131,25 +130,25 @@ fn answer_by_ends(alloc: Global, problem: &mut Problem) -> Result<Solved, Fault>
 
 /// Ends the search of a board, whatever open and held nodes it has, and reads the answer from it: the cheapest placement that forbids the
 /// outcome, of several the first, or a witness that none does. F16 comes only where fences are needed, `rw,rw` in every slot is enough,
-/// and the tree of all placements has more nodes below its root than the board's limit; or F19. What is handed out with the answer, `solve`
-/// says.
-pub fn conclude(alloc: Global, problem: &mut Problem, board: Board) -> Result<Solved, Fault>
-    requires bounded { IsBounded problem.old.test }
-    requires prices { IsPriceTable problem.old.prices }
-    requires same { board.question ≡ problem.old }
-    requires clean { (f : Fault) → IsCandidateFault problem.old.test f → ⊥ }
-    ensures ok { IfOk result (λ s. IsAnswer problem.old.test problem.old.prices s.answer) }
-    ensures board { IfOk result (λ s. IfSome s.board (IsBoardOf problem.old board.board.limit s.answer)) }
+/// and the tree of all placements has more nodes below its root than the board's limit; or F19. The witness of none depends on the
+/// problem alone, not on what was searched before. What is handed out with the answer, `solve` says.
+pub fn conclude(alloc: Global, judge: &mut Judge, board: Board) -> Result<Solved, Fault>
+    requires bounded { IsBounded judge.old.test }
+    requires prices { IsPriceTable judge.old.prices }
+    requires same { board.question ≡ judge.old }
+    requires clean { (f : Fault) → IsCandidateFault judge.old.test f → ⊥ }
+    ensures ok { IfOk result (λ s. IsAnswer judge.old.test judge.old.prices s.answer) }
+    ensures board { IfOk result (λ s. IfSome s.board (IsBoardOf judge.old board.board.limit s.answer)) }
     ensures lost { IfOk result (λ s. IfNone s.board
-        (board.board.limit < tree_size problem.old.prices (length (slots problem.old.test)))) }
-    ensures ends { IfOk result (λ s. IfNone s.board (IsAtAnEnd problem.old.test s.answer)) }
-    ensures least { IfOk result (λ s. IfNone s.board (IsShownLeast problem.old.test s.answer s.least)) }
-    ensures err { IfErr result (λ f. f ≢ Fault.Memory → IsSolveFault problem.old board.board.limit f) }
+        (board.board.limit < tree_size judge.old.prices (length (slots judge.old.test)))) }
+    ensures ends { IfOk result (λ s. IfNone s.board (IsAtAnEnd judge.old.test s.answer)) }
+    ensures least { IfOk result (λ s. IfNone s.board (IsShownLeast judge.old.test s.answer s.least)) }
+    ensures err { IfErr result (λ f. f ≢ Fault.Memory → IsSolveFault judge.old board.board.limit f) }
 {
     let mut board = board;
-    match search(alloc, problem, &mut board) {
+    match search(alloc, judge, &mut board) {
         Ok(()) => {
-            let answer = answer_of(alloc, problem, &board)?;
+            let answer = answer_of(alloc, judge.problem(), &board)?;
             Ok(Solved {
                 answer,
                 board: Some(board),
@@ -157,7 +156,7 @@ pub fn conclude(alloc: Global, problem: &mut Problem, board: Board) -> Result<So
             })
         }
         Err(Fault::NodeLimit) => {
-            let solved = answer_by_ends(alloc, problem)?;
+            let solved = answer_by_ends(alloc, judge.problem())?;
             Ok(solved)
         }
         Err(fault) => Err(fault),
@@ -187,8 +186,9 @@ pub fn solve(alloc: Global, question: Arc<Question>, limit: usize) -> Result<Sol
     ensures err { IfErr result (λ f. f ≢ Fault.Memory → IsSolveFault (arc_value question) limit f) }
 {
     let asked = Arc::try_clone(&question)?;
-    let mut problem = Problem::new(alloc, asked)?;
+    let problem = Problem::shared(alloc, asked)?;
     let board = Board::new(alloc, question, limit)?;
-    let solved = conclude(alloc, &mut problem, board)?;
+    let mut judge = Judge::new(problem);
+    let solved = conclude(alloc, &mut judge, board)?;
     Ok(solved)
 }

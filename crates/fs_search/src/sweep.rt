@@ -14,44 +14,44 @@ use crate::store::Store;
 use crate::taking::{Child, Taken, next_node};
 use crate::tries::try_all;
 use fs_board::Board;
-use fs_judge::Problem;
+use fs_judge::Judge;
 use fs_kinds::Fault;
 use std::alloc::Global;
 
 /// Is done with a node: closes it where something does, else splits it at its first undecided slot.
 fn finish_node(
     alloc: Global,
-    problem: &mut Problem,
+    judge: &mut Judge,
     board: &mut Board,
     store: &mut Store,
     children: &mut Vec<Child>,
     taken: &Taken,
 ) -> Result<(), Fault>
-    requires same { board.old.question ≡ problem.old }
-    requires known { AreWitnesses problem.old.test store.old }
+    requires same { board.old.question ≡ judge.old }
+    requires known { AreWitnesses judge.old.test store.old }
     requires taken { IsTaken board.old taken.now.node (arc_value taken.now.part) }
-    ensures problem { problem.new ≡ problem.old }
-    ensures known { AreWitnesses problem.old.test store.new }
+    ensures judge { judge.new ≡ judge.old }
+    ensures known { AreWitnesses judge.old.test store.new }
     ensures goes { GoesOn board.old board.new }
     ensures ok { OnOk result (MovesOn board.old board.new) }
     ensures err { IfErr result (λ f. f ≢ Fault.Memory → (f ≡ Fault.NodeLimit)
         × (board.old.board.limit < tree_size board.old.question.prices (length (slots board.old.question.test)))) }
 {
-    if try_all(alloc, problem, board, store, taken)? {
+    if try_all(alloc, judge, board, store, taken)? {
         return Ok(());
     }
     match taken.part.first_undecided() {
         Some(slot) => split_node(alloc, board, children, taken.node, slot),
-        None => settle(alloc, problem, board, taken.node, &taken.part),
+        None => settle(alloc, judge, board, taken.node, &taken.part),
     }
 }
 
 /// Searches until the board is finished, whatever open and held nodes it has: a child of its own first, then any open node, then any that
 /// is held, whoever holds it. It works as worker 0. F16 where a split is refused for want of nodes, and then the tree of all placements
 /// has more nodes below its root than the limit; else F19.
-pub fn search(alloc: Global, problem: &mut Problem, board: &mut Board) -> Result<(), Fault>
-    requires { board.old.question ≡ problem.old }
-    ensures problem { problem.new ≡ problem.old }
+pub fn search(alloc: Global, judge: &mut Judge, board: &mut Board) -> Result<(), Fault>
+    requires { board.old.question ≡ judge.old }
+    ensures judge { judge.new ≡ judge.old }
     ensures goes { GoesOn board.old board.new }
     ensures ok { OnOk result (is_finished board.new.board ≡ true) }
     ensures err { IfErr result (λ f. f ≢ Fault.Memory → (f ≡ Fault.NodeLimit)
@@ -60,7 +60,7 @@ pub fn search(alloc: Global, problem: &mut Problem, board: &mut Board) -> Result
     let mut store = Store::new(alloc);
     let mut children = Vec::new(alloc);
     while let Some(taken) = next_node(board, &mut children)? {
-        finish_node(alloc, problem, board, &mut store, &mut children, &taken)?;
+        finish_node(alloc, judge, board, &mut store, &mut children, &taken)?;
     }
     Ok(())
 }

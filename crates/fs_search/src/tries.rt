@@ -15,7 +15,7 @@ use crate::closing::{try_bound, try_cost, try_post, try_witness};
 use crate::store::Store;
 use crate::taking::Taken;
 use fs_board::Board;
-use fs_judge::Problem;
+use fs_judge::Judge;
 use fs_kinds::Fault;
 use std::alloc::Global;
 
@@ -48,20 +48,20 @@ fn try_stored(alloc: Global, board: &mut Board, store: &Store, taken: &Taken) ->
 /// Looks for a witness that shows the outcome with `rw,rw` in each undecided slot; it is stored, and closes the node.
 fn try_filled(
     alloc: Global,
-    problem: &mut Problem,
+    judge: &mut Judge,
     board: &mut Board,
     store: &mut Store,
     taken: &Taken,
 ) -> Result<bool, Fault>
-    requires same { board.old.question ≡ problem.old }
-    requires known { AreWitnesses problem.old.test store.old }
-    ensures problem { problem.new ≡ problem.old }
-    ensures known { AreWitnesses problem.old.test store.new }
+    requires same { board.old.question ≡ judge.old }
+    requires known { AreWitnesses judge.old.test store.old }
+    ensures judge { judge.new ≡ judge.old }
+    ensures known { AreWitnesses judge.old.test store.new }
     ensures ok { IfOk result (λ closed. IsTried board.old board.new closed) }
     ensures goes { GoesOn board.old board.new }
     ensures err { IsOkUnless result Fault.Memory }
 {
-    let Some(witness) = look_at_filled(alloc, problem, store, &taken.part)? else {
+    let Some(witness) = look_at_filled(alloc, judge, store, &taken.part)? else {
         return Ok(false);
     };
     Ok(try_witness(alloc, board, taken.node, witness)?)
@@ -70,21 +70,21 @@ fn try_filled(
 /// Posts the node's least placement where it forbids the outcome. Else a witness of it is stored, unless there is one.
 fn try_floor(
     alloc: Global,
-    problem: &mut Problem,
+    judge: &mut Judge,
     board: &mut Board,
     store: &mut Store,
     taken: &Taken,
 ) -> Result<bool, Fault>
-    requires same { board.old.question ≡ problem.old }
-    requires known { AreWitnesses problem.old.test store.old }
-    requires slots { slots_in_part (arc_value taken.now.part) ≡ slots problem.old.test }
-    ensures problem { problem.new ≡ problem.old }
-    ensures known { AreWitnesses problem.old.test store.new }
+    requires same { board.old.question ≡ judge.old }
+    requires known { AreWitnesses judge.old.test store.old }
+    requires slots { slots_in_part (arc_value taken.now.part) ≡ slots judge.old.test }
+    ensures judge { judge.new ≡ judge.old }
+    ensures known { AreWitnesses judge.old.test store.new }
     ensures ok { IfOk result (λ closed. IsTried board.old board.new closed) }
     ensures goes { GoesOn board.old board.new }
     ensures err { IsOkUnless result Fault.Memory }
 {
-    match judge_floor(alloc, problem, store, &taken.part)? {
+    match judge_floor(alloc, judge, store, &taken.part)? {
         Some(forbidden) => Ok(try_post(alloc, board, taken.node, forbidden)?),
         None => Ok(false),
     }
@@ -94,25 +94,25 @@ fn try_floor(
 /// last, the filled placement is the parent's, and where none was, the least one is: that is known by then.
 fn try_judged(
     alloc: Global,
-    problem: &mut Problem,
+    judge: &mut Judge,
     board: &mut Board,
     store: &mut Store,
     taken: &Taken,
 ) -> Result<bool, Fault>
-    requires same { board.old.question ≡ problem.old }
-    requires known { AreWitnesses problem.old.test store.old }
-    requires slots { slots_in_part (arc_value taken.now.part) ≡ slots problem.old.test }
-    ensures problem { problem.new ≡ problem.old }
-    ensures known { AreWitnesses problem.old.test store.new }
+    requires same { board.old.question ≡ judge.old }
+    requires known { AreWitnesses judge.old.test store.old }
+    requires slots { slots_in_part (arc_value taken.now.part) ≡ slots judge.old.test }
+    ensures judge { judge.new ≡ judge.old }
+    ensures known { AreWitnesses judge.old.test store.new }
     ensures ok { IfOk result (λ closed. IsTried board.old board.new closed) }
     ensures goes { GoesOn board.old board.new }
     ensures err { IsOkUnless result Fault.Memory }
 {
-    if is_filled_new(&taken.part, taken.slot) && try_filled(alloc, problem, board, store, taken)? {
+    if is_filled_new(&taken.part, taken.slot) && try_filled(alloc, judge, board, store, taken)? {
         return Ok(true);
     }
     if is_floor_new(&taken.part, taken.slot) {
-        return try_floor(alloc, problem, board, store, taken);
+        return try_floor(alloc, judge, board, store, taken);
     }
     Ok(false)
 }
@@ -120,16 +120,16 @@ fn try_judged(
 /// Closes the node, where something does: what costs nothing first.
 pub(crate) fn try_all(
     alloc: Global,
-    problem: &mut Problem,
+    judge: &mut Judge,
     board: &mut Board,
     store: &mut Store,
     taken: &Taken,
 ) -> Result<bool, Fault>
-    requires same { board.old.question ≡ problem.old }
-    requires known { AreWitnesses problem.old.test store.old }
-    requires slots { slots_in_part (arc_value taken.now.part) ≡ slots problem.old.test }
-    ensures problem { problem.new ≡ problem.old }
-    ensures known { AreWitnesses problem.old.test store.new }
+    requires same { board.old.question ≡ judge.old }
+    requires known { AreWitnesses judge.old.test store.old }
+    requires slots { slots_in_part (arc_value taken.now.part) ≡ slots judge.old.test }
+    ensures judge { judge.new ≡ judge.old }
+    ensures known { AreWitnesses judge.old.test store.new }
     ensures ok { IfOk result (λ closed. IsTried board.old board.new closed) }
     ensures goes { GoesOn board.old board.new }
     ensures err { IsOkUnless result Fault.Memory }
@@ -140,5 +140,5 @@ pub(crate) fn try_all(
     if try_stored(alloc, board, store, taken)? {
         return Ok(true);
     }
-    try_judged(alloc, problem, board, store, taken)
+    try_judged(alloc, judge, board, store, taken)
 }

@@ -10,7 +10,7 @@ use Rattle.fs_search.proofs.solving.answer_by_ends.Goals as goal
 
 pub fenced-requires : goal.fenced-requires
 fenced-requires c =
-    let t = c.verdict_on_all.new.problem.test in
+    let t = c.args.problem.now.test in
     let refuted = subst (IsVerdict t (all_with None (slots t))) c.in-Forbids.is c.in_ok-on_none.ensures.ok in
     let placed : c.in_ok-placement-in-Forbids.placement ≡ all_with None (slots t) =
     c.in_ok-placement-in-Forbids.ensures.ok ∙ (ap (λ (f : Refuted). f.placement) c.forbidden.view_is ∙ refuted.0) in
@@ -18,34 +18,30 @@ fenced-requires c =
 
 pub returns-in-Forbids-clause-ok : goal.returns-in-Forbids-clause-ok
 returns-in-Forbids-clause-ok c =
-    let r = c.verdict_on_all.new.problem in
+    let r = c.args.problem.now in
     let t = r.test in
     let refuted = subst (IsVerdict t (all_with None (slots t))) c.in-Forbids.is c.in_ok-on_none.ensures.ok in
     let placed : c.in_ok-placement-in-Forbids.placement ≡ all_with None (slots t) =
     c.in_ok-placement-in-Forbids.ensures.ok ∙ (ap (λ (f : Refuted). f.placement) c.forbidden.view_is ∙ refuted.0) in
-    let priced : c.behind-question.inside.prices ≡ c.args.problem.now.prices =
-    ap (λ (q : Question). q.prices) (c.behind-question.view_is ∙ (c.deref.ensures ∙ (c.question.ensures ∙ (c.in_ok-on_none.ensures.value ∙ c.in_ok-on_all.ensures.value)))) in
-    subst (IsAnswer c.args.problem.now.test c.args.problem.now.prices) (sym c.fenced.ensures)
-    (none-answer c.args.problem.now r c.in_ok-placement-in-Forbids.placement c.behind-question.inside.prices c.in_ok-on_all.ensures.value priced placed refuted.2)
+    let priced : c.behind-question.inside.prices ≡ r.prices =
+    ap (λ (q : Question). q.prices) (c.behind-question.view_is ∙ (c.deref.ensures ∙ c.question.ensures)) in
+    subst (IsAnswer t r.prices) (sym c.fenced.ensures)
+    (none-answer r c.in_ok-placement-in-Forbids.placement c.behind-question.inside.prices priced placed refuted.2)
 
 pub returns-in-Forbids-clause-ends : goal.returns-in-Forbids-clause-ends
 returns-in-Forbids-clause-ends c =
-    let t = c.verdict_on_all.new.problem.test in
+    let t = c.args.problem.now.test in
     let refuted = subst (IsVerdict t (all_with None (slots t))) c.in-Forbids.is c.in_ok-on_none.ensures.ok in
     let placed : c.in_ok-placement-in-Forbids.placement ≡ all_with None (slots t) =
     c.in_ok-placement-in-Forbids.ensures.ok ∙ (ap (λ (f : Refuted). f.placement) c.forbidden.view_is ∙ refuted.0) in
-    let asked : all_with None (slots t) ≡ all_with None (slots c.args.problem.now.test) =
-    ap (λ (q : Question). all_with None (slots q.test)) c.in_ok-on_all.ensures.value in
-    inr (ap placement_of c.fenced.ensures ∙ ap (λ p. Some p) (placed ∙ asked))
+    inr (ap placement_of c.fenced.ensures ∙ ap (λ p. Some p) placed)
 
 pub returns-in-Forbids-clause-least : goal.returns-in-Forbids-clause-least
 returns-in-Forbids-clause-least c =
-    let t = c.verdict_on_all.new.problem.test in
-    let asked = c.args.problem.now.test in
+    let t = c.args.problem.now.test in
     let f = c.in-Forbids.forbidden in
-    let same : t ≡ asked = ap (λ (q : Question). q.test) c.in_ok-on_all.ensures.value in
     let refuted = subst (IsVerdict t (all_with None (slots t))) c.in-Forbids.is c.in_ok-on_none.ensures.ok in
     let copied : c.in_ok-placement-in-Forbids.placement ≡ f.placement =
     c.in_ok-placement-in-Forbids.ensures.ok ∙ ap (λ (f : Refuted). f.placement) c.forbidden.view_is in
-    subst (λ (a : Answer). IsShownLeast asked a (Some f)) (sym c.fenced.ensures)
-    (least-shown t asked f _ same (sym copied) refuted.0 refuted.1)
+    subst (λ (a : Answer). IsShownLeast t a (Some f)) (sym c.fenced.ensures)
+    (least-shown t f _ (sym copied) refuted.0 refuted.1)

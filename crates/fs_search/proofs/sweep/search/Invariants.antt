@@ -6,9 +6,9 @@ use Rattle.fs_search.proofs.sweep.search.Given as goal
 
 abbrev pub invariant-loop-children : goal.invariant-loop-children
 invariant-loop-children l = record {
-  problem : l.problem ≡ l.initial.problem;
+  judge : l.judge ≡ l.initial.judge;
   goes : GoesOn l.initial.board l.board;
-  known : AreWitnesses l.problem.test l.store;
+  known : AreWitnesses l.judge.test l.store;
 }
 
 abbrev pub decreases-loop-children : goal.decreases-loop-children
