@@ -24,13 +24,13 @@ returns-in_err-board-clause-err g c =
 
 pub conclude-requires-clause-clean : goal.conclude-requires-clause-clean
 conclude-requires-clause-clean g c =
-    subst (λ (x : Question). (f : Fault) → IsCandidateFault x.test f → ⊥) (sym (c.new.ensures ∙ c.in_ok-problem.ensures.value)) c.in_ok-problem.ensures.clean
+    subst (λ (x : Question). (f : Fault) → IsCandidateFault x.test f → ⊥) (sym (c.new-judge.ensures ∙ c.in_ok-problem.ensures.value)) c.in_ok-problem.ensures.clean
 
 pub returns-in_err-solved-clause-err : goal.returns-in_err-solved-clause-err
 returns-in_err-solved-clause-err g c =
     handed c.from_residual-in_err-solved.result _ _ c.from_residual-in_err-solved.ensures.1
     (λ other _. same-fault _ c.args.question.value c.in_ok-board.board.board.limit c.args.limit _
-    (c.new.ensures ∙ (c.in_ok-problem.ensures.value ∙ c.in_ok-asked.ensures)) c.in_ok-board.ensures.asked.limit (c.in_err-solved.ensures.err other))
+    (c.new-judge.ensures ∙ (c.in_ok-problem.ensures.value ∙ c.in_ok-asked.ensures)) c.in_ok-board.ensures.asked.limit (c.in_err-solved.ensures.err other))
 
 pub returns-clause-clean : goal.returns-clause-clean
 returns-clause-clean g c = subst (λ (x : Question). (f : Fault) → IsCandidateFault x.test f → ⊥) c.in_ok-asked.ensures c.in_ok-problem.ensures.clean

@@ -9,9 +9,21 @@ pub map_vec-requires-sync-F : goal.map_vec-requires-sync-F
 map_vec-requires-sync-F g c κs within =
     let d = desk_sync (param 0 g.row.A) g.A.Asked in
     let p = Arc-sync Problem.the_row problem_send problem_sync in
-    record { shared = λ x b o κ. ((
-      ((λ q. tt), c.type_bounds.sync-R.shared x.0.now x.0.ref_ptr.0 x.0.ref_ptr.1 _),
-      (((λ q. tt), sync.shared x.1.now x.1.ref_ptr.0 x.1.ref_ptr.1 _),
-      (((λ q. tt), d.shared x.2.now x.2.ref_ptr.0 x.2.ref_ptr.1 _),
-      (((λ q. tt), c.type_bounds.sync-G.shared x.3.now x.3.ref_ptr.0 x.3.ref_ptr.1 _),
-      (((λ q. tt), p.shared x.4.now x.4.ref_ptr.0 x.4.ref_ptr.1 _), tt))))), λ q. tt) }
+    record {
+      shared = λ x b o κ. (
+        (
+          ((λ q. tt), c.type_bounds.sync-R.shared x.0.now x.0.ref_ptr.0 x.0.ref_ptr.1 _),
+          (
+            ((λ q. tt), sync.shared x.1.now x.1.ref_ptr.0 x.1.ref_ptr.1 κ),
+            (
+              ((λ q. tt), d.shared x.2.now x.2.ref_ptr.0 x.2.ref_ptr.1 _),
+              (
+                ((λ q. tt), c.type_bounds.sync-G.shared x.3.now x.3.ref_ptr.0 x.3.ref_ptr.1 _),
+                (((λ q. tt), p.shared x.4.now x.4.ref_ptr.0 x.4.ref_ptr.1 κ), tt),
+              ),
+            ),
+          ),
+        ),
+        λ q. tt,
+      );
+    }
