@@ -5,7 +5,7 @@ ghost use Rattle.crossbeam_deque.specs.Handles.{view, IsPassOf, worker_deque, st
 ghost use Rattle.fs_hands.specs.Ring.{count_of};
 ghost use Rattle.fs_hands.specs.inner.Conserved.{tally, Conserves};
 
-use crossbeam_deque::protocol::{Join, Outcome, Protocol, Split};
+use crossbeam_deque::protocol::{Join, Lesson, Outcome, Protocol, Split};
 use crossbeam_deque::{Pass, Steal, Stealer, Worker};
 use std::alloc::{AllocError, Global};
 use std::collections::LinkedList;
@@ -80,6 +80,15 @@ impl Outcome<usize, Tally> for Stolen {
     ghost then = { λ v xs w. w ≡ record v { stolen = v.stolen ++ xs } };
 }
 
+/// How many numbers are inside tells nothing more.
+pub struct Counted;
+
+impl Lesson<usize, Tally> for Counted {
+    ghost use Rattle.std.specs.Prelude.{⊤};
+
+    ghost fact = { λ v items. ⊤ };
+}
+
 /// The end of a deque that pushes and pops.
 pub type Owner = Worker<usize, Global, Tally, Conserved>;
 
@@ -123,6 +132,14 @@ pub fn pop(owner: &mut Owner) -> Option<usize>
     ensures empty { IfNone result ((worker_view owner.old).steals ≡ true → (x : ℕ) → count_of x (worker_view owner.old).pushed ≡ count_of x (worker_view owner.old).popped + count_of x (worker_view owner.old).stolen) }
 {
     owner.pop_as::<Popped>()
+}
+
+/// Is the deque empty at this moment? The thief may come between this and the next call.
+pub fn is_empty(owner: &mut Owner) -> bool
+    ensures same { (worker_deque owner.new ≡ worker_deque owner.old) × (worker_flavor owner.new ≡ worker_flavor owner.old) }
+    ensures view { worker_view owner.new ≡ worker_view owner.old }
+{
+    owner.len_as::<Counted>() == 0
 }
 
 /// Steals the number at the front. `None` may also say that another call came between.

@@ -4,7 +4,7 @@ ghost use Rattle.std.specs.Prelude.{◌≡◌, ◌≢◌, ℕ, ◌<◌, true, []
 ghost use Rattle.crossbeam_deque.specs.Handles.{view, IsPassOf, worker_deque, stealer_deque, worker_view, worker_flavor};
 ghost use Rattle.fs_hands.specs.Ring.{Hand as HandValue, AreLinked, AreAll, IsFresh, AreLeft};
 
-use crate::deque::{Owner, Right, Thief, drain, new_deque, pop, push, steal};
+use crate::deque::{Owner, Right, Thief, drain, is_empty, new_deque, pop, push, steal};
 use fs_kinds::Fault;
 use std::alloc::{AllocError, Global};
 use std::marker::Model;
@@ -84,6 +84,13 @@ impl Hand {
         ensures none { IfNone result (self.new ≡ self.old) }
     {
         pop(&mut self.owner)
+    }
+
+    /// Is its own deque empty at this moment? It changes nothing, and takes no memory.
+    pub fn is_empty(&mut self) -> bool
+        ensures { self.new ≡ self.old }
+    {
+        is_empty(&mut self.owner)
     }
 
     /// Steals a number from the next worker's deque. `None` where there is none, and where another call came between. A single hand

@@ -1,0 +1,66 @@
+-- What a desk, a question and a problem are made of may cross threads.
+use denote.RattleType.{RattleType}
+use denote.Param.Send.{IsSend, IsSync, sendable}
+use denote.Param.SendFields.{declared_send, declared_sync}
+use Rattle.std.proofs.Crossing.{crosses}
+use Rattle.fs_syntax.specs.contracts.outcome.Outcome as Outcome
+use Rattle.fs_syntax.specs.contracts.test.Test as Test
+use Rattle.fs_list.proofs.list.List.TheSendSync as list
+use Rattle.fs_instr.proofs.instr.Instr.TheSendSync as instr
+use Rattle.fs_syntax.proofs.lists.Name.TheSendSync as name
+use Rattle.fs_syntax.proofs.test.Location.TheSendSync as location
+use Rattle.fs_syntax.proofs.test.Quantifier.TheSendSync as quantifier
+use Rattle.fs_kinds.proofs.prices.Prices.TheSendSync as prices
+use Rattle.fs_pool.specs.declared.Asked as asked
+use Rattle.fs_pool.specs.contracts.shared.Shared as Shared
+use Rattle.fs_pool.specs.contracts.desk.Desk as Desk
+use Rattle.fs_evidence.specs.contracts.question.Question as Question
+use Rattle.fs_board.specs.contracts.board.Board as Board
+use Rattle.fs_board.proofs.tree.Tree.TheSendSync as tree
+use Rattle.fs_board.proofs.event.LogEntry.TheSendSync as entry
+use Rattle.fs_hart.proofs.trace.Trace.TheSendSync as trace
+use Rattle.fs_showing.specs.contracts.showing.Showing as Showing
+use Rattle.fs_showing.proofs.place.Place.TheSendSync as place
+use Rattle.fs_judge.specs.contracts.problem.Problem as Problem
+use Rattle.fs_judge.proofs.prejudged.Prejudged.TheSendSync as prejudged
+use Rattle.fs_crew.proofs.Outcomes.{hole_send, hole_sync}
+
+outcome_send : IsSend Outcome.the_row
+outcome_send = search (hole_send, crosses, sendable) depth 20 fits 20000
+
+outcome_sync : IsSync Outcome.the_row
+outcome_sync = search (hole_sync, crosses, sendable) depth 20 fits 20000
+
+test_send : IsSend Test.the_row
+test_send = declared_send Test.the_type (name.the_send, (search (instr.the_send, list.the_send, crosses, sendable) depth 20, (search (list.the_send, crosses, sendable) depth 20, (search (location.the_send, list.the_send, crosses, sendable) depth 20, (quantifier.the_send, (outcome_send, tt))))))
+
+test_sync : IsSync Test.the_row
+test_sync = declared_sync Test.the_type (name.the_sync, (search (instr.the_sync, list.the_sync, crosses, sendable) depth 20, (search (list.the_sync, crosses, sendable) depth 20, (search (location.the_sync, list.the_sync, crosses, sendable) depth 20, (quantifier.the_sync, (outcome_sync, tt))))))
+
+question_send : IsSend Question.the_row
+question_send = search (test_send, test_sync, prices.the_send, crosses, sendable) depth 40 fits 100000
+
+question_sync : IsSync Question.the_row
+question_sync = search (test_send, test_sync, prices.the_sync, crosses, sendable) depth 40 fits 100000
+
+board_send : IsSend Board.the_row
+board_send = search (question_send, question_sync, tree.the_send, entry.the_send, crosses, sendable) depth 40 fits 100000
+
+-- what is asked is a mark without bytes, so it may be of any type
+shared_send : (A : RattleType) (g : asked.Ghosts A.Denot) → IsSend (Shared.the_row A g)
+shared_send A g = search (board_send, crosses, sendable) depth 40 fits 100000
+
+pub desk_sync : (A : RattleType) (g : asked.Ghosts A.Denot) → IsSync (Desk.the_row A g)
+desk_sync A g = let s = shared_send A g in search (crosses, sendable) depth 40 fits 100000
+
+showing_send : IsSend Showing.the_row
+showing_send = search (test_send, test_sync, list.the_send, trace.the_send, place.the_send, crosses, sendable) depth 40 fits 100000
+
+showing_sync : IsSync Showing.the_row
+showing_sync = search (test_send, test_sync, list.the_sync, trace.the_sync, place.the_sync, crosses, sendable) depth 40 fits 100000
+
+pub problem_send : IsSend Problem.the_row
+problem_send = search (question_send, question_sync, showing_send, prejudged.the_send, crosses, sendable) depth 40 fits 100000
+
+pub problem_sync : IsSync Problem.the_row
+problem_sync = search (question_send, question_sync, showing_sync, prejudged.the_sync, crosses, sendable) depth 40 fits 100000

@@ -1,0 +1,4 @@
+pub mod Crosses
+pub mod Faults
+pub mod Outcomes
+pub mod Scouts

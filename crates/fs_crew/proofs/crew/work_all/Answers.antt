@@ -1,0 +1,29 @@
+use denote.Param.{param}
+use Rattle.std.proofs.Crossing.{Arc-sync, sync}
+use Rattle.fs_judge.specs.contracts.problem.Problem as Problem
+use Rattle.fs_crew.proofs.Crosses.{desk_sync, problem_send, problem_sync}
+use Rattle.fs_crew.proofs.crew.work_all.Goals as goal
+
+-- the closure lends the threads, the allocator, the desk, the gate and the problem to each job, in this order
+pub map_vec-requires-sync-F : goal.map_vec-requires-sync-F
+map_vec-requires-sync-F g c κs within =
+    let d = desk_sync (param 0 g.row.A) g.A.Asked in
+    let p = Arc-sync Problem.the_row problem_send problem_sync in
+    record {
+      shared = λ x b o κ. (
+        (
+          ((λ q. tt), c.type_bounds.sync-R.shared x.0.now x.0.ref_ptr.0 x.0.ref_ptr.1 _),
+          (
+            ((λ q. tt), sync.shared x.1.now x.1.ref_ptr.0 x.1.ref_ptr.1 κ),
+            (
+              ((λ q. tt), d.shared x.2.now x.2.ref_ptr.0 x.2.ref_ptr.1 _),
+              (
+                ((λ q. tt), c.type_bounds.sync-G.shared x.3.now x.3.ref_ptr.0 x.3.ref_ptr.1 _),
+                (((λ q. tt), p.shared x.4.now x.4.ref_ptr.0 x.4.ref_ptr.1 κ), tt),
+              ),
+            ),
+          ),
+        ),
+        λ q. tt,
+      );
+    }

@@ -1,0 +1,153 @@
+//! The answer to a question, searched by many workers.
+
+ghost use Rattle.std.specs.Prelude.{◌≡◌, ◌≢◌, ◌≤◌, ◌<◌, [], length, IfOk, IfErr, IfSome, IfNone, OnOk, All};
+ghost use Rattle.std.specs.Arc.{arc_value};
+ghost use Rattle.fs_kinds.specs.PriceTable.{IsPriceTable};
+ghost use Rattle.fs_syntax.specs.Test.{IsBounded, IsStart};
+ghost use Rattle.fs_syntax.specs.Slots.{slots};
+ghost use Rattle.fs_answer.specs.CandidateFaults.{IsCandidateFault};
+ghost use Rattle.fs_history.specs.Sizes.{tree_size};
+ghost use Rattle.fs_pool.specs.Asked.{IsAsked};
+ghost use Rattle.fs_search.specs.Answers.{IsAnswer, IsAtAnEnd, IsBoardOf, IsShownLeast, IsSolveFault};
+
+use crate::gate::Gate;
+use crate::work::work;
+use fs_board::Board;
+use fs_evidence::Question;
+use fs_hands::{Hand, hands};
+use fs_judge::{Judge, Problem};
+use fs_kinds::Fault;
+use fs_pool::{Asked, Desk, Pass, finish};
+use fs_search::{Solved, conclude};
+use std::alloc::{AllocError, Global};
+use std::marker::Brand;
+use std::sync::{Arc, Wait};
+use std::thread;
+use std::thread::Threads;
+
+/// Passes and hands side by side.
+fn side_by_side<A: Asked>(
+    alloc: Global,
+    passes: Vec<Pass<A>>,
+    hands: Vec<Hand>,
+) -> Result<Vec<(Pass<A>, Hand)>, AllocError> {
+    let mut passes = passes;
+    let mut hands = hands;
+    let mut jobs = Vec::new(alloc);
+    while let Some(pass) = passes.pop() {
+        let Some(hand) = hands.pop() else {
+            break;
+        };
+        jobs.push((pass, hand))?;
+    }
+    Ok(jobs)
+}
+
+/// Each pass goes with a hand to a thread of its own, works there, and comes back. Where no thread can be made they work one after the other.
+fn work_all<A: Asked + Send + Sync, R: Threads + Wait + Sync, G: Gate + Sync>(
+    rt: &R,
+    alloc: Global,
+    desk: &Desk<A>,
+    gate: &G,
+    problem: &Arc<Problem>,
+    jobs: Vec<(Pass<A>, Hand)>,
+) -> Result<Vec<Pass<A>>, AllocError>
+    requires { arc_value problem.now ≡ A.question }
+{
+    thread::map_vec(
+        rt,
+        jobs,
+        &|job: (Pass<A>, Hand)| {
+            let (pass, hand) = job;
+            work(rt, alloc, desk, gate, pass, hand, problem)
+        },
+    )
+}
+
+/// The workers search the board. It comes back as they left it, with nodes that are open or held where they lacked memory or met the
+/// limit. F22 where its log and what they saw of it don't agree; or F19.
+fn search_together<A: Asked + Send + Sync, R: Threads + Wait + Sync, G: Gate + Sync>(
+    rt: &R,
+    alloc: Global,
+    problem: &Arc<Problem>,
+    board: Board,
+    workers: u8,
+    gate: &G,
+) -> Result<Board, Fault>
+    requires asked { IsAsked board A.question A.limit }
+    requires same { arc_value problem.now ≡ A.question }
+    requires empty { board.log ≡ [] }
+    requires some { 1 ≤ workers }
+    requires few { workers ≤ 16 }
+    ensures asked { IfOk result (λ b. IsAsked b A.question A.limit) }
+    ensures err { IfErr result (λ f. f ≢ Fault.Memory → f ≡ Fault.Unmatched) }
+{
+    let (desk, passes) = Desk::<A>::new(alloc, board, workers)?;
+    let jobs = side_by_side(alloc, passes, hands(alloc, workers)?)?;
+    let passes = work_all(rt, alloc, &desk, gate, problem, jobs)?;
+    match finish(desk, passes) {
+        Ok(board) => Ok(board),
+        Err(_) => Err(Fault::Unmatched),
+    }
+}
+
+/// The answer to a question, as `fs_search::solve` gives it, searched by this many workers. One worker needs neither threads nor a desk.
+/// More of them search together first, and what they leave is searched as by one. F22 where the board's log and what the workers saw of
+/// it don't agree, which can't come of one worker; the other faults are those of `fs_search::solve`.
+pub fn solve<R: Threads + Wait + Sync, G: Gate + Sync>(
+    rt: &R,
+    alloc: Global,
+    question: Arc<Question>,
+    workers: u8,
+    limit: usize,
+    gate: &G,
+) -> Result<Solved, Fault>
+    requires test { IsBounded (arc_value question).test }
+    requires starts { All IsStart (arc_value question).test.starts }
+    requires prices { IsPriceTable (arc_value question).prices }
+    requires alone { 1 ≤ workers }
+    requires few { workers ≤ 16 }
+    requires some { 1 ≤ limit }
+    requires limit { limit ≤ 1000000 }
+    ensures ok { IfOk result (λ s. IsAnswer (arc_value question).test (arc_value question).prices s.answer) }
+    ensures clean { OnOk result ((f : Fault) → IsCandidateFault (arc_value question).test f → ⊥) }
+    ensures board { IfOk result (λ s. IfSome s.board (IsBoardOf (arc_value question) limit s.answer)) }
+    ensures lost { IfOk result (λ s. IfNone s.board
+        (limit < tree_size (arc_value question).prices (length (slots (arc_value question).test)))) }
+    ensures ends { IfOk result (λ s. IfNone s.board (IsAtAnEnd (arc_value question).test s.answer)) }
+    ensures least { IfOk result (λ s. IfNone s.board (IsShownLeast (arc_value question).test s.answer s.least)) }
+    ensures err { IfErr result (λ f. f ≢ Fault.Memory → f ≢ Fault.Unmatched → IsSolveFault (arc_value question) limit f) }
+    ensures alone { IfErr result (λ f. f ≡ Fault.Unmatched → 2 ≤ workers) }
+{
+    if workers == 1 {
+        return fs_search::solve(alloc, question, limit);
+    }
+    let asked = Arc::try_clone(&question)?;
+    let problem = Problem::shared(alloc, asked)?;
+    let board = searched(rt, alloc, question, &problem, workers, limit, gate)?;
+    let mut judge = Judge::new(problem);
+    let solved = conclude(alloc, &mut judge, board)?;
+    Ok(solved)
+}
+
+/// The question's board, which the workers have searched.
+fn searched<R: Threads + Wait + Sync, G: Gate + Sync>(
+    rt: &R,
+    alloc: Global,
+    question: Arc<Question>,
+    problem: &Arc<Problem>,
+    workers: u8,
+    limit: usize,
+    gate: &G,
+) -> Result<Board, Fault>
+    requires same { arc_value problem.now ≡ arc_value question }
+    requires test { IsBounded (arc_value question).test }
+    requires alone { 1 ≤ workers }
+    requires few { workers ≤ 16 }
+    requires limit { limit ≤ 1000000 }
+    ensures asked { IfOk result (λ b. IsAsked b (arc_value question) limit) }
+    ensures err { IfErr result (λ f. f ≢ Fault.Memory → f ≡ Fault.Unmatched) }
+{
+    let board = Board::new(alloc, question, limit)?;
+    search_together::<Brand, R, G>(rt, alloc, problem, board, workers, gate)
+}

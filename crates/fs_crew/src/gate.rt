@@ -1,0 +1,25 @@
+//! Where tests look on, and hold a worker up.
+
+/// What is told when a worker calls the desk, and when it judges.
+pub trait Gate {
+    /// The worker will call the desk.
+    fn before(&self, worker: u8);
+
+    /// The worker will judge a placement of the node. It has no lock.
+    fn judging(&self, worker: u8, node: usize);
+
+    /// The worker has called the desk.
+    fn after(&self, worker: u8);
+}
+
+/// It holds nobody up.
+#[derive(Clone, Copy)]
+pub struct Open;
+
+impl Gate for Open {
+    fn before(&self, _worker: u8) {}
+
+    fn judging(&self, _worker: u8, _node: usize) {}
+
+    fn after(&self, _worker: u8) {}
+}

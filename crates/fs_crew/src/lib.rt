@@ -1,0 +1,10 @@
+//! The search by many workers.
+#![tactic(auto)]
+
+mod crew;
+mod gate;
+mod scout;
+mod work;
+
+pub use crew::solve;
+pub use gate::{Gate, Open};

@@ -1,0 +1,282 @@
+//! What a worker knows, and what it tries at a node. It asks nothing of the desk, so it needs no lock.
+
+ghost use Rattle.std.specs.Prelude.{◌≡◌, IfOk, IfSome, IsOkUnless, map};
+ghost use Rattle.std.specs.Arc.{arc_value};
+ghost use Rattle.fs_syntax.specs.Slots.{slots};
+ghost use Rattle.fs_syntax.specs.declared.test.Test.{Test};
+ghost use Rattle.fs_bound.specs.Bounds.{slots_in_part};
+ghost use Rattle.fs_model.specs.Execution.{Execution};
+ghost use Rattle.fs_evidence.specs.Evidence.{IsWitnessFor};
+ghost use Rattle.fs_board.specs.Growth.{AreWitnesses};
+ghost use Rattle.fs_pool.specs.Asked.{IsMade, Tells};
+
+use fs_board::{Decision, Event, Part, Reply};
+use fs_evidence::{Forbidden, Question, Witness};
+use fs_judge::{Judge, Problem, Verdict};
+use fs_kinds::{Fault, Prices, Slot};
+use fs_list::List;
+use fs_search::{
+    Store, is_filled_new, is_floor_new, judge_floor, look_at_filled, stored_over_filled,
+};
+use std::alloc::{AllocError, Global};
+use std::marker::Model;
+use std::sync::Arc;
+
+/// The ways to be done with a node.
+#[derive(Clone, Copy)]
+pub(crate) enum Way {
+    /// It is closed by cost alone.
+    Cost,
+    /// Stored witnesses bound it.
+    Bound,
+    /// A stored witness shows the outcome with `rw,rw` in each undecided slot.
+    Stored,
+    /// A witness that was looked for does.
+    Looked,
+    /// Its least placement forbids the outcome.
+    Judged,
+    /// It is split, or where it has no undecided slot its one placement is judged.
+    Last,
+}
+
+impl Way {
+    /// Does it judge a placement of the node of this part, whose parent was split at the slot?
+    pub(crate) fn judges(self, part: &Part, slot: Option<Slot>) -> bool {
+        match self {
+            Way::Cost | Way::Bound | Way::Stored => false,
+            Way::Looked => is_filled_new(part, slot),
+            Way::Judged => is_floor_new(part, slot),
+            Way::Last => part.first_undecided().is_none(),
+        }
+    }
+}
+
+/// The ways, in the order in which they are tried: what costs nothing first.
+pub(crate) const WAYS: [Way; 6] = [
+    Way::Cost,
+    Way::Bound,
+    Way::Stored,
+    Way::Looked,
+    Way::Judged,
+    Way::Last,
+];
+
+/// A judge of the question, the witnesses that were met, and what was seen of the board: the best placement posted, and how many witnesses
+/// there were. Contracts see the question.
+#[derive(Drop)]
+pub(crate) struct Scout {
+    judge: Judge,
+    store: Store,
+    bound: Option<Arc<Forbidden>>,
+    seen: usize,
+}
+
+impl Model for Scout {
+    ghost use Rattle.std.specs.Coded.{codes};
+    ghost use Rattle.fs_syntax.specs.contracts.outcome.Outcome as outcome;
+    ghost use Rattle.fs_evidence.specs.Evidence.{Question as Asked};
+    ghost use Rattle.fs_board.specs.Growth.{AreWitnesses};
+
+    ghost Value = { Asked };
+
+    ghost view = { λ s. s.judge };
+
+    ghost coded = { Prim.hlevel (codes, outcome.the_row.coded) };
+
+    ghost invariant = { λ s. AreWitnesses s.judge.test s.store };
+}
+
+/// Stores the witness, unless a stored one has the same widths.
+fn keep_new(
+    alloc: Global,
+    store: &mut Store,
+    prices: &Prices,
+    decisions: &[Decision],
+    witness: &Arc<Witness>,
+) -> Result<(), AllocError>
+    ensures { (t : Test) → ((e : Execution) × IsWitnessFor t (arc_value witness.now) e) → AreWitnesses t store.old → AreWitnesses t store.new }
+{
+    if store.has_widths(witness) {
+        return Ok(());
+    }
+    let shared = Arc::try_clone(witness)?;
+    store.keep(alloc, prices, decisions, shared)?;
+    Ok(())
+}
+
+/// Stores those of the witnesses whose widths no stored one has.
+fn keep_all(
+    alloc: Global,
+    store: &mut Store,
+    prices: &Prices,
+    decisions: &[Decision],
+    witnesses: &[Arc<Witness>],
+) -> Result<(), AllocError>
+    ensures { (t : Test) → AreWitnesses t (map arc_value witnesses.now) → AreWitnesses t store.old → AreWitnesses t store.new }
+{
+    for witness in witnesses {
+        keep_new(alloc, store, prices, decisions, witness)?;
+    }
+    Ok(())
+}
+
+/// The placement posted, shared.
+fn share(bound: &Option<Arc<Forbidden>>) -> Result<Option<Arc<Forbidden>>, AllocError> {
+    match bound {
+        Some(forbidden) => Ok(Some(Arc::try_clone(forbidden)?)),
+        None => Ok(None),
+    }
+}
+
+impl Scout {
+    /// A scout that has met no witness yet. Others may share the problem.
+    pub(crate) fn new(alloc: Global, problem: Arc<Problem>) -> Scout
+        ensures { result ≡ arc_value problem }
+    {
+        Scout {
+            judge: Judge::new(problem),
+            store: Store::new(alloc),
+            bound: None,
+            seen: 0,
+        }
+    }
+
+    /// How many of the board's witnesses were seen.
+    pub(crate) fn seen(&self) -> usize {
+        self.seen
+    }
+
+    /// Closing by cost, where a posted placement was seen.
+    fn costly(&self, node: usize) -> Option<Event>
+        ensures { IfSome result (IsMade self.now) }
+    {
+        if self.bound.is_none() {
+            return None;
+        }
+        Some(Event::CutCost(node))
+    }
+
+    /// Stored witnesses that bound the node.
+    fn bounding(&self, alloc: Global, node: usize, part: &Part) -> Result<Option<Event>, AllocError>
+        ensures { IfOk result (λ found. IfSome found (IsMade self.now)) }
+    {
+        let prices = &self.judge.question().prices;
+        let picked = self.store.pick(alloc, prices, self.bound.as_ref(), part)?;
+        if picked.is_empty() {
+            return Ok(None);
+        }
+        Ok(Some(Event::CutBound(node, List::new(picked))))
+    }
+
+    /// A stored witness that closes the node.
+    fn stored(&self, alloc: Global, node: usize, part: &Part) -> Result<Option<Event>, AllocError>
+        ensures { IfOk result (λ found. IfSome found (IsMade self.now)) }
+    {
+        let Some(witness) = stored_over_filled(alloc, &self.store, part)? else {
+            return Ok(None);
+        };
+        Ok(Some(Event::CutWitness(node, witness)))
+    }
+
+    /// A new witness that closes the node.
+    fn looked(&mut self, alloc: Global, node: usize, part: &Part) -> Result<Option<Event>, Fault>
+        ensures value { self.new ≡ self.old }
+        ensures made { IfOk result (λ found. IfSome found (IsMade self.old)) }
+        ensures err { IsOkUnless result Fault.Memory }
+    {
+        let found = look_at_filled(alloc, &mut self.judge, &mut self.store, part)?;
+        let Some(witness) = found else {
+            return Ok(None);
+        };
+        Ok(Some(Event::CutWitness(node, witness)))
+    }
+
+    /// The node's least placement, where it forbids the outcome.
+    fn judged(&mut self, alloc: Global, node: usize, part: &Part) -> Result<Option<Event>, Fault>
+        requires { slots_in_part part.now ≡ slots self.old.test }
+        ensures value { self.new ≡ self.old }
+        ensures made { IfOk result (λ found. IfSome found (IsMade self.old)) }
+        ensures err { IsOkUnless result Fault.Memory }
+    {
+        let found = judge_floor(alloc, &mut self.judge, &mut self.store, part)?;
+        let Some(forbidden) = found else {
+            return Ok(None);
+        };
+        Ok(Some(Event::Post(node, Arc::new(alloc, forbidden)?)))
+    }
+
+    /// What is left to try: a split at the first undecided slot, or a verdict on the one placement.
+    fn last(&mut self, alloc: Global, node: usize, part: &Part) -> Result<Option<Event>, Fault>
+        requires { slots_in_part part.now ≡ slots self.old.test }
+        ensures value { self.new ≡ self.old }
+        ensures made { IfOk result (λ found. IfSome found (IsMade self.old)) }
+        ensures err { IsOkUnless result Fault.Memory }
+    {
+        if let Some(slot) = part.first_undecided() {
+            return Ok(Some(Event::Split(node, slot)));
+        }
+        let floor = part.floor(alloc)?;
+        let verdict = self.judge.verdict(alloc, &floor, &[])?;
+        match verdict {
+            Verdict::Allowed(witness) => {
+                Ok(Some(Event::CutWitness(node, Arc::new(alloc, witness)?)))
+            }
+            Verdict::Forbids(forbidden) => {
+                Ok(Some(Event::Post(node, Arc::new(alloc, forbidden)?)))
+            }
+        }
+    }
+
+    /// What to ask of the desk about a node, in this way: nothing where this way isn't worth a try. The node's parent was split at the
+    /// slot, where that is known.
+    pub(crate) fn propose(
+        &mut self,
+        alloc: Global,
+        way: Way,
+        node: usize,
+        part: &Part,
+        slot: Option<Slot>,
+    ) -> Result<Option<Event>, Fault>
+        requires { slots_in_part part.now ≡ slots self.old.test }
+        ensures value { self.new ≡ self.old }
+        ensures made { IfOk result (λ found. IfSome found (IsMade self.old)) }
+        ensures err { IsOkUnless result Fault.Memory }
+    {
+        match way {
+            Way::Cost => Ok(self.costly(node)),
+            Way::Bound => Ok(self.bounding(alloc, node, part)?),
+            Way::Stored => Ok(self.stored(alloc, node, part)?),
+            Way::Looked if is_filled_new(part, slot) => self.looked(alloc, node, part),
+            Way::Judged if is_floor_new(part, slot) => self.judged(alloc, node, part),
+            Way::Looked | Way::Judged => Ok(None),
+            Way::Last => self.last(alloc, node, part),
+        }
+    }
+
+    /// Takes over what a peek shows. The decisions are those of any node.
+    pub(crate) fn learn(
+        &mut self,
+        alloc: Global,
+        decisions: &[Decision],
+        reply: &Reply,
+    ) -> Result<(), AllocError>
+        requires { Tells self.old reply.now }
+        ensures { self.new ≡ self.old }
+    {
+        let Reply::Seen(bound, count, witnesses) = reply else {
+            return Ok(());
+        };
+        let shared = share(bound)?;
+        let prices = &self.judge.question().prices;
+        keep_all(
+            alloc,
+            &mut self.store,
+            prices,
+            decisions,
+            witnesses.as_slice(),
+        )?;
+        self.bound = shared;
+        self.seen = *count;
+        Ok(())
+    }
+}
