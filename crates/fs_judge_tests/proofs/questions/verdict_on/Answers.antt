@@ -10,5 +10,5 @@ verdict-requires c =
     c.deref-2.ensures ∙ ap (λ (q : Question). q.test) (c.behind-question.view_is ∙ (c.deref.ensures ∙ c.question.ensures)) in
     c.in_ok-placement.ensures ∙ ap slots test
 
-pub returns-clause-ok : goal.returns-clause-ok
-returns-clause-ok c = IfOk-weaker c.verdict.result _ _ (λ v is. (c.in_ok-placement.placement, is)) c.verdict.ensures.ok
+pub returns : goal.returns
+returns c = record { ok = IfOk-weaker c.verdict.result _ _ (λ v is. (c.in_ok-placement.placement, is)) c.verdict.ensures.ok }
