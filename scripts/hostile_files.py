@@ -438,6 +438,9 @@ def prices_changed():
             yield f"prices with byte {at} {byte:#04x}", text, fault_of_prices(text)
     for name, text in values_changed(value):
         yield f"prices with {name}", text, fault_of_prices(text)
+    for name, text in PAIRS:
+        wanted = READ if name == "a pair" else PRICES
+        yield f"prices with {name} of surrogates, where it doesn't count", b'{"tso":"' + text + b'",' + whole[1:], wanted
 
 
 # What may come in place of a value of JSON, as its text.
@@ -447,6 +450,11 @@ VALUES = [
     '"P0:2"', '"P1:1"', '"P0:2=w,r"', '"rw,rw"', '"p4"', '"\\u0000"', '"\\ud800"', "[]", "[0]", "[[]]", '["c"]', '["w",0]', "{}",
     '{"choices":[],"order":[]}',
 ]
+
+
+# Escapes of surrogates, which stand for a sign only as a pair: the first half and then the second.
+PAIRS = [("a pair", b"\\ud83d\\ude00"), ("a first half", b"\\ud83d"), ("a second half", b"\\ude00"), ("two first halves", b"\\ud83d\\ud83d"),
+         ("a first half before another sign", b"\\ud83dx"), ("the halves the other way round", b"\\ude00\\uD83D")]
 
 
 def values_changed(whole):
@@ -564,6 +572,9 @@ def witness_parts():
     yield "a key 40,000 times, the last one bad", b"{" + b'"choices":[[0],[0]],' * 40_000 + witness_of(b"", order)[1:], WITNESS
     yield "60,000 keys", b"{" + b"".join(b'"k%d":0,' % key for key in range(60_000)) + witness_of(good, order)[1:], WITNESS
     yield "an escape for each sign of a name", witness_of(good, order.replace(b"P0:2", b"\\u0050\\u0030\\u003a\\u0032")), "yes"
+    for name, text in PAIRS:
+        wanted = "yes" if name == "a pair" else WITNESS
+        yield f"{name} of surrogates in a witness, where it doesn't count", b'{"order":"' + text + b'",' + witness_of(good, order)[1:], wanted
     for text in (b"\xff", b"\xc0\xaf", b"\xed\xa0\x80", b"\\ud800", b"\\u0000", b"\n", b"\0"):
         yield f"{text!r} in a name", witness_of(good, order.replace(b"P0:2", b"P0:2" + text)), WITNESS
     for size, wanted in ((MEBIBYTE, "yes"), (MEBIBYTE + 1, TOO_LONG)):
@@ -589,6 +600,22 @@ def witnesses():
     yield from witness_parts()
 
 
+def has_half_pair(data):
+    """Is this JSON with an escape of half a surrogate pair in it, even where it doesn't count? That is no text, and makes the file none.
+    Python takes it, and so does scripts/check_certificate.py."""
+    if b"\\u" not in data:
+        return False
+    try:
+        # keys that stand twice are kept, and numbers of any length
+        value = json.loads(data.decode("utf-8"), object_pairs_hook=list, parse_int=str)
+        json.dumps(value, ensure_ascii=False).encode("utf-8")
+    except UnicodeEncodeError:
+        return True
+    except (ValueError, RecursionError):
+        return False
+    return False
+
+
 class CertificateJudge:
     """What `check` answers to a certificate of SB, by scripts/check_certificate.py."""
 
@@ -597,6 +624,8 @@ class CertificateJudge:
         self.prices = check_certificate.read(f"{TOP}/examples/prices.json", check_certificate.prices_of)
 
     def verdict(self, text):
+        if has_half_pair(text):
+            return CERTIFICATE
         try:
             checker = check_certificate.Checker(self.test, self.prices, check_certificate.certificate_of(text))
             checker.check()
@@ -644,6 +673,12 @@ def certificates():
         yield f"a certificate with {name}", text, judge.verdict(text)
     for name, text, _ in noise():
         yield f"{name} for a certificate", text, CERTIFICATE
+    yes = judge.verdict(whole)
+    for name, text in PAIRS:
+        wanted = yes if name == "a pair" else CERTIFICATE
+        yield f"a certificate with {name} of surrogates, where it doesn't count", b'{"tree":"' + text + b'",' + whole[1:], wanted
+        wanted = "no: answer" if name == "a pair" else CERTIFICATE
+        yield f"a certificate with {name} of surrogates for a fence", whole.replace(b"P0:2=w,r", text), wanted
     for name, certificate in large_certificates(read):
         text = json.dumps(certificate, separators=(",", ":")).encode()
         yield f"a certificate with {name}", text, judge.verdict(text)
