@@ -1,6 +1,7 @@
-"""Hostile files for `rvfence place` and `rvfence solve`, and hostile witnesses for `rvfence order`, each with its answer: the line of
-its fault, or READ, or what `order` says. The answers are those of docs/FORMAT.md. None is taken from the program: they are derived where
+"""Hostile tests and prices for all commands of `rvfence`, hostile witnesses for `order` and hostile certificates for `check`, each with
+its answer: the line of its fault, or READ, or what the command says. The answers are those of docs/FORMAT.md. None is taken from the program: they are derived where
 the file is made, as the comments say, and for the files that are changed or composed by a second reader of the formats."""
+import itertools
 import json
 import os
 import random
@@ -29,6 +30,7 @@ LOCATIONS = "fault F9 TooBig locations"
 PRICES = "fault F10 BadPrices"
 NO_FENCE = "fault F12 BadFence"
 WITNESS = "fault F17 BadWitness"
+CERTIFICATE = "fault F18 BadCertificate"
 TOO_LONG = "fault F20 ReadFault"
 
 
@@ -404,6 +406,114 @@ def prices():
     yield "no top", b"{}", "fault F11 NoTop"
 
 
+def fault_of_prices(data):
+    """The line of the fault of these prices, or READ."""
+    try:
+        value = check_certificate.json_of(data)
+    except (ValueError, RecursionError):
+        return PRICES
+    if not isinstance(value, dict):
+        return PRICES
+    weights = value.pop("weights", {})
+    if not isinstance(weights, dict) or not all(is_slot(name) and check_certificate.is_whole(weight, 1001) for name, weight in weights.items()):
+        return PRICES
+    if not all(kind in check_certificate.KINDS and check_certificate.is_whole(price, 1_000_001) and price for kind, price in value.items()):
+        return PRICES
+    return READ if "rw,rw" in value else "fault F11 NoTop"
+
+
+def is_slot(name):
+    """Is this the name of a slot, with numbers up to 255?"""
+    found = re.fullmatch("P(0|[1-9][0-9]*):(0|[1-9][0-9]*)", name)
+    return found is not None and all(len(number) <= 3 and int(number) <= 255 for number in found.groups())
+
+
+def prices_changed():
+    """A price list with each byte replaced by each telling one, and with each of its values replaced by others."""
+    value = {"w,w": 2, "tso": 1000000, "rw,rw": 10, "weights": {"P0:3": 3, "P255:255": 1000}}
+    whole = json.dumps(value, separators=(",", ":")).encode()
+    for at in range(len(whole)):
+        for byte in TELLING:
+            text = whole[:at] + bytes([byte]) + whole[at + 1 :]
+            yield f"prices with byte {at} {byte:#04x}", text, fault_of_prices(text)
+    for name, text in values_changed(value):
+        yield f"prices with {name}", text, fault_of_prices(text)
+    for name, text in PAIRS:
+        wanted = READ if name == "a pair" else PRICES
+        yield f"prices with {name} of surrogates, where it doesn't count", b'{"tso":"' + text + b'",' + whole[1:], wanted
+
+
+# What may come in place of a value of JSON, as its text.
+VALUES = [
+    "null", "true", "false", "0", "-0", "1", "-1", "2", "1000", "1001", "1000000", "1000001", "1.0", "1e2", "1e308", "1e309", "-1e309",
+    "2147483648", "4294967295", "4294967296", "18446744073709551615", "18446744073709551616", "9" * 400, '""', '"c"', '"w"', '"none"',
+    '"P0:2"', '"P1:1"', '"P0:2=w,r"', '"rw,rw"', '"p4"', '"\\u0000"', '"\\ud800"', "[]", "[0]", "[[]]", '["c"]', '["w",0]', "{}",
+    '{"choices":[],"order":[]}',
+]
+
+
+# Escapes of surrogates, which stand for a sign only as a pair: the first half and then the second.
+PAIRS = [("a pair", b"\\ud83d\\ude00"), ("a first half", b"\\ud83d"), ("a second half", b"\\ude00"), ("two first halves", b"\\ud83d\\ud83d"),
+         ("a first half before another sign", b"\\ud83dx"), ("the halves the other way round", b"\\ude00\\uD83D")]
+
+
+def values_changed(whole):
+    """A value of JSON as text with each of its parts replaced by each of VALUES, and each entry of a list or an object left out or put in
+    twice, an object's under another key."""
+    mark = "@"
+    for place, changed in parts_changed(whole, mark):
+        text = json.dumps(changed, separators=(",", ":"))
+        if f'"{mark}"' not in text:
+            yield place, text.encode()
+            continue
+        for value in VALUES:
+            yield f"{value[:30]} for {place}", text.replace(f'"{mark}"', value).encode()
+
+
+def parts_changed(value, mark, place="all"):
+    """The value with the mark in place of itself and of each of its parts, and with an entry less or more, each with a name."""
+    yield place, mark
+    keys = list(value) if isinstance(value, dict) else range(len(value)) if isinstance(value, list) else []
+    for key in keys:
+        for name, part in parts_changed(value[key], mark, f"{place} {key}"):
+            yield name, with_part(value, key, part)
+        if isinstance(value, dict):
+            yield f"no {place} {key}", {other: part for other, part in value.items() if other != key}
+            yield f"another {place} {key}", {**value, f"{key}x": value[key]}
+        else:
+            yield f"no {place} {key}", value[:key] + value[key + 1 :]
+            yield f"{place} {key} twice", value[: key + 1] + value[key:]
+
+
+def with_part(value, key, part):
+    """The value with this part at the key."""
+    if isinstance(value, dict):
+        return {**value, key: part}
+    return value[:key] + [part] + value[key + 1 :]
+
+
+def noise():
+    """A mebibyte of bytes by chance, bare and behind a good beginning. Somewhere among them UTF-8 is broken."""
+    chance = random.Random(3)
+    for number in range(4):
+        bytes_by_chance = chance.randbytes(MEBIBYTE)
+        yield f"noise {number}", bytes_by_chance, UTF8
+        for place, (before, _) in PLACES.items():
+            yield f"noise {number} {place}", (before + bytes_by_chance)[:MEBIBYTE], UTF8
+
+
+def samples():
+    """Tests for the commands that read them as `place` does: every beginning of MP, MP with some bytes changed, floods and noise, and
+    sizes."""
+    whole = dict(examples())["MP.litmus"]
+    yield from (case for case in beginnings() if case[0].endswith(" of MP.litmus") and len(case[1]) <= len(whole))
+    yield from itertools.islice(bytes_changed(), 0, None, 7)
+    yield from itertools.islice(tokens_changed(), 0, None, 7)
+    yield from floods()
+    yield from noise()
+    yield from sizes()
+
+
 def fences():
     """Words for MP that name no fence, or one that its slots don't have."""
     zeros = "0" * 100_000
@@ -462,6 +572,9 @@ def witness_parts():
     yield "a key 40,000 times, the last one bad", b"{" + b'"choices":[[0],[0]],' * 40_000 + witness_of(b"", order)[1:], WITNESS
     yield "60,000 keys", b"{" + b"".join(b'"k%d":0,' % key for key in range(60_000)) + witness_of(good, order)[1:], WITNESS
     yield "an escape for each sign of a name", witness_of(good, order.replace(b"P0:2", b"\\u0050\\u0030\\u003a\\u0032")), "yes"
+    for name, text in PAIRS:
+        wanted = "yes" if name == "a pair" else WITNESS
+        yield f"{name} of surrogates in a witness, where it doesn't count", b'{"order":"' + text + b'",' + witness_of(good, order)[1:], wanted
     for text in (b"\xff", b"\xc0\xaf", b"\xed\xa0\x80", b"\\ud800", b"\\u0000", b"\n", b"\0"):
         yield f"{text!r} in a name", witness_of(good, order.replace(b"P0:2", b"P0:2" + text)), WITNESS
     for size, wanted in ((MEBIBYTE, "yes"), (MEBIBYTE + 1, TOO_LONG)):
@@ -479,8 +592,28 @@ def witnesses():
         for byte in TELLING:
             text = whole[:at] + bytes([byte]) + whole[at + 1 :]
             yield f"a witness with byte {at} {byte:#04x}", text, ANSWERED if is_witness(text, 2) else WITNESS
+    for name, text in values_changed(json.loads(whole)):
+        yield f"a witness with {name}", text, ANSWERED if is_witness(text, 2) else WITNESS
+    for name, text, _ in noise():
+        yield f"{name} for a witness", text, WITNESS
     yield from witness_signs()
     yield from witness_parts()
+
+
+def has_half_pair(data):
+    """Is this JSON with an escape of half a surrogate pair in it, even where it doesn't count? That is no text, and makes the file none.
+    Python takes it, and so does scripts/check_certificate.py."""
+    if b"\\u" not in data:
+        return False
+    try:
+        # keys that stand twice are kept, and numbers of any length
+        value = json.loads(data.decode("utf-8"), object_pairs_hook=list, parse_int=str)
+        json.dumps(value, ensure_ascii=False).encode("utf-8")
+    except UnicodeEncodeError:
+        return True
+    except (ValueError, RecursionError):
+        return False
+    return False
 
 
 class CertificateJudge:
@@ -491,11 +624,13 @@ class CertificateJudge:
         self.prices = check_certificate.read(f"{TOP}/examples/prices.json", check_certificate.prices_of)
 
     def verdict(self, text):
+        if has_half_pair(text):
+            return CERTIFICATE
         try:
             checker = check_certificate.Checker(self.test, self.prices, check_certificate.certificate_of(text))
             checker.check()
         except check_certificate.NotACertificate:
-            return "fault F18 BadCertificate"
+            return CERTIFICATE
         except check_certificate.Refused as reason:
             return f"no: {reason}"
         return "\n".join(["yes", *checker.lines()])
@@ -534,12 +669,58 @@ def certificates():
         for byte in b'"[]{,: 0129w\xff':
             text = whole[:at] + bytes([byte]) + whole[at + 1 :]
             yield f"a certificate with byte {at} {byte:#04x}", text, judge.verdict(text)
+    for name, text in values_changed(read):
+        yield f"a certificate with {name}", text, judge.verdict(text)
+    for name, text, _ in noise():
+        yield f"{name} for a certificate", text, CERTIFICATE
+    yes = judge.verdict(whole)
+    for name, text in PAIRS:
+        wanted = yes if name == "a pair" else CERTIFICATE
+        yield f"a certificate with {name} of surrogates, where it doesn't count", b'{"tree":"' + text + b'",' + whole[1:], wanted
+        wanted = "no: answer" if name == "a pair" else CERTIFICATE
+        yield f"a certificate with {name} of surrogates for a fence", whole.replace(b"P0:2=w,r", text), wanted
     for name, certificate in large_certificates(read):
         text = json.dumps(certificate, separators=(",", ":")).encode()
         yield f"a certificate with {name}", text, judge.verdict(text)
     for sign in (b"[", b'{"', b'{"tree":', b'"', b" ", b"0", b"[[", b"\xff"):
         text = sign * (1_048_576 // len(sign))
-        yield f"a mebibyte of {sign!r} for a certificate", text, "fault F18 BadCertificate"
+        yield f"a mebibyte of {sign!r} for a certificate", text, CERTIFICATE
+
+
+HUGE = 100_000_000
+
+
+def huge_certificates():
+    """Certificates of SB of 100 MB, most of them by one part again and again. What it is known for is said beside each."""
+    with open(f"{TOP}/examples/certificates/SB.json", encoding="utf-8") as file:
+        whole = json.load(file)
+    text = json.dumps(whole, separators=(",", ":"))
+    yes = "yes\nfenced 18\nfence P0 2 w,r\nfence P1 2 w,r"
+
+    def repeated(key, part):
+        """The certificate with this part behind the others of its list, as often as there is room."""
+        part = json.dumps(part, separators=(",", ":"))
+        before, after = json.dumps(dict(whole, **{key: whole[key] + ["@"]}), separators=(",", ":")).split('"@"')
+        return (before + ",".join([part] * (HUGE // (len(part) + 1))) + after).encode()
+
+    yield "blanks", (text + " " * (HUGE - len(text))).encode(), yes
+    yield "line ends before it", ("\n" * (HUGE - len(text)) + text).encode(), yes
+    yield "witnesses that no leaf names", repeated("witnesses", whole["witnesses"][0]), yes
+    yield "empty witnesses that no leaf names", repeated("witnesses", {"choices": [], "order": []}), yes
+    yield "a witness of many operations", repeated("witnesses", {"choices": [], "order": ["P0:1"] * 1000}), yes
+    yield "cycles", repeated("cycles", whole["cycles"][0]), "no: cycles"
+    yield "items", repeated("tree", "c"), "no: tree"
+    yield "leaves", repeated("tree", ["w", 0]), "no: tree"
+    yield "splits", repeated("tree", 0), "no: tree"
+    yield "fences", text.replace('"P0:2=w,r"', '"P0:2=w,r",' * (HUGE // 11) + '"P0:2=w,r"').encode(), "no: answer"
+    yield "a fence", text.replace('"P0:2=w,r"', '"' + "P" * HUGE + '"').encode(), "no: answer"
+    yield "a name", text.replace('"P0:1"', '"P0:1' + "0" * HUGE + '"', 1).encode(), "no: cycle 0"
+    yield "a key", text.replace('"tree"', '"' + "k" * HUGE + '":0,"tree"').encode(), CERTIFICATE
+    yield "a key again and again", ("{" + '"tree":[],' * (HUGE // 10) + text[1:]).encode(), yes
+    yield "digits", text.replace('"cost":18', '"cost":18' + "0" * HUGE).encode(), CERTIFICATE
+    yield "all but the end", repeated("witnesses", whole["witnesses"][0])[:-1], CERTIFICATE
+    for sign in (b"[", b'{"tree":', b'"', b"0", b"\0", b"\xff"):
+        yield f"{sign!r} alone", sign * (HUGE // len(sign)), CERTIFICATE
 
 
 # All the kinds of hostile tests.
