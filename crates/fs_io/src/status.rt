@@ -7,9 +7,9 @@ use fs_kinds::Fault;
 /// How the program ends.
 #[derive(Clone, Copy, Debug, PartialEq, Eq)]
 pub enum Status {
-    /// The test was placed, or the answer is yes.
+    /// The test was placed, fences were found, or the answer is yes.
     Success,
-    /// The answer is no.
+    /// The answer is none, or no.
     Denied,
     /// A fault, or a bad command line.
     Failure,
