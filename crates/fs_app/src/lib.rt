@@ -7,6 +7,8 @@ mod whole;
 pub use fs_io::{Output, Status, read_bytes, write_text};
 pub use fs_order::run_order;
 pub use fs_place::run_place;
-pub use fs_solve::{Certified, run_certified, run_solve};
+pub use fs_solve::{
+    Certified, Gate, Open, run_certified, run_certified_alone, run_solve, run_solve_alone,
+};
 pub use fs_verify::run_check;
 pub use program::run;

@@ -1,4 +1,7 @@
 //! A run of the program: from the words of its command line to what it prints and its exit status.
+
+ghost use Rattle.std.specs.Prelude.{◌≤◌};
+
 use crate::whole::write_whole;
 use clap::Error;
 use clap::error::ErrorKind;
@@ -7,11 +10,13 @@ use fs_io::{Output, Status, read_bytes, write_text};
 use fs_kinds::Fault;
 use fs_order::run_order;
 use fs_place::run_place;
-use fs_solve::{run_certified, run_solve};
+use fs_solve::{Certified, Open, run_certified, run_certified_alone, run_solve, run_solve_alone};
 use fs_verify::run_check;
 use std::fs::File;
 use std::process::ExitCode;
 use std::rt::{Env, Files};
+use std::sync::Wait;
+use std::thread::Threads;
 use std::{env, io};
 
 /// Tests, prices and witnesses are read up to this many bytes.
@@ -23,14 +28,21 @@ const CERTIFICATE_LIMIT: usize = 1_073_741_824;
 /// The most nodes that a search may be allowed.
 const MOST_NODES: usize = 1_000_000;
 
+/// The most threads that may search.
+const MOST_WORKERS: u8 = 16;
+
 /// Does what the process's command line asks for, and answers the exit status: 0 where it was done or the answer is yes or
 /// fenced, 1 where it is no or none, 2 for a fault or a bad command line, 3 where memory ran out. A fault or a bad command line
 /// prints on standard error, and nothing on standard output unless it was standard output that failed.
-pub fn run<R: Env + Files + Input + Print + Eprint + AllocGlobal>(rt: &R) -> ExitCode {
+pub fn run<R: Env + Files + Input + Print + Eprint + AllocGlobal + Threads + Wait + Sync>(
+    rt: &R,
+) -> ExitCode {
     ExitCode::from(status_of_run(rt).code())
 }
 
-fn status_of_run<R: Env + Files + Input + Print + Eprint + AllocGlobal>(rt: &R) -> Status {
+fn status_of_run<R: Env + Files + Input + Print + Eprint + AllocGlobal + Threads + Wait + Sync>(
+    rt: &R,
+) -> Status {
     let words = match words(rt) {
         Ok(words) => words,
         Err(status) => return status,
@@ -85,7 +97,10 @@ fn report<R: Eprint>(rt: &R, fault: Fault) -> Status {
     Status::of_fault(fault)
 }
 
-fn answer<R: Files + Input + AllocGlobal>(rt: &R, request: &Request<'_>) -> Result<Output, Fault> {
+fn answer<R: Files + Input + AllocGlobal + Threads + Wait + Sync>(
+    rt: &R,
+    request: &Request<'_>,
+) -> Result<Output, Fault> {
     match request {
         Request::Place(place) => answer_place(rt, place),
         Request::Order(order) => answer_order(rt, order),
@@ -116,20 +131,59 @@ fn answer_order<R: Files + Input + AllocGlobal>(
     run_order(rt.alloc(), &test, &witness, &order.fences)
 }
 
-fn answer_solve<R: Files + Input + AllocGlobal>(
+fn answer_solve<R: Files + Input + AllocGlobal + Threads + Wait + Sync>(
     rt: &R,
     solve: &Solve<'_>,
 ) -> Result<Output, Fault> {
     let test = read_input(rt, solve.test)?;
     let prices = read_file(rt, solve.prices, INPUT_LIMIT)?;
     // the command line has no other numbers; here it is said once more for the proof
+    let workers = solve.workers.clamp(1, MOST_WORKERS);
     let limit = (solve.nodes as usize).clamp(1, MOST_NODES);
     let Some(path) = solve.certificate else {
-        return run_solve(rt.alloc(), &test, &prices, limit);
+        return solved(rt, &test, &prices, workers, limit);
     };
-    let certified = run_certified(rt.alloc(), &test, &prices, limit)?;
+    let certified = certified(rt, &test, &prices, workers, limit)?;
     write_whole(rt, path, certified.certificate.as_bytes())?;
     Ok(certified.output)
+}
+
+/// What `solve` prints. One worker needs no thread, and its search is proved to end.
+fn solved<R: AllocGlobal + Threads + Wait + Sync>(
+    rt: &R,
+    test: &[u8],
+    prices: &[u8],
+    workers: u8,
+    limit: usize,
+) -> Result<Output, Fault>
+    requires some { 1 ≤ workers }
+    requires few { workers ≤ 16 }
+    requires least { 1 ≤ limit }
+    requires most { limit ≤ 1000000 }
+{
+    if workers == 1 {
+        return run_solve_alone(rt.alloc(), test, prices, limit);
+    }
+    run_solve(rt, rt.alloc(), test, prices, workers, limit, &Open)
+}
+
+/// What `solve` prints, with a certificate.
+fn certified<R: AllocGlobal + Threads + Wait + Sync>(
+    rt: &R,
+    test: &[u8],
+    prices: &[u8],
+    workers: u8,
+    limit: usize,
+) -> Result<Certified, Fault>
+    requires some { 1 ≤ workers }
+    requires few { workers ≤ 16 }
+    requires least { 1 ≤ limit }
+    requires most { limit ≤ 1000000 }
+{
+    if workers == 1 {
+        return run_certified_alone(rt.alloc(), test, prices, limit);
+    }
+    run_certified(rt, rt.alloc(), test, prices, workers, limit, &Open)
 }
 
 fn answer_check<R: Files + Input + AllocGlobal>(

@@ -69,6 +69,9 @@ out. Then it prints `none` and such an execution, as a witness that `order` read
 With --cert PATH a certificate of the answer is written to PATH first, which `check` reads
 and judges without a search.
 
+With --workers N so many threads search. The fences are the same for every number, and
+only a long search gains.
+
 PRICES offers kinds, each for 1 to 1000000, and rw,rw must be one of them, as in
 {\"w,w\":2,\"rw,rw\":10}. Slots may have weights that multiply the price.
 
@@ -79,7 +82,7 @@ Exit status:
   3  memory ran out (fault F19)
 Faults beside those of the files: a hart has too many runs (F13), a run accesses an
 address of no location (F14), there are too many candidate executions (F15), the search
-needs more nodes (F16).";
+needs more nodes (F16), the threads of the search don't agree (F22).";
 
 const CHECK_ABOUT: &str = "Does this certificate show that an answer is right?";
 
@@ -133,7 +136,15 @@ const CERTIFICATE_HELP: &str = "JSON file with a certificate, of up to 1 GiB";
 
 const CERT_HELP: &str = "File to write a certificate of the answer to, which `check` reads";
 
+const WORKERS_HELP: &str = "Threads to search with, 1 to 16";
+
 const NODES_HELP: &str = "Most nodes that the search may make, 1 to 1000000";
+
+/// The most threads that may search.
+const MOST_WORKERS: u8 = 16;
+
+/// How many threads search, where the command line doesn't say.
+const ONE_WORKER: u8 = 1;
 
 /// How many nodes a search may make, where the command line doesn't say.
 const MOST_NODES: u32 = 1_000_000;
@@ -168,6 +179,8 @@ pub struct Order<'a> {
 pub struct Solve<'a> {
     pub test: &'a str,
     pub prices: &'a str,
+    /// How many threads search: from 1 to 16.
+    pub workers: u8,
     /// How many nodes the search may make: from 1 to 1,000,000.
     pub nodes: u32,
     /// Where a certificate of the answer is to be written.
@@ -222,6 +235,7 @@ fn solve_of<'a>(found: &ArgMatches<'a>) -> Solve<'a> {
     Solve {
         test: found.get_str("FILE").unwrap_or(""),
         prices: found.get_str("PRICES").unwrap_or(""),
+        workers: found.get_one::<u8>("workers").unwrap_or(ONE_WORKER),
         nodes: found.get_one::<u32>("nodes").unwrap_or(MOST_NODES),
         certificate: found.get_str("cert"),
     }
@@ -294,6 +308,7 @@ fn solve_command<'a>(alloc: Global) -> Result<Command<'a>, AllocError> {
         .after_help(SOLVE_HELP);
     let command = with_argument(Ok(command), required(alloc, "FILE", FILE_HELP));
     let command = with_argument(command, required(alloc, "PRICES", PRICES_HELP));
+    let command = with_argument(command, workers(alloc, WORKERS_HELP));
     let command = with_argument(command, nodes(alloc, NODES_HELP));
     with_argument(command, option(alloc, "cert", "PATH", CERT_HELP))
 }
@@ -322,6 +337,12 @@ fn option<'a>(alloc: Global, name: &'a str, value: &'a str, help: &'a str) -> Ar
 
 fn fences<'a>(alloc: Global, help: &'a str) -> Arg<'a> {
     Arg::new(alloc, "FENCE").help(help).num_args(0..)
+}
+
+fn workers<'a>(alloc: Global, help: &'a str) -> Arg<'a> {
+    option(alloc, "workers", "N", help)
+        .value_parser(value_parser!(u8).range(1..=i64::from(MOST_WORKERS)))
+        .default_value("1")
 }
 
 fn nodes<'a>(alloc: Global, help: &'a str) -> Arg<'a> {

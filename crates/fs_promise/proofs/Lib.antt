@@ -7,6 +7,7 @@ mod Placing
 mod ReadLines
 mod SameCertificates
 mod SamePrices
+mod SolvesOnce
 mod WitnessTexts
 mod Witnesses
 mod Yeses

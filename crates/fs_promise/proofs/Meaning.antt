@@ -68,11 +68,11 @@ module _ (t : Test) (h : IsTest t) where
   }
 
 -- what is printed for a test is printed for the same one
-cheapest_of_same : (t u : Test) (prices : PriceTable) (text : List ℕ) (status : Status) → IsSame t u → PrintsCheapest t prices text status → PrintsCheapest u prices text status
+pub cheapest_of_same : (t u : Test) (prices : PriceTable) (text : List ℕ) (status : Status) → IsSame t u → PrintsCheapest t prices text status → PrintsCheapest u prices text status
 cheapest_of_same t u prices text status s a =
     record { placement = a.placement; cheapest = (cheapest_same t u s prices a.placement).0 a.cheapest; shown = a.shown; ends = a.ends }
 
-none_of_same : (t u : Test) (text : List ℕ) (status : Status) → IsSame t u → PrintsNone t text status → PrintsNone u text status
+pub none_of_same : (t u : Test) (text : List ℕ) (status : Status) → IsSame t u → PrintsNone t text status → PrintsNone u text status
 none_of_same t u text status s a = record {
   witness = a.witness;
   execution = a.execution;

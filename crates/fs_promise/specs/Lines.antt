@@ -7,6 +7,8 @@ use Rattle.fs_syntax.specs.Slots.{slots}
 use Rattle.fs_model.specs.Witness.{Witness}
 use Rattle.fs_answer.specs.Texts.{fenced_lines, none_lines, witness_text}
 use Rattle.fs_answer.specs.WitnessFile.{IsWitnessFile}
+use Rattle.fs_io.specs.declared.status.Status.{Status}
+use Rattle.fs_io.specs.declared.status.Status.TheVariants.{Success}
 
 -- The lines of a placement over the test's slots are those of no other, whatever costs stand in them. Those of a witness whose text is a
 -- file are those of no other such witness. And no lines are of both kinds.
@@ -15,3 +17,7 @@ pub record SayOneAnswer (t : Test) : Type 0 where
   pub witness : (v w : Witness) → IsWitnessFile (length t.codes) (witness_text v) v → IsWitnessFile (length t.codes) (witness_text w) w
       → none_lines v ≡ none_lines w → v ≡ w
   pub not_both : (p : List Entry) (n : ℕ) (w : Witness) → fenced_lines n p ≡ none_lines w → ⊥
+
+-- two runs end alike, and where they have a placement they print the same lines, byte for byte
+abbrev pub IsOneAnswer : (text other : List ℕ) → (status end : Status) → Type 0
+IsOneAnswer text other status end = (status ≡ end) × (status ≡ Success → text ≡ other)

@@ -25,7 +25,7 @@ use Rattle.fs_search.specs.declared.answer.Solved.{Solved}
 use Rattle.fs_search.specs.Answers.{IsAnswer, IsBoardOf, IsShownLeast, placement_of}
 use Rattle.fs_cert.specs.Certified.{Certifies, CertifiesNone}
 use Rattle.fs_solve.specs.Solve.{HasNoCandidateFault, IsCertified, IsWitnessed, IsFirstSolveFault, IsSolved, PrintsAnswer, PrintsPlaced, of_memory}
-use Rattle.fs_solve.specs.inner.Found.{IsFound, IsFoundFor}
+use Rattle.fs_solve.specs.inner.Found.{IsAskedBy, IsFound, IsFoundFor}
 use Rattle.fs_solve.specs.inner.Made.{CertifiesAnswer, HasWitness, PrintsWitness, SaysAnswer}
 
 -- what was answered to a copy of the question
@@ -41,6 +41,18 @@ found-for q asked given limit s same copied bounded listed is board least =
       board = board;
       least = least;
     })
+
+-- what was answered to a copy of the question that the bytes ask
+pub found-asked : (test prices : List ℕ) (asked given : Question) (limit : ℕ) (s : Solved) → IsAskedBy test prices asked → given ≡ asked
+    → HasNoCandidateFault given.test → IsAnswer given.test given.prices s.answer → IfSome s.board (IsBoardOf given limit s.answer)
+    → IfNone s.board (IsShownLeast given.test s.answer s.least) → IsFound test prices limit asked s
+found-asked test prices asked given limit s by copied listed is board least = record {
+  the_test = asked.test;
+  table = asked.prices;
+  reads = by.reads;
+  priced = by.priced;
+  found = found-for asked asked given limit s refl copied by.is_test.bounded listed is board least;
+}
 
 -- what is printed with this placement is the answer in print
 printed : (t : Test) (prices : PriceTable) (placed : Option (List Entry)) (text : List ℕ) (status : Status)
@@ -93,10 +105,10 @@ found-there test prices limit asked other s same is = (
 )
 
 -- want of memory is the first fault at any place
-pub first-memory : {T : Type 0} (test prices : List ℕ) (limit : ℕ) (r : Result T Fault) → IsOkUnless r Memory
-    → IfErr r (IsFirstSolveFault test prices limit)
-first-memory test prices limit (Ok x) is = tt
-first-memory test prices limit (Err f) is = subst (IsFirstSolveFault test prices limit) (sym is) of_memory
+pub first-memory : {T : Type 0} (test prices : List ℕ) (limit workers : ℕ) (r : Result T Fault) → IsOkUnless r Memory
+    → IfErr r (IsFirstSolveFault test prices limit workers)
+first-memory test prices limit workers (Ok x) is = tt
+first-memory test prices limit workers (Err f) is = subst (IsFirstSolveFault test prices limit workers) (sym is) of_memory
 
 -- ---- certificates
 

@@ -1,7 +1,7 @@
 -- What `solve` prints, and the fault that it answers.
-use Rattle.std.specs.Prelude.{◌≡◌, ◌⊎◌, ℕ, Option, None, Some, List, [], ◌∷◌, length}
+use Rattle.std.specs.Prelude.{◌≡◌, ◌≤◌, ◌⊎◌, ℕ, Option, None, Some, List, [], ◌∷◌, length}
 use Rattle.fs_kinds.specs.declared.fault.Fault.{Fault}
-use Rattle.fs_kinds.specs.declared.fault.Fault.TheVariants.{Memory}
+use Rattle.fs_kinds.specs.declared.fault.Fault.TheVariants.{Memory, Unmatched}
 use Rattle.fs_kinds.specs.declared.placement.Entry.{Entry}
 use Rattle.fs_kinds.specs.PriceTable.{PriceTable, cost}
 use Rattle.fs_syntax.specs.declared.test.Test.{Test}
@@ -88,11 +88,12 @@ pub record IsCertified (test prices text : List ℕ) (status : Status) (certific
   pub witnessed : IsWitnessed placed certified.certificate.witnesses text
 
 -- the first fault: of the prices, else of the test, else of its candidates and then of the search; want of memory may come in place
--- of any answer
-pub data IsFirstSolveFault (test prices : List ℕ) (limit : ℕ) : Fault → Type 0 where
-  of_prices : {fault : Fault} → IsPricesFault (Some prices) fault → IsFirstSolveFault test prices limit fault
+-- of any answer, and with two workers or more F22
+pub data IsFirstSolveFault (test prices : List ℕ) (limit workers : ℕ) : Fault → Type 0 where
+  of_prices : {fault : Fault} → IsPricesFault (Some prices) fault → IsFirstSolveFault test prices limit workers fault
   of_test : {fault : Fault} (table : PriceTable) → ArePricesOf prices table → IsTestFault test fault
-      → IsFirstSolveFault test prices limit fault
+      → IsFirstSolveFault test prices limit workers fault
   of_search : {fault : Fault} (table : PriceTable) (t : Test) → ArePricesOf prices table → Reads test t
-      → IsSolveFault (record { test = t; prices = table }) limit fault → IsFirstSolveFault test prices limit fault
-  of_memory : IsFirstSolveFault test prices limit Memory
+      → IsSolveFault (record { test = t; prices = table }) limit fault → IsFirstSolveFault test prices limit workers fault
+  of_memory : IsFirstSolveFault test prices limit workers Memory
+  of_workers : 2 ≤ workers → IsFirstSolveFault test prices limit workers Unmatched

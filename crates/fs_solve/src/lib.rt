@@ -3,4 +3,5 @@
 
 mod solve;
 
-pub use solve::{Certified, run_certified, run_solve};
+pub use fs_crew::{Gate, Open};
+pub use solve::{Certified, run_certified, run_certified_alone, run_solve, run_solve_alone};

@@ -7,22 +7,24 @@ ghost use Rattle.fs_syntax.specs.declared.test.Test.{Test as Tests};
 ghost use Rattle.fs_syntax.specs.Test.{IsTest};
 ghost use Rattle.fs_litmus.specs.Reads.{Reads};
 ghost use Rattle.fs_evidence.specs.Evidence.{Question as Asked};
-ghost use Rattle.fs_search.specs.Answers.{IsAnswer, IsShownLeast, IsSolveFault, placement_of};
+ghost use Rattle.fs_search.specs.Answers.{IsAnswer, IsShownLeast, placement_of};
 ghost use Rattle.fs_cert.specs.Certified.{Certifies};
 ghost use Rattle.fs_solve.specs.Solve.{ArePricesOf, PrintsPlaced, IsSolved, IsCertified, IsFirstSolveFault};
-ghost use Rattle.fs_solve.specs.inner.Found.{IsFound, IsFoundFor};
+ghost use Rattle.fs_solve.specs.inner.Found.{IsAskedBy, IsFound, IsFoundFor};
 ghost use Rattle.fs_solve.specs.inner.Made.{CertifiesAnswer, PrintsWitness, SaysAnswer};
 
 use fs_cert::{from_board, from_least, from_witness};
 use fs_certificate::Certificate;
+use fs_crew::Gate;
 use fs_evidence::{Forbidden, Question};
 use fs_io::{Output, Status};
 use fs_kinds::{Fault, Prices, read_prices};
 use fs_litmus::{Test, read_test};
 use fs_report::{fenced_text, none_text};
-use fs_search::{Answer, Solved, solve};
+use fs_search::{Answer, Solved};
 use std::alloc::{AllocError, Global};
-use std::sync::Arc;
+use std::sync::{Arc, Wait};
+use std::thread::Threads;
 
 /// What `solve` prints, and a certificate of the answer.
 #[derive(Drop)]
@@ -41,26 +43,31 @@ struct Found {
 
 /// What `solve` prints for a test file and a file of prices: the first of the cheapest placements of fences that rule the outcome
 /// out, with its cost, and status 0; or `none`, with an execution that shows the outcome with `rw,rw` in every slot, and status 1.
-/// The files are bytes as they were read.
+/// The files are bytes as they were read. One worker searches, without threads, and the call ends.
 ///
 /// The first fault in this order: `BadPrices` and `NoTop`; those of a test file by number and then line; `TooManyTraces` and
 /// `Astray`; `TooManyCandidates`; `NodeLimit`, which comes only where fences are needed, `rw,rw` in every slot is enough, and the
 /// tree of all placements has more than `limit` nodes below its root. `Memory` may come in place of any answer. The law `headline`
 /// of fs_promise says what an answer means.
-pub fn run_solve(alloc: Global, test: &[u8], prices: &[u8], limit: usize) -> Result<Output, Fault>
+pub fn run_solve_alone(
+    alloc: Global,
+    test: &[u8],
+    prices: &[u8],
+    limit: usize,
+) -> Result<Output, Fault>
     requires least { 1 ≤ limit }
     requires most { limit ≤ 1000000 }
     ensures answer { IfOk result (λ output.
         IsSolved test.now prices.now (string_bytes output.text) output.status) }
-    ensures fault { IfErr result (IsFirstSolveFault test.now prices.now limit) }
+    ensures fault { IfErr result (IsFirstSolveFault test.now prices.now limit 1) }
 {
-    let found = find(alloc, test, prices, limit)?;
+    let found = find_alone(alloc, test, prices, limit)?;
     answer_output(alloc, &found.solved.answer)
 }
 
-/// What `run_solve` answers, with the text of a certificate of the second version, which is valid for the test and the prices with the
-/// answer that is printed; where that is `none`, its witness is the printed one. The faults are those of `run_solve`.
-pub fn run_certified(
+/// What `run_solve_alone` answers, with the text of a certificate of the second version, which is valid for the test and the prices with
+/// the answer that is printed; where that is `none`, its witness is the printed one. The faults are those of `run_solve_alone`.
+pub fn run_certified_alone(
     alloc: Global,
     test: &[u8],
     prices: &[u8],
@@ -72,9 +79,74 @@ pub fn run_certified(
         IsSolved test.now prices.now (string_bytes made.output.text) made.output.status) }
     ensures certificate { IfOk result (λ made.
         IsCertified test.now prices.now (string_bytes made.output.text) made.output.status (string_bytes made.certificate)) }
-    ensures fault { IfErr result (IsFirstSolveFault test.now prices.now limit) }
+    ensures fault { IfErr result (IsFirstSolveFault test.now prices.now limit 1) }
 {
-    let found = find(alloc, test, prices, limit)?;
+    let found = find_alone(alloc, test, prices, limit)?;
+    with_certificate(alloc, &found)
+}
+
+/// What `run_solve_alone` answers, searched by 1 to 16 workers: more than one work in threads of their own, and the gate is told what each
+/// of these does. Whatever their number, the printed placement is the first of the cheapest.
+///
+/// The faults are those of `run_solve_alone`, and with two workers or more `Unmatched` may come in place of an answer: what was logged
+/// under the lock isn't what the workers were told. The lock or the threads didn't do then as they should, and no test meets it. Nor is it
+/// proved that a thread comes back: a call that waits for ever has no answer.
+pub fn run_solve<R: Threads + Wait + Sync, G: Gate + Sync>(
+    rt: &R,
+    alloc: Global,
+    test: &[u8],
+    prices: &[u8],
+    workers: u8,
+    limit: usize,
+    gate: &G,
+) -> Result<Output, Fault>
+    requires some { 1 ≤ workers }
+    requires few { workers ≤ 16 }
+    requires least { 1 ≤ limit }
+    requires most { limit ≤ 1000000 }
+    ensures answer { IfOk result (λ output.
+        IsSolved test.now prices.now (string_bytes output.text) output.status) }
+    ensures fault { IfErr result (IsFirstSolveFault test.now prices.now limit workers) }
+{
+    let found = find(rt, alloc, test, prices, workers, limit, gate)?;
+    answer_output(alloc, &found.solved.answer)
+}
+
+/// What `run_certified_alone` answers, searched by 1 to 16 workers. The faults are those of `run_solve`.
+pub fn run_certified<R: Threads + Wait + Sync, G: Gate + Sync>(
+    rt: &R,
+    alloc: Global,
+    test: &[u8],
+    prices: &[u8],
+    workers: u8,
+    limit: usize,
+    gate: &G,
+) -> Result<Certified, Fault>
+    requires some { 1 ≤ workers }
+    requires few { workers ≤ 16 }
+    requires least { 1 ≤ limit }
+    requires most { limit ≤ 1000000 }
+    ensures answer { IfOk result (λ made.
+        IsSolved test.now prices.now (string_bytes made.output.text) made.output.status) }
+    ensures certificate { IfOk result (λ made.
+        IsCertified test.now prices.now (string_bytes made.output.text) made.output.status (string_bytes made.certificate)) }
+    ensures fault { IfErr result (IsFirstSolveFault test.now prices.now limit workers) }
+{
+    let found = find(rt, alloc, test, prices, workers, limit, gate)?;
+    with_certificate(alloc, &found)
+}
+
+/// What is printed of an answer, and its certificate.
+fn with_certificate(alloc: Global, found: &Found) -> Result<Certified, Fault>
+    requires { (test prices : List ℕ) × (limit : ℕ) × IsFound test prices limit (arc_value found.now.question) found.now.solved }
+    ensures answer { IfOk result (λ made. (test prices : List ℕ) (limit : ℕ)
+        → IsFound test prices limit (arc_value found.now.question) found.now.solved
+        → IsSolved test prices (string_bytes made.output.text) made.output.status) }
+    ensures certificate { IfOk result (λ made. (test prices : List ℕ) (limit : ℕ)
+        → IsFound test prices limit (arc_value found.now.question) found.now.solved
+        → IsCertified test prices (string_bytes made.output.text) made.output.status (string_bytes made.certificate)) }
+    ensures err { IsOkUnless result Fault.Memory }
+{
     let output = answer_output(alloc, &found.solved.answer)?;
     let certificate = certificate_text(alloc, &found.question, &found.solved)?;
     Ok(Certified {
@@ -83,46 +155,63 @@ pub fn run_certified(
     })
 }
 
-/// The answer for a test file and a file of prices.
-fn find(alloc: Global, test: &[u8], prices: &[u8], limit: usize) -> Result<Found, Fault>
+/// The question that a test file and a file of prices ask.
+fn read_question(alloc: Global, test: &[u8], prices: &[u8]) -> Result<Arc<Question>, Fault>
+    ensures asked { IfOk result (λ question. IsAskedBy test.now prices.now (arc_value question)) }
+    ensures fault { IfErr result (λ fault. (limit workers : ℕ) → IsFirstSolveFault test.now prices.now limit workers fault) }
+{
+    let table = read_prices(alloc, prices)?;
+    read_priced(alloc, test, table)
+}
+
+/// The question that a test file asks at these prices.
+fn read_priced(alloc: Global, test: &[u8], prices: Prices) -> Result<Arc<Question>, Fault>
+    requires table { IsPriceTable prices }
+    ensures asked { IfOk result (λ question. (bytes : List ℕ) → ArePricesOf bytes prices
+        → IsAskedBy test.now bytes (arc_value question)) }
+    ensures fault { IfErr result (λ fault. (bytes : List ℕ) → ArePricesOf bytes prices
+        → (limit workers : ℕ) → IsFirstSolveFault test.now bytes limit workers fault) }
+{
+    let read = read_test(alloc, test)?;
+    let question = question_of(alloc, read, prices)?;
+    Ok(question)
+}
+
+/// The answer for a test file and a file of prices, searched by one worker.
+fn find_alone(alloc: Global, test: &[u8], prices: &[u8], limit: usize) -> Result<Found, Fault>
     requires least { 1 ≤ limit }
     requires most { limit ≤ 1000000 }
     ensures answer { IfOk result (λ found.
         IsFound test.now prices.now limit (arc_value found.question) found.solved) }
-    ensures fault { IfErr result (IsFirstSolveFault test.now prices.now limit) }
+    ensures fault { IfErr result (IsFirstSolveFault test.now prices.now limit 1) }
 {
-    let table = read_prices(alloc, prices)?;
-    find_priced(alloc, test, table, limit)
+    let question = read_question(alloc, test, prices)?;
+    let asked = Arc::try_clone(&question)?;
+    let solved = fs_search::solve(alloc, asked, limit)?;
+    Ok(Found { question, solved })
 }
 
-/// The answer for a test file with these prices.
-fn find_priced(alloc: Global, test: &[u8], prices: Prices, limit: usize) -> Result<Found, Fault>
-    requires table { IsPriceTable prices }
-    requires least { 1 ≤ limit }
-    requires most { limit ≤ 1000000 }
-    ensures answer { IfOk result (λ found. (bytes : List ℕ) → ArePricesOf bytes prices
-        → IsFound test.now bytes limit (arc_value found.question) found.solved) }
-    ensures fault { IfErr result (λ fault. (bytes : List ℕ) → ArePricesOf bytes prices
-        → IsFirstSolveFault test.now bytes limit fault) }
-{
-    let read = read_test(alloc, test)?;
-    find_read(alloc, read, prices, limit)
-}
-
-/// The answer for a test that was read.
-fn find_read(alloc: Global, test: Test, prices: Prices, limit: usize) -> Result<Found, Fault>
-    requires test { IsTest test }
-    requires table { IsPriceTable prices }
+/// The answer for a test file and a file of prices, searched by so many workers.
+fn find<R: Threads + Wait + Sync, G: Gate + Sync>(
+    rt: &R,
+    alloc: Global,
+    test: &[u8],
+    prices: &[u8],
+    workers: u8,
+    limit: usize,
+    gate: &G,
+) -> Result<Found, Fault>
+    requires some { 1 ≤ workers }
+    requires few { workers ≤ 16 }
     requires least { 1 ≤ limit }
     requires most { limit ≤ 1000000 }
     ensures answer { IfOk result (λ found.
-        IsFoundFor (record { test = test; prices = prices }) limit (arc_value found.question) found.solved) }
-    ensures fault { IfErr result (λ fault. fault ≢ Fault.Memory
-        → IsSolveFault (record { test = test; prices = prices }) limit fault) }
+        IsFound test.now prices.now limit (arc_value found.question) found.solved) }
+    ensures fault { IfErr result (IsFirstSolveFault test.now prices.now limit workers) }
 {
-    let question = question_of(alloc, test, prices)?;
+    let question = read_question(alloc, test, prices)?;
     let asked = Arc::try_clone(&question)?;
-    let solved = solve(alloc, asked, limit)?;
+    let solved = fs_crew::solve(rt, alloc, asked, workers, limit, gate)?;
     Ok(Found { question, solved })
 }
 

@@ -1,13 +1,22 @@
 -- An answer that was found, before it is printed.
-use Rattle.std.specs.Prelude.{◌≡◌, ℕ, List, IfNone, IfSome}
-use Rattle.fs_kinds.specs.PriceTable.{PriceTable}
+use Rattle.std.specs.Prelude.{◌≡◌, ◌≤◌, ◌⊎◌, ℕ, List, IfNone, IfSome}
+use Rattle.fs_kinds.specs.declared.fault.Fault.{Fault}
+use Rattle.fs_kinds.specs.declared.fault.Fault.TheVariants.{Unmatched}
+use Rattle.fs_kinds.specs.PriceTable.{PriceTable, IsPriceTable}
 use Rattle.fs_syntax.specs.declared.test.Test.{Test}
-use Rattle.fs_syntax.specs.Test.{IsBounded}
+use Rattle.fs_syntax.specs.Test.{IsBounded, IsTest}
 use Rattle.fs_litmus.specs.Reads.{Reads}
 use Rattle.fs_evidence.specs.Evidence.{Question}
 use Rattle.fs_search.specs.declared.answer.Solved.{Solved}
-use Rattle.fs_search.specs.Answers.{IsAnswer, IsBoardOf, IsShownLeast}
+use Rattle.fs_search.specs.Answers.{IsAnswer, IsBoardOf, IsShownLeast, IsSolveFault}
 use Rattle.fs_solve.specs.Solve.{ArePricesOf, HasNoCandidateFault}
+
+-- the bytes read as the question's test and hold its prices
+pub record IsAskedBy (test prices : List ℕ) (asked : Question) : Type 0 where
+  pub reads : Reads test asked.test
+  pub priced : ArePricesOf prices asked.prices
+  pub is_test : IsTest asked.test
+  pub is_table : IsPriceTable asked.prices
 
 -- the answer to this question, with what it rests on
 pub record IsFoundFor (q : Question) (limit : ℕ) (asked : Question) (s : Solved) : Type 0 where
@@ -25,3 +34,7 @@ pub record IsFound (test prices : List ℕ) (limit : ℕ) (asked : Question) (s 
   pub reads : Reads test the_test
   pub priced : ArePricesOf prices table
   pub found : IsFoundFor (record { test = the_test; prices = table }) limit asked s
+
+-- the fault of a search that so many workers made
+abbrev pub IsSearchFault : Question → (limit workers : ℕ) → Fault → Type 0
+IsSearchFault q limit workers f = IsSolveFault q limit f ⊎ ((f ≡ Unmatched) × (2 ≤ workers))

@@ -1,25 +1,14 @@
-use Rattle.fs_place.proofs.Faults.{IfErr-handed}
-use Rattle.fs_solve.proofs.Founding.{found-there, is-certified, is-solved}
-use Rattle.fs_solve.proofs.SolveFaults.{solve-memory}
+use Rattle.fs_solve.proofs.Founding.{first-memory}
+use Rattle.fs_solve.proofs.SolveFaults.{if_ok}
 use Rattle.fs_solve.proofs.solve.run_certified.Goals as goal
 
-pub certificate_text-requires : goal.certificate_text-requires
-certificate_text-requires c = found-there _ _ c.args.limit _ _ _ c.deref.ensures c.in_ok-found.ensures.answer
-
-pub returns-in_err-output-clause-fault : goal.returns-in_err-output-clause-fault
-returns-in_err-output-clause-fault c =
-    IfErr-handed c.from_residual-in_err-output.result _ _ c.from_residual-in_err-output.ensures.1
-    (solve-memory _ _ c.args.limit _ c.in_err-output.ensures.err)
-
-pub returns-in_err-certificate-clause-fault : goal.returns-in_err-certificate-clause-fault
-returns-in_err-certificate-clause-fault c =
-    IfErr-handed c.from_residual-in_err-certificate.result _ _ c.from_residual-in_err-certificate.ensures.1
-    (solve-memory _ _ c.args.limit _ c.in_err-certificate.ensures.err)
-
 pub returns-clause-answer : goal.returns-clause-answer
-returns-clause-answer c = is-solved _ _ c.args.limit _ _ _ _ c.in_ok-found.ensures.answer c.in_ok-output.ensures.answer
+returns-clause-answer g c = if_ok _ _ c.with_certificate.result c.with_certificate.ensures.answer
+    (λ made says. says _ _ _ c.in_ok-found.ensures.answer)
 
 pub returns-clause-certificate : goal.returns-clause-certificate
-returns-clause-certificate c =
-    is-certified _ _ c.args.limit _ _ _ _ _ _ c.deref.ensures c.in_ok-found.ensures.answer c.in_ok-output.ensures.answer
-    c.in_ok-output.ensures.witness c.in_ok-certificate.ensures.ok
+returns-clause-certificate g c = if_ok _ _ c.with_certificate.result c.with_certificate.ensures.certificate
+    (λ made says. says _ _ _ c.in_ok-found.ensures.answer)
+
+pub returns-clause-fault : goal.returns-clause-fault
+returns-clause-fault g c = first-memory _ _ c.args.limit c.args.workers c.with_certificate.result c.with_certificate.ensures.err
