@@ -30,7 +30,7 @@ rf c a = slice_index_or c.source a None
 abbrev pub stores_to : Candidate → ℕ → List ℕ
 stores_to c location = slice_index_or c.store_order location []
 
--- coherence order: a stands before b in a store order. Of raw candidates both are stores to one location.
+-- coherence: a stands before b in the coherence order of their location. Of raw candidates both are stores to one location.
 abbrev pub co : Candidate → ℕ → ℕ → Bool
 co c a b = list_any (λ stores. stands_before stores a b) c.store_order
 

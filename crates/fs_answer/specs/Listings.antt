@@ -24,11 +24,11 @@ abbrev pub source_key : ℕ → Option ℕ → ℕ
 source_key n None = 0
 source_key n (Some s) = if nat_lt s n then s + 1 else 0
 
--- the sources, load by load; then the store orders, location by location; of candidates with the same steps
+-- the sources, load by load; then the coherence orders, location by location; of candidates with the same steps
 abbrev pub key : Test → Candidate → List ℕ
 key t c = map (source_key (length (accesses (runs_of t c)))) c.source ++ flat_map (λ stores. stores) c.store_order
 
--- c is the earlier candidate: by the choices, hart by hart, and where the steps are the same by sources and store orders
+-- c is the earlier candidate: by the choices, hart by hart, and where the steps are the same by sources and coherence orders
 abbrev pub Precedes : Test → Candidate → Candidate → Type 0
 Precedes t c d = AreEarlier c.traces d.traces ⊎ ((c.traces ≡ d.traces) × (is_less (key t c) (key t d) ≡ true))
 

@@ -9,7 +9,7 @@ use Rattle.fs_deps.specs.Masks.{IsDepsOf}
 use Rattle.fs_answer.specs.Candidates as defined
 use Rattle.fs_cand.specs.declared.candidate.Candidate.{Candidate}
 
--- the candidate of the definitions: its steps, sources and store orders
+-- the candidate of the definitions: its steps, sources and coherence orders
 abbrev pub candidate_of : Candidate → defined.Candidate
 candidate_of c = record { traces = steps_in c.traces; source = c.source; store_order = c.store_order }
 

@@ -1,4 +1,4 @@
-//! Candidate executions: runs, sources and store orders, before any global memory order.
+//! Candidate executions: runs, sources and coherence orders, before any global memory order.
 #![tactic(auto)]
 
 mod candidate;

@@ -126,7 +126,7 @@ module _ (t : Test) (p : List Entry) (e : Execution) (execution : IsExecution t 
     | inr before ↦ po_apart (runs t e) a (subst (λ (n : ℕ). po (runs t e) n a ≡ true) same before)
   ]
 
-  -- ---- store orders
+  -- ---- coherence orders
 
   record AreOrdered (a b : ℕ) : Type 0 where
     location : ℕ

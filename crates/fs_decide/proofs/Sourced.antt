@@ -1,4 +1,4 @@
--- The sources and store orders of a raw candidate.
+-- The sources and coherence orders of a raw candidate.
 use Rattle.std.proofs.Common.{◌≡◌, ℕ, zero, suc, ◌+◌, ◌<◌, ◌⊎◌, inl, inr, Bool, true, Option, None, Some, filter, List, [], ◌∷◌, length, refl, sym, ◌∙◌, subst, arith}
 use Rattle.std.specs.Prelude.{slice_get}
 use Rattle.std.specs.List.{list_any, slice_index_or}
@@ -102,7 +102,7 @@ module _ (t : Test) (c : Candidate) (raw : IsRaw t c) where
       by_source None e = absurd (false≢true (sym (not-true (is_load (runs_of t c) a) (sourced a None e low)) ∙ loads))
       by_source (Some s) e = (s, e)
 
-  -- ---- store orders
+  -- ---- coherence orders
 
   -- the stores of a location by their numbers
   numbered : ℕ → List ℕ
@@ -113,7 +113,7 @@ module _ (t : Test) (c : Candidate) (raw : IsRaw t c) where
   numbered_once k =
       once-filter (is_store_to (runs_of t c) k) (numbers_below (length (operations (runs_of t c)))) (once-range 0 (length (operations (runs_of t c))))
 
-  -- what the test of a store order says
+  -- what the test of a coherence order says
   record IsListed (k : ℕ) : Type 0 where
     first : slice_get (stores_to c k) 0 ≡ Some (length (accesses (runs_of t c)) + k)
     long : length (stores_to c k) ≡ length (numbered k)

@@ -17,9 +17,9 @@ ghost use Rattle.fs_thin_air.specs.ThinAir.{CanBeListed};
 ghost use Rattle.fs_decide.specs.Decide.{IsOrdered, IsExecuted, IsSorted, IsRound, IsAcyclic, HasOrdered, HasAcyclic, candidate_of, ordered_by, of_harts};
 
 /// A law: a showing candidate with an order that respects its judged relation is an execution that shows the outcome, by the
-/// candidate's sources and store orders. The order of each execution respects the judged relation of its own sources and store
-/// orders, and where it shows the outcome they are a showing candidate. So in a test whose runs can be listed the outcome is
-/// allowed exactly where some showing candidate has such an order.
+/// candidate's sources and coherence orders. The order of each execution respects the judged relation of its own sources and
+/// coherence orders, and where it shows the outcome they are a showing candidate. So in a test whose runs can be listed the
+/// outcome is allowed exactly where some showing candidate has such an order.
 pub fn candidates_decide()
     ensures executed { (t : Test) (p : List Entry) (c : Candidate) (order : List ℕ) → IsShowing t c → IsOrdered t p c order
         → IsExecuted t p c order }
@@ -32,7 +32,7 @@ pub fn candidates_decide()
 {}
 
 /// A law: acyclic equals ordered. The judged relation of a candidate has an order that respects it, or a cycle of no more
-/// operations than there are, and not both. So a showing candidate has an execution, with its sources and store orders, exactly
+/// operations than there are, and not both. So a showing candidate has an execution, with its sources and coherence orders, exactly
 /// where it has no cycle, and the outcome is allowed exactly where some showing candidate has none.
 pub fn cycles_decide()
     ensures either { (t : Test) (p : List Entry) (c : Candidate) → IsRaw t c

@@ -192,7 +192,7 @@ module _ (t : Test) (p : Prepared) (is : IsPrepared t p) where
       ∙ ap (λ k. numbered_with t p.traces (n / count * k + n % count)) (sym parts.0)
       ∙ ap (numbered_with t p.traces) (div-add-mod' n count)
 
-  -- ---- the store orders
+  -- ---- the coherence orders
 
   from_stores : (first i n : ℕ) → first ≡ length (accesses x) + i
       → orders_from first (map (own_stores x) (range_with_len i n)) ≡ map (store_orders x) (range_with_len i n)

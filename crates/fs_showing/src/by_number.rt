@@ -1,4 +1,4 @@
-//! Sources and store orders by number.
+//! Sources and coherence orders by number.
 
 ghost use Rattle.std.specs.Prelude.{◌≡◌, ◌≤◌, ◌<◌, ◌+◌, ◌++◌, ◌∷◌, [], length, IfOk, OnOk};
 ghost use Rattle.std.specs.List.{slice_index_or};
@@ -74,7 +74,7 @@ fn order_of(alloc: Global, first: u8, stores: &[u8], number: u32) -> Result<List
     Ok(List::new(order))
 }
 
-// Puts the store orders of this number behind the others, one of each location's stores, where the initial store of the first
+// Puts the coherence orders of this number behind the others, one of each location's stores, where the initial store of the first
 // location has the number `first`. The last location's order changes first.
 pub(crate) fn push_orders(
     alloc: Global,

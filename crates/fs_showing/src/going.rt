@@ -24,7 +24,7 @@ use fs_syntax::Test;
 use std::alloc::{AllocError, Global};
 
 impl Prepared {
-    // The store orders of this number.
+    // The coherence orders of this number.
     fn orders(&self, alloc: Global, test: &Test, number: u32) -> Result<Vec<List<u8>>, AllocError>
         requires prepared { IsPrepared test.now self.now }
         requires few { product_by number_of_orders self.now.choices.stores.items ≤ most_candidates }

@@ -98,7 +98,7 @@ fn is_outcome(quantifier: Quantifier, condition: bool) -> bool
     }
 }
 
-/// Do runs with these store orders show the outcome? There is a run of each hart, with the registers that its steps end with.
+/// Do runs with these coherence orders show the outcome? There is a run of each hart, with the registers that its steps end with.
 pub(crate) fn has_outcome(
     test: &Test,
     traces: &[Trace],

@@ -53,7 +53,7 @@ impl Prepared {
         any_pair(self.traces.as_slice(), self.operations.as_slice())
     }
 
-    // Do the runs with these store orders show the outcome?
+    // Do the runs with these coherence orders show the outcome?
     fn has_outcome(&self, test: &Test, orders: &[List<u8>]) -> bool
         requires { IsPrepared test.now self.now }
         ensures { (sources : List (Option ℕ)) → result ≡ has_outcome test.now (candidate (steps_in self.now.traces) sources orders.now) }
@@ -82,7 +82,7 @@ impl Prepared {
         )
     }
 
-    // Are the sources coherent with the store orders, and does each pair keep atomicity?
+    // Are the sources coherent with the coherence orders, and does each pair keep atomicity?
     fn is_consistent(&self, has_pairs: bool, sources: &[Option<u8>], orders: &[List<u8>]) -> bool
         requires { has_pairs ≡ any_pair_among (steps_in self.now.traces) self.now.operations }
         ensures { result ≡ (all_coherent_among self.now.operations sources.now orders.now
@@ -92,7 +92,7 @@ impl Prepared {
             && self.is_atomic(has_pairs, sources, orders)
     }
 
-    // Does the raw candidate with these sources and store orders show the outcome?
+    // Does the raw candidate with these sources and coherence orders show the outcome?
     pub(crate) fn shows(
         &self,
         test: &Test,
