@@ -59,9 +59,17 @@ def no_constant(text):
     raise ValueError(text)
 
 
+ESCAPE = re.compile(r'\\u[dD][89abAB][0-9a-fA-F]{2}\\u[dD][c-fC-F][0-9a-fA-F]{2}|(?P<half>\\u[dD][89a-fA-F][0-9a-fA-F]{2})|\\.', re.DOTALL)
+"""An escape of a JSON text: both halves of a surrogate pair, half of one by itself, or another."""
+
+
 def json_of(data):
-    """The value that these bytes write, RFC 8259 in UTF-8; of a doubled key the last one counts. Else a ValueError."""
-    return json.loads(data.decode('utf-8'), parse_int=whole_or_other, parse_float=lambda text: in_range(text) and OTHER_NUMBER,
+    """The value that these bytes write, RFC 8259 in UTF-8; of a doubled key the last one counts. Else a ValueError. Half a surrogate pair
+    is no text, wherever it stands; Python would take it."""
+    text = data.decode('utf-8')
+    if any(escape['half'] for escape in ESCAPE.finditer(text)):
+        raise ValueError('half a surrogate pair')
+    return json.loads(text, parse_int=whole_or_other, parse_float=lambda text: in_range(text) and OTHER_NUMBER,
                       parse_constant=no_constant)
 
 

@@ -600,22 +600,6 @@ def witnesses():
     yield from witness_parts()
 
 
-def has_half_pair(data):
-    """Is this JSON with an escape of half a surrogate pair in it, even where it doesn't count? That is no text, and makes the file none.
-    Python takes it, and so does scripts/check_certificate.py."""
-    if b"\\u" not in data:
-        return False
-    try:
-        # keys that stand twice are kept, and numbers of any length
-        value = json.loads(data.decode("utf-8"), object_pairs_hook=list, parse_int=str)
-        json.dumps(value, ensure_ascii=False).encode("utf-8")
-    except UnicodeEncodeError:
-        return True
-    except (ValueError, RecursionError):
-        return False
-    return False
-
-
 class CertificateJudge:
     """What `check` answers to a certificate of SB, by scripts/check_certificate.py."""
 
@@ -624,8 +608,6 @@ class CertificateJudge:
         self.prices = check_certificate.read(f"{TOP}/examples/prices.json", check_certificate.prices_of)
 
     def verdict(self, text):
-        if has_half_pair(text):
-            return CERTIFICATE
         try:
             checker = check_certificate.Checker(self.test, self.prices, check_certificate.certificate_of(text))
             checker.check()
