@@ -1,6 +1,6 @@
 //! The answer to a question, searched by many workers.
 
-ghost use Rattle.std.specs.Prelude.{◌≡◌, ◌≢◌, ◌≤◌, ◌<◌, [], length, IfOk, IfErr, IfSome, IfNone, OnOk, All};
+ghost use Rattle.std.specs.Prelude.{◌≡◌, ◌≢◌, ◌≤◌, ◌<◌, [], length, IfOk, IfErr, IfSome, IfNone, IsOkUnless, OnOk, All};
 ghost use Rattle.std.specs.Arc.{arc_value};
 ghost use Rattle.fs_kinds.specs.PriceTable.{IsPriceTable};
 ghost use Rattle.fs_syntax.specs.Test.{IsBounded, IsStart};
@@ -11,7 +11,7 @@ ghost use Rattle.fs_pool.specs.Asked.{IsAsked};
 ghost use Rattle.fs_search.specs.Answers.{IsAnswer, IsAtAnEnd, IsBoardOf, IsShownLeast, IsSolveFault};
 
 use crate::gate::Gate;
-use crate::work::work;
+use crate::work::Workplace;
 use fs_board::Board;
 use fs_evidence::Question;
 use fs_hands::{Hand, hands};
@@ -25,12 +25,20 @@ use std::sync::{Arc, Wait};
 use std::thread;
 use std::thread::Threads;
 
-/// Passes and hands side by side.
+/// How many workers begin a search. The others join where it is long: few searches are, and before a placement is known much of what they
+/// would look at is closed later by what the first ones find.
+const FIRST_WORKERS: u8 = 2;
+
+/// How many nodes each of the first workers is done with before the others join.
+const FIRST_NODES: usize = 1_000;
+
+/// Passes and hands side by side, each pair with the number of nodes that the worker may be done with.
 fn side_by_side<A: Asked>(
     alloc: Global,
     passes: Vec<Pass<A>>,
     hands: Vec<Hand>,
-) -> Result<Vec<(Pass<A>, Hand)>, AllocError> {
+    nodes: usize,
+) -> Result<Vec<(Pass<A>, Hand, usize)>, AllocError> {
     let mut passes = passes;
     let mut hands = hands;
     let mut jobs = Vec::new(alloc);
@@ -38,30 +46,96 @@ fn side_by_side<A: Asked>(
         let Some(hand) = hands.pop() else {
             break;
         };
-        jobs.push((pass, hand))?;
+        jobs.push((pass, hand, nodes))?;
     }
     Ok(jobs)
 }
 
-/// Each pass goes with a hand to a thread of its own, works there, and comes back. Where no thread can be made they work one after the other.
+/// Each pass goes with a hand to a thread of its own, works there, and comes back, with whether it could go on. Where no thread can be made
+/// they work one after the other.
 fn work_all<A: Asked + Send + Sync, R: Threads + Wait + Sync, G: Gate + Sync>(
     rt: &R,
     alloc: Global,
     desk: &Desk<A>,
     gate: &G,
     problem: &Arc<Problem>,
-    jobs: Vec<(Pass<A>, Hand)>,
-) -> Result<Vec<Pass<A>>, AllocError>
+    jobs: Vec<(Pass<A>, Hand, usize)>,
+) -> Result<Vec<(Pass<A>, bool)>, AllocError>
     requires { arc_value problem.now ≡ A.question }
 {
     thread::map_vec(
         rt,
         jobs,
-        &|job: (Pass<A>, Hand)| {
-            let (pass, hand) = job;
-            work(rt, alloc, desk, gate, pass, hand, problem)
+        &|job: (Pass<A>, Hand, usize)| {
+            let (pass, hand, nodes) = job;
+            let place = Workplace {
+                rt,
+                alloc,
+                desk,
+                gate,
+            };
+            place.work(pass, hand, nodes, problem)
         },
     )
+}
+
+/// Takes the passes of the first workers off the others.
+fn split_first<A: Asked>(
+    alloc: Global,
+    passes: Vec<Pass<A>>,
+) -> Result<(Vec<Pass<A>>, Vec<Pass<A>>), AllocError> {
+    let mut first = passes;
+    let mut others = Vec::new(alloc);
+    while first.len() > usize::from(FIRST_WORKERS) {
+        let Some(pass) = first.pop() else {
+            break;
+        };
+        others.push(pass)?;
+    }
+    Ok((first, others))
+}
+
+/// Puts the passes that came back to the others. True where a worker could go on.
+fn join_first<A: Asked>(
+    came: Vec<(Pass<A>, bool)>,
+    others: &mut Vec<Pass<A>>,
+) -> Result<bool, AllocError> {
+    let mut came = came;
+    let mut goes_on = false;
+    while let Some((pass, could)) = came.pop() {
+        goes_on = goes_on || could;
+        others.push(pass)?;
+    }
+    Ok(goes_on)
+}
+
+/// The first workers search, and where that is long all of them.
+fn work_by_stages<A: Asked + Send + Sync, R: Threads + Wait + Sync, G: Gate + Sync>(
+    rt: &R,
+    alloc: Global,
+    desk: &Desk<A>,
+    gate: &G,
+    problem: &Arc<Problem>,
+    passes: Vec<Pass<A>>,
+    workers: u8,
+) -> Result<Vec<Pass<A>>, Fault>
+    requires same { arc_value problem.now ≡ A.question }
+    requires some { 1 ≤ workers }
+    ensures { IsOkUnless result Fault.Memory }
+{
+    let (first, mut passes) = split_first(alloc, passes)?;
+    let ring = hands(alloc, workers.min(FIRST_WORKERS))?;
+    let jobs = side_by_side(alloc, first, ring, FIRST_NODES)?;
+    let came = work_all(rt, alloc, desk, gate, problem, jobs)?;
+    let goes_on = join_first(came, &mut passes)?;
+    if !goes_on {
+        return Ok(passes);
+    }
+    let jobs = side_by_side(alloc, passes, hands(alloc, workers)?, usize::MAX)?;
+    let came = work_all(rt, alloc, desk, gate, problem, jobs)?;
+    let mut all = Vec::new(alloc);
+    join_first(came, &mut all)?;
+    Ok(all)
 }
 
 /// The workers search the board. It comes back as they left it, with nodes that are open or held where they lacked memory or met the
@@ -83,8 +157,7 @@ fn search_together<A: Asked + Send + Sync, R: Threads + Wait + Sync, G: Gate + S
     ensures err { IfErr result (λ f. f ≢ Fault.Memory → f ≡ Fault.Unmatched) }
 {
     let (desk, passes) = Desk::<A>::new(alloc, board, workers)?;
-    let jobs = side_by_side(alloc, passes, hands(alloc, workers)?)?;
-    let passes = work_all(rt, alloc, &desk, gate, problem, jobs)?;
+    let passes = work_by_stages(rt, alloc, &desk, gate, problem, passes, workers)?;
     match finish(desk, passes) {
         Ok(board) => Ok(board),
         Err(_) => Err(Fault::Unmatched),

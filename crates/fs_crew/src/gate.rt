@@ -1,6 +1,6 @@
 //! Where tests look on, and hold a worker up.
 
-/// What is told when a worker calls the desk, and when it judges.
+/// It is told when a worker calls the desk, and when it judges.
 pub trait Gate {
     /// The worker will call the desk.
     fn before(&self, worker: u8);
@@ -12,7 +12,7 @@ pub trait Gate {
     fn after(&self, worker: u8);
 }
 
-/// It holds nobody up.
+/// A gate that holds nobody up.
 #[derive(Clone, Copy)]
 pub struct Open;
 

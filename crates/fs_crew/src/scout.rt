@@ -61,14 +61,15 @@ pub(crate) const WAYS: [Way; 6] = [
     Way::Last,
 ];
 
-/// A judge of the question, the witnesses that were met, and what was seen of the board: the best placement posted, and how many witnesses
-/// there were. Contracts see the question.
+/// A judge of the question, the witnesses that were met, and what was seen of the board, once it was looked at: the best placement posted,
+/// and how many witnesses there were. Contracts see the question.
 #[derive(Drop)]
 pub(crate) struct Scout {
     judge: Judge,
     store: Store,
     bound: Option<Arc<Forbidden>>,
     seen: usize,
+    has_looked: bool,
 }
 
 impl Model for Scout {
@@ -138,7 +139,13 @@ impl Scout {
             store: Store::new(alloc),
             bound: None,
             seen: 0,
+            has_looked: false,
         }
+    }
+
+    /// Was the board looked at?
+    pub(crate) fn has_looked(&self) -> bool {
+        self.has_looked
     }
 
     /// How many of the board's witnesses were seen.
@@ -277,6 +284,7 @@ impl Scout {
         )?;
         self.bound = shared;
         self.seen = *count;
+        self.has_looked = true;
         Ok(())
     }
 }

@@ -1,6 +1,6 @@
 //! What a worker does: it takes nodes and is done with each, until there are none or something fails.
 
-ghost use Rattle.std.specs.Prelude.{◌≡◌, IfSome};
+ghost use Rattle.std.specs.Prelude.{◌≡◌, IfOk, IfSome};
 ghost use Rattle.std.specs.Arc.{arc_value};
 ghost use Rattle.fs_syntax.specs.Slots.{slots};
 ghost use Rattle.fs_bound.specs.Bounds.{slots_in_part};
@@ -13,10 +13,10 @@ use fs_hands::Hand;
 use fs_judge::Problem;
 use fs_kinds::Slot;
 use fs_pool::{Asked, Desk, Pass};
-use std::alloc::Global;
+use std::alloc::{AllocError, Global};
 use std::sync::{Arc, Wait};
 
-/// A node that the worker made, and the slot that it decides.
+/// A node that the worker made, and the slot at which its parent was split.
 #[derive(Clone, Copy)]
 pub(crate) struct Child {
     node: usize,
@@ -44,45 +44,22 @@ enum Step {
     Leave,
 }
 
-/// Asks the desk. The pass comes back, and whether there was the memory for it. To take any node waits while another worker may bring some.
-fn ask<A: Asked, R: Wait, G: Gate>(
-    rt: &R,
-    alloc: Global,
-    desk: &Desk<A>,
-    gate: &G,
-    pass: Pass<A>,
-    event: Event,
-) -> (Pass<A>, bool)
-    requires { IsMade A.question event }
-{
-    let worker = pass.worker();
-    gate.before(worker);
-    let asked = desk.call(rt, alloc, pass, event);
-    gate.after(worker);
-    match asked {
-        Ok(pass) => (pass, true),
-        Err((pass, _)) => (pass, false),
-    }
-}
-
-/// The node that the desk handed out last, where it did.
-fn given<A: Asked>(pass: &Pass<A>, slot: Option<Slot>) -> Option<Taken>
-    ensures { IfSome result (λ t. slots_in_part (arc_value t.part) ≡ slots A.question.test) }
+/// The node that the desk handed out last, where it did. An error where its part can't be shared; the worker holds the node all the same.
+fn given<A: Asked>(pass: &Pass<A>, slot: Option<Slot>) -> Result<Option<Taken>, AllocError>
+    ensures { IfOk result (λ found. IfSome found (λ t. slots_in_part (arc_value t.part) ≡ slots A.question.test)) }
 {
     let Some(Reply::Node(node, part)) = pass.reply() else {
-        return None;
+        return Ok(None);
     };
-    match Arc::try_clone(part) {
-        Ok(part) => Some(Taken {
-            node: *node,
-            part,
-            slot,
-        }),
-        Err(_) => None,
-    }
+    let part = Arc::try_clone(part)?;
+    Ok(Some(Taken {
+        node: *node,
+        part,
+        slot,
+    }))
 }
 
-/// What the desk's last reply to an event on a node means, where the event was a post or another.
+/// What the desk's last reply means for the node that was asked about, by a post or another event.
 fn step_after<A: Asked>(pass: &Pass<A>, is_post: bool) -> Step {
     match pass.reply() {
         Some(Reply::Closed) if !is_post => Step::Closed,
@@ -97,7 +74,7 @@ fn step_after<A: Asked>(pass: &Pass<A>, is_post: bool) -> Step {
 fn offer(hand: &mut Hand, children: &mut Vec<Child>) {
     if children.len() > 1 && hand.is_empty() {
         let oldest = children.remove(0);
-        hand.push(oldest.node).is_ok();
+        let _ = hand.push(oldest.node);
     }
 }
 
@@ -111,100 +88,6 @@ fn next_own(hand: &mut Hand, children: &mut Vec<Child>) -> Option<(usize, Option
     }
     let node = hand.steal()?;
     Some((node, None))
-}
-
-/// The next of those nodes that is still open, else any node. None where there is none, and where memory lacks.
-fn next_node<A: Asked, R: Wait, G: Gate>(
-    rt: &R,
-    alloc: Global,
-    desk: &Desk<A>,
-    gate: &G,
-    pass: Pass<A>,
-    hand: &mut Hand,
-    children: &mut Vec<Child>,
-) -> (Pass<A>, Option<Taken>)
-    ensures { IfSome result.1 (λ t. slots_in_part (arc_value t.part) ≡ slots A.question.test) }
-{
-    let mut pass = pass;
-    for _ in rt.forever() {
-        let Some((node, slot)) = next_own(hand, children) else {
-            break;
-        };
-        let (after, is_made) = ask(rt, alloc, desk, gate, pass, Event::Claim(node));
-        pass = after;
-        if !is_made {
-            return (pass, None);
-        }
-        let taken = given(&pass, slot);
-        if taken.is_some() {
-            return (pass, taken);
-        }
-    }
-    let (pass, is_made) = ask(rt, alloc, desk, gate, pass, Event::Take);
-    if !is_made {
-        return (pass, None);
-    }
-    let taken = given(&pass, None);
-    (pass, taken)
-}
-
-/// Tries one way to be done with a node.
-fn try_way<A: Asked, R: Wait, G: Gate>(
-    rt: &R,
-    alloc: Global,
-    desk: &Desk<A>,
-    gate: &G,
-    pass: Pass<A>,
-    scout: &mut Scout,
-    way: Way,
-    taken: &Taken,
-) -> (Pass<A>, Step)
-    requires question { scout.old ≡ A.question }
-    requires slots { slots_in_part (arc_value taken.now.part) ≡ slots A.question.test }
-    ensures value { scout.new ≡ scout.old }
-{
-    if way.judges(&taken.part, taken.slot) {
-        gate.judging(pass.worker(), taken.node);
-    }
-    let proposed = scout.propose(alloc, way, taken.node, &taken.part, taken.slot);
-    let Ok(found) = proposed else {
-        return (pass, Step::Leave);
-    };
-    let Some(event) = found else {
-        return (pass, Step::Next);
-    };
-    let is_post = matches!(event, Event::Post(_, _));
-    let (pass, is_made) = ask(rt, alloc, desk, gate, pass, event);
-    if !is_made {
-        return (pass, Step::Leave);
-    }
-    let step = step_after(&pass, is_post);
-    (pass, step)
-}
-
-/// Is done with a node in the first way that serves. Where none does, the worker leaves.
-fn settle<A: Asked, R: Wait, G: Gate>(
-    rt: &R,
-    alloc: Global,
-    desk: &Desk<A>,
-    gate: &G,
-    pass: Pass<A>,
-    scout: &mut Scout,
-    taken: &Taken,
-) -> (Pass<A>, Step)
-    requires question { scout.old ≡ A.question }
-    requires slots { slots_in_part (arc_value taken.now.part) ≡ slots A.question.test }
-    ensures value { scout.new ≡ scout.old }
-{
-    let mut pass = pass;
-    for way in WAYS {
-        let (after, step) = try_way(rt, alloc, desk, gate, pass, scout, way, taken);
-        pass = after;
-        if step != Step::Next {
-            return (pass, step);
-        }
-    }
-    (pass, Step::Leave)
 }
 
 /// Puts the children that the desk made last on the stack, the first one last. False where memory lacks.
@@ -224,115 +107,208 @@ fn push_children<A: Asked>(pass: &Pass<A>, children: &mut Vec<Child>, taken: &Ta
     true
 }
 
-/// Sees what the others have found.
-fn look_round<A: Asked, R: Wait, G: Gate>(
-    rt: &R,
-    alloc: Global,
-    desk: &Desk<A>,
-    gate: &G,
-    pass: Pass<A>,
-    scout: &mut Scout,
-    part: &Part,
-) -> (Pass<A>, bool)
-    requires { scout.old ≡ A.question }
-    ensures value { scout.new ≡ scout.old }
-{
-    let (pass, is_made) = ask(rt, alloc, desk, gate, pass, Event::Peek(scout.seen()));
-    if !is_made {
-        return (pass, false);
-    }
-    let Some(reply) = pass.reply() else {
-        return (pass, true);
-    };
-    let is_learned = scout.learn(alloc, part.as_slice(), reply).is_ok();
-    (pass, is_learned)
+/// What each worker is lent: by it the worker asks the desk, and works.
+#[derive(Drop)]
+pub(crate) struct Workplace<'a, A: Asked, R, G> {
+    pub(crate) rt: &'a R,
+    pub(crate) alloc: Global,
+    pub(crate) desk: &'a Desk<A>,
+    pub(crate) gate: &'a G,
 }
 
-/// Is done with a node, and sees what the others have found where it was split or posted. False where the worker has to leave.
-fn handle<A: Asked, R: Wait, G: Gate>(
-    rt: &R,
-    alloc: Global,
-    desk: &Desk<A>,
-    gate: &G,
-    pass: Pass<A>,
-    scout: &mut Scout,
-    children: &mut Vec<Child>,
-    taken: &Taken,
-) -> (Pass<A>, bool)
-    requires question { scout.old ≡ A.question }
-    requires slots { slots_in_part (arc_value taken.now.part) ≡ slots A.question.test }
-    ensures value { scout.new ≡ scout.old }
-{
-    let (pass, step) = settle(rt, alloc, desk, gate, pass, scout, taken);
-    if step != Step::Moved {
-        return (pass, step == Step::Closed);
+impl<A: Asked, R: Wait, G: Gate> Workplace<'_, A, R, G> {
+    /// Asks the desk. The pass comes back, and whether there was the memory for it. To take any node waits while another worker may bring
+    /// some.
+    fn ask(&self, pass: Pass<A>, event: Event) -> (Pass<A>, bool)
+        requires { IsMade A.question event }
+    {
+        let worker = pass.worker();
+        self.gate.before(worker);
+        let asked = self.desk.call(self.rt, self.alloc, pass, event);
+        self.gate.after(worker);
+        match asked {
+            Ok(pass) => (pass, true),
+            Err((pass, _)) => (pass, false),
+        }
     }
-    if !push_children(&pass, children, taken) {
-        return (pass, false);
-    }
-    look_round(rt, alloc, desk, gate, pass, scout, &taken.part)
-}
 
-/// Takes nodes and is done with each.
-fn rounds<A: Asked, R: Wait, G: Gate>(
-    rt: &R,
-    alloc: Global,
-    desk: &Desk<A>,
-    gate: &G,
-    pass: Pass<A>,
-    hand: Hand,
-    scout: Scout,
-) -> Pass<A>
-    requires { scout ≡ A.question }
-{
-    let mut hand = hand;
-    let mut scout = scout;
-    let mut pass = pass;
-    let mut children = Vec::new(alloc);
-    for _ in rt.forever() {
-        let (after, next) = next_node(rt, alloc, desk, gate, pass, &mut hand, &mut children);
-        pass = after;
-        let Some(taken) = next else {
-            break;
+    /// The next of the worker's own nodes that is still open, else any node. None where there is none, and where memory lacks.
+    fn next_node(
+        &self,
+        pass: Pass<A>,
+        hand: &mut Hand,
+        children: &mut Vec<Child>,
+    ) -> (Pass<A>, Option<Taken>)
+        ensures { IfSome result.1 (λ t. slots_in_part (arc_value t.part) ≡ slots A.question.test) }
+    {
+        let mut pass = pass;
+        for _ in self.rt.forever() {
+            let Some((node, slot)) = next_own(hand, children) else {
+                break;
+            };
+            let (after, is_made) = self.ask(pass, Event::Claim(node));
+            pass = after;
+            if !is_made {
+                return (pass, None);
+            }
+            let Ok(found) = given(&pass, slot) else {
+                return (pass, None);
+            };
+            if found.is_some() {
+                return (pass, found);
+            }
+        }
+        let (pass, is_made) = self.ask(pass, Event::Take);
+        if !is_made {
+            return (pass, None);
+        }
+        let Ok(found) = given(&pass, None) else {
+            return (pass, None);
         };
-        let (after, goes_on) = handle(
-            rt,
-            alloc,
-            desk,
-            gate,
-            pass,
-            &mut scout,
-            &mut children,
-            &taken,
-        );
-        pass = after;
-        if !goes_on {
-            break;
-        }
-        offer(&mut hand, &mut children);
+        (pass, found)
     }
-    pass
-}
 
-/// Works until there is nothing to do or memory lacks, and leaves. A node that it isn't done with stays held.
-pub(crate) fn work<A: Asked, R: Wait, G: Gate>(
-    rt: &R,
-    alloc: Global,
-    desk: &Desk<A>,
-    gate: &G,
-    pass: Pass<A>,
-    hand: Hand,
-    problem: &Arc<Problem>,
-) -> Pass<A>
-    requires { arc_value problem.now ≡ A.question }
-{
-    let pass = match Arc::try_clone(problem) {
-        Ok(shared) => {
-            let scout = Scout::new(alloc, shared);
-            rounds(rt, alloc, desk, gate, pass, hand, scout)
+    /// Tries one way to be done with a node.
+    fn try_way(&self, pass: Pass<A>, scout: &mut Scout, way: Way, taken: &Taken) -> (Pass<A>, Step)
+        requires question { scout.old ≡ A.question }
+        requires slots { slots_in_part (arc_value taken.now.part) ≡ slots A.question.test }
+        ensures value { scout.new ≡ scout.old }
+    {
+        if way.judges(&taken.part, taken.slot) {
+            self.gate.judging(pass.worker(), taken.node);
         }
-        Err(_) => pass,
-    };
-    desk.leave(rt, &pass);
-    pass
+        let proposed = scout.propose(self.alloc, way, taken.node, &taken.part, taken.slot);
+        let Ok(found) = proposed else {
+            return (pass, Step::Leave);
+        };
+        let Some(event) = found else {
+            return (pass, Step::Next);
+        };
+        let is_post = matches!(event, Event::Post(_, _));
+        let (pass, is_made) = self.ask(pass, event);
+        if !is_made {
+            return (pass, Step::Leave);
+        }
+        let step = step_after(&pass, is_post);
+        (pass, step)
+    }
+
+    /// Is done with a node in the first way that serves. Where none does, the worker leaves.
+    fn settle(&self, pass: Pass<A>, scout: &mut Scout, taken: &Taken) -> (Pass<A>, Step)
+        requires question { scout.old ≡ A.question }
+        requires slots { slots_in_part (arc_value taken.now.part) ≡ slots A.question.test }
+        ensures value { scout.new ≡ scout.old }
+    {
+        let mut pass = pass;
+        for way in WAYS {
+            let (after, step) = self.try_way(pass, scout, way, taken);
+            pass = after;
+            if step != Step::Next {
+                return (pass, step);
+            }
+        }
+        (pass, Step::Leave)
+    }
+
+    /// Sees what the others have found. False where memory lacks.
+    fn look_round(&self, pass: Pass<A>, scout: &mut Scout, part: &Part) -> (Pass<A>, bool)
+        requires { scout.old ≡ A.question }
+        ensures value { scout.new ≡ scout.old }
+    {
+        let (pass, is_made) = self.ask(pass, Event::Peek(scout.seen()));
+        if !is_made {
+            return (pass, false);
+        }
+        let Some(reply) = pass.reply() else {
+            return (pass, true);
+        };
+        let is_learned = scout.learn(self.alloc, part.as_slice(), reply).is_ok();
+        (pass, is_learned)
+    }
+
+    /// Sees what the others have found, where the worker hasn't looked round yet. False where memory lacks.
+    fn look_first(&self, pass: Pass<A>, scout: &mut Scout, part: &Part) -> (Pass<A>, bool)
+        requires { scout.old ≡ A.question }
+        ensures value { scout.new ≡ scout.old }
+    {
+        if scout.has_looked() {
+            return (pass, true);
+        }
+        self.look_round(pass, scout, part)
+    }
+
+    /// Is done with a node, and sees what the others have found where it was split or posted, and before its first node. False where the
+    /// worker has to leave.
+    fn handle(
+        &self,
+        pass: Pass<A>,
+        scout: &mut Scout,
+        children: &mut Vec<Child>,
+        taken: &Taken,
+    ) -> (Pass<A>, bool)
+        requires question { scout.old ≡ A.question }
+        requires slots { slots_in_part (arc_value taken.now.part) ≡ slots A.question.test }
+        ensures value { scout.new ≡ scout.old }
+    {
+        let (pass, is_learned) = self.look_first(pass, scout, &taken.part);
+        if !is_learned {
+            return (pass, false);
+        }
+        let (pass, step) = self.settle(pass, scout, taken);
+        if step != Step::Moved {
+            return (pass, step == Step::Closed);
+        }
+        if !push_children(&pass, children, taken) {
+            return (pass, false);
+        }
+        self.look_round(pass, scout, &taken.part)
+    }
+
+    /// Takes nodes and is done with each, up to so many of them. True where it could go on.
+    fn rounds(&self, pass: Pass<A>, hand: Hand, scout: Scout, nodes: usize) -> (Pass<A>, bool)
+        requires { scout ≡ A.question }
+    {
+        let mut hand = hand;
+        let mut scout = scout;
+        let mut pass = pass;
+        let mut children = Vec::new(self.alloc);
+        for _ in 0..nodes {
+            let (after, next) = self.next_node(pass, &mut hand, &mut children);
+            pass = after;
+            let Some(taken) = next else {
+                return (pass, false);
+            };
+            let (after, goes_on) = self.handle(pass, &mut scout, &mut children, &taken);
+            pass = after;
+            if !goes_on {
+                return (pass, false);
+            }
+            offer(&mut hand, &mut children);
+        }
+        (pass, true)
+    }
+
+    /// Works until there is nothing to do or memory lacks, and leaves; a node that it isn't done with stays held. Or it comes back when it
+    /// is done with so many nodes, and holds none: then the answer is true, and it may be sent to work again.
+    pub(crate) fn work(
+        &self,
+        pass: Pass<A>,
+        hand: Hand,
+        nodes: usize,
+        problem: &Arc<Problem>,
+    ) -> (Pass<A>, bool)
+        requires { arc_value problem.now ≡ A.question }
+    {
+        let (pass, goes_on) = match Arc::try_clone(problem) {
+            Ok(shared) => {
+                let scout = Scout::new(self.alloc, shared);
+                self.rounds(pass, hand, scout, nodes)
+            }
+            Err(_) => (pass, false),
+        };
+        if !goes_on {
+            self.desk.leave(self.rt, &pass);
+        }
+        (pass, goes_on)
+    }
 }
