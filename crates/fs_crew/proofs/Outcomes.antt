@@ -2,7 +2,7 @@
 use denote.RattleType.{RattleType}
 use denote.Hole.{as_row}
 use denote.Hole.FixSend.{Sends, Syncs, fix_send, fix_sync}
-use denote.Struct.Field.{Field, row_field, u8-field, u32-field}
+use denote.Struct.Field.{row_field, u8-field, u32-field}
 use denote.Param.Send.{IsSend, IsSync, plain_send, plain_sync}
 use denote.Param.SendFields.{as_row_send, as_row_sync, variants_send, variants_sync}
 use Rattle.std.proofs.Crossing.{Box-send, Box-sync}

@@ -164,6 +164,27 @@ fn search_together<A: Asked + Send + Sync, R: Threads + Wait + Sync, G: Gate + S
     }
 }
 
+/// The board of the problem's question, which the workers have searched.
+fn searched<R: Threads + Wait + Sync, G: Gate + Sync>(
+    rt: &R,
+    alloc: Global,
+    problem: &Arc<Problem>,
+    workers: u8,
+    limit: usize,
+    gate: &G,
+) -> Result<Board, Fault>
+    requires test { IsBounded (arc_value problem.now).test }
+    requires alone { 1 ≤ workers }
+    requires few { workers ≤ 16 }
+    requires limit { limit ≤ 1000000 }
+    ensures asked { IfOk result (λ b. IsAsked b (arc_value problem.now) limit) }
+    ensures err { IfErr result (λ f. f ≢ Fault.Memory → f ≡ Fault.Unmatched) }
+{
+    let question = Arc::try_clone(problem.question())?;
+    let board = Board::new(alloc, question, limit)?;
+    search_together::<Brand, R, G>(rt, alloc, problem, board, workers, gate)
+}
+
 /// The answer to a question, as `fs_search::solve` gives it, searched by this many workers. One worker needs neither threads nor a desk.
 /// More of them search together first, and what they leave is searched as by one. F22 where the board's log and what the workers saw of
 /// it don't agree, which can't come of one worker; the other faults are those of `fs_search::solve`.
@@ -191,36 +212,15 @@ pub fn solve<R: Threads + Wait + Sync, G: Gate + Sync>(
     ensures least { IfOk result (λ s. IfNone s.board (IsShownLeast (arc_value question).test s.answer s.least)) }
     ensures err { IfErr result (λ f. f ≢ Fault.Memory → f ≢ Fault.Unmatched → IsSolveFault (arc_value question) limit f) }
     ensures alone { IfErr result (λ f. f ≡ Fault.Unmatched → 2 ≤ workers) }
+    ensures listed { IfErr result (λ f. f ≡ Fault.Unmatched
+        → (other : Fault) → IsCandidateFault (arc_value question).test other → ⊥) }
 {
     if workers == 1 {
         return fs_search::solve(alloc, question, limit);
     }
-    let asked = Arc::try_clone(&question)?;
-    let problem = Problem::shared(alloc, asked)?;
-    let board = searched(rt, alloc, question, &problem, workers, limit, gate)?;
+    let problem = Problem::shared(alloc, question)?;
+    let board = searched(rt, alloc, &problem, workers, limit, gate)?;
     let mut judge = Judge::new(problem);
     let solved = conclude(alloc, &mut judge, board)?;
     Ok(solved)
-}
-
-/// The question's board, which the workers have searched.
-fn searched<R: Threads + Wait + Sync, G: Gate + Sync>(
-    rt: &R,
-    alloc: Global,
-    question: Arc<Question>,
-    problem: &Arc<Problem>,
-    workers: u8,
-    limit: usize,
-    gate: &G,
-) -> Result<Board, Fault>
-    requires same { arc_value problem.now ≡ arc_value question }
-    requires test { IsBounded (arc_value question).test }
-    requires alone { 1 ≤ workers }
-    requires few { workers ≤ 16 }
-    requires limit { limit ≤ 1000000 }
-    ensures asked { IfOk result (λ b. IsAsked b (arc_value question) limit) }
-    ensures err { IfErr result (λ f. f ≢ Fault.Memory → f ≡ Fault.Unmatched) }
-{
-    let board = Board::new(alloc, question, limit)?;
-    search_together::<Brand, R, G>(rt, alloc, problem, board, workers, gate)
 }

@@ -107,7 +107,7 @@ fn push_children<A: Asked>(pass: &Pass<A>, children: &mut Vec<Child>, taken: &Ta
     true
 }
 
-/// What each worker is lent: by it the worker asks the desk, and works.
+/// What a worker is lent: where it may wait, what it allocates with, the desk, and the gate that is told of its calls.
 #[derive(Drop)]
 pub(crate) struct Workplace<'a, A: Asked, R, G> {
     pub(crate) rt: &'a R,
@@ -132,7 +132,7 @@ impl<A: Asked, R: Wait, G: Gate> Workplace<'_, A, R, G> {
         }
     }
 
-    /// The next of the worker's own nodes that is still open, else any node. None where there is none, and where memory lacks.
+    /// The next node of `next_own` that is still open, else any node. None where there is none, and where memory lacks.
     fn next_node(
         &self,
         pass: Pass<A>,

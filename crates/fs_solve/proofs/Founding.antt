@@ -14,6 +14,7 @@ use Rattle.fs_model.specs.Execution.{Execution}
 use Rattle.fs_model.specs.Witness.{Witness}
 use Rattle.fs_answer.specs.Certificate as said
 use Rattle.fs_answer.specs.CertificateFile.{CanBeSaid, IsCertificateFile}
+use Rattle.fs_answer.specs.Texts.{certificate_text}
 use Rattle.fs_answer.specs.Valid.{HasCycles}
 use Rattle.fs_certificate.specs.declared.certificate.Certificate.{Certificate}
 use Rattle.fs_certificate.specs.Kept.{AreInRange, KeepsCertificate}
@@ -147,21 +148,24 @@ least-some t (answer.Fenced p n) some is = is
 
 pub certificate-said : (t : Test) (prices : PriceTable) (a : Answer) (made : Certificate) (bytes : List ℕ)
     → CertifiesAnswer t prices a made
+    → ((c : said.Certificate) → KeepsCertificate made c → AreInRange c → bytes ≡ certificate_text c)
     → ((c : said.Certificate) → KeepsCertificate made c → AreInRange c → CanBeSaid c → IsCertificateFile bytes c)
     → SaysAnswer t prices a bytes
-certificate-said t prices (answer.Fenced p n) made bytes certifies says = record {
+certificate-said t prices (answer.Fenced p n) made bytes certifies written says = record {
   certified = record {
     certificate = certifies.certificate;
     file = says certifies.certificate certifies.keeps certifies.in_range certifies.sayable;
+    written = written certifies.certificate certifies.keeps certifies.in_range;
     second = certifies.second;
     valid = certifies.valid;
   };
   witnesses = tt;
 }
-certificate-said t prices (answer.None w) made bytes certifies says = let by = certifies.certifies in record {
+certificate-said t prices (answer.None w) made bytes certifies written says = let by = certifies.certifies in record {
   certified = record {
     certificate = by.certificate;
     file = says by.certificate by.keeps by.in_range by.sayable;
+    written = written by.certificate by.keeps by.in_range;
     second = by.second;
     valid = by.valid;
   };

@@ -13,7 +13,7 @@ use Rattle.fs_model.specs.Witness.{Witness, IsOfWitness}
 use Rattle.fs_answer.specs.CandidateFaults.{IsCandidateFault}
 use Rattle.fs_answer.specs.Certificate as said
 use Rattle.fs_answer.specs.CertificateFile.{IsCertificateFile}
-use Rattle.fs_answer.specs.Texts.{fenced_lines, none_lines, witness_text}
+use Rattle.fs_answer.specs.Texts.{certificate_text, fenced_lines, none_lines, witness_text}
 use Rattle.fs_answer.specs.Valid.{IsValid}
 use Rattle.fs_answer.specs.WitnessFile.{IsWitnessFile}
 use Rattle.fs_io.specs.declared.status.Status.{Status}
@@ -63,10 +63,11 @@ abbrev pub PrintsPlaced : Test → PriceTable → Option (List Entry) → List �
 PrintsPlaced t prices (Some p) text status = IsCheapest t prices p × (text ≡ fenced_lines (cost prices p) p) × (status ≡ Success)
 PrintsPlaced t prices None text status = PrintsNone t text status
 
--- the bytes are a certificate file, of the second version, which is valid with this placement as its answer, or with none
+-- the bytes are a certificate file, as it is written, of the second version, which is valid with this placement as its answer, or with none
 pub record IsCertificateOf (t : Test) (prices : PriceTable) (answer : Option (List Entry)) (bytes : List ℕ) : Type 0 where
   pub certificate : said.Certificate
   pub file : IsCertificateFile bytes certificate
+  pub written : bytes ≡ certificate_text certificate
   pub second : certificate.version ≡ said.Second
   pub valid : IsValid t prices certificate answer
 
@@ -88,7 +89,7 @@ pub record IsCertified (test prices text : List ℕ) (status : Status) (certific
   pub witnessed : IsWitnessed placed certified.certificate.witnesses text
 
 -- the first fault: of the prices, else of the test, else of its candidates and then of the search; want of memory may come in place
--- of any answer, and with two workers or more F22
+-- of any answer, and with two workers or more F22, where there is none of the prices, of the test and of its candidates
 pub data IsFirstSolveFault (test prices : List ℕ) (limit workers : ℕ) : Fault → Type 0 where
   of_prices : {fault : Fault} → IsPricesFault (Some prices) fault → IsFirstSolveFault test prices limit workers fault
   of_test : {fault : Fault} (table : PriceTable) → ArePricesOf prices table → IsTestFault test fault
@@ -96,4 +97,5 @@ pub data IsFirstSolveFault (test prices : List ℕ) (limit workers : ℕ) : Faul
   of_search : {fault : Fault} (table : PriceTable) (t : Test) → ArePricesOf prices table → Reads test t
       → IsSolveFault (record { test = t; prices = table }) limit fault → IsFirstSolveFault test prices limit workers fault
   of_memory : IsFirstSolveFault test prices limit workers Memory
-  of_workers : 2 ≤ workers → IsFirstSolveFault test prices limit workers Unmatched
+  of_workers : (table : PriceTable) (t : Test) → ArePricesOf prices table → Reads test t → HasNoCandidateFault t → 2 ≤ workers
+      → IsFirstSolveFault test prices limit workers Unmatched

@@ -37,4 +37,4 @@ pub record IsFound (test prices : List ℕ) (limit : ℕ) (asked : Question) (s 
 
 -- the fault of a search that so many workers made
 abbrev pub IsSearchFault : Question → (limit workers : ℕ) → Fault → Type 0
-IsSearchFault q limit workers f = IsSolveFault q limit f ⊎ ((f ≡ Unmatched) × (2 ≤ workers))
+IsSearchFault q limit workers f = IsSolveFault q limit f ⊎ ((f ≡ Unmatched) × (2 ≤ workers) × HasNoCandidateFault q.test)

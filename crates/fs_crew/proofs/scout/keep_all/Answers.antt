@@ -1,4 +1,4 @@
-use Rattle.std.proofs.Common.{Some, map, option_map, sym, ap, ◌∙◌, arith}
+use Rattle.std.proofs.Common.{Some, option_map, sym, ap, ◌∙◌, arith}
 use Rattle.std.specs.Arc.{arc_value}
 use Rattle.std.proofs.lemmas.Option.{slice_get-map, slice_get-get_or}
 use Rattle.fs_crew.proofs.scout.keep_all.Goals as goal

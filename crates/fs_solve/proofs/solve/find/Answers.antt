@@ -16,7 +16,7 @@ pub returns-in_err-solved-clause-fault : goal.returns-in_err-solved-clause-fault
 returns-in_err-solved-clause-fault g c =
     IfErr-handed c.from_residual-in_err-solved.result _ _ c.from_residual-in_err-solved.ensures.1
     (first-together _ _ _ _ c.args.limit _ c.in_ok-question.ensures.asked c.in_ok-asked.ensures c.args.workers c.in_err-solved.ensures.err
-    c.in_err-solved.ensures.alone)
+    c.in_err-solved.ensures.alone c.in_err-solved.ensures.listed)
 
 pub returns-clause-answer : goal.returns-clause-answer
 returns-clause-answer g c =

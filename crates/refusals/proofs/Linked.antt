@@ -1,0 +1,22 @@
+-- Hands stay linked where one of them makes a move.
+use Rattle.std.proofs.Common.{◌≡◌, ℕ, zero, suc, Some, List, [], ◌∷◌, refl, subst, inl, inr, ◌⊎◌, ⊎_elim}
+use Rattle.std.specs.Prelude.{slice_get, slice_set}
+use Rattle.fs_hands.specs.Ring.{Hand, AreLinked, IsSameHand}
+use Rattle.fs_hands.proofs.Rings.{linked_same}
+
+same_itself : (h : Hand) → IsSameHand h h
+same_itself h = (refl, refl, refl, refl)
+
+at_set : (hs : List Hand) (i k : ℕ) (h g : Hand) → slice_get (slice_set hs i h) k ≡ Some g → (h ≡ g) ⊎ (slice_get hs k ≡ Some g)
+at_set [] i k h g e = inr e
+at_set (x ∷ xs) zero zero h g e = inl (cc)
+at_set (x ∷ xs) zero (suc k) h g e = inr e
+at_set (x ∷ xs) (suc i) zero h g e = inr e
+at_set (x ∷ xs) (suc i) (suc k) h g e = at_set xs i k h g e
+
+pub linked_set : (hs : List Hand) (i : ℕ) (old new : Hand) → slice_get hs i ≡ Some old → IsSameHand old new → AreLinked hs → AreLinked (slice_set hs i new)
+linked_set hs i old new at same linked =
+    linked_same hs (slice_set hs i new)
+    (λ k h e.
+    ⊎_elim (λ (is : new ≡ h). (i, old, at, subst (IsSameHand old) is same)) (λ (was : slice_get hs k ≡ Some h). (k, h, was, same_itself h)) (at_set hs i k new h e))
+    linked

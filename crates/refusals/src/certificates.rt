@@ -1,0 +1,125 @@
+//! Certificates of answers: made of what a search leaves, written, read, and checked.
+ghost use Rattle.std.specs.Prelude.{◌≡◌, true, IfOk, IfSome};
+ghost use Rattle.std.specs.Arc.{arc_value};
+ghost use Rattle.fs_kinds.specs.PriceTable.{IsPriceTable};
+ghost use Rattle.fs_syntax.specs.Test.{IsBounded, IsTest};
+ghost use Rattle.fs_history.specs.Board.{is_finished};
+
+use crate::printing::{print_fences, say_refused};
+use fs_board::Board;
+use fs_cert::{from_board, from_witness};
+use fs_certificate::Certificate;
+use fs_checker::{CheckVerdict, check};
+use fs_evidence::Question;
+use fs_examples::{CO_RR, MP11, PRICES, SBF, question_of};
+use fs_kinds::Fault;
+use fs_search::{Answer, Solved, solve};
+use std::alloc::Global;
+use std::sync::Arc;
+
+/// The greatest number that a node may have.
+const LIMIT: usize = 10_000;
+
+/// The answer to the question, with its finished board.
+fn solved_of(alloc: Global, question: &Arc<Question>) -> Result<Solved, Fault>
+    requires test { IsTest (arc_value question.now).test }
+    requires prices { IsPriceTable (arc_value question.now).prices }
+    ensures bounded { IfOk result (λ solved. IfSome solved.board (λ board. IsBounded board.question.test)) }
+    ensures finished { IfOk result (λ solved. IfSome solved.board (λ board. is_finished board.board ≡ true)) }
+{
+    solve(alloc, Arc::try_clone(question)?, LIMIT)
+}
+
+/// The certificate of the board's bound. `NodeLimit` where there is none.
+fn certificate_of_board(alloc: Global, board: &Board) -> Result<Certificate, Fault>
+    requires bounded { IsBounded board.now.question.test }
+    requires finished { is_finished board.now.board ≡ true }
+{
+    match from_board(alloc, board)? {
+        Some(certificate) => Ok(certificate),
+        None => Err(Fault::NodeLimit),
+    }
+}
+
+/// The certificate of the answer. `NodeLimit` where the search came to its limit.
+fn certificate_of(alloc: Global, solved: &Solved) -> Result<Certificate, Fault>
+    requires bounded { IfSome solved.now.board (λ board. IsBounded board.question.test) }
+    requires finished { IfSome solved.now.board (λ board. is_finished board.board ≡ true) }
+{
+    if let Answer::None { witness } = &solved.answer {
+        return Ok(from_witness(alloc, witness)?);
+    }
+    match solved.board() {
+        Some(board) => certificate_of_board(alloc, board),
+        None => Err(Fault::NodeLimit),
+    }
+}
+
+/// The certificate's text.
+fn text_of(alloc: Global, certificate: &Certificate) -> Result<String, Fault> {
+    Ok(certificate.to_text(alloc)?)
+}
+
+/// What the checker says of the certificate with this text.
+fn verdict_of(alloc: Global, question: &Question, text: &str) -> Result<CheckVerdict, Fault>
+    requires { IsTest question.now.test }
+{
+    let test = Arc::try_clone(&question.test)?;
+    check(alloc, test, &question.prices, text.as_bytes())
+}
+
+/// Prints the verdict.
+fn print_verdict<R: Print>(rt: &R, verdict: &CheckVerdict) {
+    match verdict {
+        CheckVerdict::Yes(_, Some(placement)) => {
+            let _ = rt.print("yes");
+            print_fences(rt, placement);
+            let _ = rt.println("");
+        }
+        CheckVerdict::Yes(_, None) => {
+            let _ = rt.println("none");
+        }
+        CheckVerdict::No(reason) => {
+            let _ = println!(rt; "no: {reason}");
+        }
+    }
+}
+
+/// Writes the certificate, reads it, and checks it. Its text is printed where that is asked for.
+fn check_written<R: Print>(
+    rt: &R,
+    alloc: Global,
+    question: &Question,
+    certificate: &Certificate,
+    is_printed: bool,
+) -> Result<(), Fault>
+    requires { IsTest question.now.test }
+{
+    let written = twice!(rt, text_of(alloc, certificate))?;
+    let read = twice!(rt, Certificate::from_bytes(alloc, written.as_bytes()))?;
+    let again = twice!(rt, text_of(alloc, &read))?;
+    let _ = println!(rt; "read as written: {}", again.as_str() == written.as_str());
+    if is_printed {
+        let _ = rt.println(written.as_str());
+    }
+    let verdict = twice!(rt, verdict_of(alloc, question, written.as_str()))?;
+    print_verdict(rt, &verdict);
+    Ok(())
+}
+
+/// Answers the question, and makes a certificate of the answer.
+fn certify<R: Print>(rt: &R, alloc: Global, text: &str, is_printed: bool) -> Result<(), Fault> {
+    let question = question_of(alloc, text, PRICES)?;
+    let _ = rt.println("a certificate");
+    let solved = twice!(rt, solved_of(alloc, &question))?;
+    let certificate = twice!(rt, certificate_of(alloc, &solved))?;
+    check_written(rt, alloc, &question, &certificate, is_printed)
+}
+
+/// Certificates of two loads of a word, of store buffering where each hart loads its own store first, and of message passing in order,
+/// which no fences forbid.
+pub(crate) fn make<R: Print + AllocGlobal>(rt: &R) -> Result<(), Fault> {
+    certify(rt, rt.alloc(), CO_RR, true)?;
+    certify(rt, rt.alloc(), SBF, false)?;
+    certify(rt, rt.alloc(), MP11, false)
+}

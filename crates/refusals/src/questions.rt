@@ -1,0 +1,105 @@
+//! What workers ask of a board or a desk, and placements and verdicts from texts.
+ghost use Rattle.std.specs.Prelude.{◌≡◌, List, IfOk, map};
+ghost use Rattle.std.specs.Arc.{arc_value};
+ghost use Rattle.fs_kinds.specs.Placement.{slots_of};
+ghost use Rattle.fs_kinds.specs.declared.placement.Entry.{Entry};
+ghost use Rattle.fs_syntax.specs.Slots.{slots};
+ghost use Rattle.fs_syntax.specs.Test.{IsBounded};
+ghost use Rattle.fs_model.specs.Allows.{Allows};
+ghost use Rattle.fs_model.specs.Execution.{Execution};
+ghost use Rattle.fs_answer.specs.Valid.{HasCycles};
+ghost use Rattle.fs_evidence.specs.Evidence.{IsWitnessFor, placement_in};
+ghost use Rattle.fs_board.specs.Growth.{AreWitnesses};
+ghost use Rattle.fs_judge.specs.Verdicts.{IsVerdict};
+
+use fs_evidence::{Forbidden, Witness};
+use fs_judge::{Problem, Verdict};
+use fs_kinds::{Fault, Placement, Slot};
+use fs_list::List;
+use fs_litmus::{Test, read_fences};
+use std::alloc::Global;
+use std::sync::Arc;
+
+/// What a worker asks of a board or a desk.
+#[derive(Clone, Copy)]
+pub(crate) enum Request {
+    Take,
+    Claim(usize),
+    Adopt(usize),
+    Split(usize, Slot),
+    CutCost(usize),
+    /// That the node be closed by the witness of the verdict on the placement that the words name.
+    CutWitness(usize, &'static str),
+    /// The same by a list of this witness.
+    CutBound(usize, &'static str),
+    /// That the placement that the words name be posted, which forbids the outcome.
+    Post(usize, &'static str),
+    Peek(usize),
+}
+
+/// The placement that the words name, which spaces part.
+pub(crate) fn placement_of(alloc: Global, test: &Test, words: &str) -> Result<Placement, Fault>
+    requires { IsBounded test.now }
+    ensures { IfOk result (λ placement. slots_of placement ≡ slots test.now) }
+{
+    let mut fences = Vec::new(alloc);
+    for word in words.split_whitespace() {
+        fences.push(String::from_str(alloc, word)?)?;
+    }
+    read_fences(alloc, test, None, &fences)
+}
+
+/// The verdict on the placement that the words name.
+pub(crate) fn verdict_on(alloc: Global, problem: &Problem, words: &str) -> Result<Verdict, Fault>
+    requires { IsBounded problem.now.test }
+    ensures { IfOk result (λ verdict. (p : List Entry) × IsVerdict problem.now.test p verdict) }
+{
+    let placement = placement_of(alloc, &problem.question().test, words)?;
+    problem.verdict(alloc, &placement, &[])
+}
+
+/// The witness of the verdict on the placement that the words name. `BadFence` where it forbids the outcome.
+pub(crate) fn witness_on(
+    alloc: Global,
+    problem: &Problem,
+    words: &str,
+) -> Result<Arc<Witness>, Fault>
+    requires { IsBounded problem.now.test }
+    ensures { IfOk result (λ w. (e : Execution) × IsWitnessFor problem.now.test (arc_value w) e) }
+{
+    match verdict_on(alloc, problem, words)? {
+        Verdict::Allowed(witness) => Ok(Arc::new(alloc, witness)?),
+        Verdict::Forbids(_) => Err(Fault::BadFence),
+    }
+}
+
+/// A list of this witness.
+pub(crate) fn witnesses_on(
+    alloc: Global,
+    problem: &Problem,
+    words: &str,
+) -> Result<List<Arc<Witness>>, Fault>
+    requires { IsBounded problem.now.test }
+    ensures { IfOk result (λ ws. AreWitnesses problem.now.test (map arc_value ws)) }
+{
+    let witness = witness_on(alloc, problem, words)?;
+    let mut witnesses = Vec::new(alloc);
+    witnesses.push(witness)?;
+    Ok(List::new(witnesses))
+}
+
+/// That the placement that the words name forbids the outcome, with its cycles. `BadFence` where it allows the outcome.
+pub(crate) fn forbidden_on(
+    alloc: Global,
+    problem: &Problem,
+    words: &str,
+) -> Result<Arc<Forbidden>, Fault>
+    requires { IsBounded problem.now.test }
+    ensures cycles { IfOk result (λ f. HasCycles problem.now.test (placement_in f) (arc_value f).cycles) }
+    ensures forbids { IfOk result (λ f. Allows problem.now.test (placement_in f) → ⊥) }
+{
+    match verdict_on(alloc, problem, words)? {
+        Verdict::Allowed(_) => Err(Fault::BadFence),
+        Verdict::Forbids(forbidden) => Ok(Arc::new(alloc, forbidden)?),
+    }
+}

@@ -1,0 +1,88 @@
+//! A question that is made ready, and verdicts on placements: of the problem, and of a judge, who keeps what it found last.
+ghost use Rattle.std.specs.Prelude.{◌≡◌, IfOk};
+ghost use Rattle.std.specs.Arc.{arc_value};
+ghost use Rattle.fs_syntax.specs.Test.{IsBounded, IsTest};
+
+use crate::printing::say_refused;
+use crate::questions::{placement_of, verdict_on};
+use fs_evidence::{Question, Witness};
+use fs_examples::{PRICES, SB, question_of};
+use fs_judge::{Judge, Problem, Verdict};
+use fs_kinds::Fault;
+use std::alloc::Global;
+use std::sync::Arc;
+
+/// The question, ready to be judged by several.
+fn problem_of(alloc: Global, question: &Arc<Question>) -> Result<Arc<Problem>, Fault>
+    requires { IsTest (arc_value question.now).test }
+    ensures { IfOk result (λ problem. arc_value problem ≡ arc_value question.now) }
+{
+    Problem::shared(alloc, Arc::try_clone(question)?)
+}
+
+/// What a judge sees at a quick look at the placement that the words name.
+fn look_on(alloc: Global, judge: &mut Judge, words: &str) -> Result<Option<Witness>, Fault>
+    requires { IsBounded judge.old.test }
+    ensures { judge.new ≡ judge.old }
+{
+    let placement = placement_of(alloc, &judge.question().test, words)?;
+    judge.look(alloc, &placement, &[])
+}
+
+/// A judge's verdict on the placement that the words name.
+fn judged_on(alloc: Global, judge: &mut Judge, words: &str) -> Result<Verdict, Fault>
+    requires { IsBounded judge.old.test }
+    ensures { judge.new ≡ judge.old }
+{
+    let placement = placement_of(alloc, &judge.question().test, words)?;
+    judge.verdict(alloc, &placement, &[])
+}
+
+/// Prints what a look found.
+fn print_look<R: Print>(rt: &R, found: &Option<Witness>) {
+    match found {
+        Some(witness) => {
+            let _ = println!(rt; "seen with {} operations", witness.order.len());
+        }
+        None => {
+            let _ = rt.println("nothing seen");
+        }
+    }
+}
+
+/// Prints the verdict on a placement.
+fn print_verdict<R: Print>(rt: &R, verdict: &Verdict) {
+    match verdict {
+        Verdict::Allowed(witness) => {
+            let _ = println!(rt; "allowed with {} operations", witness.order.len());
+        }
+        Verdict::Forbids(forbidden) => {
+            let _ = println!(rt; "forbidden by {}", forbidden.cycles.len());
+        }
+    }
+}
+
+/// Judges the placement that the words name: by the problem itself, and by the judge.
+fn judge_on<R: Print>(rt: &R, alloc: Global, judge: &mut Judge, words: &str) -> Result<(), Fault>
+    requires { IsBounded judge.old.test }
+    ensures { judge.new ≡ judge.old }
+{
+    let verdict = twice!(rt, verdict_on(alloc, judge.problem(), words))?;
+    print_verdict(rt, &verdict);
+    let found = twice!(rt, look_on(alloc, judge, words))?;
+    print_look(rt, &found);
+    let judged = twice!(rt, judged_on(alloc, judge, words))?;
+    print_verdict(rt, &judged);
+    Ok(())
+}
+
+/// Judges store buffering without fences, and with those that are needed.
+pub(crate) fn make<R: Print + AllocGlobal>(rt: &R) -> Result<(), Fault> {
+    let alloc = rt.alloc();
+    let question = question_of(alloc, SB, PRICES)?;
+    let _ = rt.println("verdicts");
+    let problem = twice!(rt, problem_of(alloc, &question))?;
+    let mut judge = Judge::new(problem);
+    judge_on(rt, alloc, &mut judge, "")?;
+    judge_on(rt, alloc, &mut judge, "P0:2=w,r P1:2=w,r")
+}
