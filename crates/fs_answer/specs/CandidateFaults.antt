@@ -19,3 +19,7 @@ HasTooMany t = AreMoreThan most_candidates (AreRunsOverValues t) ⊎ AreMoreThan
 abbrev pub IsCandidateFault : Test → Fault → Type 0
 IsCandidateFault t fault.TooManyCandidates = ((f : Fault) → IsRunFault t f → ⊥) × HasTooMany t
 IsCandidateFault t f = IsRunFault t f
+
+-- the test's candidate executions can be listed: no run goes astray, and there aren't too many of them
+abbrev pub HasNoCandidateFault : Test → Type 0
+HasNoCandidateFault t = (f : Fault) → IsCandidateFault t f → ⊥

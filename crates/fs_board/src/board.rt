@@ -68,8 +68,8 @@ fn push_within<T: Drop>(list: &mut Vec<T>, item: T)
 }
 
 impl Board {
-    /// The board with one open node, which is wholly undecided, and an empty log. No node's number may pass the limit. F19. It takes time
-    /// of slots.
+    /// The board with one open node, which is wholly undecided, and an empty log. No node's number may pass the limit. The error is F19.
+    /// It takes time of slots.
     pub fn new(alloc: Global, question: Arc<Question>, limit: usize) -> Result<Board, Fault>
         requires bounded { IsBounded (arc_value question).test }
         requires limit { limit ≤ 1000000 }

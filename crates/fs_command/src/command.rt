@@ -82,7 +82,7 @@ Exit status:
   3  memory ran out (fault F19)
 Faults beside those of the files: a hart has too many runs (F13), a run accesses an
 address of no location (F14), there are too many candidate executions (F15), the search
-needs more nodes (F16), the threads of the search don't agree (F22).";
+needs more nodes (F16).";
 
 const CHECK_ABOUT: &str = "Does this certificate show that an answer is right?";
 

@@ -1,6 +1,6 @@
 //! The answer to a question, searched by many workers.
 
-ghost use Rattle.std.specs.Prelude.{◌≡◌, ◌≢◌, ◌≤◌, ◌<◌, [], length, IfOk, IfErr, IfSome, IfNone, IsOkUnless, OnOk, All};
+ghost use Rattle.std.specs.Prelude.{◌≡◌, ◌≢◌, ◌≤◌, ◌<◌, [], length, IfOk, IfErr, IfSome, IfNone, IsOkUnless, OnOk, All, None};
 ghost use Rattle.std.specs.Arc.{arc_value};
 ghost use Rattle.fs_kinds.specs.PriceTable.{IsPriceTable};
 ghost use Rattle.fs_syntax.specs.Test.{IsBounded, IsStart};
@@ -139,7 +139,7 @@ fn work_by_stages<A: Asked + Send + Sync, R: Threads + Wait + Sync, G: Gate + Sy
 }
 
 /// The workers search the board. It comes back as they left it, with nodes that are open or held where they lacked memory or met the
-/// limit. F22 where its log and what they saw of it don't agree; or F19.
+/// limit; or none does, where its log and what they saw of it don't agree. The error is F19.
 fn search_together<A: Asked + Send + Sync, R: Threads + Wait + Sync, G: Gate + Sync>(
     rt: &R,
     alloc: Global,
@@ -147,24 +147,37 @@ fn search_together<A: Asked + Send + Sync, R: Threads + Wait + Sync, G: Gate + S
     board: Board,
     workers: u8,
     gate: &G,
-) -> Result<Board, Fault>
+) -> Result<Option<Board>, Fault>
     requires asked { IsAsked board A.question A.limit }
     requires same { arc_value problem.now ≡ A.question }
     requires empty { board.log ≡ [] }
     requires some { 1 ≤ workers }
     requires few { workers ≤ 16 }
-    ensures asked { IfOk result (λ b. IsAsked b A.question A.limit) }
-    ensures err { IfErr result (λ f. f ≢ Fault.Memory → f ≡ Fault.Unmatched) }
+    ensures asked { IfOk result (λ found. IfSome found (λ b. IsAsked b A.question A.limit)) }
+    ensures err { IsOkUnless result Fault.Memory }
 {
     let (desk, passes) = Desk::<A>::new(alloc, board, workers)?;
     let passes = work_by_stages(rt, alloc, &desk, gate, problem, passes, workers)?;
     match finish(desk, passes) {
-        Ok(board) => Ok(board),
-        Err(_) => Err(Fault::Unmatched),
+        Ok(board) => Ok(Some(board)),
+        Err(_) => Ok(None),
     }
 }
 
-/// The board of the problem's question, which the workers have searched.
+/// The board of the problem's question, on which nothing was searched yet. The error is F19.
+fn opened(alloc: Global, problem: &Problem, limit: usize) -> Result<Board, Fault>
+    requires test { IsBounded problem.now.test }
+    requires limit { limit ≤ 1000000 }
+    ensures asked { IfOk result (λ b. IsAsked b problem.now limit) }
+    ensures empty { IfOk result (λ b. b.log ≡ []) }
+    ensures err { IsOkUnless result Fault.Memory }
+{
+    let question = Arc::try_clone(problem.question())?;
+    Board::new(alloc, question, limit)
+}
+
+/// The board of the problem's question, which the workers have searched. Where its log and what they saw of it don't agree, the lock or
+/// the threads didn't do as they should: then it is a board anew, on which nothing is searched yet. The error is F19.
 fn searched<R: Threads + Wait + Sync, G: Gate + Sync>(
     rt: &R,
     alloc: Global,
@@ -178,16 +191,18 @@ fn searched<R: Threads + Wait + Sync, G: Gate + Sync>(
     requires few { workers ≤ 16 }
     requires limit { limit ≤ 1000000 }
     ensures asked { IfOk result (λ b. IsAsked b (arc_value problem.now) limit) }
-    ensures err { IfErr result (λ f. f ≢ Fault.Memory → f ≡ Fault.Unmatched) }
+    ensures err { IsOkUnless result Fault.Memory }
 {
-    let question = Arc::try_clone(problem.question())?;
-    let board = Board::new(alloc, question, limit)?;
-    search_together::<Brand, R, G>(rt, alloc, problem, board, workers, gate)
+    let board = opened(alloc, problem, limit)?;
+    match search_together::<Brand, R, G>(rt, alloc, problem, board, workers, gate)? {
+        Some(board) => Ok(board),
+        None => opened(alloc, problem, limit),
+    }
 }
 
 /// The answer to a question, as `fs_search::solve` gives it, searched by this many workers. One worker needs neither threads nor a desk.
-/// More of them search together first, and what they leave is searched as by one. F22 where the board's log and what the workers saw of
-/// it don't agree, which can't come of one worker; the other faults are those of `fs_search::solve`.
+/// More of them search together first, and what they leave is searched as by one: all of it, where the board's log and what they saw of it
+/// don't agree. The faults are those of `fs_search::solve`.
 pub fn solve<R: Threads + Wait + Sync, G: Gate + Sync>(
     rt: &R,
     alloc: Global,
@@ -210,10 +225,8 @@ pub fn solve<R: Threads + Wait + Sync, G: Gate + Sync>(
         (limit < tree_size (arc_value question).prices (length (slots (arc_value question).test)))) }
     ensures ends { IfOk result (λ s. IfNone s.board (IsAtAnEnd (arc_value question).test s.answer)) }
     ensures least { IfOk result (λ s. IfNone s.board (IsShownLeast (arc_value question).test s.answer s.least)) }
-    ensures err { IfErr result (λ f. f ≢ Fault.Memory → f ≢ Fault.Unmatched → IsSolveFault (arc_value question) limit f) }
-    ensures alone { IfErr result (λ f. f ≡ Fault.Unmatched → 2 ≤ workers) }
-    ensures listed { IfErr result (λ f. f ≡ Fault.Unmatched
-        → (other : Fault) → IsCandidateFault (arc_value question).test other → ⊥) }
+    ensures either { IfOk result (λ s. IfSome s.board (λ _. s.least ≡ None)) }
+    ensures err { IfErr result (λ f. f ≢ Fault.Memory → IsSolveFault (arc_value question) limit f) }
 {
     if workers == 1 {
         return fs_search::solve(alloc, question, limit);

@@ -7,4 +7,5 @@ mod scout;
 mod work;
 
 pub use crew::solve;
+pub use fs_search::{Answer, Solved};
 pub use gate::{Gate, Open};

@@ -1,10 +1,9 @@
 //! Answers of any number of workers.
 
 use fs_board::{Event, LogEntry, Reply};
-use fs_crew::{Gate, Open, solve};
+use fs_crew::{Answer, Gate, Open, Solved, solve};
 use fs_examples::{LB, MP11, MPA, PRICES, SB, SBX, question_of, told, write_fences};
 use fs_kinds::Fault;
-use fs_search::{Answer, Solved};
 use std::alloc::{AllocError, Global};
 use std::sync::Wait;
 use std::test::Fail;

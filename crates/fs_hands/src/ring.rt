@@ -86,7 +86,7 @@ impl Hand {
         pop(&mut self.owner)
     }
 
-    /// Is its own deque empty at this moment? It changes nothing, and takes no memory.
+    /// Is its own deque empty at this moment? It changes nothing, and takes no memory. No contract says that the answer is true.
     pub fn is_empty(&mut self) -> bool
         ensures { self.new ≡ self.old }
     {
@@ -107,7 +107,7 @@ impl Hand {
     }
 }
 
-/// A hand for each worker: hand i owns deque i and steals from deque i + 1, and the last one steals from deque 0. F19.
+/// A hand for each worker: hand i owns deque i and steals from deque i + 1, and the last one steals from deque 0. The error is F19.
 pub fn hands(alloc: Global, workers: u8) -> Result<Vec<Hand>, Fault>
     requires { 0 < workers }
     ensures linked { IfOk result (λ hs. AreLinked hs.items) }
@@ -143,7 +143,8 @@ fn are_all(hands: &[Hand]) -> bool
 }
 
 /// All that is left in the deques of a ring whose workers have stopped: each number as often as the hands pushed it, less the times
-/// that they popped or stole it. F23 where the hands aren't all hands of one ring, in their order, and F19. The hands are given up.
+/// that they popped or stole it. The hands are given up. F23 where hands are missing or not in their order; that they are of one ring is
+/// for the caller to see to. F19.
 pub fn gather(alloc: Global, hands: Vec<Hand>) -> Result<Vec<usize>, Fault>
     requires { AreLinked hands.items }
     ensures left { IfOk result (λ numbers. AreLeft hands.items numbers.items) }

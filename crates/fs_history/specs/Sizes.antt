@@ -1,11 +1,12 @@
--- How large the tree of all placements is, and when a search may end for want of nodes.
-use Rattle.std.specs.Prelude.{ℕ, zero, suc, ◌+◌, ◌*◌, ◌<◌, None, Some, length}
-use Rattle.fs_kinds.specs.declared.kind.Kind.TheVariants.{RwRw}
-use Rattle.fs_kinds.specs.Placement.{all_with}
+-- How large the tree of all placements is, and when a search may end without an answer.
+use Rattle.std.specs.Prelude.{◌≡◌, ◌⊎◌, ℕ, zero, suc, ◌+◌, ◌*◌, ◌<◌, length}
+use Rattle.fs_kinds.specs.declared.fault.Fault.{Fault}
+use Rattle.fs_kinds.specs.declared.fault.Fault.TheVariants.{NodeLimit}
 use Rattle.fs_kinds.specs.PriceTable.{PriceTable}
 use Rattle.fs_syntax.specs.declared.test.Test.{Test}
 use Rattle.fs_syntax.specs.Slots.{slots}
-use Rattle.fs_model.specs.Allows.{Allows}
+use Rattle.fs_model.specs.Allows.{Allows, full_fences, no_fences}
+use Rattle.fs_answer.specs.CandidateFaults.{HasNoCandidateFault, IsCandidateFault}
 use Rattle.fs_answer.specs.Parts.{options}
 
 -- the nodes below one with so many undecided slots, where each of them is split
@@ -15,6 +16,12 @@ tree_size prices (suc n) = length (options prices) * (1 + tree_size prices n)
 
 -- Fences are needed, and rw,rw in every slot is enough; and the tree of all placements has more nodes besides its root than the limit.
 pub record IsNodeLimit (t : Test) (prices : PriceTable) (limit : ℕ) : Type 0 where
-  pub needed : Allows t (all_with None (slots t))
-  pub enough : Allows t (all_with (Some RwRw) (slots t)) → ⊥
+  pub needed : Allows t (no_fences t)
+  pub enough : Allows t (full_fences t) → ⊥
   pub large : limit < tree_size prices (length (slots t))
+
+-- Why a search has no answer: the candidates can't be listed. Or they can, fences are needed, some are enough, and the tree of all
+-- placements has more nodes than the limit.
+abbrev pub IsUnanswered : Test → PriceTable → (limit : ℕ) → Fault → Type 0
+IsUnanswered t prices limit f =
+    IsCandidateFault t f ⊎ ((f ≡ NodeLimit) × IsNodeLimit t prices limit × HasNoCandidateFault t)

@@ -39,7 +39,7 @@ pub enum Fault {
     Astray { hart: u8, at: u8 },
     /// F15: the test has too many candidate executions.
     TooManyCandidates,
-    /// F16: the search needs more nodes than it may make.
+    /// F16: the search came to its limit of nodes.
     NodeLimit,
     /// F17: the witness isn't of its form.
     BadWitness,
@@ -51,7 +51,7 @@ pub enum Fault {
     ReadFault,
     /// F21: a file couldn't be written.
     WriteFault,
-    /// F22: the search's log and the workers' receipts don't agree.
+    /// F22: the search's log and the workers' receipts don't agree. No command answers it.
     Unmatched,
     /// F23: a worker's pass is strange to this search, or comes twice.
     StrangePass,

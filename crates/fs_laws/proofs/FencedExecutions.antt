@@ -16,7 +16,8 @@ use Rattle.fs_model.specs.declared.step.Step.{Step}
 use Rattle.fs_model.specs.Trace.{Runs}
 use Rattle.fs_model.specs.Operations.{steps_of}
 use Rattle.fs_model.specs.Execution.{Execution, IsExecution, IsTrace, ObeysAxioms, code_of, registers_of, pre_execution}
-use Rattle.fs_laws.specs.Fenced.{fenced_steps, fenced_traces, fenced_execution, no_fences}
+use Rattle.fs_model.specs.Allows.{no_fences}
+use Rattle.fs_laws.specs.Fenced.{fenced_steps, fenced_traces, fenced_execution}
 use Rattle.fs_laws.proofs.FencedOperations.{index_numbered, trace_fenced}
 use Rattle.fs_laws.proofs.FencedAlike.{alike_back, axioms_there}
 use Rattle.fs_laws.proofs.FencedFences.{fenced_alike}

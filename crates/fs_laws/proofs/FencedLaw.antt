@@ -12,9 +12,9 @@ use Rattle.fs_model.specs.declared.step.Step.{Step}
 use Rattle.fs_model.specs.Numbers.{between}
 use Rattle.fs_model.specs.Operations.{PreExecution, operation, classes, place, trace_of, instr_at}
 use Rattle.fs_model.specs.Fences.{instr_orders, kind_orders, placed_before}
-use Rattle.fs_model.specs.Allows.{Allows, Shows}
+use Rattle.fs_model.specs.Allows.{Allows, Shows, no_fences}
 use Rattle.fs_model.specs.Execution.{Execution, IsExecution, pre_execution}
-use Rattle.fs_laws.specs.Fenced.{fenced_execution, no_fences, ShowsFenced, ExecutesAlike, ShowsAlike, AllowsAlike}
+use Rattle.fs_laws.specs.Fenced.{fenced_execution, ShowsFenced, ExecutesAlike, ShowsAlike, AllowsAlike}
 use Rattle.fs_laws.proofs.FencedDepends.{none_passes}
 use Rattle.fs_laws.proofs.FencedAlike.{Alike, axioms_there}
 use Rattle.fs_laws.proofs.FencedExecutions.{none_at, execution_there, execution_back}

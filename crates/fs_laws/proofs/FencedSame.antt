@@ -4,10 +4,10 @@ use Rattle.fs_kinds.specs.declared.placement.Entry.{Entry}
 use Rattle.fs_syntax.specs.declared.test.Test.{Test}
 use Rattle.fs_syntax.specs.Test.{IsSame}
 use Rattle.fs_syntax.specs.Fenced.{fenced}
-use Rattle.fs_model.specs.Allows.{Allows, Shows}
+use Rattle.fs_model.specs.Allows.{Allows, Shows, no_fences}
 use Rattle.fs_model.specs.Execution.{Execution, pre_execution}
 use Rattle.fs_model.specs.Shows.{holds, is_outcome, final_register, final_word, has_outcome}
-use Rattle.fs_laws.specs.Fenced.{no_fences, AllowsAsRead}
+use Rattle.fs_laws.specs.Fenced.{AllowsAsRead}
 use Rattle.fs_laws.proofs.FencedLaw.{allows_alike}
 
 -- the test u with the condition of t

@@ -3,15 +3,15 @@ use Rattle.std.specs.Prelude.{◌≡◌, ◌↔◌, ℕ, Option, None, Some, Lis
 use Rattle.std.specs.List.{enumerate_from, flat_map}
 use Rattle.fs_kinds.specs.declared.kind.Kind.{Kind}
 use Rattle.fs_kinds.specs.declared.placement.Entry.{Entry}
-use Rattle.fs_kinds.specs.Placement.{all_with, kind_at}
+use Rattle.fs_kinds.specs.Placement.{kind_at}
 use Rattle.fs_syntax.specs.declared.test.Test.{Test}
-use Rattle.fs_syntax.specs.Slots.{slot_at, slots}
+use Rattle.fs_syntax.specs.Slots.{slot_at}
 use Rattle.fs_syntax.specs.Fenced.{fence_of, fenced, moved, position}
 use Rattle.fs_syntax.specs.Moved.{place}
 use Rattle.fs_syntax.specs.Test.{IsSame}
 use Rattle.fs_model.specs.declared.step.Step.{Step}
 use Rattle.fs_model.specs.declared.step.Choice.{Choice}
-use Rattle.fs_model.specs.Allows.{Allows, Shows}
+use Rattle.fs_model.specs.Allows.{Allows, Shows, no_fences}
 use Rattle.fs_model.specs.Execution.{Execution, IsExecution}
 use Rattle.fs_model.specs.Shows.{has_outcome}
 use Rattle.fs_model.specs.Witness.{Chooses}
@@ -44,10 +44,6 @@ fenced_traces p traces = map (fenced_steps p) (enumerate_from 0 traces)
 -- Memory operations keep their numbers, since a FENCE is none; so the order stays.
 abbrev pub fenced_execution : List Entry → Execution → Execution
 fenced_execution p e = record { traces = fenced_traces p e.traces; order = e.order }
-
--- no fence in any slot of the test
-abbrev pub no_fences : Test → List Entry
-no_fences t = all_with None (slots t)
 
 -- an execution under the placement, with the fences as steps
 abbrev pub IsFencedExecution : Test → List Entry → Execution → Type 0

@@ -4,10 +4,10 @@ ghost use Rattle.std.specs.Prelude.{◌↔◌, List, []};
 ghost use Rattle.fs_kinds.specs.declared.placement.Entry.{Entry};
 ghost use Rattle.fs_syntax.specs.declared.test.Test.{Test};
 ghost use Rattle.fs_syntax.specs.Test.{IsSame};
-ghost use Rattle.fs_model.specs.Allows.{Allows, Shows};
+ghost use Rattle.fs_model.specs.Allows.{Allows, Shows, no_fences};
 ghost use Rattle.fs_model.specs.Execution.{Execution, IsExecution};
 ghost use Rattle.fs_laws.specs.Fenced.{AllowsAlike, AllowsAsRead, ExecutesAlike, KeepsOutcome, ShowsAlike};
-ghost use Rattle.fs_laws.specs.Fenced.{KeepsApart, KeepsChoices, no_fences};
+ghost use Rattle.fs_laws.specs.Fenced.{KeepsApart, KeepsChoices};
 
 /// A law: the executions of the fenced test, with no fence in its slots, are those of the test under the placement, with the
 /// fences as steps. Two such executions show the outcome together. So the fenced test allows the outcome exactly where the test

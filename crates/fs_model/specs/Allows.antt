@@ -1,5 +1,5 @@
 -- What a test with a placement of fences allows, and the answer to a test and prices.
-use Rattle.std.specs.Prelude.{◌≡◌, ◌==◌, nat_lt, ◌&&◌, ◌||◌, Bool, true, Some, List}
+use Rattle.std.specs.Prelude.{◌≡◌, ◌==◌, nat_lt, ◌&&◌, ◌||◌, Bool, true, None, Some, List}
 use Rattle.fs_kinds.specs.declared.kind.Kind.TheVariants.{RwRw}
 use Rattle.fs_kinds.specs.declared.placement.Entry.{Entry}
 use Rattle.fs_kinds.specs.Placement.{slots_of, all_with, precedes}
@@ -16,6 +16,14 @@ pub record Shows (t : Test) (p : List Entry) (e : Execution) : Type 0 where
 
 abbrev pub Allows : Test → List Entry → Type 0
 Allows t p = (e : Execution) × Shows t p e
+
+-- no fence in any slot of the test
+abbrev pub no_fences : Test → List Entry
+no_fences t = all_with None (slots t)
+
+-- rw,rw in every slot of the test
+abbrev pub full_fences : Test → List Entry
+full_fences t = all_with (Some RwRw) (slots t)
 
 -- the test's slots in order, each with an offered kind or none
 pub record IsPlacement (t : Test) (prices : PriceTable) (p : List Entry) : Type 0 where
@@ -35,4 +43,4 @@ pub record IsCheapest (t : Test) (prices : PriceTable) (p : List Entry) : Type 0
 
 -- even with rw,rw in every slot this execution shows it
 abbrev pub RefutesAll : Test → Execution → Type 0
-RefutesAll t e = Shows t (all_with (Some RwRw) (slots t)) e
+RefutesAll t e = Shows t (full_fences t) e

@@ -10,7 +10,7 @@ use Rattle.fs_kinds.specs.PriceTable.{PriceTable}
 use Rattle.fs_syntax.specs.declared.test.Test.{Test}
 use Rattle.fs_litmus.specs.Reads.{Reads}
 use Rattle.fs_litmus.specs.Faults.{IsTestFault}
-use Rattle.fs_place.specs.Place.{ArePriced, IsPricesFault, IsBadFences, IsFirstFault, of_prices, of_test, of_fences, of_memory, no_prices, no_top}
+use Rattle.fs_place.specs.Place.{ArePriced, IsPricesFault, IsBadFences, IsFirstPlaceFault, of_prices, of_test, of_fences, of_memory, no_prices, no_top}
 
 pub is_memory : (f : Fault) → (f ≡ Memory) ⊎ (f ≢ Memory)
 is_memory Memory = inl refl
@@ -23,20 +23,20 @@ IfErr-handed (Ok x) fault P h p = tt
 IfErr-handed (Err f) fault P h p = subst P (sym h) p
 
 module _ (test : List ℕ) (prices : Option (List ℕ)) (fences : List (List ℕ)) where
-  pub first-memory : (f : Fault) → f ≡ Memory → IsFirstFault test prices fences f
-  first-memory f e = subst (IsFirstFault test prices fences) (sym e) of_memory
+  pub first-memory : (f : Fault) → f ≡ Memory → IsFirstPlaceFault test prices fences f
+  first-memory f e = subst (IsFirstPlaceFault test prices fences) (sym e) of_memory
 
-  pub first-prices : (f : Fault) → (f ≢ Memory → IsPricesFault prices f) → IsFirstFault test prices fences f
+  pub first-prices : (f : Fault) → (f ≢ Memory → IsPricesFault prices f) → IsFirstPlaceFault test prices fences f
   first-prices f h = elim (is_memory f) [ inl e ↦ first-memory f e | inr n ↦ of_prices (h n) ]
 
-  pub first-test : (f : Fault) (table : Option PriceTable) → ArePriced prices table → (f ≢ Memory → IsTestFault test f) → IsFirstFault test prices fences f
+  pub first-test : (f : Fault) (table : Option PriceTable) → ArePriced prices table → (f ≢ Memory → IsTestFault test f) → IsFirstPlaceFault test prices fences f
   first-test f table priced h = elim (is_memory f) [ inl e ↦ first-memory f e | inr n ↦ of_test table priced (h n) ]
 
   pub first-fences : (f : Fault) (table : Option PriceTable) (t : Test) → ArePriced prices table → Reads test t
-      → (f ≡ BadFence → IsBadFences table t fences) → (f ≡ BadFence) ⊎ (f ≡ Memory) → IsFirstFault test prices fences f
+      → (f ≡ BadFence → IsBadFences table t fences) → (f ≡ BadFence) ⊎ (f ≡ Memory) → IsFirstPlaceFault test prices fences f
   first-fences f table t priced reads bad other =
       elim other [
-        | inl e ↦ subst (IsFirstFault test prices fences) (sym e) (of_fences table t priced reads (bad e))
+        | inl e ↦ subst (IsFirstPlaceFault test prices fences) (sym e) (of_fences table t priced reads (bad e))
         | inr e ↦ first-memory f e
       ]
 

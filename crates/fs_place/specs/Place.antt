@@ -22,6 +22,10 @@ ArePriced None (Some table) = ⊥
 ArePriced (Some bytes) None = ⊥
 ArePriced (Some bytes) (Some table) = (ms : _) × ArePrices bytes ms × IsTableOf ms table
 
+-- the bytes hold these prices
+abbrev pub ArePricesOf : List ℕ → PriceTable → Type 0
+ArePricesOf bytes table = ArePriced (Some bytes) (Some table)
+
 -- the last line, where prices are given
 abbrev pub cost_line : Option PriceTable → List Entry → List ℕ
 cost_line None placement = []
@@ -47,9 +51,9 @@ abbrev pub IsBadFences : Option PriceTable → Test → List (List ℕ) → Type
 IsBadFences table t fences = Any IsNoFence fences ⊎ IsPlaced table (slots t) fences None
 
 -- the first fault: of the prices, else of the test, else of the words; want of memory may come in place of any answer
-pub data IsFirstFault (test : List ℕ) (prices : Option (List ℕ)) (fences : List (List ℕ)) : Fault → Type 0 where
-  of_prices : {fault : Fault} → IsPricesFault prices fault → IsFirstFault test prices fences fault
-  of_test : {fault : Fault} (table : Option PriceTable) → ArePriced prices table → IsTestFault test fault → IsFirstFault test prices fences fault
+pub data IsFirstPlaceFault (test : List ℕ) (prices : Option (List ℕ)) (fences : List (List ℕ)) : Fault → Type 0 where
+  of_prices : {fault : Fault} → IsPricesFault prices fault → IsFirstPlaceFault test prices fences fault
+  of_test : {fault : Fault} (table : Option PriceTable) → ArePriced prices table → IsTestFault test fault → IsFirstPlaceFault test prices fences fault
   of_fences : (table : Option PriceTable) (t : Test) → ArePriced prices table → Reads test t
-      → IsBadFences table t fences → IsFirstFault test prices fences BadFence
-  of_memory : IsFirstFault test prices fences Memory
+      → IsBadFences table t fences → IsFirstPlaceFault test prices fences BadFence
+  of_memory : IsFirstPlaceFault test prices fences Memory

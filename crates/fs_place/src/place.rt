@@ -8,7 +8,7 @@ ghost use Rattle.fs_syntax.specs.Printed.{printed};
 ghost use Rattle.fs_syntax.specs.Slots.{slots};
 ghost use Rattle.fs_syntax.specs.Test.{IsBounded, IsTest};
 ghost use Rattle.fs_litmus.specs.Reads.{Reads};
-ghost use Rattle.fs_place.specs.Place.{ArePriced, IsFencedText, IsPricesFault, IsFirstFault, cost_line};
+ghost use Rattle.fs_place.specs.Place.{ArePriced, IsFencedText, IsPricesFault, IsFirstPlaceFault, cost_line};
 
 use fs_io::{Output, Status};
 use fs_kinds::{Fault, Placement, Prices, read_prices};
@@ -30,7 +30,7 @@ pub fn run_place(
         IsFencedText test.now (option_copied prices.entry) (map string_bytes fences.now) (string_bytes output.text)) }
     ensures status { IfOk result (λ output. output.status ≡ Status.Success) }
     ensures fault { IfErr result
-        (IsFirstFault test.now (option_copied prices.entry) (map string_bytes fences.now)) }
+        (IsFirstPlaceFault test.now (option_copied prices.entry) (map string_bytes fences.now)) }
 {
     let prices = given_prices(alloc, prices)?;
     place_priced(alloc, test, prices.as_ref(), fences)
@@ -47,7 +47,7 @@ fn place_priced(
         → IsFencedText test.now given (map string_bytes fences.now) (string_bytes output.text)) }
     ensures status { IfOk result (λ output. output.status ≡ Status.Success) }
     ensures fault { IfErr result (λ fault. (given : Option (List ℕ)) → ArePriced given (option_copied prices.entry)
-        → IsFirstFault test.now given (map string_bytes fences.now) fault) }
+        → IsFirstPlaceFault test.now given (map string_bytes fences.now) fault) }
 {
     let test = read_test(alloc, test)?;
     place_fences(alloc, &test, prices, fences)
@@ -67,7 +67,7 @@ fn place_fences(
     ensures status { IfOk result (λ output. output.status ≡ Status.Success) }
     ensures fault { IfErr result (λ fault. (given : Option (List ℕ)) (bytes : List ℕ)
         → ArePriced given (option_copied prices.entry) → Reads bytes test.now
-        → IsFirstFault bytes given (map string_bytes fences.now) fault) }
+        → IsFirstPlaceFault bytes given (map string_bytes fences.now) fault) }
 {
     let placement = read_fences(alloc, test, prices, fences)?;
     let text = fenced_text(alloc, test, &placement, prices)?;

@@ -14,7 +14,7 @@ use Rattle.fs_syntax.specs.Slots.{slots}
 use Rattle.fs_syntax.specs.Test.{IsBounded}
 use Rattle.fs_model.specs.Allows.{IsPlacement}
 use Rattle.fs_verdicts.proofs.Worded.{small_slots}
-use Rattle.fs_solve.specs.Solve.{ArePricesOf}
+use Rattle.fs_place.specs.Place.{ArePricesOf}
 
 -- the same price for each kind, and the same weight for each slot
 pub record Agree (table other : PriceTable) : Type 0 where

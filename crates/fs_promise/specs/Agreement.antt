@@ -11,7 +11,7 @@ use Rattle.fs_model.specs.Allows.{IsPlacement, is_better}
 use Rattle.fs_answer.specs.Certificate.{fence_words}
 use Rattle.fs_answer.specs.Texts.{line, fenced_lines}
 use Rattle.fs_io.specs.declared.status.Status.TheVariants.{Success}
-use Rattle.fs_solve.specs.Solve.{ArePricesOf}
+use Rattle.fs_place.specs.Place.{ArePricesOf}
 use Rattle.fs_order.specs.Order.{IsOrderAnswer}
 
 -- `order` says yes to the witness file, with these words as fences

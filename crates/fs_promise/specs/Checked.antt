@@ -10,7 +10,9 @@ use Rattle.fs_answer.specs.CertificateFile.{IsCertificateFile}
 use Rattle.fs_answer.specs.Texts.{fenced_lines}
 use Rattle.fs_io.specs.declared.status.Status.{Status}
 use Rattle.fs_io.specs.declared.status.Status.TheVariants.{Success}
-use Rattle.fs_verify.specs.Check.{ArePricesOf, HasNoCandidateFault, yes_line}
+use Rattle.fs_answer.specs.CandidateFaults.{HasNoCandidateFault}
+use Rattle.fs_place.specs.Place.{ArePricesOf}
+use Rattle.fs_verify.specs.Check.{yes_line}
 use Rattle.fs_promise.specs.Headline.{StaysPossible, IsRuledOut, CheapestRulesOut, NothingRulesOut}
 
 -- a placement and its cost are printed; it rules the outcome out, and none that costs less does

@@ -1,23 +1,22 @@
 -- What an answer of `solve` means, in the words of executions.
-use Rattle.std.specs.Prelude.{◌≡◌, ◌⊎◌, ℕ, true, Some, List, length}
-use Rattle.fs_kinds.specs.declared.kind.Kind.TheVariants.{RwRw}
+use Rattle.std.specs.Prelude.{◌≡◌, ◌⊎◌, ℕ, true, List, length}
 use Rattle.fs_kinds.specs.declared.placement.Entry.{Entry}
-use Rattle.fs_kinds.specs.Placement.{slots_of, all_with}
+use Rattle.fs_kinds.specs.Placement.{slots_of}
 use Rattle.fs_kinds.specs.PriceTable.{PriceTable, cost}
 use Rattle.fs_syntax.specs.declared.test.Test.{Test}
 use Rattle.fs_syntax.specs.Fenced.{fenced}
 use Rattle.fs_syntax.specs.Printed.{printed}
 use Rattle.fs_syntax.specs.Slots.{slots}
 use Rattle.fs_litmus.specs.Reads.{Reads}
-use Rattle.fs_model.specs.Allows.{Allows, IsPlacement, is_better}
+use Rattle.fs_model.specs.Allows.{Allows, IsPlacement, full_fences, is_better, no_fences}
 use Rattle.fs_model.specs.Reasons.{IsYes}
 use Rattle.fs_model.specs.Witness.{Witness}
+use Rattle.fs_answer.specs.CandidateFaults.{HasNoCandidateFault}
 use Rattle.fs_answer.specs.Texts.{fenced_lines, none_lines, witness_text}
 use Rattle.fs_answer.specs.WitnessFile.{IsWitnessFile}
 use Rattle.fs_io.specs.declared.status.Status.{Status}
 use Rattle.fs_io.specs.declared.status.Status.TheVariants.{Success, Denied}
-use Rattle.fs_laws.specs.Fenced.{no_fences}
-use Rattle.fs_solve.specs.Solve.{ArePricesOf, HasNoCandidateFault}
+use Rattle.fs_place.specs.Place.{ArePricesOf}
 
 -- u has the fences of p as instructions: it is the fenced test, or is read from its printed form
 abbrev pub IsFencedTest : Test → List Entry → Test → Type 0
@@ -50,7 +49,7 @@ pub record NothingRulesOut (t : Test) (text : List ℕ) : Type 0 where
   pub witness : Witness
   pub shown : text ≡ none_lines witness
   pub says : IsWitnessFile (length t.codes) (witness_text witness) witness
-  pub shows : IsYes t (all_with (Some RwRw) (slots t)) witness
+  pub shows : IsYes t (full_fences t) witness
   pub possible : (q : List Entry) → slots_of q ≡ slots t → StaysPossible t q
 
 -- Of every test and prices that the bytes read as, one of the two is so, and the status says which; and the test's candidates can be

@@ -1,18 +1,14 @@
 -- The answer to a question, and why there may be none.
 use Rattle.std.specs.Prelude.{◌≡◌, ◌⊎◌, ℕ, true, List, Option, None, Some}
 use Rattle.fs_kinds.specs.declared.fault.Fault.{Fault}
-use Rattle.fs_kinds.specs.declared.fault.Fault.TheVariants.{NodeLimit}
 use Rattle.fs_kinds.specs.declared.placement.Entry.{Entry}
-use Rattle.fs_kinds.specs.Placement.{all_with}
 use Rattle.fs_kinds.specs.PriceTable.{PriceTable, cost}
 use Rattle.fs_syntax.specs.declared.test.Test.{Test}
-use Rattle.fs_syntax.specs.Slots.{slots}
 use Rattle.fs_model.specs.Execution.{Execution}
-use Rattle.fs_model.specs.Allows.{IsCheapest, RefutesAll}
-use Rattle.fs_answer.specs.CandidateFaults.{IsCandidateFault}
+use Rattle.fs_model.specs.Allows.{IsCheapest, RefutesAll, no_fences}
 use Rattle.fs_answer.specs.Valid.{HasCycles}
 use Rattle.fs_history.specs.Board.{is_finished}
-use Rattle.fs_history.specs.Sizes.{IsNodeLimit}
+use Rattle.fs_history.specs.Sizes.{IsUnanswered}
 use Rattle.fs_evidence.specs.Evidence.{Question, Refuted, IsWitnessFor}
 use Rattle.fs_board.specs.View.{Search}
 use Rattle.fs_search.specs.declared.answer.Answer.{Answer}
@@ -31,14 +27,14 @@ placement_of (answer.None w) = None
 
 -- the answer is none, or no fence at all
 abbrev pub IsAtAnEnd : Test → Answer → Type 0
-IsAtAnEnd t a = (placement_of a ≡ None) ⊎ (placement_of a ≡ Some (all_with None (slots t)))
+IsAtAnEnd t a = (placement_of a ≡ None) ⊎ (placement_of a ≡ Some (no_fences t))
 
 -- What an answer that was found without a board rests on: a witness, which is the answer's own, or the cycles of no fence at all.
 abbrev pub IsShownLeast : Test → Answer → Option Refuted → Type 0
 IsShownLeast t (answer.None w) least = least ≡ None
 IsShownLeast t (answer.Fenced p n) None = ⊥
 IsShownLeast t (answer.Fenced p n) (Some f) =
-    (f.placement ≡ p) × (f.placement ≡ all_with None (slots t)) × HasCycles t f.placement f.cycles
+    (f.placement ≡ p) × (f.placement ≡ no_fences t) × HasCycles t f.placement f.cycles
 
 -- The finished board of a search for this answer, with this limit. Its bound is the answer's placement, and it has no bound where the
 -- answer has none.
@@ -48,8 +44,6 @@ pub record IsBoardOf (q : Question) (most : ℕ) (a : Answer) (search : Search) 
   pub finished : is_finished search.board ≡ true
   pub bound : search.board.bound ≡ placement_of a
 
--- The candidates can't be listed. Or they can, and the search needs more nodes than the limit: fences are needed, rw,rw in every slot
--- is enough, and the tree of all placements is larger than the limit.
+-- the fault of a question that the search can't answer
 abbrev pub IsSolveFault : Question → (limit : ℕ) → Fault → Type 0
-IsSolveFault q limit f = IsCandidateFault q.test f
-    ⊎ ((f ≡ NodeLimit) × IsNodeLimit q.test q.prices limit × ((other : Fault) → IsCandidateFault q.test other → ⊥))
+IsSolveFault q limit f = IsUnanswered q.test q.prices limit f

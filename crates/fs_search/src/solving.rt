@@ -143,6 +143,7 @@ pub fn conclude(alloc: Global, judge: &mut Judge, board: Board) -> Result<Solved
         (board.board.limit < tree_size judge.old.prices (length (slots judge.old.test)))) }
     ensures ends { IfOk result (λ s. IfNone s.board (IsAtAnEnd judge.old.test s.answer)) }
     ensures least { IfOk result (λ s. IfNone s.board (IsShownLeast judge.old.test s.answer s.least)) }
+    ensures either { IfOk result (λ s. IfSome s.board (λ _. s.least ≡ None)) }
     ensures err { IfErr result (λ f. f ≢ Fault.Memory → IsSolveFault judge.old board.board.limit f) }
 {
     let mut board = board;
@@ -169,7 +170,7 @@ pub fn conclude(alloc: Global, judge: &mut Judge, board: Board) -> Result<Solved
 ///
 /// The finished board is handed out with the answer, and its bound is the answer's placement. There is none only where the tree of all
 /// placements has more nodes below its root than the limit, and then the answer is none or no fence at all, and the cycles of no fence at
-/// all are handed out.
+/// all are handed out in place of a board.
 pub fn solve(alloc: Global, question: Arc<Question>, limit: usize) -> Result<Solved, Fault>
     requires test { IsBounded (arc_value question).test }
     requires starts { All IsStart (arc_value question).test.starts }
@@ -183,6 +184,7 @@ pub fn solve(alloc: Global, question: Arc<Question>, limit: usize) -> Result<Sol
         (limit < tree_size (arc_value question).prices (length (slots (arc_value question).test)))) }
     ensures ends { IfOk result (λ s. IfNone s.board (IsAtAnEnd (arc_value question).test s.answer)) }
     ensures least { IfOk result (λ s. IfNone s.board (IsShownLeast (arc_value question).test s.answer s.least)) }
+    ensures either { IfOk result (λ s. IfSome s.board (λ _. s.least ≡ None)) }
     ensures err { IfErr result (λ f. f ≢ Fault.Memory → IsSolveFault (arc_value question) limit f) }
 {
     let asked = Arc::try_clone(&question)?;

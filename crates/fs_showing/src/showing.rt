@@ -129,7 +129,7 @@ impl Showing {
         &self.test
     }
 
-    /// The candidate of this number, counted from 0. F19. It is made anew: the square of its operations.
+    /// The candidate of this number, counted from 0. The error is F19. It is made anew: the square of its operations.
     pub fn get(&self, alloc: Global, k: usize) -> Result<Candidate, Fault>
         requires { k < length self.now.candidates }
         ensures ok { IfOk result (λ c. slice_get self.now.candidates k ≡ Some (candidate_of c)) }

@@ -16,6 +16,7 @@ use Rattle.fs_answer.specs.Certificate as said
 use Rattle.fs_answer.specs.CertificateFile.{CanBeSaid, IsCertificateFile}
 use Rattle.fs_answer.specs.Texts.{certificate_text}
 use Rattle.fs_answer.specs.Valid.{HasCycles}
+use Rattle.fs_answer.specs.CandidateFaults.{HasNoCandidateFault}
 use Rattle.fs_certificate.specs.declared.certificate.Certificate.{Certificate}
 use Rattle.fs_certificate.specs.Kept.{AreInRange, KeepsCertificate}
 use Rattle.fs_io.specs.declared.status.Status.{Status}
@@ -25,7 +26,7 @@ use Rattle.fs_search.specs.declared.answer.Answer.TheVariants as answer
 use Rattle.fs_search.specs.declared.answer.Solved.{Solved}
 use Rattle.fs_search.specs.Answers.{IsAnswer, IsBoardOf, IsShownLeast, placement_of}
 use Rattle.fs_cert.specs.Certified.{Certifies, CertifiesNone}
-use Rattle.fs_solve.specs.Solve.{HasNoCandidateFault, IsCertified, IsWitnessed, IsFirstSolveFault, IsSolved, PrintsAnswer, PrintsPlaced, of_memory}
+use Rattle.fs_solve.specs.Solve.{IsCertified, IsWitnessed, IsFirstSolveFault, IsSolved, PrintsAnswer, PrintsPlaced, of_memory}
 use Rattle.fs_solve.specs.inner.Found.{IsAskedBy, IsFound, IsFoundFor}
 use Rattle.fs_solve.specs.inner.Made.{CertifiesAnswer, HasWitness, PrintsWitness, SaysAnswer}
 
@@ -106,10 +107,10 @@ found-there test prices limit asked other s same is = (
 )
 
 -- want of memory is the first fault at any place
-pub first-memory : {T : Type 0} (test prices : List ℕ) (limit workers : ℕ) (r : Result T Fault) → IsOkUnless r Memory
-    → IfErr r (IsFirstSolveFault test prices limit workers)
-first-memory test prices limit workers (Ok x) is = tt
-first-memory test prices limit workers (Err f) is = subst (IsFirstSolveFault test prices limit workers) (sym is) of_memory
+pub first-memory : {T : Type 0} (test prices : List ℕ) (limit : ℕ) (r : Result T Fault) → IsOkUnless r Memory
+    → IfErr r (IsFirstSolveFault test prices limit)
+first-memory test prices limit (Ok x) is = tt
+first-memory test prices limit (Err f) is = subst (IsFirstSolveFault test prices limit) (sym is) of_memory
 
 -- ---- certificates
 

@@ -1,7 +1,7 @@
 -- What `solve` prints, and the fault that it answers.
-use Rattle.std.specs.Prelude.{◌≡◌, ◌≤◌, ◌⊎◌, ℕ, Option, None, Some, List, [], ◌∷◌, length}
+use Rattle.std.specs.Prelude.{◌≡◌, ◌⊎◌, ℕ, Option, None, Some, List, [], ◌∷◌, length}
 use Rattle.fs_kinds.specs.declared.fault.Fault.{Fault}
-use Rattle.fs_kinds.specs.declared.fault.Fault.TheVariants.{Memory, Unmatched}
+use Rattle.fs_kinds.specs.declared.fault.Fault.TheVariants.{Memory}
 use Rattle.fs_kinds.specs.declared.placement.Entry.{Entry}
 use Rattle.fs_kinds.specs.PriceTable.{PriceTable, cost}
 use Rattle.fs_syntax.specs.declared.test.Test.{Test}
@@ -10,24 +10,16 @@ use Rattle.fs_litmus.specs.Faults.{IsTestFault}
 use Rattle.fs_model.specs.Execution.{Execution}
 use Rattle.fs_model.specs.Allows.{IsCheapest, RefutesAll}
 use Rattle.fs_model.specs.Witness.{Witness, IsOfWitness}
-use Rattle.fs_answer.specs.CandidateFaults.{IsCandidateFault}
+use Rattle.fs_answer.specs.CandidateFaults.{HasNoCandidateFault}
 use Rattle.fs_answer.specs.Certificate as said
 use Rattle.fs_answer.specs.CertificateFile.{IsCertificateFile}
 use Rattle.fs_answer.specs.Texts.{certificate_text, fenced_lines, none_lines, witness_text}
 use Rattle.fs_answer.specs.Valid.{IsValid}
 use Rattle.fs_answer.specs.WitnessFile.{IsWitnessFile}
+use Rattle.fs_history.specs.Sizes.{IsUnanswered}
 use Rattle.fs_io.specs.declared.status.Status.{Status}
 use Rattle.fs_io.specs.declared.status.Status.TheVariants.{Success, Denied}
-use Rattle.fs_place.specs.Place.{ArePriced, IsPricesFault}
-use Rattle.fs_search.specs.Answers.{IsSolveFault}
-
--- the bytes hold these prices
-abbrev pub ArePricesOf : List ℕ → PriceTable → Type 0
-ArePricesOf bytes table = ArePriced (Some bytes) (Some table)
-
--- the test's candidate executions can be listed: no run goes astray, and there aren't too many of them
-abbrev pub HasNoCandidateFault : Test → Type 0
-HasNoCandidateFault t = (f : Fault) → IsCandidateFault t f → ⊥
+use Rattle.fs_place.specs.Place.{ArePricesOf, IsPricesFault}
 
 -- the first of the cheapest placements that rule the outcome out, in print with its cost
 pub record PrintsCheapest (t : Test) (prices : PriceTable) (text : List ℕ) (status : Status) : Type 0 where
@@ -88,14 +80,12 @@ pub record IsCertified (test prices text : List ℕ) (status : Status) (certific
   pub certified : IsCertificateOf the_test table placed certificate
   pub witnessed : IsWitnessed placed certified.certificate.witnesses text
 
--- the first fault: of the prices, else of the test, else of its candidates and then of the search; want of memory may come in place
--- of any answer, and with two workers or more F22, where there is none of the prices, of the test and of its candidates
-pub data IsFirstSolveFault (test prices : List ℕ) (limit workers : ℕ) : Fault → Type 0 where
-  of_prices : {fault : Fault} → IsPricesFault (Some prices) fault → IsFirstSolveFault test prices limit workers fault
+-- the first fault: of the prices, else of the test, else of its candidates and then of the search; want of memory may come in place of
+-- any answer
+pub data IsFirstSolveFault (test prices : List ℕ) (limit : ℕ) : Fault → Type 0 where
+  of_prices : {fault : Fault} → IsPricesFault (Some prices) fault → IsFirstSolveFault test prices limit fault
   of_test : {fault : Fault} (table : PriceTable) → ArePricesOf prices table → IsTestFault test fault
-      → IsFirstSolveFault test prices limit workers fault
+      → IsFirstSolveFault test prices limit fault
   of_search : {fault : Fault} (table : PriceTable) (t : Test) → ArePricesOf prices table → Reads test t
-      → IsSolveFault (record { test = t; prices = table }) limit fault → IsFirstSolveFault test prices limit workers fault
-  of_memory : IsFirstSolveFault test prices limit workers Memory
-  of_workers : (table : PriceTable) (t : Test) → ArePricesOf prices table → Reads test t → HasNoCandidateFault t → 2 ≤ workers
-      → IsFirstSolveFault test prices limit workers Unmatched
+      → IsUnanswered t table limit fault → IsFirstSolveFault test prices limit fault
+  of_memory : IsFirstSolveFault test prices limit Memory

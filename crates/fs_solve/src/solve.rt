@@ -9,7 +9,8 @@ ghost use Rattle.fs_litmus.specs.Reads.{Reads};
 ghost use Rattle.fs_evidence.specs.Evidence.{Question as Asked};
 ghost use Rattle.fs_search.specs.Answers.{IsAnswer, IsShownLeast, placement_of};
 ghost use Rattle.fs_cert.specs.Certified.{Certifies};
-ghost use Rattle.fs_solve.specs.Solve.{ArePricesOf, PrintsPlaced, IsSolved, IsCertified, IsFirstSolveFault};
+ghost use Rattle.fs_place.specs.Place.{ArePricesOf};
+ghost use Rattle.fs_solve.specs.Solve.{PrintsPlaced, IsSolved, IsCertified, IsFirstSolveFault};
 ghost use Rattle.fs_solve.specs.inner.Found.{IsAskedBy, IsFound, IsFoundFor};
 ghost use Rattle.fs_solve.specs.inner.Made.{CertifiesAnswer, PrintsWitness, SaysAnswer};
 
@@ -59,7 +60,7 @@ pub fn run_solve_alone(
     requires most { limit ≤ 1000000 }
     ensures answer { IfOk result (λ output.
         IsSolved test.now prices.now (string_bytes output.text) output.status) }
-    ensures fault { IfErr result (IsFirstSolveFault test.now prices.now limit 1) }
+    ensures fault { IfErr result (IsFirstSolveFault test.now prices.now limit) }
 {
     let found = find_alone(alloc, test, prices, limit)?;
     answer_output(alloc, &found.solved.answer)
@@ -79,7 +80,7 @@ pub fn run_certified_alone(
         IsSolved test.now prices.now (string_bytes made.output.text) made.output.status) }
     ensures certificate { IfOk result (λ made.
         IsCertified test.now prices.now (string_bytes made.output.text) made.output.status (string_bytes made.certificate)) }
-    ensures fault { IfErr result (IsFirstSolveFault test.now prices.now limit 1) }
+    ensures fault { IfErr result (IsFirstSolveFault test.now prices.now limit) }
 {
     let found = find_alone(alloc, test, prices, limit)?;
     with_certificate(alloc, &found)
@@ -88,9 +89,9 @@ pub fn run_certified_alone(
 /// What `run_solve_alone` answers, searched by 1 to 16 workers: more than one work in threads of their own, and the gate is told what each
 /// of these does. Whatever their number, the printed placement is the first of the cheapest.
 ///
-/// The faults are those of `run_solve_alone`, and with two workers or more `Unmatched` may come in place of an answer: what was logged
-/// under the lock isn't what the workers were told. The lock or the threads didn't do then as they should, and no test meets it. Nor is it
-/// proved that a thread comes back: a call that waits for ever has no answer.
+/// The faults are those of `run_solve_alone`. Where what was logged under the lock isn't what the workers were told, the lock or the threads
+/// didn't do as they should: then nothing of it is used, and one worker searches alone; no test meets it. It isn't proved that a thread
+/// comes back: a call that waits for ever has no answer.
 pub fn run_solve<R: Threads + Wait + Sync, G: Gate + Sync>(
     rt: &R,
     alloc: Global,
@@ -106,7 +107,7 @@ pub fn run_solve<R: Threads + Wait + Sync, G: Gate + Sync>(
     requires most { limit ≤ 1000000 }
     ensures answer { IfOk result (λ output.
         IsSolved test.now prices.now (string_bytes output.text) output.status) }
-    ensures fault { IfErr result (IsFirstSolveFault test.now prices.now limit workers) }
+    ensures fault { IfErr result (IsFirstSolveFault test.now prices.now limit) }
 {
     let found = find(rt, alloc, test, prices, workers, limit, gate)?;
     answer_output(alloc, &found.solved.answer)
@@ -130,7 +131,7 @@ pub fn run_certified<R: Threads + Wait + Sync, G: Gate + Sync>(
         IsSolved test.now prices.now (string_bytes made.output.text) made.output.status) }
     ensures certificate { IfOk result (λ made.
         IsCertified test.now prices.now (string_bytes made.output.text) made.output.status (string_bytes made.certificate)) }
-    ensures fault { IfErr result (IsFirstSolveFault test.now prices.now limit workers) }
+    ensures fault { IfErr result (IsFirstSolveFault test.now prices.now limit) }
 {
     let found = find(rt, alloc, test, prices, workers, limit, gate)?;
     with_certificate(alloc, &found)
@@ -158,7 +159,7 @@ fn with_certificate(alloc: Global, found: &Found) -> Result<Certified, Fault>
 /// The question that a test file and a file of prices ask.
 fn read_question(alloc: Global, test: &[u8], prices: &[u8]) -> Result<Arc<Question>, Fault>
     ensures asked { IfOk result (λ question. IsAskedBy test.now prices.now (arc_value question)) }
-    ensures fault { IfErr result (λ fault. (limit workers : ℕ) → IsFirstSolveFault test.now prices.now limit workers fault) }
+    ensures fault { IfErr result (λ fault. (limit : ℕ) → IsFirstSolveFault test.now prices.now limit fault) }
 {
     let table = read_prices(alloc, prices)?;
     read_priced(alloc, test, table)
@@ -170,7 +171,7 @@ fn read_priced(alloc: Global, test: &[u8], prices: Prices) -> Result<Arc<Questio
     ensures asked { IfOk result (λ question. (bytes : List ℕ) → ArePricesOf bytes prices
         → IsAskedBy test.now bytes (arc_value question)) }
     ensures fault { IfErr result (λ fault. (bytes : List ℕ) → ArePricesOf bytes prices
-        → (limit workers : ℕ) → IsFirstSolveFault test.now bytes limit workers fault) }
+        → (limit : ℕ) → IsFirstSolveFault test.now bytes limit fault) }
 {
     let read = read_test(alloc, test)?;
     let question = question_of(alloc, read, prices)?;
@@ -183,7 +184,7 @@ fn find_alone(alloc: Global, test: &[u8], prices: &[u8], limit: usize) -> Result
     requires most { limit ≤ 1000000 }
     ensures answer { IfOk result (λ found.
         IsFound test.now prices.now limit (arc_value found.question) found.solved) }
-    ensures fault { IfErr result (IsFirstSolveFault test.now prices.now limit 1) }
+    ensures fault { IfErr result (IsFirstSolveFault test.now prices.now limit) }
 {
     let question = read_question(alloc, test, prices)?;
     let asked = Arc::try_clone(&question)?;
@@ -207,7 +208,7 @@ fn find<R: Threads + Wait + Sync, G: Gate + Sync>(
     requires most { limit ≤ 1000000 }
     ensures answer { IfOk result (λ found.
         IsFound test.now prices.now limit (arc_value found.question) found.solved) }
-    ensures fault { IfErr result (IsFirstSolveFault test.now prices.now limit workers) }
+    ensures fault { IfErr result (IsFirstSolveFault test.now prices.now limit) }
 {
     let question = read_question(alloc, test, prices)?;
     let asked = Arc::try_clone(&question)?;

@@ -6,13 +6,14 @@ use Rattle.fs_kinds.specs.PriceTable.{PriceTable}
 use Rattle.fs_syntax.specs.declared.test.Test.{Test}
 use Rattle.fs_litmus.specs.Reads.{Reads}
 use Rattle.fs_litmus.specs.Faults.{IsTestFault}
-use Rattle.fs_place.specs.Place.{IsPricesFault}
+use Rattle.fs_answer.specs.CandidateFaults.{HasNoCandidateFault}
+use Rattle.fs_place.specs.Place.{IsPricesFault, ArePricesOf}
 use Rattle.fs_place.proofs.Faults.{is_memory}
 use Rattle.fs_answer.specs.Certificate.{Certificate}
 use Rattle.fs_answer.specs.CertificateFile.{IsCertificateFile}
 use Rattle.fs_checker.specs.declared.verdict.CheckVerdict.{CheckVerdict}
 use Rattle.fs_checker.specs.Checks.{IsCheckFault, IsCheckVerdict}
-use Rattle.fs_verify.specs.Check.{ArePricesOf, HasNoCandidateFault, IsFirstCheckFault, of_prices, of_test, of_check, of_memory}
+use Rattle.fs_verify.specs.Check.{IsFirstCheckFault, of_prices, of_test, of_check, of_memory}
 
 module _ (test prices certificate : List ℕ) where
   check-memory : (f : Fault) → f ≡ Memory → IsFirstCheckFault test prices certificate f

@@ -9,7 +9,7 @@ use Rattle.fs_kinds.specs.ReasonText.{reason_text}
 use Rattle.fs_syntax.specs.declared.test.Test.{Test}
 use Rattle.fs_litmus.specs.Reads.{Reads}
 use Rattle.fs_litmus.specs.Faults.{IsTestFault}
-use Rattle.fs_answer.specs.CandidateFaults.{IsCandidateFault}
+use Rattle.fs_answer.specs.CandidateFaults.{HasNoCandidateFault}
 use Rattle.fs_answer.specs.Certificate.{Certificate, IsBest}
 use Rattle.fs_answer.specs.CertificateFile.{IsCertificateFile}
 use Rattle.fs_answer.specs.Refusals.{IsRefusal}
@@ -18,15 +18,7 @@ use Rattle.fs_answer.specs.Valid.{IsValidFor, IsValidForNone}
 use Rattle.fs_checker.specs.Checks.{IsCheckFault}
 use Rattle.fs_io.specs.declared.status.Status.{Status}
 use Rattle.fs_io.specs.declared.status.Status.TheVariants.{Success, Denied}
-use Rattle.fs_place.specs.Place.{ArePriced, IsPricesFault}
-
--- the bytes hold these prices
-abbrev pub ArePricesOf : List ℕ → PriceTable → Type 0
-ArePricesOf bytes table = ArePriced (Some bytes) (Some table)
-
--- the test's candidate executions can be listed: no run goes astray, and there aren't too many of them
-abbrev pub HasNoCandidateFault : Test → Type 0
-HasNoCandidateFault t = (f : Fault) → IsCandidateFault t f → ⊥
+use Rattle.fs_place.specs.Place.{ArePricesOf, IsPricesFault}
 
 abbrev pub yes_line : List ℕ
 yes_line = codes "yes\n"

@@ -5,9 +5,11 @@ ghost use Rattle.fs_kinds.specs.PriceTable.{PriceTable};
 ghost use Rattle.fs_syntax.specs.declared.test.Test.{Test as Tests};
 ghost use Rattle.fs_syntax.specs.Test.{IsBounded, IsTest};
 ghost use Rattle.fs_answer.specs.Certificate.{Certificate as Said};
+ghost use Rattle.fs_answer.specs.CandidateFaults.{HasNoCandidateFault};
 ghost use Rattle.fs_checker.specs.declared.verdict.CheckVerdict.TheVariants.{Yes, No};
 ghost use Rattle.fs_checker.specs.Checks.{IsCheckVerdict, IsCheckFault};
-ghost use Rattle.fs_verify.specs.Check.{ArePricesOf, HasNoCandidateFault, PrintsVerdict, PrintsFileVerdict, IsChecked, IsFirstCheckFault, refusal_line};
+ghost use Rattle.fs_place.specs.Place.{ArePricesOf};
+ghost use Rattle.fs_verify.specs.Check.{PrintsVerdict, PrintsFileVerdict, IsChecked, IsFirstCheckFault, refusal_line};
 
 use crate::certified::{fenced_answer, none_answer};
 use fs_certificate::Certificate;

@@ -1,15 +1,14 @@
 -- An answer that was found, before it is printed.
-use Rattle.std.specs.Prelude.{◌≡◌, ◌≤◌, ◌⊎◌, ℕ, List, IfNone, IfSome}
-use Rattle.fs_kinds.specs.declared.fault.Fault.{Fault}
-use Rattle.fs_kinds.specs.declared.fault.Fault.TheVariants.{Unmatched}
+use Rattle.std.specs.Prelude.{◌≡◌, ℕ, List, IfNone, IfSome}
 use Rattle.fs_kinds.specs.PriceTable.{PriceTable, IsPriceTable}
 use Rattle.fs_syntax.specs.declared.test.Test.{Test}
 use Rattle.fs_syntax.specs.Test.{IsBounded, IsTest}
 use Rattle.fs_litmus.specs.Reads.{Reads}
+use Rattle.fs_answer.specs.CandidateFaults.{HasNoCandidateFault}
 use Rattle.fs_evidence.specs.Evidence.{Question}
 use Rattle.fs_search.specs.declared.answer.Solved.{Solved}
-use Rattle.fs_search.specs.Answers.{IsAnswer, IsBoardOf, IsShownLeast, IsSolveFault}
-use Rattle.fs_solve.specs.Solve.{ArePricesOf, HasNoCandidateFault}
+use Rattle.fs_search.specs.Answers.{IsAnswer, IsBoardOf, IsShownLeast}
+use Rattle.fs_place.specs.Place.{ArePricesOf}
 
 -- the bytes read as the question's test and hold its prices
 pub record IsAskedBy (test prices : List ℕ) (asked : Question) : Type 0 where
@@ -34,7 +33,3 @@ pub record IsFound (test prices : List ℕ) (limit : ℕ) (asked : Question) (s 
   pub reads : Reads test the_test
   pub priced : ArePricesOf prices table
   pub found : IsFoundFor (record { test = the_test; prices = table }) limit asked s
-
--- the fault of a search that so many workers made
-abbrev pub IsSearchFault : Question → (limit workers : ℕ) → Fault → Type 0
-IsSearchFault q limit workers f = IsSolveFault q limit f ⊎ ((f ≡ Unmatched) × (2 ≤ workers) × HasNoCandidateFault q.test)

@@ -51,3 +51,8 @@ returns-in-Err-NodeLimit-clause-least c =
     let solved = c.in_ok-solved-in-Err-NodeLimit.solved in
     without solved.board
     (subst (λ (x : Question). IsShownLeast x.test solved.answer solved.least) (c.problem-in-Err-NodeLimit.ensures ∙ c.in-Err-NodeLimit.ensures.judge) c.in_ok-solved-in-Err-NodeLimit.ensures.least)
+
+pub returns-in-Err-NodeLimit-clause-either : goal.returns-in-Err-NodeLimit-clause-either
+returns-in-Err-NodeLimit-clause-either c =
+    subst (λ (b : Option Search). IfSome b (λ _. c.in_ok-solved-in-Err-NodeLimit.solved.least ≡ None))
+    (sym c.in_ok-solved-in-Err-NodeLimit.ensures.board) tt

@@ -1,12 +1,12 @@
 use Rattle.fs_place.proofs.Faults.{IfErr-handed}
 use Rattle.fs_solve.specs.Solve.{of_memory}
 use Rattle.fs_solve.proofs.Founding.{found-asked}
-use Rattle.fs_solve.proofs.SolveFaults.{first-together}
+use Rattle.fs_solve.proofs.SolveFaults.{solve-search}
 use Rattle.fs_solve.proofs.solve.find.Goals as goal
 
 pub returns-in_err-question-clause-fault : goal.returns-in_err-question-clause-fault
 returns-in_err-question-clause-fault g c =
-    IfErr-handed c.from_residual.result _ _ c.from_residual.ensures.1 (c.in_err-question.ensures.fault _ _)
+    IfErr-handed c.from_residual.result _ _ c.from_residual.ensures.1 (c.in_err-question.ensures.fault _)
 
 pub returns-in_err-asked-clause-fault : goal.returns-in_err-asked-clause-fault
 returns-in_err-asked-clause-fault g c =
@@ -15,8 +15,7 @@ returns-in_err-asked-clause-fault g c =
 pub returns-in_err-solved-clause-fault : goal.returns-in_err-solved-clause-fault
 returns-in_err-solved-clause-fault g c =
     IfErr-handed c.from_residual-in_err-solved.result _ _ c.from_residual-in_err-solved.ensures.1
-    (first-together _ _ _ _ c.args.limit _ c.in_ok-question.ensures.asked c.in_ok-asked.ensures c.args.workers c.in_err-solved.ensures.err
-    c.in_err-solved.ensures.alone c.in_err-solved.ensures.listed)
+    (solve-search _ _ c.args.limit _ _ _ c.in_ok-question.ensures.asked c.in_ok-asked.ensures c.in_err-solved.ensures.err)
 
 pub returns-clause-answer : goal.returns-clause-answer
 returns-clause-answer g c =

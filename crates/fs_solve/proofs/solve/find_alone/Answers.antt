@@ -1,12 +1,12 @@
 use Rattle.fs_place.proofs.Faults.{IfErr-handed}
 use Rattle.fs_solve.specs.Solve.{of_memory}
 use Rattle.fs_solve.proofs.Founding.{found-asked}
-use Rattle.fs_solve.proofs.SolveFaults.{first-alone}
+use Rattle.fs_solve.proofs.SolveFaults.{solve-search}
 use Rattle.fs_solve.proofs.solve.find_alone.Goals as goal
 
 pub returns-in_err-question-clause-fault : goal.returns-in_err-question-clause-fault
 returns-in_err-question-clause-fault c =
-    IfErr-handed c.from_residual.result _ _ c.from_residual.ensures.1 (c.in_err-question.ensures.fault _ _)
+    IfErr-handed c.from_residual.result _ _ c.from_residual.ensures.1 (c.in_err-question.ensures.fault _)
 
 pub returns-in_err-asked-clause-fault : goal.returns-in_err-asked-clause-fault
 returns-in_err-asked-clause-fault c =
@@ -15,7 +15,7 @@ returns-in_err-asked-clause-fault c =
 pub returns-in_err-solved-clause-fault : goal.returns-in_err-solved-clause-fault
 returns-in_err-solved-clause-fault c =
     IfErr-handed c.from_residual-in_err-solved.result _ _ c.from_residual-in_err-solved.ensures.1
-    (first-alone _ _ _ _ c.args.limit _ c.in_ok-question.ensures.asked c.in_ok-asked.ensures c.in_err-solved.ensures.err)
+    (solve-search _ _ c.args.limit _ _ _ c.in_ok-question.ensures.asked c.in_ok-asked.ensures c.in_err-solved.ensures.err)
 
 pub returns-clause-answer : goal.returns-clause-answer
 returns-clause-answer c =

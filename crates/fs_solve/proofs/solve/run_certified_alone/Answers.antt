@@ -11,4 +11,4 @@ returns-clause-certificate c = if_ok _ _ c.with_certificate.result c.with_certif
     (λ made says. says _ _ _ c.in_ok-found.ensures.answer)
 
 pub returns-clause-fault : goal.returns-clause-fault
-returns-clause-fault c = first-memory _ _ c.args.limit 1 c.with_certificate.result c.with_certificate.ensures.err
+returns-clause-fault c = first-memory _ _ c.args.limit c.with_certificate.result c.with_certificate.ensures.err

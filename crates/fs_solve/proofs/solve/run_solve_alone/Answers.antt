@@ -7,4 +7,4 @@ returns-clause-answer c = if_ok _ _ c.answer_output.result c.answer_output.ensur
     (λ output shown. is-solved _ _ c.args.limit _ _ _ _ c.in_ok-found.ensures.answer shown)
 
 pub returns-clause-fault : goal.returns-clause-fault
-returns-clause-fault c = first-memory _ _ c.args.limit 1 c.answer_output.result c.answer_output.ensures.err
+returns-clause-fault c = first-memory _ _ c.args.limit c.answer_output.result c.answer_output.ensures.err
