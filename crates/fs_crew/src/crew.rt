@@ -109,7 +109,7 @@ fn join_first<A: Asked>(
     Ok(goes_on)
 }
 
-/// The first workers search, and where that is long all of them.
+/// The first workers search, and where that is long and there are more of them, all do.
 fn work_by_stages<A: Asked + Send + Sync, R: Threads + Wait + Sync, G: Gate + Sync>(
     rt: &R,
     alloc: Global,
@@ -125,7 +125,12 @@ fn work_by_stages<A: Asked + Send + Sync, R: Threads + Wait + Sync, G: Gate + Sy
 {
     let (first, mut passes) = split_first(alloc, passes)?;
     let ring = hands(alloc, workers.min(FIRST_WORKERS))?;
-    let jobs = side_by_side(alloc, first, ring, FIRST_NODES)?;
+    let nodes = if workers > FIRST_WORKERS {
+        FIRST_NODES
+    } else {
+        usize::MAX
+    };
+    let jobs = side_by_side(alloc, first, ring, nodes)?;
     let came = work_all(rt, alloc, desk, gate, problem, jobs)?;
     let goes_on = join_first(came, &mut passes)?;
     if !goes_on {
@@ -202,7 +207,8 @@ fn searched<R: Threads + Wait + Sync, G: Gate + Sync>(
 
 /// The answer to a question, as `fs_search::solve` gives it, searched by this many workers. One worker needs neither threads nor a desk.
 /// More of them search together first, and what they leave is searched as by one: all of it, where the board's log and what they saw of it
-/// don't agree. The faults are those of `fs_search::solve`.
+/// don't agree. The faults are those of `fs_search::solve`. Several workers may make more nodes, and so come to F16 where one has the
+/// answer. A thread that never comes back is waited for without an end.
 pub fn solve<R: Threads + Wait + Sync, G: Gate + Sync>(
     rt: &R,
     alloc: Global,

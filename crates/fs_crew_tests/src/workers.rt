@@ -78,11 +78,11 @@ fn taken_by_one<R: Threads + Wait + Sync>(rt: &R, alloc: Global) -> Result<Strin
 #[test]
 fn any_number_of_workers_answers_the_same(rt: HostRuntime) -> Result<(), Fail> {
     let rows = [
-        (SB, 1_000_000, "fenced 18"),
-        (LB, 1_000, "fenced 6"),
-        (MPA, 1_000, "fenced 2"),
+        (SB, 1_000_000, "fenced 18 "),
+        (LB, 1_000, "fenced 6 "),
+        (MPA, 1_000, "fenced 2 "),
         (MP11, 1_000, "none"),
-        (SBX, 1_000, "fenced 6"),
+        (SBX, 1_000, "fenced 6 "),
         (SB, 1, "fault F16"),
     ];
     for (test, nodes, expected) in rows {

@@ -53,7 +53,7 @@ pub enum Fault {
     WriteFault,
     /// F22: the search's log and the workers' receipts don't agree. No command answers it.
     Unmatched,
-    /// F23: a worker's pass is strange to this search, or comes twice.
+    /// F23: a worker's pass or hand is strange, doubled or missing. No command answers it.
     StrangePass,
 }
 

@@ -110,6 +110,7 @@ impl<A: Asked> Desk<A> {
     }
 
     /// Makes the event, as the call of its name does, and adds its receipt to the pass. What it brings must be made for the question.
+    /// `Take` may wait, as `take` does. The error is F19, with the pass as it was.
     pub fn call<R: Wait>(
         &self,
         rt: &R,
@@ -268,7 +269,8 @@ impl<A: Asked> Desk<A> {
         self.call(rt, alloc, pass, Event::Peek(from))
     }
 
-    /// Marks the worker as one that has left, and wakes the others. It is no event, and needs no memory.
+    /// Marks the worker as one that has left, and wakes the others: nobody waits for what it does from now on, even if it calls again. It is
+    /// no event, and needs no memory.
     pub fn leave<R: Wait>(&self, rt: &R, pass: &Pass<A>) {
         let mut guard = self.shared.lock(rt);
         guard.leave(pass.worker());
