@@ -163,8 +163,45 @@ fn write_reply(reply: &Reply, text: &mut String) -> Result<(), AllocError> {
     text.push_str(word)
 }
 
-/// What the board of the test and the prices replies to these workers in turn, a line for each. Behind the replies to posts
-/// stands the bound.
+/// Asks the board, and writes its reply as a line. Behind the reply to a post stands the bound.
+fn write_answer(
+    alloc: Global,
+    problem: &Problem,
+    board: &mut Board,
+    worker: u8,
+    asked: Request,
+    text: &mut String,
+) -> Result<(), Fault>
+    requires test { IsBounded problem.now.test }
+    requires same { board.old.question ≡ problem.now }
+    ensures same { OnOk result (board.new.question ≡ board.old.question) }
+{
+    let reply = ask(alloc, problem, board, worker, asked)?;
+    write_reply(&reply, text)?;
+    if matches!(asked, Request::Post(..)) {
+        write_bound(board, text)?;
+    }
+    Ok(text.push_str("\n")?)
+}
+
+/// Writes what the board replies to these workers in turn, a line for each.
+fn write_answers(
+    alloc: Global,
+    problem: &Problem,
+    board: &mut Board,
+    asks: &[(u8, Request)],
+    text: &mut String,
+) -> Result<(), Fault>
+    requires test { IsBounded problem.now.test }
+    requires same { board.old.question ≡ problem.now }
+{
+    for (worker, asked) in asks {
+        write_answer(alloc, problem, board, *worker, *asked, text)?;
+    }
+    Ok(())
+}
+
+/// What the board of the test and the prices replies to these workers in turn.
 fn replies(
     alloc: Global,
     text: &str,
@@ -178,14 +215,7 @@ fn replies(
     let problem = Problem::new(alloc, Arc::try_clone(&question)?)?;
     let mut board = Board::new(alloc, question, limit)?;
     let mut written = String::new(alloc);
-    for (worker, asked) in asks {
-        let reply = ask(alloc, &problem, &mut board, *worker, *asked)?;
-        write_reply(&reply, &mut written)?;
-        if matches!(asked, Request::Post(..)) {
-            write_bound(&board, &mut written)?;
-        }
-        written.push_str("\n")?;
-    }
+    write_answers(alloc, &problem, &mut board, asks, &mut written)?;
     Ok(written)
 }
 

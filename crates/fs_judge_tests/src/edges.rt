@@ -112,6 +112,36 @@ fn with_any_outcome(alloc: Global, text: &str) -> Result<String, AllocError> {
     format!(in alloc; "{code}exists (true)\n")
 }
 
+/// Compares the candidate with each placement.
+fn compare_candidate(
+    alloc: Global,
+    candidate: &Candidate,
+    placements: &[Placement],
+    count: &mut Count,
+) -> Result<(), Fault>
+    requires operations { length candidate.now.operations ≤ 64 }
+    requires harts { length candidate.now.traces ≤ 8 }
+{
+    for placement in placements {
+        compare_pairs(alloc, candidate, placement, count)?;
+    }
+    Ok(())
+}
+
+/// Compares all these candidates with each placement.
+fn compare_all(
+    alloc: Global,
+    showing: &Showing,
+    placements: &[Placement],
+    count: &mut Count,
+) -> Result<(), Fault> {
+    for number in 0..showing.len() {
+        let candidate = showing.get(alloc, number)?;
+        compare_candidate(alloc, &candidate, placements, count)?;
+    }
+    Ok(())
+}
+
 /// Compares all candidates of the test whatever they show, with no fence and with each kind in all slots.
 fn compare(alloc: Global, text: &str) -> Result<Count, Fault> {
     let text = with_any_outcome(alloc, text)?;
@@ -123,12 +153,7 @@ fn compare(alloc: Global, text: &str) -> Result<Count, Fault> {
         edges: 0,
         differing: 0,
     };
-    for number in 0..showing.len() {
-        let candidate = showing.get(alloc, number)?;
-        for placement in &placements {
-            compare_pairs(alloc, &candidate, placement, &mut count)?;
-        }
-    }
+    compare_all(alloc, &showing, &placements, &mut count)?;
     Ok(count)
 }
 

@@ -1,7 +1,9 @@
 //! Which slots a test has, and where they are in the fenced test, read back from its printed form.
+ghost use Rattle.fs_syntax.specs.Test.{IsBounded, IsTest};
+
 use fs_examples::{MP, MPB, placement_of, told};
-use fs_kinds::{Fault, Slot};
-use fs_litmus::{read_test, slots};
+use fs_kinds::{Fault, Placement, Slot};
+use fs_litmus::{Test, read_test, slots};
 use fs_round_trip::fence;
 use std::alloc::{AllocError, Global};
 use std::test::Fail;
@@ -35,13 +37,27 @@ fn slots_text(alloc: Global, slots: &[Slot]) -> Result<String, AllocError> {
     Ok(text)
 }
 
+/// The slots of the test, in print.
+fn slots_of(alloc: Global, test: &Test) -> Result<String, Fault>
+    requires { IsBounded test.now }
+{
+    let found = slots(alloc, test)?;
+    Ok(slots_text(alloc, &found)?)
+}
+
+/// The slots of the test with the placement's fences in it.
+fn slots_with(alloc: Global, test: &Test, placement: &Placement) -> Result<String, Fault>
+    requires { IsTest test.now }
+{
+    let fenced = fence(alloc, test, placement)?;
+    slots_of(alloc, &fenced)
+}
+
 /// The slots of the test that the text reads as, once the fences stand in it that these words name.
 fn fenced_slots(alloc: Global, text: &str, words: &str) -> Result<String, Fault> {
     let test = read_test(alloc, text.as_bytes())?;
     let placement = placement_of(alloc, &test, words)?;
-    let fenced = fence(alloc, &test, &placement)?;
-    let found = slots(alloc, &fenced)?;
-    Ok(slots_text(alloc, &found)?)
+    slots_with(alloc, &test, &placement)
 }
 
 #[test]
