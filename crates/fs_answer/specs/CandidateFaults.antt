@@ -20,6 +20,7 @@ abbrev pub IsCandidateFault : Test → Fault → Type 0
 IsCandidateFault t fault.TooManyCandidates = ((f : Fault) → IsRunFault t f → ⊥) × HasTooMany t
 IsCandidateFault t f = IsRunFault t f
 
--- the test's candidate executions can be listed: no run goes astray, and there aren't too many of them
+-- the test's candidate executions can be listed: of the runs whose loads take words of the rounds of value sets none goes astray, and neither
+-- a hart's runs, nor the lists of runs, nor the candidates are too many
 abbrev pub HasNoCandidateFault : Test → Type 0
 HasNoCandidateFault t = (f : Fault) → IsCandidateFault t f → ⊥

@@ -192,9 +192,9 @@ fn searched<R: Threads + Wait + Sync, G: Gate + Sync>(
     gate: &G,
 ) -> Result<Board, Fault>
     requires test { IsBounded (arc_value problem.now).test }
-    requires alone { 1 ≤ workers }
+    requires some { 1 ≤ workers }
     requires few { workers ≤ 16 }
-    requires limit { limit ≤ 1000000 }
+    requires most { limit ≤ 1000000 }
     ensures asked { IfOk result (λ b. IsAsked b (arc_value problem.now) limit) }
     ensures err { IsOkUnless result Fault.Memory }
 {
@@ -220,10 +220,10 @@ pub fn solve<R: Threads + Wait + Sync, G: Gate + Sync>(
     requires test { IsBounded (arc_value question).test }
     requires starts { All IsStart (arc_value question).test.starts }
     requires prices { IsPriceTable (arc_value question).prices }
-    requires alone { 1 ≤ workers }
+    requires some { 1 ≤ workers }
     requires few { workers ≤ 16 }
-    requires some { 1 ≤ limit }
-    requires limit { limit ≤ 1000000 }
+    requires least { 1 ≤ limit }
+    requires most { limit ≤ 1000000 }
     ensures ok { IfOk result (λ s. IsAnswer (arc_value question).test (arc_value question).prices s.answer) }
     ensures clean { OnOk result ((f : Fault) → IsCandidateFault (arc_value question).test f → ⊥) }
     ensures board { IfOk result (λ s. IfSome s.board (IsBoardOf (arc_value question) limit s.answer)) }

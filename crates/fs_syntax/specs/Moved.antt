@@ -41,7 +41,7 @@ abbrev pub moved_slot : List Entry → Slot → Slot
 moved_slot p s = slot_at s.hart (place p s.hart s.at)
 
 -- The fenced test: the test with the fenced code of each hart. Its slots are those of the test, moved with their instructions.
-pub record IsFencedTest (t : Test) (p : List Entry) (u : Test) : Type 0 where
+pub record IsMovedTest (t : Test) (p : List Entry) (u : Test) : Type 0 where
   pub harts : length u.codes ≡ length t.codes
   pub codes : (hart : ℕ) (code : List Instr) → slice_get t.codes hart ≡ Some code → (out : List Instr) × (slice_get u.codes hart ≡ Some out) × IsFencedCode p hart code out
   pub others : u ≡ record t { codes = u.codes }
