@@ -147,6 +147,24 @@ fn board_of(alloc: Global, question: &Arc<Question>, limit: usize) -> Result<Boa
     Board::new(alloc, Arc::try_clone(question)?, limit)
 }
 
+/// Asks a board of the question with this limit.
+fn ask_board<R: Print>(
+    rt: &R,
+    alloc: Global,
+    question: &Arc<Question>,
+    problem: &Problem,
+    limit: usize,
+    asks: &[(u8, Request)],
+) -> Result<(), Fault>
+    requires test { IsTest (arc_value question.now).test }
+    requires same { problem.now ≡ arc_value question.now }
+    requires limit { limit ≤ 1000000 }
+{
+    let _ = println!(rt; "a board with limit {limit}");
+    let mut board = twice!(rt, board_of(alloc, question, limit))?;
+    ask_all(rt, alloc, problem, &mut board, asks)
+}
+
 /// Asks a board of the test with this limit.
 fn make_board<R: Print>(
     rt: &R,
@@ -159,9 +177,7 @@ fn make_board<R: Print>(
 {
     let question = question_of(alloc, text, PRICES)?;
     let problem = Problem::new(alloc, Arc::try_clone(&question)?)?;
-    let _ = println!(rt; "a board with limit {limit}");
-    let mut board = twice!(rt, board_of(alloc, &question, limit))?;
-    ask_all(rt, alloc, &problem, &mut board, asks)
+    ask_board(rt, alloc, &question, &problem, limit, asks)
 }
 
 /// A slot of store buffering.

@@ -85,6 +85,38 @@ fn print_verdict<R: Print>(rt: &R, verdict: &CheckVerdict) {
     }
 }
 
+/// Writes the certificate that was read, and says whether that is the text from which it was.
+fn write_again<R: Print>(
+    rt: &R,
+    alloc: Global,
+    read: &Certificate,
+    written: &str,
+) -> Result<(), Fault> {
+    let again = twice!(rt, text_of(alloc, read))?;
+    let _ = println!(rt; "read as written: {}", again.as_str() == written);
+    Ok(())
+}
+
+/// Reads the certificate with this text, and writes it again.
+fn read_back<R: Print>(rt: &R, alloc: Global, written: &str) -> Result<(), Fault> {
+    let read = twice!(rt, Certificate::from_bytes(alloc, written.as_bytes()))?;
+    write_again(rt, alloc, &read, written)
+}
+
+/// Checks the certificate with this text, and prints the verdict.
+fn check_text<R: Print>(
+    rt: &R,
+    alloc: Global,
+    question: &Question,
+    written: &str,
+) -> Result<(), Fault>
+    requires { IsTest question.now.test }
+{
+    let verdict = twice!(rt, verdict_of(alloc, question, written))?;
+    print_verdict(rt, &verdict);
+    Ok(())
+}
+
 /// Writes the certificate, reads it, and checks it. Its text is printed where that is asked for.
 fn check_written<R: Print>(
     rt: &R,
@@ -96,23 +128,27 @@ fn check_written<R: Print>(
     requires { IsTest question.now.test }
 {
     let written = twice!(rt, text_of(alloc, certificate))?;
-    let read = twice!(rt, Certificate::from_bytes(alloc, written.as_bytes()))?;
-    let again = twice!(rt, text_of(alloc, &read))?;
-    let _ = println!(rt; "read as written: {}", again.as_str() == written.as_str());
+    read_back(rt, alloc, written.as_str())?;
     if is_printed {
         let _ = rt.println(written.as_str());
     }
-    let verdict = twice!(rt, verdict_of(alloc, question, written.as_str()))?;
-    print_verdict(rt, &verdict);
-    Ok(())
+    check_text(rt, alloc, question, written.as_str())
+}
+
+/// Answers the question, and gives a certificate of the answer.
+fn answered<R: Print>(rt: &R, alloc: Global, question: &Arc<Question>) -> Result<Certificate, Fault>
+    requires test { IsTest (arc_value question.now).test }
+    requires prices { IsPriceTable (arc_value question.now).prices }
+{
+    let solved = twice!(rt, solved_of(alloc, question))?;
+    twice!(rt, certificate_of(alloc, &solved))
 }
 
 /// Answers the question, and makes a certificate of the answer.
 fn certify<R: Print>(rt: &R, alloc: Global, text: &str, is_printed: bool) -> Result<(), Fault> {
     let question = question_of(alloc, text, PRICES)?;
     let _ = rt.println("a certificate");
-    let solved = twice!(rt, solved_of(alloc, &question))?;
-    let certificate = twice!(rt, certificate_of(alloc, &solved))?;
+    let certificate = answered(rt, alloc, &question)?;
     check_written(rt, alloc, &question, &certificate, is_printed)
 }
 

@@ -147,6 +147,28 @@ fn desk_of<A: Asked>(
 }
 
 /// Asks a desk of the question, and prints how it ends with the first passes, so many.
+fn ask_desk<A: Asked, R: Print + Wait>(
+    rt: &R,
+    alloc: Global,
+    question: &Arc<Question>,
+    problem: &Problem,
+    requests: &[(usize, Request)],
+    kept: usize,
+) -> Result<(), Fault>
+    requires test { IsTest (arc_value question.now).test }
+    requires question { arc_value question.now ≡ A.question }
+    requires same { problem.now ≡ A.question }
+    requires limit { A.limit ≡ 14 }
+{
+    let _ = println!(rt; "a desk of 2 workers");
+    let (desk, mut passes) = twice!(rt, desk_of::<A>(alloc, question, 2))?;
+    ask_all(rt, alloc, problem, &desk, &mut passes, requests)?;
+    passes.truncate(kept);
+    print_end(rt, desk, passes);
+    Ok(())
+}
+
+/// The same, with the problem that the question is.
 fn make_desk<A: Asked, R: Print + Wait>(
     rt: &R,
     alloc: Global,
@@ -159,12 +181,7 @@ fn make_desk<A: Asked, R: Print + Wait>(
     requires limit { A.limit ≡ 14 }
 {
     let problem = Problem::new(alloc, Arc::try_clone(question)?)?;
-    let _ = println!(rt; "a desk of 2 workers");
-    let (desk, mut passes) = twice!(rt, desk_of::<A>(alloc, question, 2))?;
-    ask_all(rt, alloc, &problem, &desk, &mut passes, requests)?;
-    passes.truncate(kept);
-    print_end(rt, desk, passes);
-    Ok(())
+    ask_desk::<A, R>(rt, alloc, question, &problem, requests, kept)
 }
 
 /// Prints how a desk of the question ends with the first pass of its own and that of another desk.

@@ -1,9 +1,10 @@
 //! Tests that are read, fences that are placed in them, and the text that is printed.
+ghost use Rattle.fs_syntax.specs.Test.{IsBounded};
 
 use crate::printing::say_refused;
 use fs_examples::{MP, MPB, PRICES};
-use fs_kinds::{Fault, Prices, read_prices};
-use fs_litmus::{read_fences, read_test, slots, write_fenced};
+use fs_kinds::{Fault, Placement, Prices, read_prices};
+use fs_litmus::{Test, read_fences, read_test, slots, write_fenced};
 use std::alloc::Global;
 
 /// The text, in a list.
@@ -13,7 +14,45 @@ fn words_of(alloc: Global, word: &str) -> Result<Vec<String>, Fault> {
     Ok(words)
 }
 
-/// Reads the test and its slots, places the fence, and prints the fenced test.
+/// Prints how many slots the test has.
+fn print_slots<R: Print>(rt: &R, alloc: Global, test: &Test) -> Result<(), Fault>
+    requires { IsBounded test.now }
+{
+    let places = twice!(rt, slots(alloc, test))?;
+    let _ = println!(rt; "{} slots", places.len());
+    Ok(())
+}
+
+/// Prints the test with the placement's fences.
+fn print_fenced<R: Print>(
+    rt: &R,
+    alloc: Global,
+    test: &Test,
+    placement: &Placement,
+) -> Result<(), Fault>
+    requires { IsBounded test.now }
+{
+    let fenced = twice!(rt, write_fenced(alloc, test, placement))?;
+    let _ = rt.print(fenced.as_str());
+    Ok(())
+}
+
+/// Places the fence in the test, and prints the test's slots and the fenced test.
+fn place_in<R: Print>(
+    rt: &R,
+    alloc: Global,
+    test: &Test,
+    prices: &Prices,
+    words: &[String],
+) -> Result<(), Fault>
+    requires { IsBounded test.now }
+{
+    print_slots(rt, alloc, test)?;
+    let placement = twice!(rt, read_fences(alloc, test, Some(prices), words))?;
+    print_fenced(rt, alloc, test, &placement)
+}
+
+/// Reads the test, and places the fence.
 fn place<R: Print>(
     rt: &R,
     alloc: Global,
@@ -22,12 +61,7 @@ fn place<R: Print>(
     words: &[String],
 ) -> Result<(), Fault> {
     let test = twice!(rt, read_test(alloc, text.as_bytes()))?;
-    let places = twice!(rt, slots(alloc, &test))?;
-    let placement = twice!(rt, read_fences(alloc, &test, Some(prices), words))?;
-    let fenced = twice!(rt, write_fenced(alloc, &test, &placement))?;
-    let _ = println!(rt; "{} slots", places.len());
-    let _ = rt.print(fenced.as_str());
-    Ok(())
+    place_in(rt, alloc, &test, prices, words)
 }
 
 /// Message passing, without a branch and with one.

@@ -62,18 +62,58 @@ fn print_verdict<R: Print>(rt: &R, verdict: &Verdict) {
     }
 }
 
+/// Prints the problem's own verdict on the placement that the words name.
+fn print_verdict_on<R: Print>(
+    rt: &R,
+    alloc: Global,
+    problem: &Problem,
+    words: &str,
+) -> Result<(), Fault>
+    requires { IsBounded problem.now.test }
+{
+    let verdict = twice!(rt, verdict_on(alloc, problem, words))?;
+    print_verdict(rt, &verdict);
+    Ok(())
+}
+
+/// Prints what the judge sees at a quick look at the placement that the words name.
+fn print_look_on<R: Print>(
+    rt: &R,
+    alloc: Global,
+    judge: &mut Judge,
+    words: &str,
+) -> Result<(), Fault>
+    requires { IsBounded judge.old.test }
+    ensures { judge.new ≡ judge.old }
+{
+    let found = twice!(rt, look_on(alloc, judge, words))?;
+    print_look(rt, &found);
+    Ok(())
+}
+
+/// Prints the judge's verdict on the placement that the words name.
+fn print_judged_on<R: Print>(
+    rt: &R,
+    alloc: Global,
+    judge: &mut Judge,
+    words: &str,
+) -> Result<(), Fault>
+    requires { IsBounded judge.old.test }
+    ensures { judge.new ≡ judge.old }
+{
+    let judged = twice!(rt, judged_on(alloc, judge, words))?;
+    print_verdict(rt, &judged);
+    Ok(())
+}
+
 /// Judges the placement that the words name: by the problem itself, and by the judge.
 fn judge_on<R: Print>(rt: &R, alloc: Global, judge: &mut Judge, words: &str) -> Result<(), Fault>
     requires { IsBounded judge.old.test }
     ensures { judge.new ≡ judge.old }
 {
-    let verdict = twice!(rt, verdict_on(alloc, judge.problem(), words))?;
-    print_verdict(rt, &verdict);
-    let found = twice!(rt, look_on(alloc, judge, words))?;
-    print_look(rt, &found);
-    let judged = twice!(rt, judged_on(alloc, judge, words))?;
-    print_verdict(rt, &judged);
-    Ok(())
+    print_verdict_on(rt, alloc, judge.problem(), words)?;
+    print_look_on(rt, alloc, judge, words)?;
+    print_judged_on(rt, alloc, judge, words)
 }
 
 /// Judges store buffering without fences, and with those that are needed.
