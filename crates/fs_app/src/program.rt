@@ -5,7 +5,7 @@ ghost use Rattle.std.specs.Prelude.{◌≤◌};
 use crate::whole::write_whole;
 use clap::Error;
 use clap::error::ErrorKind;
-use fs_command::{Check, Order, Place, Request, Solve, read_request};
+use fs_command::{Check, MOST_NODES, MOST_WORKERS, Order, Place, Request, Solve, read_request};
 use fs_io::{Output, Status, read_bytes, write_text};
 use fs_kinds::Fault;
 use fs_order::run_order;
@@ -24,12 +24,6 @@ const INPUT_LIMIT: usize = 1_048_576;
 
 /// Certificates are read up to this many bytes.
 const CERTIFICATE_LIMIT: usize = 1_073_741_824;
-
-/// The most nodes that a search may be allowed.
-const MOST_NODES: usize = 1_000_000;
-
-/// The most threads that may search.
-const MOST_WORKERS: u8 = 16;
 
 /// Does what the process's command line asks for, and answers the exit status: 0 where it was done or the answer is yes or
 /// fenced, 1 where it is no or none, 2 for a fault or a bad command line, 3 where memory ran out. A fault or a bad command line
@@ -139,7 +133,7 @@ fn answer_solve<R: Files + Input + AllocGlobal + Threads + Wait + Sync>(
     let prices = read_file(rt, solve.prices, INPUT_LIMIT)?;
     // the command line has no other numbers; here it is said once more for the proof
     let workers = solve.workers.clamp(1, MOST_WORKERS);
-    let limit = (solve.nodes as usize).clamp(1, MOST_NODES);
+    let limit = solve.nodes.clamp(1, MOST_NODES) as usize;
     let Some(path) = solve.certificate else {
         return solved(rt, &test, &prices, workers, limit);
     };

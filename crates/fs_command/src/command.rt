@@ -141,13 +141,13 @@ const WORKERS_HELP: &str = "Threads to search with, 1 to 16";
 const NODES_HELP: &str = "Most nodes that the search may make, 1 to 1000000";
 
 /// The most threads that may search.
-const MOST_WORKERS: u8 = 16;
+pub const MOST_WORKERS: u8 = 16;
 
 /// How many threads search, where the command line doesn't say.
 const ONE_WORKER: u8 = 1;
 
-/// How many nodes a search may make, where the command line doesn't say.
-const MOST_NODES: u32 = 1_000_000;
+/// The most nodes that a search may be allowed, and how many it is where the command line doesn't say.
+pub const MOST_NODES: u32 = 1_000_000;
 
 /// What a command line asks for. Files go by their paths.
 #[derive(Drop)]
