@@ -8,6 +8,9 @@ use std::test::Fail;
 use std::thread;
 use std::time::{Clock, Duration};
 
+/// How often two workers have to meet.
+const ROUNDS: u32 = 200;
+
 /// How often a worker that is held looks whether it may go on.
 const TURNS: u32 = 1_000_000;
 
@@ -101,24 +104,26 @@ impl<'a, C: Clock> Gate for Overlap<'a, C> {
 
 #[test]
 fn gate_first(rt: HostRuntime) -> Result<(), Fail> {
-    let gate = FirstCall {
-        clock: &rt,
-        held: Held::new(),
-    };
-    let line = answered(&rt, rt.alloc(), SB, 2, 1_000_000, &gate)?;
-    assert!(rt; line.starts_with("fenced 18"));
-    assert!(rt; gate.held.is_good());
+    for _round in 0..ROUNDS {
+        let gate = FirstCall {
+            clock: &rt,
+            held: Held::new(),
+        };
+        let line = answered(&rt, rt.alloc(), SB, 2, 1_000_000, &gate)?;
+        assert!(rt; line.starts_with("fenced 18") && gate.held.is_good());
+    }
     Ok(())
 }
 
 #[test]
 fn gate_overlap(rt: HostRuntime) -> Result<(), Fail> {
-    let gate = Overlap {
-        clock: &rt,
-        held: Held::new(),
-    };
-    let line = answered(&rt, rt.alloc(), SB, 2, 1_000_000, &gate)?;
-    assert!(rt; line.starts_with("fenced 18"));
-    assert!(rt; gate.held.is_good());
+    for _round in 0..ROUNDS {
+        let gate = Overlap {
+            clock: &rt,
+            held: Held::new(),
+        };
+        let line = answered(&rt, rt.alloc(), SB, 2, 1_000_000, &gate)?;
+        assert!(rt; line.starts_with("fenced 18") && gate.held.is_good());
+    }
     Ok(())
 }
