@@ -122,3 +122,22 @@ fn a_missing_hand_is_found_out(rt: HostRuntime) -> Result<(), Fail> {
     assert!(rt; matches!(gather(alloc, one_of_two), Err(Fault::StrangePass)));
     Ok(())
 }
+
+/// Is a hand empty at first, with a number, and when that has been popped?
+fn emptiness(alloc: Global) -> Result<[bool; 3], Fault> {
+    let mut ring = hands(alloc, 1)?;
+    let Some(mut hand) = ring.pop() else {
+        return Ok([false; 3]);
+    };
+    let at_first = hand.is_empty();
+    hand.push(5)?;
+    let filled = hand.is_empty();
+    let _five = hand.pop();
+    Ok([at_first, filled, hand.is_empty()])
+}
+
+#[test]
+fn a_hand_tells_whether_it_is_empty(rt: HostRuntime) -> Result<(), Fail> {
+    assert!(rt; matches!(emptiness(rt.alloc())?, [true, false, true]));
+    Ok(())
+}
