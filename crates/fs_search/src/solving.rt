@@ -131,7 +131,8 @@ fn answer_by_ends(alloc: Global, problem: &Problem) -> Result<Solved, Fault>
 /// Ends the search of a board, whatever open and held nodes it has, and reads the answer from it: the cheapest placement that forbids the
 /// outcome, of several the first, or a witness that none does. F16 comes only where fences are needed, `rw,rw` in every slot is enough,
 /// and the tree of all placements has more nodes below its root than the board's limit; or F19. The witness of none depends on the
-/// problem alone, not on what was searched before. What is handed out with the answer, `solve` says.
+/// problem alone, not on what was searched before. What is handed out with the answer, `solve` says. It takes what `search` takes, and
+/// at most two verdicts more.
 pub fn conclude(alloc: Global, judge: &mut Judge, board: Board) -> Result<Solved, Fault>
     requires bounded { IsBounded judge.old.test }
     requires prices { IsPriceTable judge.old.prices }
@@ -171,6 +172,9 @@ pub fn conclude(alloc: Global, judge: &mut Judge, board: Board) -> Result<Solved
 /// The finished board is handed out with the answer, and its bound is the answer's placement. There is none only where the tree of all
 /// placements has more nodes below its root than the limit, and then the answer is none or no fence at all, and the cycles of no fence at
 /// all are handed out in place of a board.
+///
+/// To list the candidates takes time by how many lists of runs and how many raw candidates there are, times the square of the
+/// operations. What the search takes after that, `search` says.
 pub fn solve(alloc: Global, question: Arc<Question>, limit: usize) -> Result<Solved, Fault>
     requires test { IsBounded (arc_value question).test }
     requires starts { All IsStart (arc_value question).test.starts }

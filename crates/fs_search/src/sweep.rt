@@ -49,6 +49,10 @@ fn finish_node(
 /// Searches until the board is finished, whatever open and held nodes it has: a child of its own first, then any open node, then any that
 /// is held, whoever holds it. It works as worker 0. F16 where a split is refused for want of nodes, and then the tree of all placements
 /// has more nodes below its root than the limit; else F19.
+///
+/// There are no more nodes than the board's limit allows. At each one, the stored witnesses are held against it by four bits a slot, and
+/// those that show the outcome under its least placement are sorted. Where they don't close it, the judge is asked for a look, and where
+/// that finds nothing for a verdict, which makes and judges every candidate anew.
 pub fn search(alloc: Global, judge: &mut Judge, board: &mut Board) -> Result<(), Fault>
     requires { board.old.question ≡ judge.old }
     ensures judge { judge.new ≡ judge.old }
