@@ -1,7 +1,7 @@
 //! Where tests look on, and hold a worker up.
 
-/// It is told when a worker calls the desk, and when it judges: by several threads at once. A call of it that doesn't return stops the
-/// search.
+/// It is told when a worker calls the desk, but for `leave`, and when it judges: by several threads at once. A call of it that
+/// doesn't return stops the search.
 pub trait Gate {
     /// The worker will call the desk.
     fn before(&self, worker: u8);

@@ -1,4 +1,4 @@
-//! That the fenced test means the test with its placement.
+//! Where things stand in the fenced test.
 
 ghost use Rattle.fs_syntax.specs.Fenced.{fenced};
 ghost use Rattle.fs_syntax.specs.Moved.{IsMovedTest};
@@ -6,8 +6,9 @@ ghost use Rattle.fs_syntax.specs.Moved.{IsMovedTest};
 use crate::test::Test;
 use fs_kinds::Placement;
 
-/// A law: in the fenced test each instruction, each label and each fence stands where the placement's fences before it move
-/// it, and nothing else does; and its slots are those of the test, moved with their instructions.
+/// A law: in the fenced test each instruction stands where the placement's fences before it move it, a branch goes to where its
+/// label stands, each filled slot has the fence of its kind right before the slot's instruction, and nothing else is added or
+/// changed. The slots of the fenced test are those of the test, moved with their instructions.
 pub fn fences_move(test: &Test, placement: &Placement)
     ensures { IsMovedTest test.now placement.now (fenced test.now placement.now) }
 {
