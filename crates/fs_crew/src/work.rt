@@ -16,6 +16,9 @@ use fs_pool::{Asked, Desk, Pass};
 use std::alloc::{AllocError, Global};
 use std::sync::{Arc, Wait};
 
+/// So many of a worker's own nodes may turn out to be open no more before it asks for any open node.
+const MOST_CLAIMS: usize = 64;
+
 /// A node that the worker made, and the slot at which its parent was split.
 #[derive(Clone, Copy)]
 pub(crate) struct Child {
@@ -132,7 +135,8 @@ impl<A: Asked, R: Wait, G: Gate> Workplace<'_, A, R, G> {
         }
     }
 
-    /// The next node of `next_own` that is still open, else any node. None where there is none, and where memory lacks.
+    /// The first of the next `MOST_CLAIMS` nodes of `next_own` that is still open, else any open node. None where there is none, and
+    /// where memory lacks.
     fn next_node(
         &self,
         pass: Pass<A>,
@@ -142,7 +146,7 @@ impl<A: Asked, R: Wait, G: Gate> Workplace<'_, A, R, G> {
         ensures { IfSome result.1 (λ t. slots_in_part (arc_value t.part) ≡ slots A.question.test) }
     {
         let mut pass = pass;
-        for _ in self.rt.forever() {
+        for _ in 0..MOST_CLAIMS {
             let Some((node, slot)) = next_own(hand, children) else {
                 break;
             };

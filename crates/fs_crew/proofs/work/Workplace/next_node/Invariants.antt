@@ -1,4 +1,0 @@
-use Rattle.fs_crew.proofs.work.Workplace.next_node.Given as goal
-
-abbrev pub invariant-loop : goal.invariant-loop
-invariant-loop g l = (goal.iterator-loop g).can_next l.iterator' × (goal.iterator-loop g).is_finite l.iterator'
