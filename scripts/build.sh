@@ -1,5 +1,5 @@
 # Proves and builds the program and the crates that it stands on, those that wait for no other side by side; progress goes
-# to standard error. RT_JOBS says how many processors to take, in place of all. `rvfence` reads this file.
+# to standard error. RT_JOBS says how many processors to take, in place of all. scripts/sources.sh reads this file.
 
 # rt locks all crates that a crate stands on, and so builds one crate at a time in one folder. So each crate is built in a
 # room of its own, with linked copies of what is below it, and is moved to its place once it is whole.
@@ -247,7 +247,7 @@ build_program() {
     wait $!
     check_end rvfence "$rooms/rvfence"
     # as old as the start of the build, so that an edit made meanwhile counts as newer
-    touch -r "$rooms/start" -- "$program"
+    touch -r "$rooms/start" -- "$own"
     rm -f -- "$unfinished"
 }
 
