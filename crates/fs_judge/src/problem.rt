@@ -92,6 +92,11 @@ impl Problem {
         &self.question
     }
 
+    /// How many showing candidates there are. A verdict that forbids has judged each of them.
+    pub fn candidates(&self) -> usize {
+        self.showing.len()
+    }
+
     /// Whether the placement, one of the test's slots, forbids the outcome. The live candidates that are kept are judged first, and
     /// where each has a cycle all showing candidates in their order. One without a cycle has a witness, widened at the first slots
     /// before the others; where there is none, there is a cycle for each. What is answered doesn't depend on earlier calls, unlike what

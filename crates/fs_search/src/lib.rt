@@ -13,6 +13,7 @@ mod tries;
 
 pub use answer::{Answer, Solved};
 pub use choosing::{is_filled_new, is_floor_new, judge_floor, look_at_filled, stored_over_filled};
+pub use fs_judge::{Judge, Problem, Verdict};
 pub use solving::{conclude, solve};
 pub use store::Store;
 pub use sweep::search;

@@ -12,6 +12,7 @@ ghost use Rattle.fs_history.specs.Board.{is_finished};
 ghost use Rattle.fs_history.specs.Sizes.{tree_size};
 ghost use Rattle.fs_judge.specs.Verdicts.{IsVerdict};
 ghost use Rattle.fs_search.specs.Answers.{IsAnswer, IsAtAnEnd, IsBoardOf, IsShownLeast, IsSolveFault, placement_of};
+ghost use Rattle.fs_search.specs.Histories.{GoesOn};
 
 use crate::answer::{Answer, Solved};
 use crate::sweep::search;
@@ -131,8 +132,8 @@ fn answer_by_ends(alloc: Global, problem: &Problem) -> Result<Solved, Fault>
 /// Ends the search of a board, whatever open and held nodes it has, and reads the answer from it: the cheapest placement that forbids the
 /// outcome, of several the first, or a witness that none does. F16 comes only where fences are needed, `rw,rw` in every slot is enough,
 /// and the tree of all placements has more nodes below its root than the board's limit; or F19. The witness of none depends on the
-/// problem alone, not on what was searched before. What is handed out with the answer, `solve` says. It takes what `search` takes, and
-/// at most two verdicts more.
+/// problem alone, not on what was searched before. What is handed out with the answer, `solve` says, and a board that is handed out is
+/// this one gone on with: its log begins with what was logged before. It takes what `search` takes, and at most two verdicts more.
 pub fn conclude(alloc: Global, judge: &mut Judge, board: Board) -> Result<Solved, Fault>
     requires bounded { IsBounded judge.old.test }
     requires prices { IsPriceTable judge.old.prices }
@@ -140,6 +141,7 @@ pub fn conclude(alloc: Global, judge: &mut Judge, board: Board) -> Result<Solved
     requires clean { (f : Fault) → IsCandidateFault judge.old.test f → ⊥ }
     ensures ok { IfOk result (λ s. IsAnswer judge.old.test judge.old.prices s.answer) }
     ensures board { IfOk result (λ s. IfSome s.board (IsBoardOf judge.old board.board.limit s.answer)) }
+    ensures goes { IfOk result (λ s. IfSome s.board (GoesOn board)) }
     ensures lost { IfOk result (λ s. IfNone s.board
         (board.board.limit < tree_size judge.old.prices (length (slots judge.old.test)))) }
     ensures ends { IfOk result (λ s. IfNone s.board (IsAtAnEnd judge.old.test s.answer)) }

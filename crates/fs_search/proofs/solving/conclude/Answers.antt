@@ -4,6 +4,7 @@ use Rattle.fs_history.specs.Sizes.{tree_size}
 use Rattle.fs_evidence.specs.Evidence.{Question}
 use Rattle.fs_board.specs.View.{Search}
 use Rattle.fs_search.specs.Answers.{IsAnswer, IsAtAnEnd, IsBoardOf, IsShownLeast}
+use Rattle.fs_search.specs.Histories.{GoesOn}
 use Rattle.fs_search.proofs.Ends.{handed, limit-fault, limit-not-memory}
 use Rattle.fs_search.proofs.solving.conclude.Goals as goal
 
@@ -34,6 +35,10 @@ pub returns-in-Err-NodeLimit-clause-board : goal.returns-in-Err-NodeLimit-clause
 returns-in-Err-NodeLimit-clause-board c =
     subst (λ (b : Option Search). IfSome b (IsBoardOf c.args.judge.now c.args.board.board.limit c.in_ok-solved-in-Err-NodeLimit.solved.answer))
     (sym c.in_ok-solved-in-Err-NodeLimit.ensures.board) tt
+
+pub returns-in-Err-NodeLimit-clause-goes : goal.returns-in-Err-NodeLimit-clause-goes
+returns-in-Err-NodeLimit-clause-goes c =
+    subst (λ (b : Option Search). IfSome b (GoesOn c.args.board)) (sym c.in_ok-solved-in-Err-NodeLimit.ensures.board) tt
 
 pub returns-in-Err-NodeLimit-clause-lost : goal.returns-in-Err-NodeLimit-clause-lost
 returns-in-Err-NodeLimit-clause-lost c =
