@@ -13,14 +13,12 @@ use Rattle.fs_model.specs.declared.step.Choice.TheVariants.{Word, Success, Failu
 use Rattle.fs_model.specs.contracts.step.ChoicePartialEq.TheImpl as choice_test
 use Rattle.fs_model.specs.Witness.{Witness}
 use Rattle.fs_answer.specs.declared.witness.WitnessFile.{WitnessFile}
-use Rattle.fs_answer.specs.Certificate.{Link}
 use Rattle.fs_answer.specs.CertificateFile.{IsChoiceOfWord, most_number}
 use Rattle.fs_answer.specs.WitnessFile.{in_range, KeepsWitness}
-use Rattle.fs_certificate.specs.declared.certificate.CertificateLink.{CertificateLink}
-use Rattle.fs_certificate.specs.Kept.{KeepsLink, KeepsCycle, IsInRange, AreInRangeLinks, AreInRangeNames}
+use Rattle.fs_certificate.specs.Kept.{IsInRange, AreInRangeNames}
 use Rattle.fs_bound.proofs.Ranked.{order}
 use Rattle.fs_tree.proofs.Places.{at-more}
-use Rattle.fs_cert.specs.inner.Copies.{IsCopiedLink, IsCopiedCycle, IsCopiedChoice, AreCopiedChoices, IsCopiedName, IsCopiedWitness, AreCopiedWitnesses, StandsAt, AreNumbered, IsNumbering}
+use Rattle.fs_cert.specs.inner.Copies.{IsCopiedChoice, AreCopiedChoices, IsCopiedName, IsCopiedWitness, AreCopiedWitnesses, StandsAt, AreNumbered, IsNumbering}
 use Rattle.fs_cert.proofs.Zips.{zip_push}
 
 -- ---- in pairs
@@ -77,13 +75,6 @@ pub copies_worded : (files : List WitnessFile) (ws : List Witness) → AreCopied
 copies_worded files ws each = zip_all IsCopiedWitness (λ w. All (λ choices. All IsChoiceOfWord choices) w.choices)
     (λ file w is. zip_all AreCopiedChoices (λ choices. All IsChoiceOfWord choices)
     (λ copy choices at. zip_all IsCopiedChoice IsChoiceOfWord (λ y x word. word.1) copy choices at) file.choices w.choices is.choices) files ws each
-
-pub cycles_keep : (copy : List (List CertificateLink)) (cycles : List (List Link)) → AllZip IsCopiedCycle copy cycles → AllZip KeepsCycle copy cycles
-cycles_keep copy cycles each = zip_weaker IsCopiedCycle KeepsCycle (zip_weaker IsCopiedLink KeepsLink (λ y x is. is.0)) copy cycles each
-
-pub cycles_named : (copy : List (List CertificateLink)) (cycles : List (List Link)) → AllZip IsCopiedCycle copy cycles → All AreInRangeLinks cycles
-cycles_named copy cycles each = zip_all IsCopiedCycle AreInRangeLinks
-    (λ links cycle is. zip_all IsCopiedLink (λ link. IsInRange link.operation) (λ y x at. at.1) links cycle is) copy cycles each
 
 -- ---- the same witness
 

@@ -1,7 +1,9 @@
 pub mod Copying
+pub mod Least
 pub mod Made
 pub mod Runs
 pub mod Sayable
+pub mod Turning
 pub mod Walk
 pub mod Weights
 pub mod Zips

@@ -32,7 +32,8 @@ use Rattle.fs_cert.specs.Certified.{Certifies, CertifiesNone}
 use Rattle.fs_cert.specs.inner.Copies.{AreCopiedWitnesses}
 use Rattle.fs_cert.specs.inner.Fenced.{IsFenced}
 use Rattle.fs_cert.specs.inner.Items.{AreSayable}
-use Rattle.fs_cert.proofs.Copying.{zip_all, copies_keep, copies_named, copies_worded, cycles_keep, cycles_named}
+use Rattle.fs_cert.proofs.Copying.{zip_all, copies_keep, copies_named, copies_worded}
+use Rattle.fs_cert.proofs.Turning.{are_said}
 
 all_from : {X : Type 0} (P : X → Type 0) (xs : List X) → AllByRecursion P xs → All P xs
 all_from P [] each = All-nil P
@@ -49,11 +50,11 @@ numbers_said (item ∷ items) each =
 
 -- ---- certificates of fences
 
-abbrev certificate_of : Question → Refuted → List CodeItem → List Witness → Certificate
-certificate_of q f tree ws = record {
+abbrev certificate_of : Question → Refuted → List (List Link) → List CodeItem → List Witness → Certificate
+certificate_of q f cycles tree ws = record {
   version = Second;
   answer = said.Fenced (cost q.prices f.placement) (fence_words f.placement);
-  cycles = f.cycles;
+  cycles = cycles;
   tree = map item_of tree;
   witnesses = ws;
 }
@@ -63,33 +64,34 @@ pub fenced_certifies : (q : Question) (f : Refuted) (tree : List CodeItem) (file
     → AreSayable (map item_of tree)
     → ((c : Certificate) → c.version ≡ Second → c.witnesses ≡ ws → Covers q.test q.prices c f.placement (undecided q.test ∷ []) (map item_of tree))
     → Certifies q.test q.prices (Some f.placement) made
-fenced_certifies q f tree files made ws is copied cycles placement sayable covers = record {
-  certificate = certificate_of q f tree ws;
+fenced_certifies q f tree files made ws is copied cycles placement sayable covers = let said = are_said made.cycles f.cycles is.cycles in record {
+  certificate = certificate_of q f said.said tree ws;
   keeps = record {
     version = sym is.version;
     answer = sym is.answer;
-    cycles = cycles_keep made.cycles f.cycles is.cycles;
+    cycles = said.keeps;
     tree = ap (map item_of) (sym is.tree_is);
     witnesses = subst (λ l. AllZip KeepsWitness l ws) (sym is.witnesses_are) (copies_keep files ws copied);
   };
   second = refl;
   valid = record {
     answered = record { placement = placement; answered = refl };
-    cycles = cycles;
-    tree = covers (certificate_of q f tree ws) refl refl;
+    cycles = (cycles.0, cycles.1, said.cycle q.test f.placement cycles.0 cycles.2);
+    tree = covers (certificate_of q f said.said tree ws) refl refl;
   };
   in_range = record {
-    cycles = cycles_named made.cycles f.cycles is.cycles;
+    cycles = said.named;
     witnesses = copies_named files ws copied;
   };
   sayable = record {
     cost = is.most;
     cycles = zip_all (IsCycle q.test f.placement) (λ links. (1 ≤ length links) × (length links ≤ most_links)) (λ c links cycle. (cycle.some, cycle.most))
-        cycles.0 f.cycles cycles.2;
+        cycles.0 said.said (said.cycle q.test f.placement cycles.0 cycles.2);
     items = items_said (map item_of tree) sayable;
     numbers = numbers_said (map item_of tree) sayable;
     words = copies_worded files ws copied;
   };
+  least = said.least;
 }
 
 -- ---- no fence at all
@@ -157,6 +159,7 @@ none_certifies t prices made w e version answer cycles tree copied given refutes
       numbers = All-nil _;
       words = copies_worded made.witnesses (w ∷ []) copied;
     };
+    least = All-nil _;
   };
   only = refl;
 }

@@ -1,6 +1,6 @@
 -- Lists that are copied item by item.
 use Rattle.std.proofs.Common.{◌≡◌, ℕ, ◌+◌, ◌<◌, ◌≤◌, List, [], ◌∷◌, ◌++◌, length, get_or, take, ap, sym, subst, ◌∙◌}
-use Rattle.std.proofs.lemmas.List.{take_more, take_all}
+use Rattle.std.proofs.lemmas.List.{append_assoc, take_more, take_all}
 use Rattle.std.specs.List.{AllZip}
 
 pub zip_push : {X Y : Type 0} (R : Y → X → Type 0) (ys : List Y) (xs : List X) (y : Y) (x : X) → AllZip R ys xs → R y x
@@ -28,3 +28,13 @@ zip_add R all ys y xs i d pushed so_far low holds =
 -- and all of them
 pub zip_whole : {X Y : Type 0} (R : Y → X → Type 0) (ys : List Y) (xs : List X) (i : ℕ) → length xs ≤ i → AllZip R ys (take i xs) → AllZip R ys xs
 zip_whole R ys xs i high each = subst (AllZip R ys) (take_all i xs high) each
+
+-- one item more, after others
+pub zip_on : {X Y : Type 0} (R : Y → X → Type 0) (all ys : List Y) (y : Y) (before xs : List X) (i : ℕ) (x : X) → all ≡ ys ++ y ∷ []
+    → AllZip R ys (before ++ take i xs) → i < length xs → x ≡ get_or xs i x → R y x → AllZip R all (before ++ take (i + 1) xs)
+zip_on R all ys y before xs i x pushed so_far low here holds =
+    let more : take (i + 1) xs ≡ take i xs ++ x ∷ [] = take_more xs i x low ∙ ap (λ z. take i xs ++ z ∷ []) (sym here) in
+    let joined : before ++ take (i + 1) xs ≡ (before ++ take i xs) ++ x ∷ [] =
+    ap (λ l. before ++ l) more ∙ sym (append_assoc before (take i xs) (x ∷ [])) in
+    subst (λ l. AllZip R l (before ++ take (i + 1) xs)) (sym pushed)
+    (subst (AllZip R (ys ++ y ∷ [])) (sym joined) (zip_push R ys (before ++ take i xs) y x so_far holds))

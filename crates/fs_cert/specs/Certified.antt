@@ -1,5 +1,5 @@
 -- What a certificate that was made says.
-use Rattle.std.specs.Prelude.{◌≡◌, ◌≢◌, Option, None, List, [], ◌∷◌, AllPairs}
+use Rattle.std.specs.Prelude.{◌≡◌, ◌≢◌, Option, None, List, [], ◌∷◌, All, AllPairs}
 use Rattle.fs_kinds.specs.declared.placement.Entry.{Entry}
 use Rattle.fs_kinds.specs.PriceTable.{PriceTable}
 use Rattle.fs_syntax.specs.declared.test.Test.{Test}
@@ -10,8 +10,10 @@ use Rattle.fs_answer.specs.Valid.{IsValid}
 use Rattle.fs_answer.specs.declared.witness.WitnessFile.{WitnessFile}
 use Rattle.fs_certificate.specs.declared.certificate.Certificate.{Certificate}
 use Rattle.fs_certificate.specs.Kept.{AreInRange, KeepsCertificate}
+use Rattle.fs_cert.specs.Cycles.{BeginsAtLeast}
 
--- It is a certificate of the second version, which is valid with this placement as its answer, or with none; and a file can say it.
+-- It is a certificate of the second version, which is valid with this placement as its answer, or with none; a file can say it; and each
+-- of its cycles begins at its least operation.
 pub record Certifies (t : Test) (prices : PriceTable) (answer : Option (List Entry)) (kept : Certificate) : Type 0 where
   pub certificate : said.Certificate
   pub keeps : KeepsCertificate kept certificate
@@ -19,6 +21,7 @@ pub record Certifies (t : Test) (prices : PriceTable) (answer : Option (List Ent
   pub valid : IsValid t prices certificate answer
   pub in_range : AreInRange certificate
   pub sayable : CanBeSaid certificate
+  pub least : All BeginsAtLeast certificate.cycles
 
 -- It is one of none, by this witness.
 pub record CertifiesNone (t : Test) (prices : PriceTable) (w : Witness) (kept : Certificate) : Type 0 where

@@ -1,2 +1,3 @@
 pub mod Certified
+pub mod Cycles
 pub mod inner

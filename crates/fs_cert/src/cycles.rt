@@ -1,8 +1,10 @@
 //! Cycles as a certificate has them.
 
-ghost use Rattle.std.specs.Prelude.{IfOk};
+ghost use Rattle.std.specs.Prelude.{◌≡◌, ◌≤◌, ◌++◌, IfOk, List, length, false, true};
 ghost use Rattle.std.specs.List.{AllZip};
-ghost use Rattle.fs_cert.specs.inner.Copies.{IsCopiedLink, IsCopiedCycle};
+ghost use Rattle.fs_answer.specs.Certificate.{Link as LinkValue};
+ghost use Rattle.fs_cert.specs.Cycles.{BeginsAtLeast, IsNotAfter};
+ghost use Rattle.fs_cert.specs.inner.Copies.{IsCopiedLink, IsCopiedCycle, turned};
 
 use crate::copied::name_of;
 use fs_certificate::CertificateLink;
@@ -20,14 +22,48 @@ fn link_of(link: &Link) -> CertificateLink
     }
 }
 
-/// The links of a cycle.
-fn cycle_of(alloc: Global, links: &[Link]) -> Result<List<CertificateLink>, AllocError>
-    ensures { IfOk result (λ copy. IsCopiedCycle copy links.now) }
+/// Whether the first link's operation comes before the second's, by hart and then by instruction.
+fn is_before(first: &Link, second: &Link) -> bool
+    ensures before { result ≡ true → IsNotAfter first.now.operation second.now.operation }
+    ensures not { result ≡ false → IsNotAfter second.now.operation first.now.operation }
 {
-    let mut copy = Vec::new(alloc);
+    let (a, b) = (first.operation, second.operation);
+    a.hart < b.hart || (a.hart == b.hart && a.at < b.at)
+}
+
+/// The number of the first link whose operation is the least.
+fn least_of(links: &[Link]) -> usize
+    ensures there { result ≤ length links.now }
+    ensures least { BeginsAtLeast (turned result links.now) }
+{
+    let mut least = 0;
+    for (i, link) in links.iter().enumerate() {
+        if is_before(link, &links[least]) {
+            least = i;
+        }
+    }
+    least
+}
+
+/// Adds the links to the copy.
+fn add_links(copy: &mut Vec<CertificateLink>, links: &[Link]) -> Result<(), AllocError>
+    ensures { IfOk result (λ done. (before : List LinkValue) → AllZip IsCopiedLink copy.old.items before
+        → AllZip IsCopiedLink copy.new.items (before ++ links.now)) }
+{
     for link in links {
         copy.push(link_of(link))?;
     }
+    Ok(())
+}
+
+/// The links of a cycle, from the least operation on: those before it come last.
+fn cycle_of(alloc: Global, links: &[Link]) -> Result<List<CertificateLink>, AllocError>
+    ensures { IfOk result (λ copy. IsCopiedCycle copy links.now) }
+{
+    let (last, first) = links.split_at(least_of(links));
+    let mut copy = Vec::new(alloc);
+    add_links(&mut copy, first)?;
+    add_links(&mut copy, last)?;
     Ok(List::new(copy))
 }
 

@@ -1,5 +1,5 @@
 -- Parts of a certificate that are copied, each within the range of its type.
-use Rattle.std.specs.Prelude.{◌≡◌, ℕ, ◌≤◌, Some, Option, List, slice_get}
+use Rattle.std.specs.Prelude.{◌≡◌, ℕ, ◌≤◌, Some, Option, List, ◌++◌, take, drop, slice_get}
 use Rattle.std.specs.List.{AllZip}
 use Rattle.fs_kinds.specs.declared.reason.OperationName.{OperationName as Name}
 use Rattle.fs_model.specs.declared.step.Choice.{Choice}
@@ -10,12 +10,20 @@ use Rattle.fs_answer.specs.CertificateFile.{IsChoiceOfWord, most_number}
 use Rattle.fs_answer.specs.WitnessFile.{in_range}
 use Rattle.fs_certificate.specs.declared.certificate.CertificateLink.{CertificateLink}
 use Rattle.fs_certificate.specs.Kept.{KeepsLink, IsInRange}
+use Rattle.fs_cert.specs.Cycles.{BeginsAtLeast}
 
 abbrev pub IsCopiedLink : CertificateLink → Link → Type 0
 IsCopiedLink copy link = KeepsLink copy link × IsInRange link.operation
 
-abbrev pub IsCopiedCycle : List CertificateLink → List Link → Type 0
-IsCopiedCycle = AllZip IsCopiedLink
+-- the links from this number on, and then those before it
+abbrev pub turned : ℕ → List Link → List Link
+turned k links = drop k links ++ take k links
+
+-- a copy of the links, turned so that it begins at the least operation
+pub record IsCopiedCycle (copy : List CertificateLink) (links : List Link) : Type 0 where
+  pub first : ℕ
+  pub copied : AllZip IsCopiedLink copy (turned first links)
+  pub least : BeginsAtLeast (turned first links)
 
 abbrev pub IsCopiedChoice : Choice → Choice → Type 0
 IsCopiedChoice copy choice = (copy ≡ choice) × IsChoiceOfWord choice

@@ -1,0 +1,13 @@
+-- Where a cycle of a certificate begins.
+use Rattle.std.specs.Prelude.{◌≡◌, ◌⊎◌, ◌≤◌, ◌<◌, List, [], ◌∷◌, All}
+use Rattle.fs_kinds.specs.declared.reason.OperationName.{OperationName as Name}
+use Rattle.fs_answer.specs.Certificate.{Link}
+
+-- the first operation doesn't come after the second, by hart and then by instruction
+abbrev pub IsNotAfter : Name → Name → Type 0
+IsNotAfter a b = (a.hart < b.hart) ⊎ ((a.hart ≡ b.hart) × (a.at ≤ b.at))
+
+-- the operation of the first link doesn't come after any other's
+abbrev pub BeginsAtLeast : List Link → Type 0
+BeginsAtLeast [] = Unit {0}
+BeginsAtLeast (link ∷ links) = All (λ other. IsNotAfter link.operation other.operation) links
