@@ -1014,6 +1014,13 @@ def is_cycle(value):
     return is_list(value, is_link) and 1 <= len(value) <= 64
 
 
+def begins_at_least(cycle):
+    """Does the cycle begin at its least operation, by hart and then by instruction? So does each that the program writes; a
+    valid one may begin anywhere, and no check below asks this."""
+    names = [tuple(int(part) for part in name[1:].split(':')) for name, cause in cycle]
+    return names[0] == min(names)
+
+
 def is_item(value, version):
     """A split, or a leaf."""
     if type(value) is not list:

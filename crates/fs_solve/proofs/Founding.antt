@@ -159,6 +159,7 @@ certificate-said t prices (answer.Fenced p n) made bytes certifies written says 
     written = written certifies.certificate certifies.keeps certifies.in_range;
     second = certifies.second;
     valid = certifies.valid;
+    least = certifies.least;
   };
   witnesses = tt;
 }
@@ -169,6 +170,7 @@ certificate-said t prices (answer.None w) made bytes certifies written says = le
     written = written by.certificate by.keeps by.in_range;
     second = by.second;
     valid = by.valid;
+    least = by.least;
   };
   witnesses = certifies.only;
 }

@@ -1,5 +1,5 @@
 -- What `solve` prints, and the fault that it answers.
-use Rattle.std.specs.Prelude.{◌≡◌, ◌⊎◌, ℕ, Option, None, Some, List, [], ◌∷◌, length}
+use Rattle.std.specs.Prelude.{◌≡◌, ◌⊎◌, ℕ, Option, None, Some, List, [], ◌∷◌, All, length}
 use Rattle.fs_kinds.specs.declared.fault.Fault.{Fault}
 use Rattle.fs_kinds.specs.declared.fault.Fault.TheVariants.{Memory}
 use Rattle.fs_kinds.specs.declared.placement.Entry.{Entry}
@@ -17,6 +17,7 @@ use Rattle.fs_answer.specs.Texts.{certificate_text, fenced_lines, none_lines, wi
 use Rattle.fs_answer.specs.Valid.{IsValid}
 use Rattle.fs_answer.specs.WitnessFile.{IsWitnessFile}
 use Rattle.fs_history.specs.Sizes.{IsUnanswered}
+use Rattle.fs_cert.specs.Cycles.{BeginsAtLeast}
 use Rattle.fs_io.specs.declared.status.Status.{Status}
 use Rattle.fs_io.specs.declared.status.Status.TheVariants.{Success, Denied}
 use Rattle.fs_place.specs.Place.{ArePricesOf, IsPricesFault}
@@ -55,13 +56,15 @@ abbrev pub PrintsPlaced : Test → PriceTable → Option (List Entry) → List �
 PrintsPlaced t prices (Some p) text status = IsCheapest t prices p × (text ≡ fenced_lines (cost prices p) p) × (status ≡ Success)
 PrintsPlaced t prices None text status = PrintsNone t text status
 
--- the bytes are a certificate file, as it is written, of the second version, which is valid with this placement as its answer, or with none
+-- the bytes are a certificate file, as it is written, of the second version, which is valid with this placement as its answer, or with
+-- none; and each of its cycles begins at its least operation
 pub record IsCertificateOf (t : Test) (prices : PriceTable) (answer : Option (List Entry)) (bytes : List ℕ) : Type 0 where
   pub certificate : said.Certificate
   pub file : IsCertificateFile bytes certificate
   pub written : bytes ≡ certificate_text certificate
   pub second : certificate.version ≡ said.Second
   pub valid : IsValid t prices certificate answer
+  pub least : All BeginsAtLeast certificate.cycles
 
 -- where there is no placement, the one of these witnesses is printed
 abbrev pub IsWitnessed : Option (List Entry) → List Witness → List ℕ → Type 0
