@@ -115,7 +115,7 @@ module _ (test : List ℕ) (t : Test) (reads : Reads test t) where
 
 pub agrees : (test prices text : List ℕ) (status : Status) → IsSolved test prices text status → OrderAgrees test prices text
 agrees test prices text status solved t table reads priced =
-    elim (holds test prices text status solved t table reads priced).1 [
+    elim ((holds test prices text status solved).1 t table reads priced).1 [
       | inl a ↦ inl (refuses test t reads table text a.1)
       | inr a ↦ inr (accepts test t reads text a.1)
     ]

@@ -7,6 +7,7 @@ use Rattle.fs_syntax.specs.declared.test.Test.{Test}
 use Rattle.fs_syntax.specs.Fenced.{fenced}
 use Rattle.fs_syntax.specs.Printed.{printed}
 use Rattle.fs_syntax.specs.Test.{IsTest, IsSame}
+use Rattle.fs_litmus.specs.Reads.{Reads}
 use Rattle.fs_litmus.proofs.ReadsTest.{is_test}
 use Rattle.fs_litmus.proofs.ReadsOnce.{reads_once}
 use Rattle.fs_same.proofs.KeptPlacements.{cheapest_same, of_witness_same, refutes_all_same}
@@ -18,7 +19,8 @@ use Rattle.fs_model.specs.Allows.{Allows, IsPlacement, is_better}
 use Rattle.fs_laws.proofs.FencedSame.{allows_as_read}
 use Rattle.fs_laws.proofs.Filled.{filled-shows}
 use Rattle.fs_io.specs.declared.status.Status.{Status}
-use Rattle.fs_promise.specs.Headline.{IsFencedTest, StaysPossible, IsRuledOut, CheapestRulesOut, NothingRulesOut, IsTrueOfFiles}
+use Rattle.fs_place.specs.Place.{ArePricesOf}
+use Rattle.fs_promise.specs.Headline.{IsFencedTest, StaysPossible, IsRuledOut, CheapestRulesOut, NothingRulesOut, IsTrueAnswer, IsTrueOfFiles}
 use Rattle.fs_promise.proofs.SamePrices.{Agree, agree, same_placement, same_costs}
 use Rattle.fs_solve.specs.Solve.{PrintsCheapest, PrintsNone, IsSolved}
 
@@ -83,8 +85,10 @@ none_of_same t u text status s a = record {
   ends = a.ends;
 }
 
-pub holds : (test prices text : List ℕ) (status : Status) → IsSolved test prices text status → IsTrueOfFiles test prices text status
-holds test prices text status s t table reads priced =
+-- the answer is true of each test and prices that the bytes read as
+holds_of : (test prices text : List ℕ) (status : Status) → IsSolved test prices text status → (t : Test) (table : PriceTable) → Reads test t
+    → ArePricesOf prices table → IsTrueAnswer t table text status
+holds_of test prices text status s t table reads priced =
     let same : IsSame s.the_test t = reads_once test s.the_test t s.reads reads in
     let h : IsTest t = is_test test t reads in (
       λ f fault. s.listed f ((candidate_fault_same s.the_test t same f).1 fault),
@@ -93,3 +97,6 @@ holds test prices text status s t table reads priced =
         | inr a ↦ inr (a.ends, none t h text status (none_of_same s.the_test t text status same a))
       ],
     )
+
+pub holds : (test prices text : List ℕ) (status : Status) → IsSolved test prices text status → IsTrueOfFiles test prices text status
+holds test prices text status s = (((s.the_test, s.reads), (s.table, s.priced)), holds_of test prices text status s)

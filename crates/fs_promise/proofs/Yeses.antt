@@ -7,6 +7,7 @@ use Rattle.fs_kinds.specs.PriceTable.{PriceTable, cost}
 use Rattle.fs_syntax.specs.declared.test.Test.{Test}
 use Rattle.fs_syntax.specs.Slots.{slots}
 use Rattle.fs_syntax.specs.Test.{IsTest, IsSame}
+use Rattle.fs_litmus.specs.Reads.{Reads}
 use Rattle.fs_litmus.proofs.ReadsTest.{is_test}
 use Rattle.fs_litmus.proofs.ReadsOnce.{reads_once}
 use Rattle.fs_same.proofs.KeptPlacements.{cheapest_same, least_cost_same, of_witness_same, refutes_all_same}
@@ -15,11 +16,13 @@ use Rattle.fs_model.specs.Allows.{RefutesAll}
 use Rattle.fs_model.specs.Execution.{Execution}
 use Rattle.fs_model.specs.Witness.{Witness, IsOfWitness}
 use Rattle.fs_answer.specs.Certificate.{Certificate, Version, First, Second, IsBest, IsLeastCost}
+use Rattle.fs_answer.specs.CertificateFile.{IsCertificateFile}
 use Rattle.fs_answer.specs.Texts.{fenced_lines, none_lines}
 use Rattle.fs_checker.proofs.OneFile.{file_once}
 use Rattle.fs_laws.proofs.Filled.{filled-shows}
 use Rattle.fs_io.specs.declared.status.Status.TheVariants.{Success, Denied}
-use Rattle.fs_promise.specs.Checked.{LeastRulesOut, IsBestAnswer, IsTrueYes}
+use Rattle.fs_place.specs.Place.{ArePricesOf}
+use Rattle.fs_promise.specs.Checked.{LeastRulesOut, IsBestAnswer, IsTrueAnswerBelow, IsTrueYes}
 use Rattle.fs_promise.specs.Headline.{NothingRulesOut}
 use Rattle.fs_promise.proofs.Meaning.{cheapest, ruled_out, stays}
 use Rattle.fs_promise.proofs.SamePrices.{Agree, agree, same_placement, same_costs}
@@ -62,8 +65,10 @@ best_of_same : (version : Version) (t u : Test) → IsSame t u → (prices : Pri
 best_of_same First t u same prices p a = (least_cost_same t u same prices p).0 a
 best_of_same Second t u same prices p a = (cheapest_same t u same prices p).0 a
 
-pub true_yes : (test prices certificate text : List ℕ) → IsChecked test prices certificate text Success → IsTrueYes test prices certificate text
-true_yes test prices certificate text s t table c reads priced says =
+-- the yes is true of each test, prices and certificate that the bytes read as
+true_of : (test prices certificate text : List ℕ) → IsChecked test prices certificate text Success → (t : Test) (table : PriceTable) (c : Certificate)
+    → Reads test t → ArePricesOf prices table → IsCertificateFile certificate c → IsTrueAnswerBelow c.version t table text
+true_of test prices certificate text s t table c reads priced says =
     let same : IsSame s.the_test t = reads_once test s.the_test t s.reads reads in
     let h : IsTest t = is_test test t reads in
     let one : s.the_certificate ≡ c = file_once certificate s.the_certificate c s.says says in
@@ -87,3 +92,7 @@ true_yes test prices certificate text s t table c reads priced says =
         ]
       ],
     )
+
+pub true_yes : (test prices certificate text : List ℕ) → IsChecked test prices certificate text Success → IsTrueYes test prices certificate text
+true_yes test prices certificate text s =
+    (((s.the_test, s.reads), (s.table, s.priced)), (s.the_certificate, s.says), true_of test prices certificate text s)

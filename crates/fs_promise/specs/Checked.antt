@@ -13,7 +13,7 @@ use Rattle.fs_io.specs.declared.status.Status.TheVariants.{Success}
 use Rattle.fs_answer.specs.CandidateFaults.{HasNoCandidateFault}
 use Rattle.fs_place.specs.Place.{ArePricesOf}
 use Rattle.fs_verify.specs.Check.{yes_line}
-use Rattle.fs_promise.specs.Headline.{StaysPossible, IsRuledOut, CheapestRulesOut, NothingRulesOut}
+use Rattle.fs_promise.specs.Headline.{AreRead, StaysPossible, IsRuledOut, CheapestRulesOut, NothingRulesOut}
 
 -- a placement and its cost are printed; it rules the outcome out, and none that costs less does
 pub record LeastRulesOut (t : Test) (prices : PriceTable) (text : List ℕ) : Type 0 where
@@ -28,13 +28,18 @@ abbrev pub IsBestAnswer : Version → Test → PriceTable → (text : List ℕ) 
 IsBestAnswer First = LeastRulesOut
 IsBestAnswer Second = CheapestRulesOut
 
--- Of every test, prices and certificate that the bytes read as: a line `yes` is printed, and below it what is true of them; and the
--- test's candidates can be listed.
+-- A line `yes` is printed, and below it what is true of the test and the prices. And the test's candidates can be listed.
+abbrev pub IsTrueAnswerBelow : Version → Test → PriceTable → (text : List ℕ) → Type 0
+IsTrueAnswerBelow version t prices text =
+    HasNoCandidateFault t
+    × ((below : List ℕ) × (text ≡ yes_line ++ below) × (IsBestAnswer version t prices below ⊎ NothingRulesOut t below))
+
+-- the bytes read as a test, prices and a certificate, and the yes is true of all that they read as
 abbrev pub IsTrueYes : (test prices certificate text : List ℕ) → Type 0
 IsTrueYes test prices certificate text =
-    (t : Test) (table : PriceTable) (c : Certificate) → Reads test t → ArePricesOf prices table → IsCertificateFile certificate c
-    → HasNoCandidateFault t
-    × ((below : List ℕ) × (text ≡ yes_line ++ below) × (IsBestAnswer c.version t table below ⊎ NothingRulesOut t below))
+    AreRead test prices × ((c : Certificate) × IsCertificateFile certificate c)
+    × ((t : Test) (table : PriceTable) (c : Certificate) → Reads test t → ArePricesOf prices table → IsCertificateFile certificate c
+    → IsTrueAnswerBelow c.version t table text)
 
 -- `check` prints a line `yes` and below it the same lines, and ends with success
 abbrev pub IsYesTo : (text verdict : List ℕ) → (end : Status) → Type 0

@@ -52,10 +52,18 @@ pub record NothingRulesOut (t : Test) (text : List ℕ) : Type 0 where
   pub shows : IsYes t (full_fences t) witness
   pub possible : (q : List Entry) → slots_of q ≡ slots t → StaysPossible t q
 
--- Of every test and prices that the bytes read as, one of the two is so, and the status says which; and the test's candidates can be
--- listed.
+-- One of these two is so of the test and the prices, and the status says which. And the test's candidates can be listed.
+abbrev pub IsTrueAnswer : Test → PriceTable → (text : List ℕ) → Status → Type 0
+IsTrueAnswer t prices text status =
+    HasNoCandidateFault t
+    × (((status ≡ Success) × CheapestRulesOut t prices text) ⊎ ((status ≡ Denied) × NothingRulesOut t text))
+
+-- there are a test and prices that the bytes read as
+abbrev pub AreRead : (test prices : List ℕ) → Type 0
+AreRead test prices = ((t : Test) × Reads test t) × ((table : PriceTable) × ArePricesOf prices table)
+
+-- the bytes read as a test and prices, and the answer is true of all that they read as
 abbrev pub IsTrueOfFiles : (test prices text : List ℕ) → Status → Type 0
 IsTrueOfFiles test prices text status =
-    (t : Test) (table : PriceTable) → Reads test t → ArePricesOf prices table
-    → HasNoCandidateFault t
-    × (((status ≡ Success) × CheapestRulesOut t table text) ⊎ ((status ≡ Denied) × NothingRulesOut t text))
+    AreRead test prices
+    × ((t : Test) (table : PriceTable) → Reads test t → ArePricesOf prices table → IsTrueAnswer t table text status)
