@@ -9,16 +9,16 @@ ghost use Rattle.fs_answer.specs.CandidateFaults.{IsCandidateFault};
 ghost use Rattle.fs_history.specs.Sizes.{tree_size};
 ghost use Rattle.fs_pool.specs.Asked.{IsAsked};
 ghost use Rattle.fs_search.specs.Answers.{IsAnswer, IsAtAnEnd, IsBoardOf, IsShownLeast, IsSolveFault};
+ghost use Rattle.fs_search.specs.Histories.{GoesOn};
 
 use crate::gate::Gate;
 use crate::work::Workplace;
 use fs_board::Board;
 use fs_evidence::Question;
 use fs_hands::{Hand, hands};
-use fs_judge::{Judge, Problem};
 use fs_kinds::Fault;
 use fs_pool::{Asked, Desk, Pass, finish};
-use fs_search::{Solved, conclude};
+use fs_search::{Judge, Problem, Solved, conclude};
 use std::alloc::{AllocError, Global};
 use std::marker::Brand;
 use std::sync::{Arc, Wait};
@@ -30,7 +30,11 @@ use std::thread::Threads;
 const FIRST_WORKERS: u8 = 2;
 
 /// How many nodes each of the first workers is done with before the others join.
-const FIRST_NODES: usize = 1_000;
+const FIRST_NODES: usize = 50_000;
+
+/// Where more candidates than this show the outcome, one worker searches alone: then nearly all the time goes into verdicts on all of
+/// them, and most of those that a second worker would come to are of no use once the first one has its own.
+const MOST_CANDIDATES: usize = 10_000;
 
 /// Passes and hands side by side, each pair with the number of nodes that the worker may be done with.
 fn side_by_side<A: Asked>(
@@ -144,7 +148,8 @@ fn work_by_stages<A: Asked + Send + Sync, R: Threads + Wait + Sync, G: Gate + Sy
 }
 
 /// The workers search the board. It comes back as they left it, with nodes that are open or held where they lacked memory or met the
-/// limit; or none does, where its log and what they saw of it don't agree. The error is F19.
+/// limit, and untouched where there are many candidates. None where `finish` doesn't hand it out, since its log and what they saw of it
+/// don't agree. The error is F19.
 fn search_together<A: Asked + Send + Sync, R: Threads + Wait + Sync, G: Gate + Sync>(
     rt: &R,
     alloc: Global,
@@ -158,15 +163,15 @@ fn search_together<A: Asked + Send + Sync, R: Threads + Wait + Sync, G: Gate + S
     requires empty { board.log ≡ [] }
     requires some { 1 ≤ workers }
     requires few { workers ≤ 16 }
-    ensures asked { IfOk result (λ found. IfSome found (λ b. IsAsked b A.question A.limit)) }
+    ensures asked { IfOk result (λ left. IfSome left (λ b. IsAsked b A.question A.limit)) }
     ensures err { IsOkUnless result Fault.Memory }
 {
+    if problem.candidates() > MOST_CANDIDATES {
+        return Ok(Some(board));
+    }
     let (desk, passes) = Desk::<A>::new(alloc, board, workers)?;
     let passes = work_by_stages(rt, alloc, &desk, gate, problem, passes, workers)?;
-    match finish(desk, passes) {
-        Ok(board) => Ok(Some(board)),
-        Err(_) => Ok(None),
-    }
+    Ok(finish(desk, passes).ok())
 }
 
 /// The board of the problem's question, on which nothing was searched yet. The error is F19.
@@ -181,33 +186,67 @@ fn opened(alloc: Global, problem: &Problem, limit: usize) -> Result<Board, Fault
     Board::new(alloc, question, limit)
 }
 
-/// The board of the problem's question, which the workers have searched. Where its log and what they saw of it don't agree, the lock or
-/// the threads didn't do as they should: then it is a board anew, on which nothing is searched yet. The error is F19.
-fn searched<R: Threads + Wait + Sync, G: Gate + Sync>(
-    rt: &R,
+/// The board that the workers left. Where they left none, the lock or the threads didn't do as they should: then it is a board anew,
+/// on which nothing is searched yet. The gate is told which. The error is F19.
+fn taken_up<G: Gate>(
     alloc: Global,
-    problem: &Arc<Problem>,
-    workers: u8,
+    problem: &Problem,
+    left: Option<Board>,
     limit: usize,
     gate: &G,
 ) -> Result<Board, Fault>
-    requires test { IsBounded (arc_value problem.now).test }
-    requires some { 1 ≤ workers }
-    requires few { workers ≤ 16 }
+    requires test { IsBounded problem.now.test }
     requires most { limit ≤ 1000000 }
-    ensures asked { IfOk result (λ b. IsAsked b (arc_value problem.now) limit) }
+    requires asked { IfSome left (λ b. IsAsked b problem.now limit) }
+    ensures asked { IfOk result (λ b. IsAsked b problem.now limit) }
+    ensures same { IfSome left (λ b. IfOk result (λ taken. taken ≡ b)) }
     ensures err { IsOkUnless result Fault.Memory }
 {
-    let board = opened(alloc, problem, limit)?;
-    match search_together::<Brand, R, G>(rt, alloc, problem, board, workers, gate)? {
-        Some(board) => Ok(board),
-        None => opened(alloc, problem, limit),
+    match left {
+        Some(board) => {
+            gate.ended(Some(board.log().len()));
+            Ok(board)
+        }
+        None => {
+            gate.ended(None);
+            opened(alloc, problem, limit)
+        }
     }
 }
 
+/// The answer, from what the workers left: this is searched to its end as by one worker, all of it where they left no board. Where they
+/// left one, the log of the board that comes with the answer begins with its log.
+fn concluded<G: Gate>(
+    alloc: Global,
+    problem: Arc<Problem>,
+    left: Option<Board>,
+    limit: usize,
+    gate: &G,
+) -> Result<Solved, Fault>
+    requires test { IsBounded (arc_value problem).test }
+    requires prices { IsPriceTable (arc_value problem).prices }
+    requires clean { (f : Fault) → IsCandidateFault (arc_value problem).test f → ⊥ }
+    requires most { limit ≤ 1000000 }
+    requires asked { IfSome left (λ b. IsAsked b (arc_value problem) limit) }
+    ensures ok { IfOk result (λ s. IsAnswer (arc_value problem).test (arc_value problem).prices s.answer) }
+    ensures board { IfOk result (λ s. IfSome s.board (IsBoardOf (arc_value problem) limit s.answer)) }
+    ensures goes { IfSome left (λ b. IfOk result (λ s. IfSome s.board (GoesOn b))) }
+    ensures lost { IfOk result (λ s. IfNone s.board
+        (limit < tree_size (arc_value problem).prices (length (slots (arc_value problem).test)))) }
+    ensures ends { IfOk result (λ s. IfNone s.board (IsAtAnEnd (arc_value problem).test s.answer)) }
+    ensures least { IfOk result (λ s. IfNone s.board (IsShownLeast (arc_value problem).test s.answer s.least)) }
+    ensures either { IfOk result (λ s. IfSome s.board (λ _. s.least ≡ None)) }
+    ensures err { IfErr result (λ f. f ≢ Fault.Memory → IsSolveFault (arc_value problem) limit f) }
+{
+    let board = taken_up(alloc, &problem, left, limit, gate)?;
+    let mut judge = Judge::new(problem);
+    let solved = conclude(alloc, &mut judge, board)?;
+    Ok(solved)
+}
+
 /// The answer to a question, as `fs_search::solve` gives it, searched by this many workers. One worker needs neither threads nor a desk.
-/// More of them search together first, and what they leave is searched as by one: all of it, where the board's log and what they saw of it
-/// don't agree. The faults are those of `fs_search::solve`. Several workers may make more nodes, and so come to F16 where one has the
+/// More of them search together first, where there are few candidates, and what they leave is searched as by one: all of it, where the
+/// board's log and what they saw of it don't agree. The faults are those of `fs_search::solve`. Several workers may make more nodes, and so come to F16 where one has the
 /// answer. A thread that never comes back is waited for without an end.
 pub fn solve<R: Threads + Wait + Sync, G: Gate + Sync>(
     rt: &R,
@@ -238,8 +277,8 @@ pub fn solve<R: Threads + Wait + Sync, G: Gate + Sync>(
         return fs_search::solve(alloc, question, limit);
     }
     let problem = Problem::shared(alloc, question)?;
-    let board = searched(rt, alloc, &problem, workers, limit, gate)?;
-    let mut judge = Judge::new(problem);
-    let solved = conclude(alloc, &mut judge, board)?;
+    let board = opened(alloc, &problem, limit)?;
+    let left = search_together::<Brand, R, G>(rt, alloc, &problem, board, workers, gate)?;
+    let solved = concluded(alloc, problem, left, limit, gate)?;
     Ok(solved)
 }

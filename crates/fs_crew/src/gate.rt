@@ -1,7 +1,7 @@
 //! Where tests look on, and hold a worker up.
 
-/// It is told when a worker calls the desk, but for `leave`, and when it judges: by several threads at once. A call of it that
-/// doesn't return stops the search.
+/// It is told when a worker calls the desk, but for `leave`, and when it judges: by several threads at once; and once, when all have
+/// stopped, what they left. A call of it that doesn't return stops the search.
 pub trait Gate {
     /// The worker will call the desk.
     fn before(&self, worker: u8);
@@ -11,6 +11,10 @@ pub trait Gate {
 
     /// The worker has called the desk.
     fn after(&self, worker: u8);
+
+    /// All workers have stopped, and the board is handed out with so many entries in its log. Or it is given up, since its log and what
+    /// they saw of it don't agree.
+    fn ended(&self, logged: Option<usize>);
 }
 
 /// A gate that holds nobody up.
@@ -23,4 +27,6 @@ impl Gate for Open {
     fn judging(&self, _worker: u8, _node: usize) {}
 
     fn after(&self, _worker: u8) {}
+
+    fn ended(&self, _logged: Option<usize>) {}
 }

@@ -12,11 +12,11 @@ ghost use Rattle.fs_pool.specs.Asked.{IsMade, Tells};
 
 use fs_board::{Decision, Event, Part, Reply};
 use fs_evidence::{Forbidden, Question, Witness};
-use fs_judge::{Judge, Problem, Verdict};
 use fs_kinds::{Fault, Prices, Slot};
 use fs_list::List;
 use fs_search::{
-    Store, is_filled_new, is_floor_new, judge_floor, look_at_filled, stored_over_filled,
+    Judge, Problem, Store, Verdict, is_filled_new, is_floor_new, judge_floor, look_at_filled,
+    stored_over_filled,
 };
 use std::alloc::{AllocError, Global};
 use std::marker::Model;

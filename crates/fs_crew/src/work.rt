@@ -10,9 +10,9 @@ use crate::gate::Gate;
 use crate::scout::{Scout, WAYS, Way};
 use fs_board::{Event, Part, Reply};
 use fs_hands::Hand;
-use fs_judge::Problem;
 use fs_kinds::Slot;
 use fs_pool::{Asked, Desk, Pass};
+use fs_search::Problem;
 use std::alloc::{AllocError, Global};
 use std::sync::{Arc, Wait};
 

@@ -12,14 +12,25 @@ use crate::pass::{Pass, Receipt};
 use crate::same::{is_same_event, is_same_reply};
 use fs_board::{Board, LogEntry};
 use fs_kinds::Fault;
+use std::fmt;
+use thiserror::Error;
 
-/// Why there is no board to hand out.
-#[derive(Drop)]
+/// Why there is no board to hand out. It is displayed as the line of its fault, with what comes back.
+#[derive(Drop, Error)]
 pub enum Unfinished<A: Asked> {
     /// F22: the log and the receipts don't agree. The board and the passes come back as they are.
+    #[error("{fault}: a log of {logged}, and {back} passes back", fault = Fault::Unmatched, logged = .board.log().len(), back = .passes.len())]
     Unmatched { board: Board, passes: Vec<Pass<A>> },
     /// F23: a pass is of a worker that the desk doesn't have, or comes twice.
-    Fault(Fault),
+    #[error(transparent)]
+    Fault(#[from] Fault),
+}
+
+/// As it is displayed: boards and passes have no Debug.
+impl<A: Asked> fmt::Debug for Unfinished<A> {
+    fn fmt<W: fmt::Write>(&self, f: &mut fmt::Formatter<W>) -> fmt::Result {
+        write!(f, "{self}")
+    }
 }
 
 /// Is none of the passes of this worker? It calls itself once for each.

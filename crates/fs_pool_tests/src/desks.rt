@@ -13,7 +13,7 @@ use fs_examples::{PRICES, SB, question_of};
 use fs_judge::{Problem, Verdict};
 use fs_kinds::{Fault, Placement, Slot};
 use fs_litmus::{Test, read_fences};
-use fs_pool::{Asked, Desk, Pass, Unfinished, finish};
+use fs_pool::{Asked, Desk, Pass, finish};
 use std::alloc::{AllocError, Global};
 use std::marker::Brand;
 use std::sync::{Arc, Wait};
@@ -162,12 +162,7 @@ fn write_end<A: Asked>(
             let count = board.log().len();
             write!(text, "a log of {count}\n")
         }
-        Err(Unfinished::Unmatched { board, passes }) => {
-            let count = board.log().len();
-            let back = passes.len();
-            write!(text, "a log of {count}, and {back} passes back\n")
-        }
-        Err(Unfinished::Fault(fault)) => write!(text, "{fault}\n"),
+        Err(unfinished) => write!(text, "{unfinished}\n"),
     }
 }
 
@@ -301,7 +296,7 @@ fn other_passes_are_found(rt: HostRuntime) -> Result<(), Fail> {
     let found = told_of_sb(&rt, rt.alloc(), &requests, 1)?;
     assert_eq!(rt;
         found.as_str(),
-        "seen 0\nseen 0\na log of 2, and 1 passes back\n"
+        "seen 0\nseen 0\nfault F22 Unmatched: a log of 2, and 1 passes back\n"
     );
     let found = told_of_sb_twice(rt.alloc())?;
     assert_eq!(rt; found.as_str(), "fault F23 StrangePass\n");

@@ -10,7 +10,7 @@ use fs_evidence::Question;
 use fs_examples::{PRICES, SB, question_of};
 use fs_judge::Problem;
 use fs_kinds::{Fault, Slot};
-use fs_pool::{Asked, Desk, Pass, Unfinished, finish};
+use fs_pool::{Asked, Desk, Pass, finish};
 use std::alloc::Global;
 use std::marker::Brand;
 use std::sync::{Arc, Wait};
@@ -117,15 +117,8 @@ fn print_end<A: Asked, R: Print>(rt: &R, desk: Desk<A>, passes: Vec<Pass<A>>) {
         Ok(board) => {
             let _ = println!(rt; "a log of {}", board.log().len());
         }
-        Err(Unfinished::Unmatched { board, passes }) => {
-            let _ = println!(rt;
-                "a log of {}, and {} passes back",
-                board.log().len(),
-                passes.len()
-            );
-        }
-        Err(Unfinished::Fault(fault)) => {
-            let _ = rt.println(fault);
+        Err(unfinished) => {
+            let _ = rt.println(unfinished);
         }
     }
 }

@@ -1,4 +1,4 @@
-use Rattle.std.proofs.Common.{inl, sym, subst, ◌∙◌}
+use Rattle.std.proofs.Common.{inl, refl, sym, subst}
 use Rattle.fs_kinds.specs.declared.fault.Fault.{Fault}
 use Rattle.fs_answer.specs.CandidateFaults.{IsCandidateFault}
 use Rattle.fs_evidence.specs.Evidence.{Question}
@@ -11,12 +11,11 @@ returns-in_err-problem-clause-err g c =
     handed c.from_residual.result _ _ c.from_residual.ensures.1
     (λ other. inl (c.in_err-problem.ensures.err other))
 
-pub conclude-requires-clause-clean : goal.conclude-requires-clause-clean
-conclude-requires-clause-clean g c =
-    subst (λ (x : Question). (f : Fault) → IsCandidateFault x.test f → ⊥) (sym (c.new-judge.ensures ∙ c.in_ok-problem.ensures.value)) c.in_ok-problem.ensures.clean
+pub concluded-requires-clause-clean : goal.concluded-requires-clause-clean
+concluded-requires-clause-clean g c =
+    subst (λ (x : Question). (f : Fault) → IsCandidateFault x.test f → ⊥) (sym c.in_ok-problem.ensures.value) c.in_ok-problem.ensures.clean
 
 pub returns-in_err-solved-clause-err : goal.returns-in_err-solved-clause-err
 returns-in_err-solved-clause-err g c =
     handed c.from_residual-in_err-solved.result _ _ c.from_residual-in_err-solved.ensures.1
-    (λ other. same-fault _ c.args.question.value c.in_ok-board.board.board.limit c.args.limit _
-    (c.new-judge.ensures ∙ c.in_ok-problem.ensures.value) c.in_ok-board.ensures.asked.limit (c.in_err-solved.ensures.err other))
+    (λ other. same-fault _ c.args.question.value c.args.limit c.args.limit _ c.in_ok-problem.ensures.value refl (c.in_err-solved.ensures.err other))
