@@ -1,8 +1,7 @@
 //! Workers run at once, and judge at once.
 
-use crate::workers::answered;
+use crate::workers::{Ends, answered_by_two};
 use fs_crew::Gate;
-use fs_examples::SB;
 use std::sync::atomic::{AtomicBool, AtomicU64, Ordering};
 use std::test::Fail;
 use std::thread;
@@ -20,6 +19,7 @@ struct Held {
     first: AtomicU64,
     met: AtomicBool,
     late: AtomicBool,
+    ends: Ends,
 }
 
 impl Held {
@@ -28,6 +28,7 @@ impl Held {
             first: AtomicU64::new(0),
             met: AtomicBool::new(false),
             late: AtomicBool::new(false),
+            ends: Ends::new(),
         }
     }
 
@@ -57,9 +58,9 @@ impl Held {
         }
     }
 
-    /// Has another one come by in time?
+    /// Has another one come by in time, and was the board handed out in the end?
     fn is_good(&self) -> bool {
-        self.met.load(Ordering::SeqCst) && !self.late.load(Ordering::SeqCst)
+        self.met.load(Ordering::SeqCst) && !self.late.load(Ordering::SeqCst) && self.ends.are(1)
     }
 }
 
@@ -79,6 +80,10 @@ impl<'a, C: Clock> Gate for FirstCall<'a, C> {
 
     fn after(&self, worker: u8) {
         self.held.meet(worker);
+    }
+
+    fn ended(&self, logged: Option<usize>) {
+        self.held.ends.ended(logged);
     }
 }
 
@@ -100,6 +105,10 @@ impl<'a, C: Clock> Gate for Overlap<'a, C> {
     }
 
     fn after(&self, _worker: u8) {}
+
+    fn ended(&self, logged: Option<usize>) {
+        self.held.ends.ended(logged);
+    }
 }
 
 #[test]
@@ -109,8 +118,9 @@ fn gate_first(rt: HostRuntime) -> Result<(), Fail> {
             clock: &rt,
             held: Held::new(),
         };
-        let line = answered(&rt, rt.alloc(), SB, 2, 1_000_000, &gate)?;
-        assert!(rt; line.starts_with("fenced 18") && gate.held.is_good());
+        let line = answered_by_two(&rt, rt.alloc(), &gate)?;
+        assert!(rt; line.starts_with("fenced 18 ") && line.contains(" by 0 1"));
+        assert!(rt; gate.held.is_good());
     }
     Ok(())
 }
@@ -122,8 +132,28 @@ fn gate_overlap(rt: HostRuntime) -> Result<(), Fail> {
             clock: &rt,
             held: Held::new(),
         };
-        let line = answered(&rt, rt.alloc(), SB, 2, 1_000_000, &gate)?;
-        assert!(rt; line.starts_with("fenced 18") && gate.held.is_good());
+        let line = answered_by_two(&rt, rt.alloc(), &gate)?;
+        assert!(rt; line.starts_with("fenced 18 ") && line.contains(" by 0 1"));
+        assert!(rt; gate.held.is_good());
     }
+    Ok(())
+}
+
+/// In one of these rounds at least: whether a worker comes to the other's hand in time, its turns decide.
+#[test]
+fn a_node_is_stolen(rt: HostRuntime) -> Result<(), Fail> {
+    let mut is_stolen = false;
+    for _round in 0..ROUNDS {
+        let gate = Overlap {
+            clock: &rt,
+            held: Held::new(),
+        };
+        let line = answered_by_two(&rt, rt.alloc(), &gate)?;
+        if line.ends_with(" stolen") {
+            is_stolen = true;
+            break;
+        }
+    }
+    assert!(rt; is_stolen);
     Ok(())
 }

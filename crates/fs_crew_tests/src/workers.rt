@@ -2,12 +2,50 @@
 
 use fs_board::{Event, LogEntry, Reply};
 use fs_crew::{Answer, Gate, Open, Solved, solve};
-use fs_examples::{LB, MP11, MPA, PRICES, SB, SBX, question_of, told, write_fences};
+use fs_examples::{LB, MP11, MPA, PRICES, SB, SBF, SBX, question_of, told, write_fences};
 use fs_kinds::Fault;
 use std::alloc::{AllocError, Global};
 use std::sync::Wait;
+use std::sync::atomic::{AtomicU64, Ordering};
 use std::test::Fail;
 use std::thread::Threads;
+
+/// How often the workers' board was handed out, and how often it was given up.
+#[derive(Drop)]
+pub(crate) struct Ends {
+    kept: AtomicU64,
+    lost: AtomicU64,
+}
+
+impl Ends {
+    pub(crate) fn new() -> Self {
+        Ends {
+            kept: AtomicU64::new(0),
+            lost: AtomicU64::new(0),
+        }
+    }
+
+    /// So many searches by several workers ended, and none of their boards was given up.
+    pub(crate) fn are(&self, kept: u64) -> bool {
+        self.kept.load(Ordering::SeqCst) == kept && self.lost.load(Ordering::SeqCst) == 0
+    }
+}
+
+impl Gate for Ends {
+    fn before(&self, _worker: u8) {}
+
+    fn judging(&self, _worker: u8, _node: usize) {}
+
+    fn after(&self, _worker: u8) {}
+
+    fn ended(&self, logged: Option<usize>) {
+        let counted = match logged {
+            Some(_) => &self.kept,
+            None => &self.lost,
+        };
+        counted.fetch_add(1, Ordering::SeqCst);
+    }
+}
 
 /// The answer as a line.
 fn line_of(alloc: Global, solved: &Solved) -> Result<String, AllocError> {
@@ -22,7 +60,7 @@ fn line_of(alloc: Global, solved: &Solved) -> Result<String, AllocError> {
     Ok(text)
 }
 
-/// The answer that so many workers find within so many nodes, as a line.
+/// The answer that so many workers find within so many nodes. The fault is F16 where these numbers are out of range.
 fn found<R: Threads + Wait + Sync, G: Gate + Sync>(
     rt: &R,
     alloc: Global,
@@ -30,13 +68,12 @@ fn found<R: Threads + Wait + Sync, G: Gate + Sync>(
     workers: u8,
     nodes: usize,
     gate: &G,
-) -> Result<String, Fault> {
+) -> Result<Solved, Fault> {
     if workers == 0 || workers > 16 || nodes == 0 || nodes > 1_000_000 {
-        return Ok(String::new(alloc));
+        return Err(Fault::NodeLimit);
     }
     let question = question_of(alloc, test, PRICES)?;
-    let solved = solve(rt, alloc, question, workers, nodes, gate)?;
-    Ok(line_of(alloc, &solved)?)
+    solve(rt, alloc, question, workers, nodes, gate)
 }
 
 /// The answer as a line, or the line of the fault.
@@ -48,7 +85,67 @@ pub(crate) fn answered<R: Threads + Wait + Sync, G: Gate + Sync>(
     nodes: usize,
     gate: &G,
 ) -> Result<String, AllocError> {
-    told(alloc, found(rt, alloc, test, workers, nodes, gate))
+    match found(rt, alloc, test, workers, nodes, gate) {
+        Ok(solved) => line_of(alloc, &solved),
+        Err(fault) => fault.to_string(alloc),
+    }
+}
+
+/// Who made the node, by a split.
+fn maker(log: &[LogEntry], node: usize) -> Option<u8> {
+    for entry in log {
+        if let Reply::Children(first, count) = entry.reply() {
+            if *first <= node && node - *first < *count {
+                return Some(entry.worker());
+            }
+        }
+    }
+    None
+}
+
+/// Has a worker claimed a node that another one made, and got it? Only a hand tells it of such a node.
+fn is_stolen(log: &[LogEntry], entry: &LogEntry) -> bool {
+    match (entry.event(), entry.reply()) {
+        (Event::Claim(node), Reply::Node(_, _)) => {
+            maker(log, *node).is_some_and(|worker| worker != entry.worker())
+        }
+        _ => false,
+    }
+}
+
+/// Writes which of the workers 0 and 1 made events of a log, and whether a node was stolen.
+fn write_doers(log: &[LogEntry], text: &mut String) -> Result<(), AllocError> {
+    text.push_str(" by")?;
+    for worker in 0..2 {
+        if log.iter().any(|entry| entry.worker() == worker) {
+            write!(text, " {worker}")?;
+        }
+    }
+    if log.iter().any(|entry| is_stolen(log, entry)) {
+        text.push_str(" stolen")?;
+    }
+    Ok(())
+}
+
+/// The answer as a line, with what the log shows of who searched for it.
+fn line_of_many(alloc: Global, solved: &Solved) -> Result<String, AllocError> {
+    let mut text = line_of(alloc, solved)?;
+    if let Some(board) = solved.board() {
+        write_doers(board.log(), &mut text)?;
+    }
+    Ok(text)
+}
+
+/// The answer to SB by two workers as a line, with what the log shows of them; or the line of the fault.
+pub(crate) fn answered_by_two<R: Threads + Wait + Sync, G: Gate + Sync>(
+    rt: &R,
+    alloc: Global,
+    gate: &G,
+) -> Result<String, AllocError> {
+    match found(rt, alloc, SB, 2, 1_000_000, gate) {
+        Ok(solved) => line_of_many(alloc, &solved),
+        Err(fault) => fault.to_string(alloc),
+    }
 }
 
 /// The nodes that `take` handed out in a log.
@@ -79,6 +176,7 @@ fn taken_by_one<R: Threads + Wait + Sync>(rt: &R, alloc: Global) -> Result<Strin
 fn any_number_of_workers_answers_the_same(rt: HostRuntime) -> Result<(), Fail> {
     let rows = [
         (SB, 1_000_000, "fenced 18 "),
+        (SBF, 1_000_000, "fenced 18 "),
         (LB, 1_000, "fenced 6 "),
         (MPA, 1_000, "fenced 2 "),
         (MP11, 1_000, "none"),
@@ -88,10 +186,12 @@ fn any_number_of_workers_answers_the_same(rt: HostRuntime) -> Result<(), Fail> {
     for (test, nodes, expected) in rows {
         let alone = answered(&rt, rt.alloc(), test, 1, nodes, &Open)?;
         assert!(rt; alone.starts_with(expected));
+        let ends = Ends::new();
         for workers in [2, 4, 16] {
-            let line = answered(&rt, rt.alloc(), test, workers, nodes, &Open)?;
+            let line = answered(&rt, rt.alloc(), test, workers, nodes, &ends)?;
             assert_eq!(rt; line.as_str(), alone.as_str());
         }
+        assert!(rt; ends.are(3));
     }
     Ok(())
 }
