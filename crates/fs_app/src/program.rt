@@ -190,9 +190,9 @@ fn answer_check<R: Files + Input + AllocGlobal>(
     run_check(rt.alloc(), &test, &prices, &certificate)
 }
 
-/// The bytes of a test: of standard input where it is called `stdin`, else of the file.
+/// The bytes of a test: of standard input where it is called `-` or `stdin`, else of the file.
 fn read_input<R: Files + Input + AllocGlobal>(rt: &R, path: &str) -> Result<Vec<u8>, Fault> {
-    if path == "stdin" {
+    if path == "-" || path == "stdin" {
         return read_bytes(rt.alloc(), &mut rt.reader(), INPUT_LIMIT);
     }
     read_file(rt, path, INPUT_LIMIT)

@@ -124,7 +124,7 @@ const PROGRAM_HELP: &str = "\
 Exit status: 0 done, yes or fenced; 1 no or none; 2 a fault or a bad command line;
 3 memory ran out.";
 
-const FILE_HELP: &str = "Litmus test in herd7's RISC-V format; `stdin` means standard input";
+const FILE_HELP: &str = "Litmus test in herd7's RISC-V format; `-` or `stdin` is standard input";
 
 const FENCE_HELP: &str = "Fence to place, as P0:3=w,w: hart, instruction (from 0) and kind";
 
