@@ -70,7 +70,7 @@ fn words<R: Env + Eprint + AllocGlobal>(rt: &R) -> Result<Vec<String>, Status> {
     Err(Status::Failure)
 }
 
-/// Prints why there is no request: help on standard output, anything else on standard error.
+/// Prints why there is no request: help and the version on standard output, anything else on standard error.
 fn explain<R: Print + Eprint>(rt: &R, error: &Error) -> Status {
     if matches!(error.kind(), ErrorKind::OutOfMemory) {
         return report(rt, Fault::Memory);

@@ -2,6 +2,9 @@
 use clap::{Arg, ArgMatches, Command, Error, value_parser};
 use std::alloc::{AllocError, Global};
 
+/// The version of the program, which `--version` prints behind its name.
+const VERSION: &str = "0.1.0";
+
 const PLACE_ABOUT: &str = "Print a litmus test with fences placed in it";
 
 const PLACE_HELP: &str = "\
@@ -195,7 +198,8 @@ pub struct Check<'a> {
     pub certificate: &'a str,
 }
 
-/// The request that the words make, the program's name first. An error holds the text for the user, and help is one.
+/// The request that the words make, the program's name first. An error holds the text for the user; help is one, and the
+/// version.
 pub fn read_request<'a>(alloc: Global, words: &'a [String]) -> Result<Request<'a>, Error> {
     let matches = whole_command(alloc)?.try_get_matches_from(words)?;
     Ok(request_of(alloc, &matches)?)
@@ -259,6 +263,7 @@ fn fences_of(alloc: Global, found: &ArgMatches<'_>) -> Result<Vec<String>, Alloc
 
 fn whole_command<'a>(alloc: Global) -> Result<Command<'a>, AllocError> {
     let program = Command::new(alloc, "rvfence")
+        .version(VERSION)
         .about("Fences for RISC-V litmus tests under RVWMO")
         .after_help(PROGRAM_HELP)
         .subcommand_required(true);
