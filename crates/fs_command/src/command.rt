@@ -198,8 +198,8 @@ pub struct Check<'a> {
     pub certificate: &'a str,
 }
 
-/// The request that the words make, the program's name first. An error holds the text for the user; help is one, and the
-/// version.
+/// The request that the words make, the program's name first. An error holds the text for the user, and help and the
+/// version are such errors.
 pub fn read_request<'a>(alloc: Global, words: &'a [String]) -> Result<Request<'a>, Error> {
     let matches = whole_command(alloc)?.try_get_matches_from(words)?;
     Ok(request_of(alloc, &matches)?)
