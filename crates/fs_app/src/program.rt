@@ -3,7 +3,6 @@
 ghost use Rattle.std.specs.Prelude.{◌≤◌};
 
 use crate::whole::write_whole;
-use clap::Error;
 use clap::error::ErrorKind;
 use fs_command::{Check, MOST_NODES, MOST_WORKERS, Order, Place, Request, Solve, read_request};
 use fs_io::{Output, Status, read_bytes, write_text};
@@ -18,6 +17,7 @@ use std::rt::{Env, Files};
 use std::sync::Wait;
 use std::thread::Threads;
 use std::{env, io};
+use thiserror::Error;
 
 /// Tests, prices and witnesses are read up to this many bytes.
 const INPUT_LIMIT: usize = 1_048_576;
@@ -25,70 +25,88 @@ const INPUT_LIMIT: usize = 1_048_576;
 /// Certificates are read up to this many bytes.
 const CERTIFICATE_LIMIT: usize = 1_073_741_824;
 
+/// Why a run ends without an answer. It reads as the lines that standard error gets, their ends included.
+#[derive(Debug, Drop, Error)]
+enum Failure {
+    /// A word of the command line isn't text.
+    #[error("error: a word of the command line is not UTF-8\n")]
+    NotUtf8,
+    /// The words make no request.
+    #[error(transparent)]
+    NoRequest(#[from] clap::Error),
+    /// The request has no answer, or it can't be printed.
+    #[error("{0}\n")]
+    NoAnswer(#[from] Fault),
+}
+
+impl Failure {
+    fn status(&self) -> Status {
+        match self {
+            Failure::NotUtf8 | Failure::NoRequest(_) => Status::Failure,
+            Failure::NoAnswer(fault) => Status::of_fault(*fault),
+        }
+    }
+}
+
 /// Does what the process's command line asks for, and answers the exit status: 0 where it was done or the answer is yes or
 /// fenced, 1 where it is no or none, 2 for a fault or a bad command line, 3 where memory ran out. A fault or a bad command line
 /// prints on standard error, and nothing on standard output unless it was standard output that failed.
 pub fn run<R: Env + Files + Input + Print + Eprint + AllocGlobal + Threads + Wait + Sync>(
     rt: &R,
 ) -> ExitCode {
-    ExitCode::from(status_of_run(rt).code())
+    let status = match status_of_run(rt) {
+        Ok(status) => status,
+        Err(failure) => {
+            report(rt, &failure);
+            failure.status()
+        }
+    };
+    ExitCode::from(status.code())
 }
 
-fn status_of_run<R: Env + Files + Input + Print + Eprint + AllocGlobal + Threads + Wait + Sync>(
+fn status_of_run<R: Env + Files + Input + Print + AllocGlobal + Threads + Wait + Sync>(
     rt: &R,
-) -> Status {
-    let words = match words(rt) {
-        Ok(words) => words,
-        Err(status) => return status,
-    };
+) -> Result<Status, Failure> {
+    let words = words(rt)?;
     let request = match read_request(rt.alloc(), words.as_slice()) {
         Ok(request) => request,
-        Err(error) => return explain(rt, &error),
+        Err(error) => return explain(rt, error),
     };
-    match answer(rt, &request) {
-        Ok(output) => match write_text(&mut io::writer(rt), output.text.as_bytes()) {
-            Ok(()) => output.status,
-            Err(fault) => report(rt, fault),
-        },
-        Err(fault) => report(rt, fault),
-    }
+    let output = answer(rt, &request)?;
+    write_text(&mut io::writer(rt), output.text.as_bytes())?;
+    Ok(output.status)
 }
 
 /// The words of the command line, the program's name first.
-fn words<R: Env + Eprint + AllocGlobal>(rt: &R) -> Result<Vec<String>, Status> {
-    let refused = match env::args(rt) {
-        Ok(words) => match words.collect(rt.alloc()) {
-            Ok(words) => return Ok(words),
-            Err(_) => return Err(report(rt, Fault::Memory)),
+fn words<R: Env + AllocGlobal>(rt: &R) -> Result<Vec<String>, Failure> {
+    match env::args(rt) {
+        Ok(words) => words
+            .collect(rt.alloc())
+            .map_err(|_| Failure::NoAnswer(Fault::Memory)),
+        Err(refused) => match refused.kind() {
+            io::ErrorKind::OutOfMemory => Err(Failure::NoAnswer(Fault::Memory)),
+            _ => Err(Failure::NotUtf8),
         },
-        Err(refused) => refused,
-    };
-    if refused.kind() == io::ErrorKind::OutOfMemory {
-        return Err(report(rt, Fault::Memory));
     }
-    let _ = rt.eprintln("error: a word of the command line is not UTF-8");
-    Err(Status::Failure)
 }
 
-/// Prints why there is no request: help on standard output, anything else on standard error.
-fn explain<R: Print + Eprint>(rt: &R, error: &Error) -> Status {
+/// Prints help or the version on standard output, where the words ask for one. Any other error is a failure.
+fn explain<R: Print>(rt: &R, error: clap::Error) -> Result<Status, Failure> {
     if matches!(error.kind(), ErrorKind::OutOfMemory) {
-        return report(rt, Fault::Memory);
+        return Err(Failure::NoAnswer(Fault::Memory));
     }
-    let printed = error.print(rt);
     if error.use_stderr() {
-        return Status::Failure;
+        return Err(Failure::NoRequest(error));
     }
-    match printed {
-        Ok(()) => Status::Success,
-        Err(_) => report(rt, Fault::WriteFault),
+    match rt.print(&error) {
+        Ok(()) => Ok(Status::Success),
+        Err(_) => Err(Failure::NoAnswer(Fault::WriteFault)),
     }
 }
 
-/// Prints the fault's line on standard error. Where that fails too, the status alone tells.
-fn report<R: Eprint>(rt: &R, fault: Fault) -> Status {
-    let _ = rt.eprintln(fault);
-    Status::of_fault(fault)
+/// Prints the error on standard error. Where that fails too, the status alone tells.
+fn report<R: Eprint>(rt: &R, error: &impl std::error::Error) {
+    let _ = rt.eprint(error);
 }
 
 fn answer<R: Files + Input + AllocGlobal + Threads + Wait + Sync>(
@@ -190,9 +208,9 @@ fn answer_check<R: Files + Input + AllocGlobal>(
     run_check(rt.alloc(), &test, &prices, &certificate)
 }
 
-/// The bytes of a test: of standard input where it is called `stdin`, else of the file.
+/// The bytes of a test: of standard input where it is called `-` or `stdin`, else of the file.
 fn read_input<R: Files + Input + AllocGlobal>(rt: &R, path: &str) -> Result<Vec<u8>, Fault> {
-    if path == "stdin" {
+    if path == "-" || path == "stdin" {
         return read_bytes(rt.alloc(), &mut rt.reader(), INPUT_LIMIT);
     }
     read_file(rt, path, INPUT_LIMIT)

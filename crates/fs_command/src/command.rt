@@ -2,6 +2,9 @@
 use clap::{Arg, ArgMatches, Command, Error, value_parser};
 use std::alloc::{AllocError, Global};
 
+/// The version of the program, which `--version` prints behind its name.
+const VERSION: &str = "0.1.0";
+
 const PLACE_ABOUT: &str = "Print a litmus test with fences placed in it";
 
 const PLACE_HELP: &str = "\
@@ -124,7 +127,7 @@ const PROGRAM_HELP: &str = "\
 Exit status: 0 done, yes or fenced; 1 no or none; 2 a fault or a bad command line;
 3 memory ran out.";
 
-const FILE_HELP: &str = "Litmus test in herd7's RISC-V format; `stdin` means standard input";
+const FILE_HELP: &str = "Litmus test in herd7's RISC-V format; `-` or `stdin` is standard input";
 
 const FENCE_HELP: &str = "Fence to place, as P0:3=w,w: hart, instruction (from 0) and kind";
 
@@ -195,7 +198,8 @@ pub struct Check<'a> {
     pub certificate: &'a str,
 }
 
-/// The request that the words make, the program's name first. An error holds the text for the user, and help is one.
+/// The request that the words make, the program's name first. An error holds the text for the user, and help and the
+/// version are such errors.
 pub fn read_request<'a>(alloc: Global, words: &'a [String]) -> Result<Request<'a>, Error> {
     let matches = whole_command(alloc)?.try_get_matches_from(words)?;
     Ok(request_of(alloc, &matches)?)
@@ -259,6 +263,7 @@ fn fences_of(alloc: Global, found: &ArgMatches<'_>) -> Result<Vec<String>, Alloc
 
 fn whole_command<'a>(alloc: Global) -> Result<Command<'a>, AllocError> {
     let program = Command::new(alloc, "rvfence")
+        .version(VERSION)
         .about("Fences for RISC-V litmus tests under RVWMO")
         .after_help(PROGRAM_HELP)
         .subcommand_required(true);

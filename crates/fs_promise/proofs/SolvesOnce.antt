@@ -1,5 +1,5 @@
 -- `solve` has one answer to the same files.
-use Rattle.std.proofs.Common.{◌≡◌, inl, inr, ℕ, nat_lt, ◌==◌, ◌&&◌, ◌||◌, true, List, refl, sym, ap, ap₂, ◌∙◌}
+use Rattle.std.proofs.Common.{◌≡◌, inl, inr, ℕ, nat_lt, ◌==◌, ◌&&◌, ◌||◌, true, List, sym, ap, ap₂, ◌∙◌}
 use Rattle.fs_kinds.specs.declared.placement.Entry.{Entry}
 use Rattle.fs_kinds.specs.Placement.{precedes}
 use Rattle.fs_kinds.specs.PriceTable.{PriceTable, cost}
