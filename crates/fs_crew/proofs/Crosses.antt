@@ -21,8 +21,7 @@ use Rattle.fs_board.proofs.event.LogEntry.TheSendSync as entry
 use Rattle.fs_hart.proofs.trace.Trace.TheSendSync as trace
 use Rattle.fs_showing.specs.contracts.showing.Showing as Showing
 use Rattle.fs_showing.proofs.place.Place.TheSendSync as place
-use Rattle.fs_judge.specs.contracts.problem.Problem as Problem
-use Rattle.fs_judge.proofs.prejudged.Prejudged.TheSendSync as prejudged
+use Rattle.fs_search.proofs.Problems as problem
 use Rattle.fs_crew.proofs.Outcomes.{hole_send, hole_sync}
 
 outcome_send : IsSend Outcome.the_row
@@ -59,8 +58,8 @@ showing_send = search (test_send, test_sync, list.the_send, trace.the_send, plac
 showing_sync : IsSync Showing.the_row
 showing_sync = search (test_send, test_sync, list.the_sync, trace.the_sync, place.the_sync, crosses, sendable) depth 40 fits 100000
 
-pub problem_send : IsSend Problem.the_row
-problem_send = search (question_send, question_sync, showing_send, prejudged.the_send, crosses, sendable) depth 40 fits 100000
+pub problem_send : IsSend problem.the_row
+problem_send = search (question_send, question_sync, showing_send, problem.the_send, crosses, sendable) depth 40 fits 100000
 
-pub problem_sync : IsSync Problem.the_row
-problem_sync = search (question_send, question_sync, showing_sync, prejudged.the_sync, crosses, sendable) depth 40 fits 100000
+pub problem_sync : IsSync problem.the_row
+problem_sync = search (question_send, question_sync, showing_sync, problem.the_sync, crosses, sendable) depth 40 fits 100000

@@ -7,5 +7,5 @@ mod scout;
 mod work;
 
 pub use crew::solve;
-pub use fs_search::{Answer, Solved};
+pub use fs_search::{Answer, Solved, solve as solve_alone};
 pub use gate::{Gate, Open};

@@ -1,4 +1,5 @@
-pub mod Goes
-pub mod Replied
 pub mod Ends
+pub mod Goes
 pub mod Parts
+pub mod Problems
+pub mod Replied

@@ -21,10 +21,8 @@ use Rattle.fs_certificate.specs.declared.certificate.Certificate.{Certificate}
 use Rattle.fs_certificate.specs.Kept.{AreInRange, KeepsCertificate}
 use Rattle.fs_io.specs.declared.status.Status.{Status}
 use Rattle.fs_evidence.specs.Evidence.{Question, Refuted, Shown, IsWitnessFor}
-use Rattle.fs_search.specs.declared.answer.Answer.{Answer}
-use Rattle.fs_search.specs.declared.answer.Answer.TheVariants as answer
-use Rattle.fs_search.specs.declared.answer.Solved.{Solved}
-use Rattle.fs_search.specs.Answers.{IsAnswer, IsBoardOf, IsShownLeast, placement_of}
+use Rattle.fs_crew.specs.Answers.{Answer, Solved, IsAnswer, IsBoardOf, IsShownLeast, placement_of}
+use Rattle.fs_crew.specs.Forms as answer
 use Rattle.fs_cert.specs.Certified.{Certifies, CertifiesNone}
 use Rattle.fs_solve.specs.Solve.{IsCertified, IsWitnessed, IsFirstSolveFault, IsSolved, PrintsAnswer, PrintsPlaced, of_memory}
 use Rattle.fs_solve.specs.inner.Found.{IsAskedBy, IsFound, IsFoundFor}

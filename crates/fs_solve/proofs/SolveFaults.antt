@@ -7,7 +7,7 @@ use Rattle.fs_litmus.specs.Faults.{IsTestFault}
 use Rattle.fs_place.specs.Place.{ArePricesOf, IsPricesFault}
 use Rattle.fs_place.proofs.Faults.{is_memory}
 use Rattle.fs_evidence.specs.Evidence.{Question}
-use Rattle.fs_search.specs.Answers.{IsSolveFault}
+use Rattle.fs_crew.specs.Answers.{IsSolveFault}
 use Rattle.fs_solve.specs.Solve.{IsFirstSolveFault, of_prices, of_test, of_search, of_memory}
 use Rattle.fs_solve.specs.inner.Found.{IsAskedBy}
 

@@ -7,7 +7,7 @@ ghost use Rattle.fs_syntax.specs.declared.test.Test.{Test as Tests};
 ghost use Rattle.fs_syntax.specs.Test.{IsTest};
 ghost use Rattle.fs_litmus.specs.Reads.{Reads};
 ghost use Rattle.fs_evidence.specs.Evidence.{Question as Asked};
-ghost use Rattle.fs_search.specs.Answers.{IsAnswer, IsShownLeast, placement_of};
+ghost use Rattle.fs_crew.specs.Answers.{IsAnswer, IsShownLeast, placement_of};
 ghost use Rattle.fs_cert.specs.Certified.{Certifies};
 ghost use Rattle.fs_place.specs.Place.{ArePricesOf};
 ghost use Rattle.fs_solve.specs.Solve.{PrintsPlaced, IsSolved, IsCertified, IsFirstSolveFault};
@@ -16,13 +16,12 @@ ghost use Rattle.fs_solve.specs.inner.Made.{CertifiesAnswer, PrintsWitness, Says
 
 use fs_cert::{from_board, from_least, from_witness};
 use fs_certificate::Certificate;
-use fs_crew::Gate;
+use fs_crew::{Answer, Gate, Solved, solve_alone};
 use fs_evidence::{Forbidden, Question};
 use fs_io::{Output, Status};
 use fs_kinds::{Fault, Prices, read_prices};
 use fs_litmus::{Test, read_test};
 use fs_report::{fenced_text, none_text};
-use fs_search::{Answer, Solved};
 use std::alloc::{AllocError, Global};
 use std::sync::{Arc, Wait};
 use std::thread::Threads;
@@ -189,7 +188,7 @@ fn find_alone(alloc: Global, test: &[u8], prices: &[u8], limit: usize) -> Result
 {
     let question = read_question(alloc, test, prices)?;
     let asked = Arc::try_clone(&question)?;
-    let solved = fs_search::solve(alloc, asked, limit)?;
+    let solved = solve_alone(alloc, asked, limit)?;
     Ok(Found { question, solved })
 }
 

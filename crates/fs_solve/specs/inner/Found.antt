@@ -6,8 +6,7 @@ use Rattle.fs_syntax.specs.Test.{IsBounded, IsTest}
 use Rattle.fs_litmus.specs.Reads.{Reads}
 use Rattle.fs_answer.specs.CandidateFaults.{HasNoCandidateFault}
 use Rattle.fs_evidence.specs.Evidence.{Question}
-use Rattle.fs_search.specs.declared.answer.Solved.{Solved}
-use Rattle.fs_search.specs.Answers.{IsAnswer, IsBoardOf, IsShownLeast}
+use Rattle.fs_crew.specs.Answers.{Solved, IsAnswer, IsBoardOf, IsShownLeast}
 use Rattle.fs_place.specs.Place.{ArePricesOf}
 
 -- the bytes read as the question's test and hold its prices

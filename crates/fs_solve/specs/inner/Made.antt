@@ -5,9 +5,8 @@ use Rattle.fs_syntax.specs.declared.test.Test.{Test}
 use Rattle.fs_model.specs.Witness.{Witness}
 use Rattle.fs_answer.specs.Texts.{none_lines}
 use Rattle.fs_certificate.specs.declared.certificate.Certificate.{Certificate}
-use Rattle.fs_search.specs.declared.answer.Answer.{Answer}
-use Rattle.fs_search.specs.declared.answer.Answer.TheVariants as answer
-use Rattle.fs_search.specs.Answers.{placement_of}
+use Rattle.fs_crew.specs.Answers.{Answer, placement_of}
+use Rattle.fs_crew.specs.Forms as answer
 use Rattle.fs_cert.specs.Certified.{Certifies, CertifiesNone}
 use Rattle.fs_solve.specs.Solve.{IsCertificateOf}
 

@@ -1,6 +1,6 @@
 use denote.Param.{param}
 use Rattle.std.proofs.Crossing.{Arc-sync, sync}
-use Rattle.fs_judge.specs.contracts.problem.Problem as Problem
+use Rattle.fs_search.proofs.Problems as problem
 use Rattle.fs_crew.proofs.Crosses.{desk_sync, problem_send, problem_sync}
 use Rattle.fs_crew.proofs.crew.work_all.Goals as goal
 
@@ -8,7 +8,7 @@ use Rattle.fs_crew.proofs.crew.work_all.Goals as goal
 pub map_vec-requires-sync-F : goal.map_vec-requires-sync-F
 map_vec-requires-sync-F g c κs within =
     let d = desk_sync (param 0 g.row.A) g.A.Asked in
-    let p = Arc-sync Problem.the_row problem_send problem_sync in
+    let p = Arc-sync problem.the_row problem_send problem_sync in
     record {
       shared = λ x b o κ. (
         (

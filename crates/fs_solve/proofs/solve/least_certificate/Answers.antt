@@ -1,6 +1,6 @@
 use Rattle.std.proofs.Common.{Option, List, sym, subst}
 use Rattle.fs_kinds.specs.declared.placement.Entry.{Entry}
-use Rattle.fs_search.specs.Answers.{IsShownLeast}
+use Rattle.fs_crew.specs.Answers.{IsShownLeast}
 use Rattle.fs_cert.specs.Certified.{Certifies}
 use Rattle.fs_solve.proofs.Founding.{least-is}
 use Rattle.fs_solve.proofs.solve.least_certificate.Goals as goal
