@@ -65,8 +65,9 @@ pub fn run_solve_alone(
     answer_output(alloc, &found.solved.answer)
 }
 
-/// What `run_solve_alone` answers, with the text of a certificate of the second version, which is valid for the test and the prices with
-/// the answer that is printed; where that is `none`, its witness is the printed one. The faults are those of `run_solve_alone`.
+/// What `run_solve_alone` answers, with the text of a certificate of the second version, which is valid for the test and
+/// the prices with the answer that is printed, and each of whose cycles begins at its least operation; where the answer is
+/// `none`, its witness is the printed one. The faults are those of `run_solve_alone`.
 pub fn run_certified_alone(
     alloc: Global,
     test: &[u8],
