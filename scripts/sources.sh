@@ -81,13 +81,14 @@ sum_sources() (
 # The sum of the sources that the released program was built from.
 released_sum() { sed -n 's/^sources //p' "$release_note"; } 2>/dev/null
 
-# Can this machine run the released program, and was it built from the sources as they are?
+# Was the released program built from the sources as they are, and can this machine run it? (An older C library makes it end with
+# status 1, which would mean `none`.)
 is_released() {
     local sum
     [[ $HOSTTYPE-$OSTYPE == x86_64-linux* && -x $released ]] || return 1
     sum=$(sum_sources)
-    [[ -n $sum && $sum == "$(released_sum)" ]]
-}
+    [[ -n $sum && $sum == "$(released_sum)" && $("$released" --version) == 'rvfence '* ]]
+} 2>/dev/null
 
 # Notes that the sources call for this program, as they were when the file START was made.
 remember() {
