@@ -13,6 +13,7 @@ queue=() # the libraries, the one with the longest chain of others above it firs
 
 fail() {
     say "$*"
+    rm -f -- "$start"
     exit 125
 }
 
@@ -248,6 +249,7 @@ build_program() {
     check_end rvfence "$rooms/rvfence"
     # as old as the start of the build, so that an edit made meanwhile counts as newer
     touch -r "$rooms/start" -- "$own"
+    [[ -z $sum ]] || echo "$sum" >"$own_sum"
     rm -f -- "$unfinished"
 }
 
@@ -270,7 +272,7 @@ abandon() {
 build() {
     local folder folders
     command -v rt >/dev/null || fail "the program must be built, and there is no rt on the PATH"
-    trap abandon EXIT
+    trap 'abandon; rm -f -- "$start"' EXIT
     trap 'exit 129' HUP
     trap 'exit 130' INT
     trap 'exit 143' TERM
@@ -284,7 +286,8 @@ build() {
         processors=$(nproc)
         [[ ! ${RT_JOBS:-} =~ ^[1-9][0-9]*$ ]] || processors=$RT_JOBS
         memory=$(free_memory)
-        rm -rf -- "$out"/rooms.*
+        sum=$(sum_sources) # of what is built: what is edited meanwhile counts as changed
+        rm -rf -- "$out"/rooms.* "$own_sum"
         mkdir -- "$rooms" && : >"$rooms/start" && : >"$unfinished" || fail "no room to build in $out"
         find_built
         weigh

@@ -4,9 +4,11 @@
 out=$top/crates/rvfence/out
 own=$out/rvfence # the program that was built here, by the launcher or the gate
 unfinished=$own.unfinished # stands from the start of a build until it has ended well
+own_sum=$own.sum # the sum of the sources that it was built from, where that is known
 released=$top/bin/rvfence-x86_64-linux # comes with the repository
-release_note=$released.txt # the sum of the sources that it was built from, and the toolchain's line
-current=$out/current # names the program that the sources call for, as they were when this file was as old as it is
+release_note=$released.txt # the sum of the sources that it was built from, its own, and the toolchain's line
+current=$out/current.$HOSTNAME # names the program that the sources call for, as they were when this file was as old as it is
+start=$out/start.$$ # as old as the moment when the choice of a program began
 
 declare -A needs=() lines=() below=()
 order=()
@@ -50,18 +52,23 @@ folders_of() {
     done
 }
 
-# has_newer FILE NAMES WORD..: is a file of the crates, of those that `find` takes by the words, newer than FILE?
+# has_newer FILE NAMES WORD..: is a file of the crates, of those that `find` takes by the words, newer than FILE, or can't that be seen?
 has_newer() {
     local file=$1 names=$2 folders
     shift 2
     mapfile -t folders < <(cd -- "$top" && folders_of $names)
-    [[ -n $(cd -- "$top" && find "${folders[@]}" -type f -newer "$file" "$@" -print -quit) ]]
+    [[ -n $(cd -- "$top" && find -L "${folders[@]}" -type f -newer "$file" "$@" -print -quit 2>&1) ]]
 }
 
-# Is the program that was built here missing, half built, or older than a source? Tests are no part of it.
+# Is the program that was built here missing, half built, or not of the sources as they are? By their sum, where that of its own is known;
+# else by dates. Tests are no part of it.
 is_stale() {
-    [[ -x $own && ! -e $unfinished && ! $top/crates.txt -nt $own ]] || return 0
-    has_newer "$own" "${order[*]}" ! -path '*/src/tests/*' ! -name tests.rt
+    [[ -x $own && ! -e $unfinished ]] || return 0
+    if [[ -f $own_sum && ! $own -nt $own_sum ]]; then
+        [[ $(sum_sources) != "$(<"$own_sum")" ]]
+    else
+        [[ $top/crates.txt -nt $own ]] || has_newer "$own" "${order[*]}" ! -path '*/src/tests/*' ! -name tests.rt
+    fi
 }
 
 # The sum of all that the program is built from: the lines of its crates in crates.txt, and their files, without tests. Nothing where
@@ -74,12 +81,16 @@ sum_sources() (
         for name in "${order[@]}"; do
             echo "$name:" ${needs[$name]}
         done
-        find "${folders[@]}" -type f ! -path '*/src/tests/*' ! -name tests.rt -print0 | LC_ALL=C sort -z | xargs -0 sha256sum --
+        find -L "${folders[@]}" -type f ! -path '*/src/tests/*' ! -name tests.rt -print0 | LC_ALL=C sort -z | xargs -0 sha256sum --
     } | sha256sum | cut -d ' ' -f 1
 ) 2>/dev/null
 
-# The sum of the sources that the released program was built from.
+# The sum of the sources that the released program was built from, and its own.
 released_sum() { sed -n 's/^sources //p' "$release_note"; } 2>/dev/null
+released_bytes() { sed -n 's/^program //p' "$release_note"; } 2>/dev/null
+
+# sum_bytes FILE: the sum of a file.
+sum_bytes() { sha256sum <"$1" | cut -d ' ' -f 1; } 2>/dev/null
 
 # Was the released program built from the sources as they are, and can this machine run it? (An older C library makes it end with
 # status 1, which would mean `none`.)
@@ -87,20 +98,20 @@ is_released() {
     local sum
     [[ $HOSTTYPE-$OSTYPE == x86_64-linux* && -x $released ]] || return 1
     sum=$(sum_sources)
-    [[ -n $sum && $sum == "$(released_sum)" && $("$released" --version) == 'rvfence '* ]]
+    [[ -n $sum && $sum == "$(released_sum)" && $(sum_bytes "$released") == "$(released_bytes)" &&
+        $("$released" --version) == 'rvfence '* ]]
 } 2>/dev/null
 
-# Notes that the sources call for this program, as they were when the file START was made.
+# Notes that the sources call for this program, as they were when the choice began.
 remember() {
-    local program=$1 start=$2
+    local program=$1
     echo "${program#"$top/"}" >"$current.$$" && touch -r "$start" -- "$current.$$" && mv -f -- "$current.$$" "$current"
-    rm -f -- "$start" "$current.$$"
+    rm -f -- "$out"/start.* "$current.$$" # with those that a killed run left
 } 2>/dev/null
 
 # Sets `program` to the one that the sources call for: the released one, or the one that was built here; the latter is built first where it
-# has to be, unless `find_only` is given. Status 1: there is none.
+# has to be, unless `find_only` is given. Status 1: there is none. A build that fails or is stopped ends the shell.
 choose() {
-    local start=$out/start.$$
     { mkdir -p -- "$out" && : >"$start"; } 2>/dev/null
     read_crates
     visit rvfence
@@ -113,5 +124,5 @@ choose() {
         program=$own
         ! is_stale || { . "$top/scripts/build.sh" && build; }
     fi
-    remember "$program" "$start"
+    remember "$program"
 }
