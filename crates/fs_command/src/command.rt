@@ -72,7 +72,7 @@ out. Then it prints `none` and such an execution, as a witness that `order` read
 With --cert PATH a certificate of the answer is written to PATH first, which `check` reads
 and judges without a search.
 
-With --workers N so many threads search. The fences are the same for every number, and
+With --workers N up to N threads search. The fences are the same for every number, and
 only a long search gains.
 
 PRICES offers kinds, each for 1 to 1000000, and rw,rw must be one of them, as in

@@ -25,15 +25,15 @@ use std::sync::{Arc, Wait};
 use std::thread;
 use std::thread::Threads;
 
-/// How many workers begin a search. The others join where it is long: few searches are, and before a placement is known much of what they
-/// would look at is closed later by what the first ones find.
+/// How many workers begin a search. The others join where it is long: few searches are, and before a placement is known
+/// much of what they would look at is closed later by what the first ones find.
 const FIRST_WORKERS: u8 = 2;
 
 /// How many nodes each of the first workers is done with before the others join.
 const FIRST_NODES: usize = 50_000;
 
-/// Where more candidates than this show the outcome, one worker searches alone: then nearly all the time goes into verdicts on all of
-/// them, and most of those that a second worker would come to are of no use once the first one has its own.
+/// Where more candidates than this show the outcome, one worker searches alone: then nearly all the time goes into verdicts
+/// on all of them, and most of those that a second worker would come to are of no use once the first one has its own.
 const MOST_CANDIDATES: usize = 10_000;
 
 /// Passes and hands side by side, each pair with the number of nodes that the worker may be done with.
@@ -55,8 +55,8 @@ fn side_by_side<A: Asked>(
     Ok(jobs)
 }
 
-/// Each pass goes with a hand to a thread of its own, works there, and comes back, with whether it could go on. Where no thread can be made
-/// they work one after the other.
+/// Each pass goes with a hand to a thread of its own, works there, and comes back, with whether it could go on. Where no
+/// thread can be made they work one after the other.
 fn work_all<A: Asked + Send + Sync, R: Threads + Wait + Sync, G: Gate + Sync>(
     rt: &R,
     alloc: Global,
@@ -147,9 +147,10 @@ fn work_by_stages<A: Asked + Send + Sync, R: Threads + Wait + Sync, G: Gate + Sy
     Ok(all)
 }
 
-/// The workers search the board. It comes back as they left it, with nodes that are open or held where they lacked memory or met the
-/// limit, and untouched where there are many candidates. None where `finish` doesn't hand it out, since its log and what they saw of it
-/// don't agree. The error is F19.
+/// Some board of the question: the one that the workers searched and `finish` handed out, with nodes that are open or held
+/// where they lacked memory or met the limit; the given one, untouched, where there are many candidates; none where `finish`
+/// hands none out, since its log and what they saw of it don't agree. That it is the workers' own is what the code does and
+/// tests see; the contract says that it is a board of the question with one history. The error is F19.
 fn search_together<A: Asked + Send + Sync, R: Threads + Wait + Sync, G: Gate + Sync>(
     rt: &R,
     alloc: Global,
@@ -244,10 +245,11 @@ fn concluded<G: Gate>(
     Ok(solved)
 }
 
-/// The answer to a question, as `fs_search::solve` gives it, searched by this many workers. One worker needs neither threads nor a desk.
-/// More of them search together first, where there are few candidates, and what they leave is searched as by one: all of it, where the
-/// board's log and what they saw of it don't agree. The faults are those of `fs_search::solve`. Several workers may make more nodes, and so come to F16 where one has the
-/// answer. A thread that never comes back is waited for without an end.
+/// The answer to a question, as `fs_search::solve` gives it, searched by up to this many workers. One worker needs neither
+/// threads nor a desk. More of them search together first, where there are few candidates, and what they leave is searched as
+/// by one: all of it, where the board's log and what they saw of it don't agree. The faults are those of `fs_search::solve`.
+/// Several workers may make more nodes, and so come to F16 where one has the answer. A thread that never comes back is waited
+/// for without an end.
 pub fn solve<R: Threads + Wait + Sync, G: Gate + Sync>(
     rt: &R,
     alloc: Global,

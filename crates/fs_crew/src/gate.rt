@@ -12,8 +12,8 @@ pub trait Gate {
     /// The worker has called the desk.
     fn after(&self, worker: u8);
 
-    /// All workers have stopped, and the board is handed out with so many entries in its log. Or it is given up, since its log and what
-    /// they saw of it don't agree.
+    /// No worker is at the board: it is handed out with so many entries in its log, none where they didn't begin. Or it is
+    /// given up, since its log and what they saw of it don't agree.
     fn ended(&self, logged: Option<usize>);
 }
 

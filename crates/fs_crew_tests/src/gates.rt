@@ -118,7 +118,7 @@ fn gate_first(rt: HostRuntime) -> Result<(), Fail> {
             clock: &rt,
             held: Held::new(),
         };
-        let line = answered_by_two(&rt, rt.alloc(), &gate)?;
+        let line = answered_by_two(&rt, rt.alloc(), &gate, &gate.held.ends)?;
         assert!(rt; line.starts_with("fenced 18 ") && line.contains(" by 0 1"));
         assert!(rt; gate.held.is_good());
     }
@@ -132,7 +132,7 @@ fn gate_overlap(rt: HostRuntime) -> Result<(), Fail> {
             clock: &rt,
             held: Held::new(),
         };
-        let line = answered_by_two(&rt, rt.alloc(), &gate)?;
+        let line = answered_by_two(&rt, rt.alloc(), &gate, &gate.held.ends)?;
         assert!(rt; line.starts_with("fenced 18 ") && line.contains(" by 0 1"));
         assert!(rt; gate.held.is_good());
     }
@@ -148,7 +148,7 @@ fn a_node_is_stolen(rt: HostRuntime) -> Result<(), Fail> {
             clock: &rt,
             held: Held::new(),
         };
-        let line = answered_by_two(&rt, rt.alloc(), &gate)?;
+        let line = answered_by_two(&rt, rt.alloc(), &gate, &gate.held.ends)?;
         if line.ends_with(" stolen") {
             is_stolen = true;
             break;

@@ -6,15 +6,16 @@ use fs_examples::{LB, MP11, MPA, PRICES, SB, SBF, SBX, question_of, told, write_
 use fs_kinds::Fault;
 use std::alloc::{AllocError, Global};
 use std::sync::Wait;
-use std::sync::atomic::{AtomicU64, Ordering};
+use std::sync::atomic::{AtomicU64, AtomicUsize, Ordering};
 use std::test::Fail;
 use std::thread::Threads;
 
-/// How often the workers' board was handed out, and how often it was given up.
+/// How often the workers' board was handed out, with how many entries in its log at last, and how often it was given up.
 #[derive(Drop)]
 pub(crate) struct Ends {
     kept: AtomicU64,
     lost: AtomicU64,
+    logged: AtomicUsize,
 }
 
 impl Ends {
@@ -22,6 +23,7 @@ impl Ends {
         Ends {
             kept: AtomicU64::new(0),
             lost: AtomicU64::new(0),
+            logged: AtomicUsize::new(0),
         }
     }
 
@@ -40,7 +42,10 @@ impl Gate for Ends {
 
     fn ended(&self, logged: Option<usize>) {
         let counted = match logged {
-            Some(_) => &self.kept,
+            Some(entries) => {
+                self.logged.store(entries, Ordering::SeqCst);
+                &self.kept
+            }
             None => &self.lost,
         };
         counted.fetch_add(1, Ordering::SeqCst);
@@ -127,23 +132,28 @@ fn write_doers(log: &[LogEntry], text: &mut String) -> Result<(), AllocError> {
     Ok(())
 }
 
-/// The answer as a line, with what the log shows of who searched for it.
-fn line_of_many(alloc: Global, solved: &Solved) -> Result<String, AllocError> {
+/// The answer as a line, with what the log shows of who searched for it: so many of its entries came from the workers, and
+/// what follows these is the conclusion.
+fn line_of_many(alloc: Global, solved: &Solved, logged: usize) -> Result<String, AllocError> {
     let mut text = line_of(alloc, solved)?;
     if let Some(board) = solved.board() {
-        write_doers(board.log(), &mut text)?;
+        if let Some(searched) = board.log().get(..logged) {
+            write_doers(searched, &mut text)?;
+        }
     }
     Ok(text)
 }
 
-/// The answer to SB by two workers as a line, with what the log shows of them; or the line of the fault.
+/// The answer to SB by two workers as a line, with what the log shows of them; or the line of the fault. The gate counts by
+/// these ends.
 pub(crate) fn answered_by_two<R: Threads + Wait + Sync, G: Gate + Sync>(
     rt: &R,
     alloc: Global,
     gate: &G,
+    ends: &Ends,
 ) -> Result<String, AllocError> {
     match found(rt, alloc, SB, 2, 1_000_000, gate) {
-        Ok(solved) => line_of_many(alloc, &solved),
+        Ok(solved) => line_of_many(alloc, &solved, ends.logged.load(Ordering::SeqCst)),
         Err(fault) => fault.to_string(alloc),
     }
 }

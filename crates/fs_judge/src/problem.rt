@@ -92,7 +92,8 @@ impl Problem {
         &self.question
     }
 
-    /// How many showing candidates there are. A verdict that forbids has judged each of them.
+    /// How many showing candidates there are: a verdict that forbids has judged each of them. No contract says so; only how
+    /// many workers search depends on it.
     pub fn candidates(&self) -> usize {
         self.showing.len()
     }
