@@ -2,8 +2,8 @@
 -- order.
 use Rattle.std.specs.Prelude.{◌≡◌, ℕ, ◌+◌, ◌<◌, ◌==◌, Bool, true, false, ◌&&◌, not, Option, None, Some, option_and_then, unwrap_or, List, [], filter, length, slice_get}
 use Rattle.std.specs.List.{list_any, list_all, last_or, slice_index_or}
-use Rattle.fs_syntax.specs.declared.test.Test.{Test}
-use Rattle.fs_syntax.specs.Condition.{condition_of}
+use Rattle.fs_model.specs.declared.test.Test.{Test}
+use Rattle.fs_model.specs.Condition.{condition_of}
 use Rattle.fs_model.specs.declared.step.Step.{Step}
 use Rattle.fs_model.specs.Numbers.{has_number, is_same, numbers_below, stands_before}
 use Rattle.fs_model.specs.Operations.{PreExecution, accesses, operations, operation, steps_of, is_load, is_store, same_word, same_hart, po, paired}

@@ -1,7 +1,7 @@
 -- All candidate executions that show the outcome, in their order.
 use Rattle.std.specs.Prelude.{◌≡◌, ℕ, ◌+◌, ◌==◌, ◌↔◌, ◌⊎◌, nat_lt, Bool, true, false, ◌&&◌, ◌||◌, Option, None, Some, List, [], ◌∷◌, ◌++◌, map, length, AllPairs, if◌then◌else◌}
 use Rattle.std.specs.List.{Contains, flat_map}
-use Rattle.fs_syntax.specs.declared.test.Test.{Test}
+use Rattle.fs_model.specs.declared.test.Test.{Test}
 use Rattle.fs_model.specs.declared.step.Step.{Step}
 use Rattle.fs_model.specs.Choices.{choices_of, ComesBefore}
 use Rattle.fs_model.specs.Operations.{accesses}

@@ -9,8 +9,8 @@ use Rattle.fs_kinds.specs.Kind.{all_kinds}
 use Rattle.fs_kinds.specs.Placement.{rank}
 use Rattle.fs_kinds.specs.PriceTable.{PriceTable, is_offered}
 use Rattle.fs_kinds.specs.Slot.{is_same_slot}
-use Rattle.fs_syntax.specs.declared.test.Test.{Test}
-use Rattle.fs_syntax.specs.Slots.{slots}
+use Rattle.fs_model.specs.declared.test.Test.{Test}
+use Rattle.fs_model.specs.Slots.{slots}
 
 pub record Decision : Type 0 where
   pub slot : Slot

@@ -1,7 +1,7 @@
 -- What a witness shows.
 use Rattle.std.specs.Prelude.{List}
 use Rattle.fs_kinds.specs.declared.placement.Entry.{Entry}
-use Rattle.fs_syntax.specs.declared.test.Test.{Test}
+use Rattle.fs_model.specs.declared.test.Test.{Test}
 use Rattle.fs_model.specs.Execution.{Execution}
 use Rattle.fs_model.specs.Witness.{Witness, IsOfWitness}
 use Rattle.fs_model.specs.Allows.{Shows}

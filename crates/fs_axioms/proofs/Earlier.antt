@@ -6,7 +6,8 @@ use Rattle.std.proofs.lemmas.List.{get_or-set_same, get_or-set_other}
 use Rattle.std.proofs.lemmas.Bool.{cases_eq, eq-eqb, ne_eqb}
 use Rattle.fs_model.specs.Numbers.{has_number, stands_before}
 use Rattle.fs_axioms.specs.Earlier.{has_bit, AreEarlier}
-use Rattle.fs_axioms.proofs.Listed.{or-false, or-true, has_number-more, stands_before-more}
+use Rattle.fs_axioms.proofs.Listed.{or-false, or-true}
+use Rattle.fs_model.proofs.GrowingLists.{has_number-more, stands_before-more}
 
 and-false : (b : Bool) → (b && false) ≡ false
 and-false true = refl

@@ -1,7 +1,7 @@
 -- What an execution has, said of a list of operations and a global memory order of them.
 use Rattle.std.specs.Prelude.{ℕ, Bool, true, ◌&&◌, ◌||◌, not, Option, None, Some, is_some, option_and_then, unwrap_or, List, filter, length, count_by}
 use Rattle.std.specs.List.{slice_index_or, last_or, list_any}
-use Rattle.fs_syntax.specs.Test.{address_of}
+use Rattle.fs_model.specs.Test.{address_of}
 use Rattle.fs_model.specs.declared.operation.Operation.{Operation}
 use Rattle.fs_model.specs.Numbers.{is_same, numbers_below, stands_before}
 use Rattle.fs_model.specs.Operations.{nothing, precedes}

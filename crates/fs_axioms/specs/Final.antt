@@ -1,7 +1,7 @@
 -- The final registers of runs.
 use Rattle.std.specs.Prelude.{◌≡◌, ℕ, ◌<◌, List, [], map, length}
 use Rattle.std.specs.List.{slice_index_or}
-use Rattle.fs_syntax.specs.declared.test.Test.{Test}
+use Rattle.fs_model.specs.declared.test.Test.{Test}
 use Rattle.fs_model.specs.Execute.{read}
 use Rattle.fs_model.specs.Trace.{start_with, hart_after}
 use Rattle.fs_model.specs.Operations.{steps_of}

@@ -11,7 +11,7 @@ ghost use Rattle.fs_axioms.specs.Earlier.{AreEarlier, has_bit};
 
 use crate::numbered::count_accesses;
 use fs_kinds::Fault;
-use fs_model::Operation;
+use fs_model::{Operation, stands_before};
 use std::alloc::{AllocError, Global};
 use std::marker::Model;
 
@@ -100,18 +100,4 @@ fn earlier(listed: &[u8]) -> [u64; 64]
         }
     }
     earlier
-}
-
-// Is a in the list, and b after it?
-fn stands_before(listed: &[u8], a: usize, b: usize) -> bool
-    ensures { result ≡ stands_before listed.now a b }
-{
-    let mut is_past = false;
-    let mut is_before = false;
-    for number in listed {
-        let number = usize::from(*number);
-        is_before |= is_past & (number == b);
-        is_past |= number == a;
-    }
-    is_before
 }

@@ -1,7 +1,7 @@
 //! What runs and a global memory order show: the final state, and whether it is the outcome that a test asks for.
 
 ghost use Rattle.std.specs.Prelude.{◌≡◌, ℕ, List};
-ghost use Rattle.fs_syntax.specs.Condition.{condition_of};
+ghost use Rattle.fs_model.specs.Condition.{condition_of};
 ghost use Rattle.fs_model.specs.Operations.{PreExecution, operations as operations_of};
 ghost use Rattle.fs_model.specs.Source.{gmo};
 ghost use Rattle.fs_model.specs.Execution.{pre_execution};
@@ -13,8 +13,7 @@ ghost use Rattle.fs_axioms.specs.Final.{register_in, AreFinal};
 use crate::global_order::GlobalOrder;
 use fs_hart::Trace;
 use fs_instr::Reg;
-use fs_model::Operation;
-use fs_syntax::{Location, Outcome, Quantifier, Test};
+use fs_model::{Location, Operation, Outcome, Quantifier, Test};
 
 fn stores_at(operations: &[Operation], address: u32, a: u8) -> bool
     ensures { result ≡ stores_at operations.now address a }

@@ -1,6 +1,6 @@
 -- What breaks a witness at a slot, and the least that it costs.
-use Rattle.std.proofs.Common.{◌≡◌, ℕ, zero, suc, ◌+◌, ◌*◌, ◌<◌, true, false, ◌&&◌, ◌||◌, not, Option, None, Some, is_none, List, [], ◌∷◌, map, length, take, refl, sym, ap, ◌∙◌, arith}
-use Rattle.std.specs.Prelude.{if◌then◌else◌, filter, min, get_or}
+use Rattle.std.proofs.Common.{◌≡◌, ◌+◌, ◌*◌, ◌<◌, true, false, ◌&&◌, ◌||◌, not, Option, None, Some, is_none, List, [], ◌∷◌, map, refl, sym, ap, ◌∙◌}
+use Rattle.std.specs.Prelude.{if◌then◌else◌, filter}
 use Rattle.std.specs.List.{list_any}
 use Rattle.fs_kinds.specs.declared.kind.Kind.{Kind}
 use Rattle.fs_kinds.specs.declared.placement.Entry.{Entry}
@@ -9,32 +9,8 @@ use Rattle.fs_kinds.specs.Kind.{all_kinds}
 use Rattle.fs_kinds.specs.PriceTable.{PriceTable, is_offered, kind_cost, entry_cost, weight_of}
 use Rattle.fs_answer.specs.Pruning.{breaks, breaking_ways, is_empty, lesser, least}
 use Rattle.fs_evidence.specs.declared.evidence.Pairs.{Pairs}
-use Rattle.fs_board.specs.inner.Breaks.{fits, is_break, break_cost, everywhere, lesser_of, least_of}
-
--- ---- the least of a list
-
-pub lesser_none : (m : Option ℕ) → lesser_of m None ≡ m
-lesser_none None = refl
-lesser_none (Some m) = refl
-
-min_assoc : (k m n : ℕ) → min k (min m n) ≡ min (min k m) n
-min_assoc k m n = omega arith
-
-pub lesser_assoc : (k m n : Option ℕ) → lesser_of k (lesser_of m n) ≡ lesser_of (lesser_of k m) n
-lesser_assoc None m n = refl
-lesser_assoc (Some k) None n = refl
-lesser_assoc (Some k) (Some m) None = refl
-lesser_assoc (Some k) (Some m) (Some n) = ap Some (min_assoc k m n)
-
-pub least_more : {A : Type 0} (f : A → Option ℕ) (xs : List A) (i : ℕ) (d : A) → i < length xs
-    → least_of f (take (i + 1) xs) ≡ lesser_of (least_of f (take i xs)) (f (get_or xs i d))
-least_more f [] i d l = absurd (omega arith)
-least_more f (x ∷ xs) zero d l = lesser_none (f x)
-least_more f (x ∷ xs) (suc i) d l =
-    let e : suc i + 1 ≡ suc (i + 1) = omega arith in
-    rw e (ap (lesser_of (f x)) (least_more f xs i d (omega arith)) ∙ lesser_assoc (f x) (least_of f (take i xs)) (f (get_or xs i d)))
-
--- ---- at a slot
+use Rattle.fs_parts.specs.Breaks.{fits, is_break, break_cost, lesser_of, least_of}
+use Rattle.fs_board.specs.inner.Breaks.{everywhere}
 
 module _ (prices : PriceTable) (pairs : Pairs) (slot : Slot) where
   abbrev at_slot : Option Kind → Entry

@@ -11,8 +11,8 @@ use Rattle.fs_kinds.specs.declared.placement.Entry.{Entry}
 use Rattle.fs_kinds.specs.Kind.{is_subset}
 use Rattle.fs_kinds.specs.Placement.{pairs_kept}
 use Rattle.fs_kinds.specs.PriceTable.{PriceTable}
-use Rattle.fs_syntax.specs.declared.test.Test.{Test}
-use Rattle.fs_syntax.specs.Slots.{slots}
+use Rattle.fs_model.specs.declared.test.Test.{Test}
+use Rattle.fs_model.specs.Slots.{slots}
 use Rattle.fs_model.specs.Execution.{Execution, IsExecution}
 use Rattle.fs_model.specs.Allows.{Shows}
 use Rattle.fs_answer.specs.Parts.{Part, floor, filled_with}
@@ -25,7 +25,8 @@ use Rattle.fs_laws.proofs.ExactWidths.{exact}
 use Rattle.fs_laws.proofs.Weakening.{shows-weaker}
 use Rattle.fs_evidence.specs.Evidence.{Shown, IsWitnessFor, witness_in, widths_of}
 use Rattle.fs_board.specs.Growth.{AreWitnesses}
-use Rattle.fs_board.specs.inner.Breaks.{widths_in, is_kept, is_bounded}
+use Rattle.fs_parts.specs.Breaks.{is_kept}
+use Rattle.fs_board.specs.inner.Breaks.{widths_in, is_bounded}
 use Rattle.fs_board.proofs.Pruned.{same_pruned}
 
 kept_within : (w : Width) (kind : Option Kind) (part : Part)

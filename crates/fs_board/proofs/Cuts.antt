@@ -5,7 +5,7 @@ use Rattle.std.specs.declared.sync.Arc.{Arc}
 use Rattle.std.specs.Arc.{arc_value}
 use Rattle.std.proofs.lemmas.Bool.{false≢true}
 use Rattle.fs_kinds.specs.declared.kind.Kind.TheVariants.{RwRw}
-use Rattle.fs_syntax.specs.Slots.{slots}
+use Rattle.fs_model.specs.Slots.{slots}
 use Rattle.fs_model.specs.Execution.{Execution}
 use Rattle.fs_model.specs.Witness.{Witness}
 use Rattle.fs_answer.specs.Parts.{Part}
@@ -16,7 +16,8 @@ use Rattle.fs_evidence.specs.Evidence.{Shown, IsWitnessFor, witness_in}
 use Rattle.fs_tree.proofs.Leaves.{history-parts}
 use Rattle.fs_board.specs.Growth.{AreWitnesses}
 use Rattle.fs_board.specs.View.{Search, IsReplay}
-use Rattle.fs_board.specs.inner.Breaks.{widths_in, is_kept, is_bounded}
+use Rattle.fs_parts.specs.Breaks.{is_kept}
+use Rattle.fs_board.specs.inner.Breaks.{widths_in, is_bounded}
 use Rattle.fs_board.proofs.Children.{node_with, length_map}
 use Rattle.fs_board.proofs.Covered.{shows_kept, kept_shown, each_kept, all_kept, bounds}
 use Rattle.fs_board.proofs.Replays.{StepsFrom}

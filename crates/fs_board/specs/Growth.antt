@@ -2,7 +2,7 @@
 use Rattle.std.specs.Prelude.{◌≡◌, ℕ, Bool, true, Option, None, Some, option_map, IfSome, List, ◌++◌, map, slice_get, slice_set}
 use Rattle.fs_kinds.specs.PriceTable.{PriceTable}
 use Rattle.fs_kinds.specs.declared.placement.Entry.{Entry}
-use Rattle.fs_syntax.specs.declared.test.Test.{Test}
+use Rattle.fs_model.specs.declared.test.Test.{Test}
 use Rattle.fs_model.specs.Allows.{is_better}
 use Rattle.fs_model.specs.Execution.{Execution}
 use Rattle.fs_answer.specs.Parts.{Part}

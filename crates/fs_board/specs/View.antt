@@ -1,7 +1,7 @@
 -- Events, replies and the board as contracts see them: what is behind an `Arc` is its value.
 use Rattle.std.specs.Prelude.{◌≡◌, ℕ, ◌+◌, ◌≤◌, option_map, List, [], ◌∷◌, ◌++◌, map, length}
 use Rattle.std.specs.Arc.{arc_value}
-use Rattle.fs_syntax.specs.declared.test.Test.{Test}
+use Rattle.fs_model.specs.declared.test.Test.{Test}
 use Rattle.fs_history.specs.Board.{Board, Status, Open, Held, Split, Costly, Witnessed, Bounded, Posted, Event, Take, Claim, Adopt, SplitAt, CutCost, CutWitness, CutBound, Post, Peek, Reply, Given, Idle, Done, Gone, Children, NotYours, Decided, Full, Closed, Cheaper, NotCovered, Other, Seen}
 use Rattle.fs_history.specs.Histories.{LogEntry, Steps, IsHistory}
 use Rattle.fs_board.specs.declared.node.Status.{Status as CodeStatus}

@@ -3,7 +3,7 @@
 ghost use Rattle.std.specs.Prelude.{◌≡◌, ℕ, ◌+◌, ◌<◌, ◌≤◌, length, [], ◌∷◌, ◌++◌, Some, IfSome, IfNone, IfOk, OnOk, OnErr, IsOkUnless, option_map, vec_len, slice_get, true, false, map, drop};
 ghost use Rattle.std.specs.Vec.{vec_capacity};
 ghost use Rattle.std.specs.Arc.{arc_value};
-ghost use Rattle.fs_syntax.specs.Test.{IsBounded};
+ghost use Rattle.fs_model.specs.Test.{IsBounded};
 ghost use Rattle.fs_model.specs.Allows.{Allows};
 ghost use Rattle.fs_model.specs.Execution.{Execution};
 ghost use Rattle.fs_answer.specs.Parts.{Part as PartValue, floor};
@@ -17,16 +17,16 @@ ghost use Rattle.fs_board.specs.Growth.{IsBound, AreWitnesses, is_best};
 ghost use Rattle.fs_board.specs.View.{Answers, IsSeen, status_of, event_of, reply_of};
 ghost use Rattle.fs_board.specs.inner.Breaks.{is_bounded, widths_in};
 
-use crate::bounds::{are_kept, bound_of, break_apart, is_kept};
-use crate::costs::{cost, is_better, is_same, precedes};
+use crate::bounds::{are_kept, bound_of, break_apart};
 use crate::event::{Event, LogEntry, Reply};
-use crate::node::{OPTIONS, Status, children_of};
-use crate::part::{Decision, Part};
+use crate::node::{Status, children_of};
+use crate::part::Part;
 use crate::tree::Tree;
 use fs_evidence::{Forbidden, Question, Witness};
 use fs_kinds::{Entry, Fault, Kind, Prices, Slot};
 use fs_list::List;
-use fs_syntax::slots;
+use fs_model::slots;
+use fs_parts::{Decision, OPTIONS, cost, is_better, is_kept, is_same, precedes};
 use std::alloc::{AllocError, Global};
 use std::marker::Model;
 use std::sync::Arc;
@@ -45,7 +45,7 @@ impl Model for Board {
     ghost use Rattle.fs_board.specs.Growth.{board_of};
     ghost use Rattle.fs_board.specs.View.{Search, IsSound};
     ghost use Rattle.std.specs.Coded.{codes};
-    ghost use Rattle.fs_syntax.specs.contracts.outcome.Outcome as outcome;
+    ghost use Rattle.fs_model.specs.contracts.outcome.Outcome as outcome;
 
     ghost Value = { Search };
 

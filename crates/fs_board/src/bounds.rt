@@ -2,61 +2,15 @@
 
 ghost use Rattle.std.specs.Prelude.{◌≡◌, ℕ, ◌≤◌, IfSome, map};
 ghost use Rattle.std.specs.List.{list_any, list_all};
-ghost use Rattle.fs_kinds.specs.PriceTable.{kind_cost};
 ghost use Rattle.fs_answer.specs.Parts.{floor};
 ghost use Rattle.fs_answer.specs.Pruning.{is_breakable};
-ghost use Rattle.fs_board.specs.inner.Breaks.{fits, is_kept, is_break, break_cost, everywhere, lesser_of, least_of, least_at, least_in, is_breakable_at, breaks_one, break_apart, bound_of, widths_in};
+ghost use Rattle.fs_parts.specs.Breaks.{is_kept, is_break};
+ghost use Rattle.fs_board.specs.inner.Breaks.{everywhere, least_at, least_in, is_breakable_at, breaks_one, break_apart, bound_of, widths_in};
 
-use crate::costs::cost;
-use crate::node::{OPTIONS, is_offered};
-use crate::part::Decision;
 use fs_evidence::{Pairs, Witness};
 use fs_kinds::{Entry, Kind, Prices};
+use fs_parts::{Decision, OPTIONS, cost, is_break, is_kept, least_of, lesser};
 use std::sync::Arc;
-
-/// Does the kind, or none, order only these pairs?
-pub(crate) fn fits(pairs: Pairs, kind: Option<Kind>) -> bool
-    ensures { result ≡ fits pairs kind }
-{
-    let Some(kind) = kind else {
-        return true;
-    };
-    match kind {
-        Kind::RR => pairs.read_read,
-        Kind::RW => pairs.read_write,
-        Kind::RRw => pairs.read_read && pairs.read_write,
-        Kind::WR => pairs.write_read,
-        Kind::WW => pairs.write_write,
-        Kind::WRw => pairs.write_read && pairs.write_write,
-        Kind::RwR => pairs.read_read && pairs.write_read,
-        Kind::RwW => pairs.read_write && pairs.write_write,
-        Kind::RwRw => {
-            pairs.read_read && pairs.read_write && pairs.write_read && pairs.write_write
-        }
-        Kind::Tso => pairs.read_read && pairs.read_write && pairs.write_write,
-    }
-}
-
-/// Does each slot of the part order only what is kept there, where undecided slots have this kind or none? It calls itself once for
-/// each slot, of which a test has 48 at most.
-pub(crate) fn is_kept(part: &[Decision], widths: &[Pairs], kind: Option<Kind>) -> bool
-    ensures { result ≡ is_kept kind part.now widths.now }
-{
-    let [decision, part @ ..] = part else {
-        return true;
-    };
-    let [pairs, widths @ ..] = widths else {
-        return true;
-    };
-    fits(*pairs, decision.decided.unwrap_or(kind)) && is_kept(part, widths, kind)
-}
-
-/// Is the kind offered, and does it order a pair that isn't kept?
-fn is_break(prices: &Prices, pairs: Pairs, kind: Option<Kind>) -> bool
-    ensures { result ≡ is_break prices.now pairs kind }
-{
-    is_offered(prices, kind) && !fits(pairs, kind)
-}
 
 /// Is one of the kinds offered, and does it order a pair that isn't kept?
 fn has_break(prices: &Prices, pairs: Pairs, kinds: &[Option<Kind>]) -> bool
@@ -72,58 +26,8 @@ pub(crate) fn is_breakable(prices: &Prices, pairs: Pairs, decision: &Decision) -
     decision.is_free() && has_break(prices, pairs, &OPTIONS)
 }
 
-/// The lesser of two costs, where there are any.
-fn lesser(first: Option<u64>, second: Option<u64>) -> Option<u64>
-    ensures value { result ≡ lesser_of first second }
-    ensures most { (k : ℕ) → IfSome first (λ n. n ≤ k) → IfSome second (λ n. n ≤ k) → IfSome result (λ n. n ≤ k) }
-{
-    match (first, second) {
-        (None, _) => second,
-        (_, None) => first,
-        (Some(first), Some(second)) => Some(if first < second { first } else { second }),
-    }
-}
-
-/// What a kind costs where it is offered, and none costs nothing.
-fn kind_cost(prices: &Prices, kind: Option<Kind>) -> u32
-    ensures value { result ≡ kind_cost prices.now kind }
-    ensures most { result ≤ 1000000 }
-{
-    match kind {
-        None => 0,
-        Some(kind) => prices.of(kind).unwrap_or(0),
-    }
-}
-
-/// What the kind costs at a slot of this weight, where it is offered and orders a pair that isn't kept.
-fn break_cost(prices: &Prices, pairs: Pairs, weight: u32, kind: Option<Kind>) -> Option<u64>
-    requires { weight ≤ 1000 }
-    ensures value { result ≡ break_cost prices.now pairs weight kind }
-    ensures most { IfSome result (λ n. n ≤ 1000000000) }
-{
-    if is_break(prices, pairs, kind) {
-        Some(u64::from(kind_cost(prices, kind)) * u64::from(weight))
-    } else {
-        None
-    }
-}
-
-/// What the cheapest of these kinds costs at a slot of this weight that is offered and orders a pair that isn't kept.
-#[tactic(auto, using(crate::proofs::Breaks::least_more))]
-fn least_of(prices: &Prices, pairs: Pairs, weight: u32, kinds: &[Option<Kind>]) -> Option<u64>
-    requires { weight ≤ 1000 }
-    ensures value { result ≡ least_of (break_cost prices.now pairs weight) kinds.now }
-    ensures most { IfSome result (λ n. n ≤ 1000000000) }
-{
-    let mut least = None;
-    for kind in kinds {
-        least = lesser(least, break_cost(prices, pairs, weight, *kind));
-    }
-    least
-}
-
 /// What the cheapest fence costs that may still be put at the slot and orders a pair that isn't kept there.
-fn least_at(prices: &Prices, pairs: Pairs, decision: &Decision) -> Option<u64>
+fn least_at(prices: &Prices, pairs: Pairs, decision: &Decision) -> Option<u32>
     ensures value { result ≡ least_at prices.now pairs decision.now }
     ensures most { IfSome result (λ n. n ≤ 1000000000) }
 {
@@ -137,7 +41,7 @@ fn least_at(prices: &Prices, pairs: Pairs, decision: &Decision) -> Option<u64>
 
 /// What the cheapest fence costs that may still be put at a slot of the part and orders a pair that isn't kept there. It calls itself
 /// once for each slot.
-pub(crate) fn least_in(prices: &Prices, part: &[Decision], widths: &[Pairs]) -> Option<u64>
+pub(crate) fn least_in(prices: &Prices, part: &[Decision], widths: &[Pairs]) -> Option<u32>
     ensures value { result ≡ least_in prices.now part.now widths.now }
     ensures most { IfSome result (λ n. n ≤ 1000000000) }
 {
@@ -187,7 +91,7 @@ pub(crate) fn break_apart(prices: &Prices, part: &[Decision], witnesses: &[Arc<W
 }
 
 /// What the cheapest fence costs that may still be put at a slot of the part and breaks the witness.
-fn least_break(prices: &Prices, part: &[Decision], witness: &Witness) -> Option<u64>
+fn least_break(prices: &Prices, part: &[Decision], witness: &Witness) -> Option<u32>
     ensures value { result ≡ least_in prices.now part.now witness.now.widths }
     ensures most { IfSome result (λ n. n ≤ 1000000000) }
 {

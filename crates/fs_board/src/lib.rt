@@ -3,7 +3,6 @@
 
 mod board;
 mod bounds;
-mod costs;
 mod event;
 mod node;
 mod part;
@@ -11,5 +10,6 @@ mod tree;
 
 pub use board::Board;
 pub use event::{Event, LogEntry, Reply};
+pub use fs_parts::Decision;
 pub use node::{Node, Status};
-pub use part::{Decision, Part};
+pub use part::Part;

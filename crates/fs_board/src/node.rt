@@ -10,6 +10,7 @@ ghost use Rattle.fs_board.specs.View.{status_of};
 
 use crate::part::Part;
 use fs_kinds::{Kind, Prices, Slot};
+use fs_parts::is_offered;
 use std::alloc::{AllocError, Global};
 use std::marker::Model;
 use std::sync::Arc;
@@ -108,31 +109,6 @@ pub(crate) fn bit(value: bool) -> usize
     ensures small { result ≤ 1 }
 {
     if value { 1 } else { 0 }
-}
-
-/// All ways to decide a slot: none first, and then the kinds in table order.
-pub(crate) const OPTIONS: [Option<Kind>; 11] = [
-    None,
-    Some(Kind::RR),
-    Some(Kind::RW),
-    Some(Kind::RRw),
-    Some(Kind::WR),
-    Some(Kind::WW),
-    Some(Kind::WRw),
-    Some(Kind::RwR),
-    Some(Kind::RwW),
-    Some(Kind::RwRw),
-    Some(Kind::Tso),
-];
-
-/// Is the slot left empty, or the kind offered?
-pub(crate) fn is_offered(prices: &Prices, kind: Option<Kind>) -> bool
-    ensures { result ≡ is_offered prices.now kind }
-{
-    match kind {
-        None => true,
-        Some(kind) => prices.of(kind).is_some(),
-    }
 }
 
 /// Open nodes for the part with the slot decided in each of these ways that is offered.

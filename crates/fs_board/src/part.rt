@@ -10,23 +10,9 @@ ghost use Rattle.fs_bound.specs.Bounds.{slots_in_part};
 ghost use Rattle.fs_board.specs.inner.Fills.{put_at};
 
 use fs_kinds::{Entry, Kind, Placement, Slot};
+use fs_parts::Decision;
 use std::alloc::{AllocError, Global};
 use std::marker::Model;
-
-/// A slot, undecided or decided with a kind or none.
-#[derive(Drop)]
-pub struct Decision {
-    pub slot: Slot,
-    pub decided: Option<Option<Kind>>,
-}
-
-impl Model for Decision {
-    ghost use Rattle.fs_answer.specs.Parts.{Decision as DecisionValue};
-
-    ghost Value = { DecisionValue };
-
-    ghost view = { λ d. record { slot = d.slot; decided = d.decided } };
-}
 
 /// For each slot of a test, in slot order, no decision yet, or a kind or none.
 #[derive(Drop)]
@@ -47,65 +33,14 @@ impl Model for Part {
     ghost invariant = { λ p. IsTrue (is_rising (slots_in_part p.decisions.items)) };
 }
 
-impl Decision {
-    /// The slot, not yet decided.
-    pub fn open(slot: Slot) -> Decision
-        ensures { result ≡ record { slot = slot; decided = None } }
-    {
-        Decision {
-            slot,
-            decided: None,
-        }
-    }
-
-    /// The slot with what is decided, or with none.
-    fn least(&self) -> Entry
-        ensures { result ≡ record { slot = self.now.slot; kind = unwrap_or self.now.decided None } }
-    {
-        Entry {
-            slot: self.slot,
-            kind: self.decided.unwrap_or(None),
-        }
-    }
-
-    /// Puts what is decided into the placement. Nothing changes where the slot is undecided or none of the placement's.
-    #[tactic(auto, using(crate::proofs::Filling::put_nowhere))]
-    fn put_into(&self, placement: &mut Placement)
-        ensures { placement.new ≡ put_at self.now placement.old }
-    {
-        if let Some(kind) = self.decided {
-            match placement.with(self.slot, kind) {
-                Ok(()) | Err(_) => {}
-            }
-        }
-    }
-
-    /// Is it undecided?
-    pub(crate) fn is_free(&self) -> bool
-        ensures { result ≡ is_none self.now.decided }
-    {
-        self.decided.is_none()
-    }
-
-    /// Is it this slot's, and undecided?
-    pub fn is_open_at(&self, slot: Slot) -> bool
-        ensures { result ≡ (is_same_slot self.now.slot slot && is_none self.now.decided) }
-    {
-        self.slot == slot && self.decided.is_none()
-    }
-
-    /// The same, or where it is this slot's the slot decided so.
-    pub fn decided_at(&self, slot: Slot, kind: Option<Kind>) -> Decision
-        ensures { result ≡ (if is_same_slot self.now.slot slot then record { slot = self.now.slot; decided = Some kind } else self.now) }
-    {
-        let decided = if self.slot == slot {
-            Some(kind)
-        } else {
-            self.decided
-        };
-        Decision {
-            slot: self.slot,
-            decided,
+/// Puts what is decided into the placement. Nothing changes where the slot is undecided or none of the placement's.
+#[tactic(auto, using(crate::proofs::Filling::put_nowhere))]
+fn put_into(decision: &Decision, placement: &mut Placement)
+    ensures { placement.new ≡ put_at decision.now placement.old }
+{
+    if let Some(kind) = decision.decided {
+        match placement.with(decision.slot, kind) {
+            Ok(()) | Err(_) => {}
         }
     }
 }
@@ -184,7 +119,7 @@ impl Part {
     {
         let mut placement = uniform;
         for decision in self.as_slice() {
-            decision.put_into(&mut placement);
+            put_into(decision, &mut placement);
         }
         placement
     }

@@ -8,9 +8,9 @@ use Rattle.fs_kinds.specs.declared.placement.Entry.{Entry}
 use Rattle.fs_kinds.specs.Placement.{slots_of}
 use Rattle.fs_kinds.specs.PriceTable.{PriceTable}
 use Rattle.fs_kinds.specs.Slot.{is_rising}
-use Rattle.fs_syntax.specs.declared.test.Test.{Test}
-use Rattle.fs_syntax.specs.Slots.{slots}
-use Rattle.fs_syntax.proofs.Rising.{rising-slots_from}
+use Rattle.fs_model.specs.declared.test.Test.{Test}
+use Rattle.fs_model.specs.Slots.{slots}
+use Rattle.fs_model.proofs.Rising.{rising-slots_from}
 use Rattle.fs_model.specs.Execution.{Execution}
 use Rattle.fs_model.specs.Allows.{Shows, Allows, IsPlacement}
 use Rattle.fs_answer.specs.Widths.{width, is_within_width, IsExactWidth}

@@ -9,8 +9,8 @@ use Rattle.fs_kinds.specs.declared.slot.Slot.{Slot}
 use Rattle.fs_kinds.specs.Kind.{Pair, ReadRead, ReadWrite, WriteRead, WriteWrite}
 use Rattle.fs_kinds.specs.Placement.{pairs_kept}
 use Rattle.fs_kinds.specs.PriceTable.{PriceTable, IsPriceTable, is_offered, entry_cost}
-use Rattle.fs_syntax.specs.declared.test.Test.{Test}
-use Rattle.fs_syntax.specs.Slots.{slots}
+use Rattle.fs_model.specs.declared.test.Test.{Test}
+use Rattle.fs_model.specs.Slots.{slots}
 use Rattle.fs_model.specs.Execution.{Execution}
 use Rattle.fs_model.specs.Allows.{Shows}
 use Rattle.fs_answer.specs.Widths.{Width, width}

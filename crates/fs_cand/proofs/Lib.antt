@@ -1,1 +1,4 @@
 pub mod Growing
+pub mod Distinct
+pub mod NamedOrder
+pub mod RunNames

@@ -1,16 +1,19 @@
 //! Candidate executions.
 
-ghost use Rattle.std.specs.Prelude.{◌≡◌, ◌≤◌, length, IfOk, IsOkUnless};
+ghost use Rattle.std.specs.Prelude.{◌≡◌, ◌≤◌, Some, length, IfOk, IsOkUnless};
 ghost use Rattle.fs_kinds.specs.Limits.{most_harts};
 ghost use Rattle.fs_kinds.specs.declared.fault.Fault.TheVariants.{Memory};
-ghost use Rattle.fs_syntax.specs.Test.{IsBounded};
+ghost use Rattle.fs_model.specs.Test.{IsBounded};
 ghost use Rattle.fs_model.specs.Execution.{initial_words};
-ghost use Rattle.fs_cand.specs.Candidates.{IsMade, AreShort};
+ghost use Rattle.fs_model.specs.Numbers.{is_same};
+ghost use Rattle.fs_answer.specs.Judged.{fr};
+ghost use Rattle.fs_answer.specs.Candidates.{co};
+ghost use Rattle.fs_cand.specs.Candidates.{IsMade, AreShort, candidate_of, rf};
 
 use crate::lists::{Dependencies, Sources, StoreOrder, Traces};
 use fs_hart::{Operations, operations};
 use fs_kinds::Fault;
-use fs_syntax::Test;
+use fs_model::{Test, stands_before};
 use std::alloc::Global;
 
 /// A candidate execution: a run of each hart, a source for each load, and an order of each location's stores. It has no global
@@ -59,5 +62,39 @@ impl Candidate {
             source,
             store_order,
         })
+    }
+
+    /// The operation that wrote what operation a loads.
+    pub fn source_of(&self, a: usize) -> Option<u8>
+        ensures { result ≡ rf self.now a }
+    {
+        self.source.as_slice().get(a).copied().flatten()
+    }
+
+    /// Does b load what a stores?
+    pub fn reads_from(&self, b: usize, a: usize) -> bool
+        ensures { result ≡ is_same (rf self.now b) (Some a) }
+    {
+        self.source_of(b)
+            .is_some_and(|store| usize::from(store) == a)
+    }
+
+    /// Does a come before b in coherence order? Linear in the stores.
+    pub fn precedes_in_coherence(&self, a: usize, b: usize) -> bool
+        ensures { result ≡ co (candidate_of self.now) a b }
+    {
+        self.store_order
+            .iter()
+            .any(|stores| stands_before(stores, a, b))
+    }
+
+    /// From-reads: b is another store, later in coherence order than what a returns. Linear in the stores.
+    pub fn is_from_read(&self, a: usize, b: usize) -> bool
+        ensures { result ≡ fr (candidate_of self.now) a b }
+    {
+        match self.source_of(a) {
+            Some(store) => a != b && self.precedes_in_coherence(usize::from(store), b),
+            None => false,
+        }
     }
 }

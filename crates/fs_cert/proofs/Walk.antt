@@ -12,8 +12,8 @@ use Rattle.fs_kinds.specs.declared.slot.Slot.{Slot}
 use Rattle.fs_kinds.specs.Slot.{is_same_slot}
 use Rattle.fs_kinds.specs.PriceTable.{PriceTable}
 use Rattle.fs_kinds.proofs.SlotMap.{same_slot}
-use Rattle.fs_syntax.specs.declared.test.Test.{Test}
-use Rattle.fs_syntax.specs.Slots.{slots}
+use Rattle.fs_model.specs.declared.test.Test.{Test}
+use Rattle.fs_model.specs.Slots.{slots}
 use Rattle.fs_model.specs.Execution.{Execution}
 use Rattle.fs_model.specs.Witness.{Witness}
 use Rattle.fs_answer.specs.Widths.{width}

@@ -2,7 +2,7 @@
 use Rattle.std.specs.Prelude.{◌≡◌, ◌≢◌, Option, None, List, [], ◌∷◌, All, AllPairs}
 use Rattle.fs_kinds.specs.declared.placement.Entry.{Entry}
 use Rattle.fs_kinds.specs.PriceTable.{PriceTable}
-use Rattle.fs_syntax.specs.declared.test.Test.{Test}
+use Rattle.fs_model.specs.declared.test.Test.{Test}
 use Rattle.fs_model.specs.Witness.{Witness}
 use Rattle.fs_answer.specs.Certificate as said
 use Rattle.fs_answer.specs.CertificateFile.{CanBeSaid}

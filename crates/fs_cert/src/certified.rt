@@ -3,9 +3,9 @@
 ghost use Rattle.std.specs.Prelude.{◌≡◌, IfOk, IfSome, IsOkUnless, IsTrue, None, Some, List, MatchOption, true};
 ghost use Rattle.fs_kinds.specs.Placement.{all_with};
 ghost use Rattle.fs_kinds.specs.PriceTable.{PriceTable, are_offered};
-ghost use Rattle.fs_syntax.specs.declared.test.Test.{Test};
-ghost use Rattle.fs_syntax.specs.Test.{IsBounded};
-ghost use Rattle.fs_syntax.specs.Slots.{slots};
+ghost use Rattle.fs_model.specs.declared.test.Test.{Test};
+ghost use Rattle.fs_model.specs.Test.{IsBounded};
+ghost use Rattle.fs_model.specs.Slots.{slots};
 ghost use Rattle.fs_model.specs.Allows.{RefutesAll};
 ghost use Rattle.fs_model.specs.Execution.{Execution};
 ghost use Rattle.fs_answer.specs.Valid.{HasCycles};
@@ -25,7 +25,7 @@ use fs_certificate::{Certificate, CertifiedAnswer, Item, Version};
 use fs_evidence::{Forbidden, Question, Witness};
 use fs_kinds::Fault;
 use fs_list::List;
-use fs_syntax::slots;
+use fs_model::slots;
 use std::alloc::{AllocError, Global};
 
 /// The certificate of a placement, with this tree and these witnesses.

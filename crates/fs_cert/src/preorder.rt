@@ -2,7 +2,7 @@
 
 ghost use Rattle.std.specs.Prelude.{◌≡◌, ◌<◌, ◌≤◌, IfOk, length, map, true, count_by, is_some, Some, slice_get};
 ghost use Rattle.fs_kinds.specs.PriceTable.{is_offered};
-ghost use Rattle.fs_syntax.specs.Slots.{slots};
+ghost use Rattle.fs_model.specs.Slots.{slots};
 ghost use Rattle.fs_answer.specs.Parts.{options};
 ghost use Rattle.fs_certificate.specs.Kept.{item_of};
 ghost use Rattle.fs_history.specs.Board.{Node, is_finished};

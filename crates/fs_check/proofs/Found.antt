@@ -9,8 +9,8 @@ use Rattle.fs_kinds.specs.declared.placement.Entry.{Entry}
 use Rattle.fs_kinds.specs.declared.reason.OperationName.{OperationName as Name}
 use Rattle.fs_kinds.specs.declared.reason.Reason.{Reason}
 use Rattle.fs_kinds.specs.declared.reason.Reason.TheVariants as reason
-use Rattle.fs_syntax.specs.declared.test.Test.{Test}
-use Rattle.fs_syntax.specs.Test.{IsBounded}
+use Rattle.fs_model.specs.declared.test.Test.{Test}
+use Rattle.fs_model.specs.Test.{IsBounded}
 use Rattle.fs_model.specs.declared.operation.Operation.{Operation}
 use Rattle.fs_model.specs.declared.step.Step.{Step}
 use Rattle.fs_model.specs.Numbers.{has_number, numbers_below}
@@ -27,16 +27,16 @@ use Rattle.fs_cand.specs.Candidates.{runs_of, IsMade}
 use Rattle.fs_check.specs.declared.order.OrderVerdict.TheVariants.{No}
 use Rattle.fs_check.specs.declared.ordered.OrderedCandidate.{OrderedCandidate}
 use Rattle.fs_answer.specs.declared.witness.WitnessFile.{WitnessFile}
-use Rattle.fs_check.specs.inner.NamedOrder.{name_in, numbers_of}
+use Rattle.fs_cand.specs.inner.NamedOrder.{name_in, numbers_of}
 use Rattle.fs_check.specs.Ordered.{IsOrdered, runs_in}
 use Rattle.fs_check.specs.Verdicts.{IsWholeFile, IsFoundOrder, IsArranged, IsJudgement, IsLoadReason, IsRuleReason, IsAtomicReason}
 use Rattle.fs_answer.specs.WitnessFile.{KeepsWitness, in_range}
 use Rattle.fs_model.proofs.HartOperations.{has_name}
 use Rattle.fs_hart.proofs.Few.{few_operations}
 use Rattle.fs_check.proofs.FirstStops.{all_whole}
-use Rattle.fs_check.proofs.NamedOrder.{name_is, found_names, found_all, names_say}
+use Rattle.fs_cand.proofs.NamedOrder.{name_is, found_names, found_all, names_say}
 use Rattle.fs_check.proofs.Orderings.{in_operations, of_runs}
-use Rattle.fs_check.proofs.RunNames.{known, ranged}
+use Rattle.fs_cand.proofs.RunNames.{known, ranged}
 use Rattle.fs_check.proofs.Verdicts.{of_file}
 
 pub if_none : {A : Type 0} (result : Option A) (P : Type 0) → P → IfNone result P

@@ -1,11 +1,8 @@
 pub mod Befores
 pub mod Breaking
-pub mod Distinct
 pub mod FirstStops
 pub mod Found
-pub mod NamedOrder
 pub mod OneVerdict
 pub mod Orderings
-pub mod RunNames
 pub mod Shown
 pub mod Verdicts

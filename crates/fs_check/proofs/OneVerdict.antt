@@ -8,8 +8,8 @@ use Rattle.fs_kinds.specs.declared.placement.Entry.{Entry}
 use Rattle.fs_kinds.specs.declared.reason.OperationName.{OperationName as Name}
 use Rattle.fs_kinds.specs.declared.reason.Reason.{Reason}
 use Rattle.fs_kinds.specs.declared.reason.Reason.TheVariants as reason
-use Rattle.fs_syntax.specs.declared.test.Test.{Test}
-use Rattle.fs_syntax.specs.Test.{GoesForward}
+use Rattle.fs_model.specs.declared.test.Test.{Test}
+use Rattle.fs_model.specs.Test.{GoesForward}
 use Rattle.fs_model.specs.declared.step.Step.{Step}
 use Rattle.fs_model.specs.declared.step.Stop.{Stop}
 use Rattle.fs_model.specs.declared.step.Stop.TheVariants.{Astray, BadChoice, BadSc, Long, Short}
@@ -28,8 +28,8 @@ use Rattle.fs_axioms.proofs.Axioms.{all_returning, pairs_atomic}
 use Rattle.fs_check.specs.declared.order.OrderVerdict.{OrderVerdict}
 use Rattle.fs_check.specs.declared.order.OrderVerdict.TheVariants.{Yes, No}
 use Rattle.fs_check.specs.Verdicts.{IsVerdict, KeepsAtomicity}
-use Rattle.fs_check.proofs.NamedOrder.{names_say}
-use Rattle.fs_check.proofs.RunNames.{known}
+use Rattle.fs_cand.proofs.NamedOrder.{names_say}
+use Rattle.fs_cand.proofs.RunNames.{known}
 
 -- ---- what holds of one verdict at most
 

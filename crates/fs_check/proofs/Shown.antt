@@ -3,8 +3,8 @@ use Rattle.std.proofs.Common.{◌≡◌, List}
 use Rattle.std.specs.Prelude.{All}
 use Rattle.fs_kinds.specs.declared.placement.Entry.{Entry}
 use Rattle.fs_kinds.specs.declared.reason.Reason.{Reason}
-use Rattle.fs_syntax.specs.declared.test.Test.{Test}
-use Rattle.fs_syntax.specs.Test.{GoesForward}
+use Rattle.fs_model.specs.declared.test.Test.{Test}
+use Rattle.fs_model.specs.Test.{GoesForward}
 use Rattle.fs_model.specs.Execution.{Execution}
 use Rattle.fs_model.specs.Reasons.{IsReason}
 use Rattle.fs_model.specs.Witness.{Witness}

@@ -5,8 +5,8 @@ use Rattle.std.proofs.lemmas.Option.{slice_get_cases, slice_get_within, slice_ge
 use Rattle.fs_kinds.specs.declared.placement.Entry.{Entry}
 use Rattle.fs_kinds.specs.declared.reason.Reason.{Reason}
 use Rattle.fs_kinds.specs.declared.reason.Reason.TheVariants as reason
-use Rattle.fs_syntax.specs.declared.test.Test.{Test}
-use Rattle.fs_syntax.specs.Test.{IsBounded}
+use Rattle.fs_model.specs.declared.test.Test.{Test}
+use Rattle.fs_model.specs.Test.{IsBounded}
 use Rattle.fs_model.specs.declared.step.Choice.{Choice}
 use Rattle.fs_model.specs.Operations.{steps_of}
 use Rattle.fs_model.specs.Source.{lists_each_once}

@@ -1,6 +1,6 @@
 -- Candidates with an order of their operations.
 use Rattle.std.specs.Prelude.{◌≡◌, map, length}
-use Rattle.fs_syntax.specs.declared.test.Test.{Test}
+use Rattle.fs_model.specs.declared.test.Test.{Test}
 use Rattle.fs_model.specs.Numbers.{numbers_below}
 use Rattle.fs_model.specs.Operations.{PreExecution}
 use Rattle.fs_model.specs.Source.{source_in}

@@ -1,4 +1,3 @@
 -- What only inner functions and proofs need.
 pub mod Breaking
-pub mod NamedOrder
 pub mod WitnessRuns

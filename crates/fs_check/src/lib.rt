@@ -1,4 +1,5 @@
-//! Checkers: is a given execution one that the memory model allows?
+//! The checker of executions: whether a witness file gives one that RVWMO allows and that shows the outcome, or the first reason why
+//! not.
 #![tactic(auto)]
 
 pub mod laws;

@@ -3,7 +3,7 @@
 ghost use Rattle.std.specs.Prelude.{◌≡◌, ◌≤◌, map, length, option_map, IfOk, IsOkUnless};
 ghost use Rattle.fs_kinds.specs.Limits.{most_numbered};
 ghost use Rattle.fs_kinds.specs.declared.fault.Fault.TheVariants.{Memory};
-ghost use Rattle.fs_check.specs.inner.NamedOrder.{name_in, is_same_name, number_of, numbers_of};
+ghost use Rattle.fs_cand.specs.inner.NamedOrder.{name_in, is_same_name, number_of, numbers_of};
 
 use fs_hart::Trace;
 use fs_kinds::{Fault, OperationName as Name};

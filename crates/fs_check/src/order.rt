@@ -3,7 +3,7 @@
 ghost use Rattle.std.specs.Prelude.{◌≡◌, ◌<◌, ◌≤◌, [], All, IfOk, IfErr, IsErrOf, IfSome, IfNone, IsOkUnless, Some, length, map, option_map};
 ghost use Rattle.fs_kinds.specs.Limits.{most_harts, most_numbered};
 ghost use Rattle.fs_kinds.specs.declared.fault.Fault.TheVariants.{Memory};
-ghost use Rattle.fs_syntax.specs.Test.{IsBounded, IsStart};
+ghost use Rattle.fs_model.specs.Test.{IsBounded, IsStart};
 ghost use Rattle.fs_model.specs.Numbers.{numbers_below};
 ghost use Rattle.fs_model.specs.Operations.{PreExecution, accesses, operations as operations_of};
 ghost use Rattle.fs_model.specs.Source.{source_in};
@@ -25,7 +25,7 @@ use fs_axioms::{Ordered, count_accesses, has_outcome, lists_each_once};
 use fs_cand::{Candidate, Sources, StoreOrder, Traces};
 use fs_hart::Operations;
 use fs_kinds::{Fault, OperationName, Placement, Reason};
-use fs_syntax::Test;
+use fs_model::Test;
 use std::alloc::{AllocError, Global};
 
 /// What is said of a witness.

@@ -12,8 +12,8 @@ ghost use Rattle.fs_check.specs.Ordered.{IsOrdered, runs_in};
 use fs_axioms::Ordered;
 use fs_cand::Candidate;
 use fs_kinds::Placement;
+use fs_model::Test;
 use fs_ppo::{fence_rule, rule};
-use fs_syntax::Test;
 
 /// A candidate with an order of its operations, which gives it its sources.
 #[derive(Drop)]

@@ -2,14 +2,14 @@
 
 ghost use Rattle.std.specs.Prelude.{◌≡◌, All, length, Some, IfOk, IfErr, IsOkUnless};
 ghost use Rattle.fs_kinds.specs.declared.fault.Fault.TheVariants.{Memory};
-ghost use Rattle.fs_syntax.specs.Test.{IsBounded, IsStart};
+ghost use Rattle.fs_model.specs.Test.{IsBounded, IsStart};
 ghost use Rattle.fs_check.specs.inner.WitnessRuns.{reason_of, AreRunsOf};
 
 use fs_answer::Choices;
 use fs_cand::Traces;
 use fs_hart::{Run, Trace, trace_of};
 use fs_kinds::{Fault, Reason};
-use fs_syntax::Test;
+use fs_model::Test;
 use std::alloc::Global;
 
 // What choices make of the harts: a whole run of each, or the first reason why there are none.

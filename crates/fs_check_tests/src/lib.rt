@@ -1,4 +1,4 @@
-//! Tests of whole executions, on litmus tests as text.
+//! Tests of the checker of executions, on litmus tests as text.
 #![tactic(auto)]
 
 #[cfg(test)]

@@ -6,8 +6,8 @@ use Rattle.fs_kinds.specs.declared.kind.Kind.{Kind}
 use Rattle.fs_kinds.specs.declared.slot.Slot.{Slot}
 use Rattle.fs_kinds.specs.PriceTable.{PriceTable, is_offered}
 use Rattle.fs_kinds.specs.Slot.{is_same_slot}
-use Rattle.fs_syntax.specs.declared.test.Test.{Test}
-use Rattle.fs_syntax.specs.Slots.{slots}
+use Rattle.fs_model.specs.declared.test.Test.{Test}
+use Rattle.fs_model.specs.Slots.{slots}
 use Rattle.fs_answer.specs.Parts.{Part, decide, child_parts, options}
 use Rattle.fs_checker.specs.inner.Breaks.{all_options}
 use Rattle.fs_checker.specs.inner.Leaves.{slots_in_part}

@@ -1,7 +1,7 @@
 -- Faults of candidates, and clauses of answers.
 use Rattle.std.proofs.Common.{◌≡◌, ◌≢◌, inl, inr, ℕ, List, Result, Ok, Err, OnOk, IfErr, sym, ap, subst}
 use Rattle.std.specs.Result.{IsErrAnd, IsErrOf}
-use Rattle.fs_syntax.specs.declared.test.Test.{Test}
+use Rattle.fs_model.specs.declared.test.Test.{Test}
 use Rattle.fs_kinds.specs.declared.fault.Fault.{Fault}
 use Rattle.fs_kinds.specs.declared.fault.Fault.TheVariants as fault
 use Rattle.fs_model.specs.TooMany.{IsRunFault}

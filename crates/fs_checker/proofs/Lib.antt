@@ -4,7 +4,6 @@ pub mod Children
 pub mod Keeping
 pub mod Pruned
 pub mod Refuting
-pub mod Listed
 pub mod Looked
 pub mod Linked
 pub mod Verdicts

@@ -4,8 +4,8 @@ use Rattle.std.proofs.lemmas.Bool.{and_parts, and_from, false≢true, leb-true, 
 use Rattle.std.proofs.lemmas.List.{get_or-map}
 use Rattle.fs_kinds.specs.declared.placement.Entry.{Entry}
 use Rattle.fs_kinds.specs.declared.reason.OperationName.{OperationName as Name}
-use Rattle.fs_syntax.specs.declared.test.Test.{Test}
-use Rattle.fs_syntax.specs.Test.{IsBounded}
+use Rattle.fs_model.specs.declared.test.Test.{Test}
+use Rattle.fs_model.specs.Test.{IsBounded}
 use Rattle.fs_model.specs.Choices.{choices_of}
 use Rattle.fs_model.specs.Reasons.{AreRuns, HaveNames}
 use Rattle.fs_model.specs.Witness.{Witness, name_of}
@@ -14,9 +14,9 @@ use Rattle.fs_answer.specs.Certificate.{Link}
 use Rattle.fs_answer.specs.Valid.{IsCycle, are_edges, around, most_links}
 use Rattle.fs_answer.specs.WitnessFile.{in_range}
 use Rattle.fs_evidence.specs.Evidence.{cause_of}
-use Rattle.fs_check.specs.inner.NamedOrder.{numbers_of}
-use Rattle.fs_check.proofs.NamedOrder.{NamesInRange, found_names, found_all, names_say}
-use Rattle.fs_check.proofs.RunNames.{known, ranged}
+use Rattle.fs_cand.specs.inner.NamedOrder.{numbers_of}
+use Rattle.fs_cand.proofs.NamedOrder.{NamesInRange, found_names, found_all, names_say}
+use Rattle.fs_cand.proofs.RunNames.{known, ranged}
 use Rattle.fs_certificate.specs.declared.certificate.CertificateLink.{CertificateLink}
 use Rattle.fs_checker.specs.inner.Cycles.{names_of, wanted, have_edges, are_linked, is_cycle}
 use Rattle.fs_certificate.specs.Kept.{KeepsCycle}

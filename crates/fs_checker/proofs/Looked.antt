@@ -11,7 +11,7 @@ use Rattle.fs_answer.specs.Candidates.{Candidate}
 use Rattle.fs_answer.specs.Judged.{Cause, ReadsFrom, is_edge}
 use Rattle.fs_answer.specs.Valid.{around}
 use Rattle.fs_evidence.specs.Evidence.{cause_of}
-use Rattle.fs_check.specs.inner.NamedOrder.{number_of, numbers_of}
+use Rattle.fs_cand.specs.inner.NamedOrder.{number_of, numbers_of}
 use Rattle.fs_certificate.specs.declared.certificate.CertificateLink.{CertificateLink}
 use Rattle.fs_checker.specs.inner.Cycles.{followers, wanted}
 

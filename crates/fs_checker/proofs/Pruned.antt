@@ -1,54 +1,27 @@
 -- When witnesses bound a part, by what it costs at its slots to break them.
-use Rattle.std.proofs.Common.{◌≡◌, ℕ, zero, suc, ◌+◌, ◌<◌, Bool, true, false, ◌&&◌, ◌||◌, not, Option, None, Some, List, [], ◌∷◌, ◌++◌, map, length, take, refl, sym, ap, ap₂, ◌∙◌, arith, subst}
-use Rattle.std.specs.Prelude.{cond, nat_lt, get_or, slice_get}
-use Rattle.std.specs.List.{list_any, list_all, count_by, flat_map}
-use Rattle.std.proofs.lemmas.Bool.Decides.{nat_tests}
-use Rattle.std.proofs.lemmas.List.Sums.{sum_by-cons}
+use Rattle.std.proofs.Common.{◌≡◌, ℕ, zero, suc, ◌+◌, ◌<◌, ◌&&◌, ◌||◌, Option, None, Some, List, [], ◌∷◌, ◌++◌, map, length, take, refl, sym, ap, ap₂, ◌∙◌, arith, subst}
+use Rattle.std.specs.Prelude.{nat_lt, get_or, slice_get}
+use Rattle.std.specs.List.{list_all, count_by, flat_map}
 use Rattle.fs_kinds.specs.declared.placement.Entry.{Entry}
 use Rattle.fs_kinds.specs.declared.slot.Slot.{Slot}
 use Rattle.fs_kinds.specs.PriceTable.{PriceTable, entry_cost}
 use Rattle.fs_answer.specs.Parts.{Part, Decision}
-use Rattle.fs_answer.specs.Pruning.{breaking_at, is_breakable, least, least_break, share_a_slot, are_apart, sum_of, lower_bound, is_no_better, is_pruned}
+use Rattle.fs_answer.specs.Pruning.{breaking_at, is_breakable, least, least_break, are_apart, sum_of, lower_bound, is_no_better, is_pruned}
 use Rattle.fs_answer.specs.Widths.{Width}
 use Rattle.fs_evidence.specs.Evidence.{pairs_at, widths_of}
 use Rattle.fs_checker.specs.inner.Leaves.{slots_in_part}
-use Rattle.fs_checker.specs.inner.Breaks.{lesser_of, break_at, breaks_of, breaks_at, least_in, is_open, is_breakable_at, break_apart, bound_of, is_bounded}
-use Rattle.fs_checker.proofs.Breaks.{lesser_assoc, some_break, least_first}
-
--- ---- counts
-
-abbrev count_one : Bool → ℕ
-count_one b = cond b 1 0
-
-count-cons : {X : Type 0} (p : X → Bool) (x : X) (xs : List X) → count_by p (x ∷ xs) ≡ count_one (p x) + count_by p xs
-count-cons p x xs = sum_by-cons (λ y. count_one (p y)) x xs
-
-count-map : {X Y : Type 0} (p : Y → Bool) (f : X → Y) (xs : List X) → count_by p (map f xs) ≡ count_by (λ x. p (f x)) xs
-count-map p f [] = refl
-count-map p f (x ∷ xs) =
-    let first = count-cons p (f x) (map f xs) in
-    let second = count-cons (λ y. p (f y)) x xs in
-    let rest = count-map p f xs in
-    omega (arith, first, second, rest)
+use Rattle.fs_tree.proofs.Places.{count_one, count-cons, count-map}
+use Rattle.fs_parts.specs.Breaks.{lesser_of}
+use Rattle.fs_checker.specs.inner.Breaks.{break_at, breaks_of, breaks_at, least_in, is_open, is_breakable_at, break_apart, bound_of, is_bounded}
+use Rattle.fs_parts.proofs.LeastCosts.{lesser_assoc}
+use Rattle.fs_parts.proofs.Apart.{sum_swap, sum_none, one_at, pair_by_pair}
+use Rattle.fs_checker.proofs.Breaks.{some_break, least_first}
 
 -- ---- what loops over the numbers of witnesses need
 
 pub count_breaks : (k : ℕ) (d : Decision) (breaks : List (List (Option ℕ))) (js : List ℕ)
     → count_by (λ j. is_breakable_at k d (breaks_at breaks j)) js ≡ count_by (is_breakable_at k d) (map (breaks_at breaks) js)
 count_breaks k d breaks js = sym (count-map (is_breakable_at k d) (breaks_at breaks) js)
-
-sum_swap : (k m n : Option ℕ) → sum_of k (sum_of m n) ≡ sum_of m (sum_of k n)
-sum_swap None None n = refl
-sum_swap None (Some m) None = refl
-sum_swap None (Some m) (Some n) = refl
-sum_swap (Some k) None None = refl
-sum_swap (Some k) None (Some n) = refl
-sum_swap (Some k) (Some m) None = refl
-sum_swap (Some k) (Some m) (Some n) = ap Some (omega arith)
-
-sum_none : (m : Option ℕ) → sum_of m None ≡ None
-sum_none None = refl
-sum_none (Some m) = refl
 
 module _ (prices : PriceTable) (part : Part) (breaks : List (List (Option ℕ))) where
   pub bound_more : (js : List ℕ) (i d : ℕ) → i < length js
@@ -115,96 +88,14 @@ module _ (prices : PriceTable) where
       ∙ (ap₂ (λ b n. count_one b + n) (at_width ss k d w at) (count_at ss k d ws at)
       ∙ sym (count-cons (λ w. is_breakable prices w d) w ws))
 
-  abbrev one_at : List Width → Decision → Bool
-  one_at ws d = nat_lt (count_by (λ w. is_breakable prices w d) ws) 2
-
   slot_by_slot : (ss : List Slot) (k : ℕ) (part : Part) (ws : List Width) → StandAt ss k part
-      → break_apart k part (map (breaks_on prices ss) ws) ≡ list_all (one_at ws) part
+      → break_apart k part (map (breaks_on prices ss) ws) ≡ list_all (one_at prices ws) part
   slot_by_slot ss k [] ws stand = refl
   slot_by_slot ss k (d ∷ part) ws stand =
       let z : k + 0 ≡ k = omega arith in
       let here : slice_get ss k ≡ Some d.slot = subst (λ n. slice_get ss n ≡ Some d.slot) z (stand 0 d refl) in
       ap₂ (λ n b. nat_lt n 2 && b) (count_at ss k d ws here)
       (slot_by_slot ss (k + 1) part ws (λ j e at. let s : k + suc j ≡ (k + 1) + j = omega arith in subst (λ n. slice_get ss n ≡ Some e.slot) s (stand (suc j) e at)))
-
-  -- ---- and then pair by pair
-
-  abbrev none_later : Width → List Width → Decision → Bool
-  none_later w ws d = not (is_breakable prices w d && list_any (λ v. is_breakable prices v d) ws)
-
-  some_counted : (d : Decision) (ws : List Width) → list_any (λ v. is_breakable prices v d) ws ≡ nat_lt 0 (count_by (λ v. is_breakable prices v d) ws)
-  some_counted d [] = refl
-  some_counted d (w ∷ ws) =
-      rw (count-cons (λ v. is_breakable prices v d) w ws) (elim (is_breakable prices w d) as (λ b. (b || list_any (λ v. is_breakable prices v d) ws) ≡ nat_lt 0 (count_one b + count_by (λ v. is_breakable prices v d) ws)) [
-        | true ↦ grind (arith, nat_tests)
-        | false ↦ let z : 0 + count_by (λ v. is_breakable prices v d) ws ≡ count_by (λ v. is_breakable prices v d) ws = omega arith in some_counted d ws ∙ ap (nat_lt 0) (sym z)
-      ])
-
-  at_most_one : (n : ℕ) → nat_lt (1 + n) 2 ≡ (not (nat_lt 0 n) && nat_lt n 2)
-  at_most_one n = grind (arith, nat_tests)
-
-  one_more : (w : Width) (ws : List Width) (d : Decision) → one_at (w ∷ ws) d ≡ (none_later w ws d && one_at ws d)
-  one_more w ws d =
-      let counted = some_counted d ws in
-      rw (count-cons (λ v. is_breakable prices v d) w ws, counted) (elim (is_breakable prices w d) as (λ b. nat_lt (count_one b + count_by (λ v. is_breakable prices v d) ws) 2 ≡ (not (b && nat_lt 0 (count_by (λ v. is_breakable prices v d) ws)) && one_at ws d)) [
-        | true ↦ at_most_one (count_by (λ v. is_breakable prices v d) ws)
-        | false ↦ let z : 0 + count_by (λ v. is_breakable prices v d) ws ≡ count_by (λ v. is_breakable prices v d) ws = omega arith in ap (λ n. nat_lt n 2) z
-      ])
-
-  both_all : (p q r : Decision → Bool) → ((d : Decision) → r d ≡ (p d && q d)) → (part : Part) → list_all r part ≡ (list_all p part && list_all q part)
-  both_all p q r is [] = refl
-  both_all p q r is (d ∷ part) = ap₂ (λ b c. b && c) (is d) (both_all p q r is part) ∙ mixed (p d) (q d) (list_all p part) (list_all q part)
-    where
-      mixed : (a b c d : Bool) → ((a && b) && (c && d)) ≡ ((a && c) && (b && d))
-      mixed true true c d = refl
-      mixed true false true d = refl
-      mixed true false false d = refl
-      mixed false b c d = refl
-
-  abbrev shared : Width → Part → List Width → Bool
-  shared w part ws = list_any (share_a_slot prices part w) ws
-
-  none_shared : (w : Width) (ws : List Width) → shared w [] ws ≡ false
-  none_shared w [] = refl
-  none_shared w (v ∷ ws) = none_shared w ws
-
-  first_shared : (w : Width) (d : Decision) (part : Part) (ws : List Width)
-      → shared w (d ∷ part) ws ≡ (is_breakable prices w d && list_any (λ v. is_breakable prices v d) ws || shared w part ws)
-  first_shared w d part [] = sym (neither (is_breakable prices w d))
-    where
-      neither : (b : Bool) → (b && false || false) ≡ false
-      neither true = refl
-      neither false = refl
-  first_shared w d part (v ∷ ws) =
-      ap (λ b. (is_breakable prices w d && is_breakable prices v d || share_a_slot prices part w v) || b) (first_shared w d part ws)
-      ∙ mixed (is_breakable prices w d) (is_breakable prices v d) (share_a_slot prices part w v) (list_any (λ u. is_breakable prices u d) ws) (shared w part ws)
-    where
-      mixed : (b p q r s : Bool) → ((b && p || q) || (b && r || s)) ≡ (b && (p || r) || (q || s))
-      mixed true true q r s = refl
-      mixed true false true true s = refl
-      mixed true false true false s = refl
-      mixed true false false r s = refl
-      mixed false p q r s = refl
-
-  none_at : (w : Width) (ws : List Width) (part : Part) → list_all (none_later w ws) part ≡ not (shared w part ws)
-  none_at w ws [] = ap not (sym (none_shared w ws))
-  none_at w ws (d ∷ part) =
-      ap (λ b. none_later w ws d && b) (none_at w ws part)
-      ∙ (neither (is_breakable prices w d && list_any (λ v. is_breakable prices v d) ws) (shared w part ws) ∙ ap not (sym (first_shared w d part ws)))
-    where
-      neither : (a b : Bool) → (not a && not b) ≡ not (a || b)
-      neither true b = refl
-      neither false b = refl
-
-  all_one : (part : Part) → list_all (one_at []) part ≡ true
-  all_one [] = refl
-  all_one (d ∷ part) = all_one part
-
-  pair_by_pair : (part : Part) (ws : List Width) → list_all (one_at ws) part ≡ are_apart prices part ws
-  pair_by_pair part [] = all_one part
-  pair_by_pair part (w ∷ ws) =
-      both_all (none_later w ws) (one_at ws) (one_at (w ∷ ws)) (one_more w ws) part
-      ∙ ap₂ (λ b c. b && c) (none_at w ws part) (pair_by_pair part ws)
 
   stand_whole : (part : Part) → StandAt (slots_in_part part) 0 part
   stand_whole part j d at = let z : 0 + j ≡ j = omega arith in subst (λ n. slice_get (slots_in_part part) n ≡ Some d.slot) (sym z) (got part j at)
@@ -215,7 +106,7 @@ module _ (prices : PriceTable) where
       got (e ∷ part) (suc j) at = got part j at
 
   pub same_apart : (part : Part) (ws : List Width) → break_apart 0 part (map (breaks_on prices (slots_in_part part)) ws) ≡ are_apart prices part ws
-  same_apart part ws = slot_by_slot (slots_in_part part) 0 part ws (stand_whole part) ∙ pair_by_pair part ws
+  same_apart part ws = slot_by_slot (slots_in_part part) 0 part ws (stand_whole part) ∙ pair_by_pair prices part ws
 
   pub same_pruned : (bound : Option (List Entry)) (part : Part) (ws : List Width)
       → is_bounded prices bound part (map (breaks_on prices (slots_in_part part)) ws) ≡ is_pruned prices bound part ws

@@ -10,10 +10,10 @@ use Rattle.fs_kinds.specs.Placement.{slots_of}
 use Rattle.fs_kinds.specs.PriceTable.{PriceTable}
 use Rattle.fs_kinds.specs.declared.slot.Slot.{Slot}
 use Rattle.fs_kinds.specs.Slot.{is_rising}
-use Rattle.fs_syntax.specs.declared.test.Test.{Test}
-use Rattle.fs_syntax.specs.Test.{IsBounded}
-use Rattle.fs_syntax.specs.Slots.{slots}
-use Rattle.fs_syntax.proofs.Rising.{rising-slots_from}
+use Rattle.fs_model.specs.declared.test.Test.{Test}
+use Rattle.fs_model.specs.Test.{IsBounded}
+use Rattle.fs_model.specs.Slots.{slots}
+use Rattle.fs_model.proofs.Rising.{rising-slots_from}
 use Rattle.fs_model.specs.Allows.{Shows}
 use Rattle.fs_model.specs.Execution.{Execution}
 use Rattle.fs_model.specs.Witness.{Witness}
@@ -28,7 +28,8 @@ use Rattle.fs_evidence.specs.Evidence.{pairs_at, widths_of}
 use Rattle.fs_laws.proofs.ExactWidths.{exact}
 use Rattle.fs_laws.proofs.Weakening.{execution-weaker}
 use Rattle.fs_check.proofs.Shown.{one_shown}
-use Rattle.fs_checker.specs.inner.Breaks.{fits, is_kept, is_shown_with, is_shown_under, widths_in, breaks_of, all_breaks, breaks_at, is_bounded}
+use Rattle.fs_parts.specs.Breaks.{fits, is_kept}
+use Rattle.fs_checker.specs.inner.Breaks.{is_shown_with, is_shown_under, widths_in, breaks_of, all_breaks, breaks_at, is_bounded}
 use Rattle.fs_checker.specs.inner.Leaves.{Decides, slots_in_part, ShowsWidths, AreShown}
 use Rattle.fs_checker.proofs.Pruned.{breaks_on, same_pruned}
 

@@ -6,8 +6,8 @@ use Rattle.fs_kinds.specs.declared.placement.Entry.{Entry}
 use Rattle.fs_kinds.specs.declared.reason.Reason.{Reason}
 use Rattle.fs_kinds.specs.declared.slot.Slot.{Slot}
 use Rattle.fs_kinds.specs.PriceTable.{PriceTable}
-use Rattle.fs_syntax.specs.declared.test.Test.{Test}
-use Rattle.fs_syntax.specs.Slots.{slots}
+use Rattle.fs_model.specs.declared.test.Test.{Test}
+use Rattle.fs_model.specs.Slots.{slots}
 use Rattle.fs_answer.specs.Parts.{Part, Decision, undecided, is_undecided, child_parts}
 use Rattle.fs_answer.specs.Certificate.{Certificate, Item, SplitAt}
 use Rattle.fs_certificate.specs.declared.certificate.Item.{Item as CodeItem}

@@ -8,9 +8,9 @@ use Rattle.fs_kinds.specs.declared.slot.Slot.{Slot}
 use Rattle.fs_kinds.specs.Kind.{word, kind_of}
 use Rattle.fs_kinds.specs.Slot.{IsSlot, fence_word, slot_name}
 use Rattle.fs_kinds.proofs.Names.{cut-same, not_in_name, kind_of-word, slot_name-injective}
-use Rattle.fs_syntax.specs.declared.test.Test.{Test}
-use Rattle.fs_syntax.specs.Slots.{slot_at, slots_in, is_slot, slots}
-use Rattle.fs_syntax.specs.Test.{IsBounded}
+use Rattle.fs_model.specs.declared.test.Test.{Test}
+use Rattle.fs_model.specs.Slots.{slot_at, slots_in, is_slot, slots}
+use Rattle.fs_model.specs.Test.{IsBounded}
 
 same_kind : (k l : Kind) → word k ≡ word l → k ≡ l
 same_kind k l e =

@@ -6,12 +6,12 @@ ghost use Rattle.fs_kinds.specs.declared.fault.Fault.TheVariants.{Memory};
 ghost use Rattle.fs_kinds.specs.declared.kind.Kind.{Kind};
 ghost use Rattle.fs_kinds.specs.Placement.{all_with};
 ghost use Rattle.fs_kinds.specs.Slot.{IsSlot, fence_word, is_rising};
-ghost use Rattle.fs_syntax.specs.Test.{IsBounded};
+ghost use Rattle.fs_model.specs.Test.{IsBounded};
 ghost use Rattle.fs_answer.specs.Certificate.{Fenced};
 ghost use Rattle.fs_checker.specs.inner.Filled.{IsFilling, IsPlacementFor};
 
 use fs_kinds::{Fault, Kind, Placement, Prices, Slot, read_fence};
-use fs_syntax::{Test, slots};
+use fs_model::{Test, slots};
 use std::alloc::Global;
 
 // The kind of the fence that the word names, where it names one at this slot.

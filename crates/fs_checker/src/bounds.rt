@@ -5,22 +5,20 @@
 ghost use Rattle.std.specs.Prelude.{◌≡◌, None, Some, List, not, map};
 ghost use Rattle.std.specs.List.{find};
 ghost use Rattle.fs_kinds.specs.declared.kind.Kind.TheVariants.{RwRw};
-ghost use Rattle.fs_syntax.specs.declared.test.Test.{Test};
-ghost use Rattle.fs_syntax.specs.Test.{IsBounded};
-ghost use Rattle.fs_syntax.specs.Slots.{slots};
+ghost use Rattle.fs_model.specs.declared.test.Test.{Test};
+ghost use Rattle.fs_model.specs.Test.{IsBounded};
+ghost use Rattle.fs_model.specs.Slots.{slots};
 ghost use Rattle.fs_model.specs.Witness.{Witness};
 ghost use Rattle.fs_answer.specs.Parts.{filled};
 ghost use Rattle.fs_answer.specs.Pruning.{is_no_better};
 ghost use Rattle.fs_answer.specs.Valid.{Refutes};
-ghost use Rattle.fs_checker.specs.inner.Breaks.{is_kept, is_shown_under, all_breaks, breaks_at, least_in, is_breakable_at, breaks_one, break_apart, bound_of, is_bounded};
+ghost use Rattle.fs_checker.specs.inner.Breaks.{is_shown_under, all_breaks, breaks_at, least_in, is_breakable_at, breaks_one, break_apart, bound_of, is_bounded};
 ghost use Rattle.fs_checker.specs.inner.Leaves.{Decides, slots_in_part, AreShown, IsBounding};
 
-use crate::breaking::{fits, lesser};
-use crate::costs::{cost, floor_cost, floor_precedes};
-use crate::part::Decision;
 use fs_evidence::Pairs;
 use fs_kinds::{Entry, Kind, Prices};
 use fs_list::List;
+use fs_parts::{Decision, cost, floor_cost, floor_precedes, is_kept, lesser};
 
 /// What is said of a leaf that witnesses are to bound.
 pub(crate) enum Bounding {
@@ -30,20 +28,6 @@ pub(crate) enum Bounding {
     Unshown(u64),
     /// They show the outcome under the floor, and don't bound the leaf.
     Fails,
-}
-
-/// Does each slot of the part order only what is kept there, where undecided slots have this kind or none? It calls itself once for
-/// each slot, of which a test has 48 at most.
-fn is_kept(part: &[Decision], widths: &[Pairs], kind: Option<Kind>) -> bool
-    ensures { result ≡ is_kept kind part.now widths.now }
-{
-    let [decision, part @ ..] = part else {
-        return true;
-    };
-    let [pairs, widths @ ..] = widths else {
-        return true;
-    };
-    fits(*pairs, decision.decided.unwrap_or(kind)) && is_kept(part, widths, kind)
 }
 
 /// Does the witness of this number show the outcome with what is decided, and this kind or none at each undecided slot?

@@ -4,14 +4,14 @@ ghost use Rattle.std.specs.Prelude.{◌≡◌, ◌≢◌, ◌<◌, ◌^◌, All,
 ghost use Rattle.std.specs.Arc.{arc_value};
 ghost use Rattle.fs_kinds.specs.declared.fault.Fault.{Fault as RunFault};
 ghost use Rattle.fs_kinds.specs.declared.fault.Fault.TheVariants.{Memory};
-ghost use Rattle.fs_syntax.specs.Test.{IsBounded, IsStart};
+ghost use Rattle.fs_model.specs.Test.{IsBounded, IsStart};
 ghost use Rattle.fs_answer.specs.CandidateFaults.{IsCandidateFault};
 ghost use Rattle.fs_answer.specs.Listings.{IsListing};
 ghost use Rattle.fs_thin_air.specs.ThinAir.{BeginsWithWords, CanBeListed};
 
 use fs_kinds::Fault;
+use fs_model::Test;
 use fs_showing::Showing;
-use fs_syntax::Test;
 use fs_values::Values;
 use std::alloc::Global;
 use std::sync::Arc;

@@ -3,24 +3,24 @@
 ghost use Rattle.std.specs.Prelude.{◌≡◌, ◌<◌, List, length, option_map, slice_get, slice_index, IfOk, IsOkUnless};
 ghost use Rattle.std.specs.List.{AllZip, position};
 ghost use Rattle.fs_kinds.specs.declared.fault.Fault.TheVariants.{Memory};
-ghost use Rattle.fs_syntax.specs.Test.{IsBounded};
+ghost use Rattle.fs_model.specs.Test.{IsBounded};
 ghost use Rattle.fs_model.specs.Witness.{step_name};
 ghost use Rattle.fs_hart.specs.Steps.{steps_in};
 ghost use Rattle.fs_answer.specs.Certificate.{Link};
 ghost use Rattle.fs_answer.specs.Listings.{IsListing};
 ghost use Rattle.fs_cand.specs.Candidates.{candidate_of};
-ghost use Rattle.fs_check.specs.inner.NamedOrder.{name_in, is_same_name, number_of, numbers_of};
+ghost use Rattle.fs_cand.specs.inner.NamedOrder.{name_in, is_same_name, number_of, numbers_of};
 ghost use Rattle.fs_ppo.specs.Rules.{OfRuns};
 ghost use Rattle.fs_checker.specs.inner.Cycles.{names_in, wanted, followers, have_edges, is_cycle, IsCyclesVerdict};
 ghost use Rattle.fs_certificate.specs.Kept.{KeepsCycle};
 
-use crate::edges::is_edge;
 use fs_cand::Candidate;
 use fs_certificate::CertificateLink;
 use fs_hart::{Step, Trace, steps_of};
 use fs_kinds::{Fault, OperationName, Placement, Reason};
 use fs_list::List;
 use fs_model::Operation;
+use fs_ppo::is_edge;
 use fs_showing::Showing;
 use std::alloc::Global;
 

@@ -3,8 +3,8 @@
 ghost use Rattle.std.specs.Prelude.{◌≡◌, List, [], ◌∷◌, All, map, string_bytes, IfOk, IsOkUnless};
 ghost use Rattle.fs_kinds.specs.declared.fault.Fault.TheVariants.{Memory};
 ghost use Rattle.fs_kinds.specs.PriceTable.{PriceTable};
-ghost use Rattle.fs_syntax.specs.declared.test.Test.{Test as Tests};
-ghost use Rattle.fs_syntax.specs.Test.{IsBounded, IsStart};
+ghost use Rattle.fs_model.specs.declared.test.Test.{Test as Tests};
+ghost use Rattle.fs_model.specs.Test.{IsBounded, IsStart};
 ghost use Rattle.fs_answer.specs.Candidates.{Candidate};
 ghost use Rattle.fs_answer.specs.Certificate.{Certificate as Said, Fenced, IsAnswered};
 ghost use Rattle.fs_answer.specs.Listings.{IsListing};
@@ -21,8 +21,8 @@ use crate::tree::Grounds;
 use crate::witness::shown_widths;
 use fs_certificate::Certificate;
 use fs_kinds::{Fault, Placement, Prices, Reason};
+use fs_model::{Test, slots};
 use fs_showing::Showing;
-use fs_syntax::{Test, slots};
 use std::alloc::Global;
 
 /// The answer of a valid certificate, a placement or none; or the first reason against one that isn't.

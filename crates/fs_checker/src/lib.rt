@@ -1,4 +1,5 @@
-//! The checker of certificates.
+//! The checker of certificates of the first two versions: whether one is valid, and then its answer, or the first reason against it. It
+//! stands on the definitions and on the checker of executions, and calls nothing of the search.
 #![tactic(auto)]
 
 mod answer;
@@ -7,11 +8,8 @@ mod breaking;
 mod candidates;
 mod costs;
 mod cycles;
-mod edges;
 mod fenced;
 mod laws;
-mod options;
-mod part;
 mod stack;
 mod tree;
 mod unforbidden;

@@ -4,10 +4,9 @@ ghost use Rattle.std.specs.Prelude.{◌≡◌, [], ◌∷◌, ◌++◌, IfOk, On
 ghost use Rattle.std.specs.List.{list_any};
 ghost use Rattle.fs_answer.specs.Parts.{Part as PartValue, decide, is_undecided, child_parts};
 
-use crate::options::{OPTIONS, is_offered};
-use crate::part::Decision;
 use fs_kinds::{Kind, Prices, Slot};
 use fs_list::List;
+use fs_parts::{Decision, OPTIONS, is_offered};
 use std::alloc::{AllocError, Global};
 use std::marker::Model;
 

@@ -1,9 +1,9 @@
 //! The walk over the items of a certificate's tree.
 
 ghost use Rattle.std.specs.Prelude.{◌≡◌, [], ◌∷◌, IfOk, IfSome, IfNone, Some, false, true, map, slice_get};
-ghost use Rattle.fs_syntax.specs.declared.test.Test.{Test};
-ghost use Rattle.fs_syntax.specs.Slots.{slots};
-ghost use Rattle.fs_syntax.specs.Test.{IsBounded};
+ghost use Rattle.fs_model.specs.declared.test.Test.{Test};
+ghost use Rattle.fs_model.specs.Slots.{slots};
+ghost use Rattle.fs_model.specs.Test.{IsBounded};
 ghost use Rattle.fs_answer.specs.Parts.{undecided, is_undecided};
 ghost use Rattle.fs_answer.specs.Certificate.{Certificate, SplitAt, Costly, Refuted, Bounded};
 ghost use Rattle.fs_answer.specs.Valid.{is_costly};
@@ -15,12 +15,12 @@ ghost use Rattle.fs_checker.specs.inner.Walks.{AreOfTest, AreGrounds, IsTaken, I
 
 use crate::bounds::{Bounding, judge_bounded, refutes};
 use crate::costs::{is_dearer, is_no_better};
-use crate::part::Decision;
 use crate::stack::{Stack, is_undecided};
 use fs_certificate::{Item, Version};
 use fs_evidence::Pairs;
 use fs_kinds::{Entry, Prices, Reason, Slot};
 use fs_list::List;
+use fs_parts::Decision;
 use std::alloc::{AllocError, Global};
 
 /// By what the leaves of a tree are judged: the answer's placement, what is kept of the witnesses, and what it costs to break them.

@@ -4,8 +4,8 @@ ghost use Rattle.std.specs.Prelude.{◌≡◌, ◌==◌, ◌&&◌, Some, All, le
 ghost use Rattle.fs_kinds.specs.declared.fault.Fault.TheVariants.{Memory};
 ghost use Rattle.fs_kinds.specs.PriceTable.{PriceTable};
 ghost use Rattle.fs_kinds.specs.Placement.{all_with};
-ghost use Rattle.fs_syntax.specs.Slots.{slots};
-ghost use Rattle.fs_syntax.specs.Test.{IsBounded, IsStart};
+ghost use Rattle.fs_model.specs.Slots.{slots};
+ghost use Rattle.fs_model.specs.Test.{IsBounded, IsStart};
 ghost use Rattle.fs_answer.specs.Certificate.{Certificate as Said, NoneForbids};
 ghost use Rattle.fs_answer.specs.Valid.{Refutes};
 ghost use Rattle.fs_certificate.specs.Kept.{KeepsCertificate};
@@ -18,7 +18,7 @@ use crate::stack::undecided;
 use crate::witness::shown_widths;
 use fs_certificate::Certificate;
 use fs_kinds::{Fault, Kind, Reason};
-use fs_syntax::{Test, slots};
+use fs_model::{Test, slots};
 use std::alloc::Global;
 
 // Has a certificate of none its one witness and nothing else?

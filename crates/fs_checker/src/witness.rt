@@ -4,8 +4,8 @@
 ghost use Rattle.std.specs.Prelude.{◌≡◌, ◌∷◌, [], All, IfOk, IsOkUnless, List, None, Some};
 ghost use Rattle.std.specs.List.{AllZip, list_all};
 ghost use Rattle.fs_kinds.specs.declared.fault.Fault.TheVariants.{Memory};
-ghost use Rattle.fs_syntax.specs.Slots.{slots};
-ghost use Rattle.fs_syntax.specs.Test.{IsBounded, IsStart};
+ghost use Rattle.fs_model.specs.Slots.{slots};
+ghost use Rattle.fs_model.specs.Test.{IsBounded, IsStart};
 ghost use Rattle.fs_model.specs.Numbers.{stands_before};
 ghost use Rattle.fs_model.specs.Operations.{po};
 ghost use Rattle.fs_model.specs.Source.{gmo};
@@ -22,9 +22,8 @@ use fs_check::{OrderedCandidate, shown_by};
 use fs_evidence::Pairs;
 use fs_kinds::{Fault, Kind, Placement, Slot};
 use fs_list::List;
-use fs_model::Operation;
+use fs_model::{Operation, Test, slots};
 use fs_ppo::fence_rule;
-use fs_syntax::{Test, slots};
 use std::alloc::{AllocError, Global};
 
 /// Does a come before b in program order?

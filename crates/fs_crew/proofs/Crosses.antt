@@ -3,13 +3,13 @@ use denote.RattleType.{RattleType}
 use denote.Param.Send.{IsSend, IsSync, sendable}
 use denote.Param.SendFields.{declared_send, declared_sync}
 use Rattle.std.proofs.Crossing.{crosses}
-use Rattle.fs_syntax.specs.contracts.outcome.Outcome as Outcome
-use Rattle.fs_syntax.specs.contracts.test.Test as Test
+use Rattle.fs_model.specs.contracts.outcome.Outcome as Outcome
+use Rattle.fs_model.specs.contracts.test.Test as Test
 use Rattle.fs_list.proofs.list.List.TheSendSync as list
 use Rattle.fs_instr.proofs.instr.Instr.TheSendSync as instr
-use Rattle.fs_syntax.proofs.lists.Name.TheSendSync as name
-use Rattle.fs_syntax.proofs.test.Location.TheSendSync as location
-use Rattle.fs_syntax.proofs.test.Quantifier.TheSendSync as quantifier
+use Rattle.fs_model.proofs.lists.Name.TheSendSync as name
+use Rattle.fs_model.proofs.test.Location.TheSendSync as location
+use Rattle.fs_model.proofs.test.Quantifier.TheSendSync as quantifier
 use Rattle.fs_kinds.proofs.prices.Prices.TheSendSync as prices
 use Rattle.fs_pool.specs.declared.Asked as asked
 use Rattle.fs_pool.specs.contracts.shared.Shared as Shared

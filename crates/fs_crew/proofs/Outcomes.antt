@@ -11,9 +11,9 @@ use Rattle.std.specs.contracts.alloc.Global as Heap
 use Rattle.std.specs.contracts.impls.GlobalAllocator.TheImpl.{ghosts}
 use Rattle.fs_instr.specs.contracts.reg.Reg as Reg
 use Rattle.fs_instr.proofs.reg.Reg.TheSendSync as reg
-use Rattle.fs_syntax.specs.contracts.outcome.Outcome as Outcome
-use Rattle.fs_syntax.specs.contracts.outcome.Outcome.TheKnot as knot
-use Rattle.fs_syntax.specs.declared.outcome.Outcome.TheBlock as block
+use Rattle.fs_model.specs.contracts.outcome.Outcome as Outcome
+use Rattle.fs_model.specs.contracts.outcome.Outcome.TheKnot as knot
+use Rattle.fs_model.specs.declared.outcome.Outcome.TheBlock as block
 
 abbrev boxed : RattleType → RattleType
 boxed R = Box.the_row R Heap.the_row ghosts

@@ -3,8 +3,8 @@
 ghost use Rattle.std.specs.Prelude.{◌≡◌, ◌≢◌, ◌≤◌, ◌<◌, [], length, IfOk, IfErr, IfSome, IfNone, IsOkUnless, OnOk, All, None};
 ghost use Rattle.std.specs.Arc.{arc_value};
 ghost use Rattle.fs_kinds.specs.PriceTable.{IsPriceTable};
-ghost use Rattle.fs_syntax.specs.Test.{IsBounded, IsStart};
-ghost use Rattle.fs_syntax.specs.Slots.{slots};
+ghost use Rattle.fs_model.specs.Test.{IsBounded, IsStart};
+ghost use Rattle.fs_model.specs.Slots.{slots};
 ghost use Rattle.fs_answer.specs.CandidateFaults.{IsCandidateFault};
 ghost use Rattle.fs_history.specs.Sizes.{tree_size};
 ghost use Rattle.fs_pool.specs.Asked.{IsAsked};

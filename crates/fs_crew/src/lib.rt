@@ -1,4 +1,5 @@
-//! The search by many workers.
+//! The search by 1 to 16 workers in threads of their own. Each has a deque of nodes, from which another steals (fs_hands), and all
+//! ask one board at its desk (fs_pool); the contract is that of the search by one (fs_search).
 #![tactic(auto)]
 
 mod crew;

@@ -2,8 +2,8 @@
 
 ghost use Rattle.std.specs.Prelude.{◌≡◌, IfOk, IfSome, IsOkUnless, map};
 ghost use Rattle.std.specs.Arc.{arc_value};
-ghost use Rattle.fs_syntax.specs.Slots.{slots};
-ghost use Rattle.fs_syntax.specs.declared.test.Test.{Test};
+ghost use Rattle.fs_model.specs.Slots.{slots};
+ghost use Rattle.fs_model.specs.declared.test.Test.{Test};
 ghost use Rattle.fs_bound.specs.Bounds.{slots_in_part};
 ghost use Rattle.fs_model.specs.Execution.{Execution};
 ghost use Rattle.fs_evidence.specs.Evidence.{IsWitnessFor};
@@ -74,7 +74,7 @@ pub(crate) struct Scout {
 
 impl Model for Scout {
     ghost use Rattle.std.specs.Coded.{codes};
-    ghost use Rattle.fs_syntax.specs.contracts.outcome.Outcome as outcome;
+    ghost use Rattle.fs_model.specs.contracts.outcome.Outcome as outcome;
     ghost use Rattle.fs_evidence.specs.Evidence.{Question as Asked};
     ghost use Rattle.fs_board.specs.Growth.{AreWitnesses};
 

@@ -1,8 +1,8 @@
-//! What a worker does: it takes nodes and is done with each, until there are none or something fails.
+//! What a worker does: it takes nodes, its own or stolen ones, and is done with each, until there are none or something fails.
 
 ghost use Rattle.std.specs.Prelude.{◌≡◌, IfOk, IfSome};
 ghost use Rattle.std.specs.Arc.{arc_value};
-ghost use Rattle.fs_syntax.specs.Slots.{slots};
+ghost use Rattle.fs_model.specs.Slots.{slots};
 ghost use Rattle.fs_bound.specs.Bounds.{slots_in_part};
 ghost use Rattle.fs_pool.specs.Asked.{IsMade};
 
@@ -82,7 +82,7 @@ fn offer(hand: &mut Hand, children: &mut Vec<Child>) {
 }
 
 /// The newest of the worker's own nodes, else one of its hand, else one of the next worker's. Any of them may be open no more.
-fn next_own(hand: &mut Hand, children: &mut Vec<Child>) -> Option<(usize, Option<Slot>)> {
+fn own_or_stolen(hand: &mut Hand, children: &mut Vec<Child>) -> Option<(usize, Option<Slot>)> {
     if let Some(child) = children.pop() {
         return Some((child.node, Some(child.slot)));
     }
@@ -135,7 +135,7 @@ impl<A: Asked, R: Wait, G: Gate> Workplace<'_, A, R, G> {
         }
     }
 
-    /// The first of the next `MOST_CLAIMS` nodes of `next_own` that is still open, else any open node. None where there is none, and
+    /// The first of the next `MOST_CLAIMS` nodes of `own_or_stolen` that is still open, else any open node. None where there is none, and
     /// where memory lacks.
     fn next_node(
         &self,
@@ -147,7 +147,7 @@ impl<A: Asked, R: Wait, G: Gate> Workplace<'_, A, R, G> {
     {
         let mut pass = pass;
         for _ in 0..MOST_CLAIMS {
-            let Some((node, slot)) = next_own(hand, children) else {
+            let Some((node, slot)) = own_or_stolen(hand, children) else {
                 break;
             };
             let (after, is_made) = self.ask(pass, Event::Claim(node));

@@ -6,9 +6,9 @@ use Rattle.std.proofs.lemmas.Bool.{false≢true, cases_lt, cases_Bool, and_parts
 use Rattle.std.proofs.lemmas.List.{get_or_past, length-map}
 use Rattle.std.proofs.lemmas.List.FromFn.{length-map-range_with_len}
 use Rattle.fs_kinds.specs.declared.placement.Entry.{Entry}
-use Rattle.fs_syntax.specs.declared.test.Test.{Test}
-use Rattle.fs_syntax.specs.Condition.{condition_of}
-use Rattle.fs_syntax.specs.Test.{address_of}
+use Rattle.fs_model.specs.declared.test.Test.{Test}
+use Rattle.fs_model.specs.Condition.{condition_of}
+use Rattle.fs_model.specs.Test.{address_of}
 use Rattle.fs_model.specs.Numbers.{has_number, numbers_below, stands_before}
 use Rattle.fs_model.specs.Operations.{accesses, operations, operation, is_load, is_store, same_word, same_hart, po, paired}
 use Rattle.fs_model.specs.Source.{gmo, may_return, source_in}

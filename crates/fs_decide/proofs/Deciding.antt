@@ -2,7 +2,7 @@
 use Rattle.std.proofs.Common.{◌≡◌, ◌↔◌, ℕ, zero, suc, ◌<◌, List, [], ◌∷◌, length, inl, inr, subst, arith}
 use Rattle.std.specs.List.{AllZip, slice_index_or}
 use Rattle.fs_kinds.specs.declared.placement.Entry.{Entry}
-use Rattle.fs_syntax.specs.declared.test.Test.{Test}
+use Rattle.fs_model.specs.declared.test.Test.{Test}
 use Rattle.fs_model.specs.Execution.{IsExecution}
 use Rattle.fs_model.specs.Allows.{Allows}
 use Rattle.fs_answer.specs.Candidates.{Candidate, IsRaw, IsShowing, runs_of}

@@ -4,7 +4,7 @@ use Rattle.std.specs.List.{list_any}
 use Rattle.std.proofs.lemmas.Bool.{false≢true, and_parts, and_from, or_cases, or_left, or_right, ne_eqb, eq-eqb, not-true}
 use Rattle.std.proofs.lemmas.List.Folds.{list_any-append}
 use Rattle.fs_kinds.specs.declared.placement.Entry.{Entry}
-use Rattle.fs_syntax.specs.declared.test.Test.{Test}
+use Rattle.fs_model.specs.declared.test.Test.{Test}
 use Rattle.fs_model.specs.Numbers.{is_same}
 use Rattle.fs_model.specs.Operations.{PreExecution, is_load, is_store, same_hart, po, is_amo_or_sc, any_between}
 use Rattle.fs_model.specs.Dependencies.{address_dependency, data_dependency}

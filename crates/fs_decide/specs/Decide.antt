@@ -2,7 +2,7 @@
 use Rattle.std.specs.Prelude.{◌≡◌, ℕ, ◌<◌, ◌≤◌, nat_lt, Bool, true, None, List, map, filter, length, if◌then◌else◌}
 use Rattle.std.specs.List.{list_all}
 use Rattle.fs_kinds.specs.declared.placement.Entry.{Entry}
-use Rattle.fs_syntax.specs.declared.test.Test.{Test}
+use Rattle.fs_model.specs.declared.test.Test.{Test}
 use Rattle.fs_model.specs.Numbers.{has_number, numbers_below, stands_before}
 use Rattle.fs_model.specs.Operations.{accesses, operations, is_load}
 use Rattle.fs_model.specs.Source.{lists_each_once, gmo, source_in}

@@ -4,7 +4,7 @@ use Rattle.std.specs.Prelude.{nat_lt}
 use Rattle.std.specs.List.{list_any}
 use Rattle.std.proofs.lemmas.Bool.{false≢true, or_left, and_from, lt-ltb, cases_Bool}
 use Rattle.fs_kinds.specs.declared.placement.Entry.{Entry}
-use Rattle.fs_syntax.specs.declared.test.Test.{Test}
+use Rattle.fs_model.specs.declared.test.Test.{Test}
 use Rattle.fs_model.specs.Numbers.{between}
 use Rattle.fs_model.specs.Operations.{PreExecution, accesses, operations, classes, place, trace_of, instr_at, po}
 use Rattle.fs_model.specs.Fences.{fence_between, instr_orders, kind_orders, placed_before}

@@ -1,4 +1,3 @@
-pub mod Listed
 pub mod Below
 pub mod Orders
 pub mod StepSides

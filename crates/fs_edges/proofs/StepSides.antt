@@ -9,7 +9,7 @@ use Rattle.fs_kinds.specs.declared.kind.Kind.{Kind}
 use Rattle.fs_kinds.specs.declared.kind.Kind.TheVariants.{RR, RW, RRw, WR, WW, WRw, RwR, RwW, RwRw, Tso}
 use Rattle.fs_kinds.specs.declared.placement.Entry.{Entry}
 use Rattle.fs_kinds.specs.Placement.{kind_at}
-use Rattle.fs_syntax.specs.Slots.{slot_at}
+use Rattle.fs_model.specs.Slots.{slot_at}
 use Rattle.fs_model.specs.Numbers.{is_same, between, numbers_below}
 use Rattle.fs_model.specs.Operations.{PreExecution, operation, place, po, classes, steps_of}
 use Rattle.fs_model.specs.Fences.{kind_orders, placed_before}
@@ -20,7 +20,7 @@ use Rattle.fs_model.proofs.WhichOperation.{of_hart}
 use Rattle.fs_edges.specs.Fencing.{is_fenced, before, after, orders_at}
 use Rattle.fs_edges.specs.declared.points.Sides.{Sides}
 use Rattle.fs_model.specs.declared.step.Step.{Step}
-use Rattle.fs_syntax.proofs.Numbered.{range_more}
+use Rattle.fs_model.proofs.Numbered.{range_more}
 use Rattle.std.proofs.lemmas.List.Folds.{list_any-append}
 use Rattle.fs_edges.specs.inner.Halves.{is_on, classes_on, kind_before, orders_before_step}
 use Rattle.fs_edges.specs.declared.points.Half.TheVariants.{Before, After}

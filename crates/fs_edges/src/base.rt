@@ -5,7 +5,7 @@ ghost use Rattle.fs_answer.specs.Judged.{is_judged};
 ghost use Rattle.fs_answer.specs.Candidates.{IsRaw, runs_of as defined_runs};
 ghost use Rattle.fs_cand.specs.Candidates.{candidate_of, IsMade};
 ghost use Rattle.fs_model.specs.Execution.{initial_words};
-ghost use Rattle.fs_syntax.specs.declared.test.Test.{Test};
+ghost use Rattle.fs_model.specs.declared.test.Test.{Test};
 ghost use Rattle.fs_ppo.specs.Rules.{OfRuns};
 ghost use Rattle.fs_relation.specs.Edges.{has_edge, has_bit};
 

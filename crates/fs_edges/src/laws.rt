@@ -3,7 +3,7 @@
 
 ghost use Rattle.std.specs.Prelude.{◌≡◌, ◌||◌, ◌<◌, ℕ, List, [], true, length};
 ghost use Rattle.fs_kinds.specs.declared.placement.Entry.{Entry};
-ghost use Rattle.fs_syntax.specs.declared.test.Test.{Test};
+ghost use Rattle.fs_model.specs.declared.test.Test.{Test};
 ghost use Rattle.fs_model.specs.Operations.{operations};
 ghost use Rattle.fs_answer.specs.Candidates.{Candidate, IsRaw, runs_of};
 ghost use Rattle.fs_answer.specs.Judged.{is_judged};

@@ -10,6 +10,5 @@ mod points;
 
 pub use base::base_rows;
 pub use fences::fence_rows;
-pub use judged::{is_from_read, is_read_externally, precedes_in_coherence};
 pub use names::operation_name;
 pub use points::{Sides, sides_of};

@@ -1,7 +1,7 @@
 //! What a search is asked.
 
 use fs_kinds::Prices;
-use fs_syntax::Test;
+use fs_model::Test;
 use std::marker::Model;
 use std::sync::Arc;
 
@@ -15,7 +15,7 @@ pub struct Question {
 impl Model for Question {
     ghost use Rattle.std.specs.Arc.{arc_value};
     ghost use Rattle.std.specs.Coded.{codes};
-    ghost use Rattle.fs_syntax.specs.contracts.outcome.Outcome as outcome;
+    ghost use Rattle.fs_model.specs.contracts.outcome.Outcome as outcome;
     ghost use Rattle.fs_evidence.specs.Evidence.{Question as Asked};
 
     ghost Value = { Asked };

@@ -1,8 +1,10 @@
 //! Placements, prices and questions from texts, and answers as text.
-ghost use Rattle.std.specs.Prelude.{IfOk};
+ghost use Rattle.std.specs.Prelude.{◌≡◌, IfOk};
 ghost use Rattle.std.specs.Arc.{arc_value};
 ghost use Rattle.fs_kinds.specs.PriceTable.{IsPriceTable};
-ghost use Rattle.fs_syntax.specs.Test.{IsBounded, IsTest};
+ghost use Rattle.fs_kinds.specs.Placement.{slots_of};
+ghost use Rattle.fs_model.specs.Slots.{slots};
+ghost use Rattle.fs_model.specs.Test.{IsBounded, IsTest};
 
 use fs_evidence::Question;
 use fs_kinds::{Fault, Placement, Prices, read_prices};
@@ -26,6 +28,7 @@ pub fn question_of(alloc: Global, text: &str, prices: &str) -> Result<Arc<Questi
 /// The placement that the words name, which spaces part.
 pub fn placement_of(alloc: Global, test: &Test, words: &str) -> Result<Placement, Fault>
     requires { IsBounded test.now }
+    ensures { IfOk result (λ placement. slots_of placement ≡ slots test.now) }
 {
     let mut fences = Vec::new(alloc);
     for word in words.split_whitespace() {

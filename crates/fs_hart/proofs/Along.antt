@@ -7,7 +7,7 @@ use Rattle.std.proofs.lemmas.List.{append-nil}
 use Rattle.std.proofs.lemmas.List.Elements.{All-get_or}
 use Rattle.std.proofs.lemmas.Option.{slice_get_within, get_or_from_slice_get}
 use Rattle.fs_instr.specs.declared.instr.Instr.{Instr}
-use Rattle.fs_syntax.specs.Test.{GoesForward}
+use Rattle.fs_model.specs.Test.{GoesForward}
 use Rattle.fs_model.specs.declared.hart.Hart.{Hart}
 use Rattle.fs_model.specs.declared.step.Step.{Step}
 use Rattle.fs_model.specs.declared.step.Choice.{Choice}
@@ -17,8 +17,8 @@ use Rattle.fs_model.specs.Forms.{is_loading, is_sc}
 use Rattle.fs_model.specs.Trace.{AreSteps, IsStep, Accesses, after_step, hart_after, start_with}
 use Rattle.fs_model.specs.Choices.{Makes, IsStopped, IsWhole, StopsAt, StopsIn, fits, is_choosing, choice_by, choices_of}
 use Rattle.fs_model.specs.Execution.{code_of, registers_of}
-use Rattle.fs_syntax.specs.declared.test.Test.{Test}
-use Rattle.fs_syntax.specs.declared.test.Location.{Location}
+use Rattle.fs_model.specs.declared.test.Test.{Test}
+use Rattle.fs_model.specs.declared.test.Location.{Location}
 use Rattle.fs_hart.specs.Runs.{Stops, IsRunOf, run_of}
 use Rattle.fs_hart.proofs.Forward.{IsLater, goes_on}
 

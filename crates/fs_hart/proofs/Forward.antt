@@ -6,8 +6,8 @@ use Rattle.fs_instr.specs.declared.instr.Instr.TheVariants.{Register, Immediate,
 use Rattle.fs_instr.specs.Instructions.{target_of}
 use Rattle.std.proofs.lemmas.Option.{slice_get_within}
 use Rattle.std.proofs.lemmas.List.Elements.{All-get_or}
-use Rattle.fs_syntax.specs.declared.test.Test.{Test}
-use Rattle.fs_syntax.specs.Test.{GoesForward, IsBounded}
+use Rattle.fs_model.specs.declared.test.Test.{Test}
+use Rattle.fs_model.specs.Test.{GoesForward, IsBounded}
 use Rattle.fs_model.specs.Execution.{IsTrace, code_of, registers_of}
 use Rattle.fs_model.specs.declared.hart.Hart.{Hart}
 use Rattle.fs_model.specs.declared.step.Step.{Step}

@@ -1,6 +1,6 @@
 -- What choices make of a hart of a test.
 use Rattle.std.specs.Prelude.{◌≡◌, ℕ, List, length}
-use Rattle.fs_syntax.specs.declared.test.Test.{Test}
+use Rattle.fs_model.specs.declared.test.Test.{Test}
 use Rattle.fs_model.specs.declared.step.Choice.{Choice}
 use Rattle.fs_model.specs.declared.step.Step.{Step}
 use Rattle.fs_model.specs.declared.step.Stop.{Stop}

@@ -3,8 +3,8 @@
 ghost use Rattle.std.specs.Prelude.{◌+◌, ◌≡◌, ◌<◌, ◌≤◌, ◌++◌, ℕ, List, All, length, IfOk, OnOk, IsOkUnless};
 ghost use Rattle.fs_kinds.specs.Limits.{most_harts, most_instructions, most_accesses, most_locations};
 ghost use Rattle.fs_kinds.specs.declared.fault.Fault.TheVariants.{Memory};
-ghost use Rattle.fs_syntax.specs.declared.test.Test.{Test};
-ghost use Rattle.fs_syntax.specs.Test.{IsBounded};
+ghost use Rattle.fs_model.specs.declared.test.Test.{Test};
+ghost use Rattle.fs_model.specs.Test.{IsBounded};
 ghost use Rattle.fs_model.specs.declared.step.Step.{Step};
 ghost use Rattle.fs_model.specs.Operations.{access_of, accesses_of, initial_store, operations, steps_of};
 ghost use Rattle.fs_model.specs.Execution.{IsTrace, pre_execution};
@@ -14,8 +14,7 @@ use crate::lists::Operations;
 use crate::trace::Trace;
 use fs_instr::Instr;
 use fs_kinds::Fault;
-use fs_model::{Operation, Step};
-use fs_syntax::{Location, Test};
+use fs_model::{Location, Operation, Step, Test};
 use std::alloc::{AllocError, Global};
 
 // The operation of a step of the hart.

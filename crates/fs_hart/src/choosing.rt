@@ -6,8 +6,7 @@ ghost use Rattle.fs_hart.specs.inner.Walking.{set_at, options, word_choice};
 
 use crate::lists::Words;
 use fs_instr::Instr;
-use fs_model::{Choice, Hart};
-use fs_syntax::Location;
+use fs_model::{Choice, Hart, Location};
 use std::alloc::{AllocError, Global};
 
 // The words that are offered for the location at the address.

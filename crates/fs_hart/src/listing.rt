@@ -2,7 +2,7 @@
 
 ghost use Rattle.std.specs.Prelude.{◌≡◌, ◌<◌, ◌≤◌, ℕ, List, All, length, IfOk, OnOk, IfErr};
 ghost use Rattle.std.specs.List.Sorted.{IsStrictlyIncreasing};
-ghost use Rattle.fs_syntax.specs.Test.{IsBounded, IsStart};
+ghost use Rattle.fs_model.specs.Test.{IsBounded, IsStart};
 ghost use Rattle.fs_model.specs.Execution.{code_of, registers_of};
 ghost use Rattle.fs_model.specs.Trace.{start_with, hart_after};
 ghost use Rattle.fs_hart.specs.Listing.{AreTraces, IsTraceFault};
@@ -14,8 +14,7 @@ use crate::run::{code_of, registers_of};
 use crate::trace::Trace;
 use crate::walk::Walk;
 use fs_kinds::Fault;
-use fs_model::Hart;
-use fs_syntax::Test;
+use fs_model::{Hart, Test};
 use std::alloc::Global;
 
 impl Walk {

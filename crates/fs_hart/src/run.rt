@@ -3,10 +3,10 @@
 ghost use Rattle.std.specs.Prelude.{◌≡◌, ℕ, List, ◌<◌, ◌≤◌, All, length, slice_get, if◌then◌else◌, None, IfOk, IsOkUnless};
 ghost use Rattle.fs_kinds.specs.Limits.{most_instructions};
 ghost use Rattle.fs_kinds.specs.declared.fault.Fault.TheVariants.{Memory};
-ghost use Rattle.fs_syntax.specs.Test.{IsBounded, IsStart};
+ghost use Rattle.fs_model.specs.Test.{IsBounded, IsStart};
 ghost use Rattle.fs_model.specs.Choices.{is_choosing};
 ghost use Rattle.fs_model.specs.declared.step.Step.{Step};
-ghost use Rattle.fs_syntax.specs.declared.test.Test.{Test};
+ghost use Rattle.fs_model.specs.declared.test.Test.{Test};
 ghost use Rattle.fs_model.specs.Execution.{IsTrace, code_of, registers_of};
 ghost use Rattle.fs_hart.specs.Runs.{IsRunOf, run_of};
 
@@ -14,8 +14,7 @@ use crate::lists::Steps;
 use crate::trace::{Run, Trace};
 use fs_instr::Instr;
 use fs_kinds::Fault;
-use fs_model::{Choice, Hart, Stop};
-use fs_syntax::Test;
+use fs_model::{Choice, Hart, Stop, Test};
 use std::alloc::Global;
 
 // Does the instruction take a choice?

@@ -4,7 +4,7 @@ use Rattle.std.specs.List.{list_any}
 use Rattle.fs_kinds.specs.declared.placement.Entry.{Entry}
 use Rattle.fs_kinds.specs.declared.slot.Slot.{Slot}
 use Rattle.fs_kinds.specs.PriceTable.{PriceTable}
-use Rattle.fs_syntax.specs.declared.test.Test.{Test}
+use Rattle.fs_model.specs.declared.test.Test.{Test}
 use Rattle.fs_model.specs.Witness.{Witness}
 use Rattle.fs_model.specs.Allows.{is_better}
 use Rattle.fs_answer.specs.Parts.{Part, undecided, options}

@@ -1,3 +1,4 @@
+pub mod DistinctNames
 pub mod Spelling
 pub mod Lengths
 pub mod PlainTokens

@@ -6,19 +6,19 @@ use Rattle.std.proofs.lemmas.Bool.Decides.{nat_tests}
 use Rattle.std.specs.Str.{bytes_eq}
 use Rattle.fs_tokens.specs.Tokens.{Tok}
 use Rattle.fs_tokens.specs.Numbers.{number_of, numeral}
-use Rattle.fs_mnemonics.specs.Rows.{look_up}
+use Rattle.fs_instr.specs.Rows.{look_up}
 use Rattle.std.specs.Option.{option_or}
 use Rattle.fs_instr.specs.Registers.{register_of, low_x, middle_x, high_x, first_names, arguments, last_names}
-use Rattle.fs_mnemonics.specs.FenceLetters.{lettered, letters_of, letters_rows, letters_text}
+use Rattle.fs_instr.specs.FenceLetters.{lettered, letters_of, letters_rows, letters_text}
 use Rattle.fs_instr.specs.Operands.{Filled, blank, immediate_of, below_of, constant_of}
 use Rattle.fs_instr.specs.Spelled.{IsNumber, plus, minus, IsPart, rd, first, second, x0, sign, imm, below, constant, no_offset, zero_offset, label, before, after, AreParts, none, next, Spells, spells, Answers}
 use Rattle.fs_instr.specs.Instructions.{parts_of, instr_of}
 use Rattle.fs_instr.specs.Reading.{is_refused, is_alone, is_empty, operands_in, outcome_of}
 use Rattle.fs_instr.specs.OfTable.{IsImmediate, HasLetter, IsOfTable}
-use Rattle.fs_mnemonics.specs.declared.letters.Letters.{Letters}
-use Rattle.fs_mnemonics.specs.declared.names.Op.{Op}
-use Rattle.fs_mnemonics.specs.declared.names.ShiftOp.{ShiftOp}
-use Rattle.fs_mnemonics.specs.declared.names.Op.TheVariants as op
+use Rattle.fs_instr.specs.declared.letters.Letters.{Letters}
+use Rattle.fs_instr.specs.declared.names.Op.{Op}
+use Rattle.fs_instr.specs.declared.names.ShiftOp.{ShiftOp}
+use Rattle.fs_instr.specs.declared.names.Op.TheVariants as op
 use Rattle.fs_instr.specs.declared.operands.OperandPart.{OperandPart}
 use Rattle.fs_instr.specs.declared.operands.OperandPart.TheVariants as part
 use Rattle.fs_instr.specs.declared.instr.Instr.{Instr}

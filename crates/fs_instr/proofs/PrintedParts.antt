@@ -6,16 +6,16 @@ use Rattle.fs_tokens.specs.Bytes.{begins}
 use Rattle.fs_tokens.specs.Tokens.{Tok, Word, Lined, AreTokens, none, skip, token, word, without_lines}
 use Rattle.fs_tokens.specs.declared.word.Class.{Class}
 use Rattle.fs_tokens.specs.declared.token.Mark.TheVariants as mark
-use Rattle.fs_mnemonics.specs.Rows.{look_up}
+use Rattle.fs_instr.specs.Rows.{look_up}
 use Rattle.std.specs.Option.{option_or}
-use Rattle.fs_mnemonics.specs.Names.{op_of, name_text, register_names, immediate_names, branch_names, single_names, plain_names, acquiring_names, releasing_names, both_names, both_apart_names}
-use Rattle.fs_mnemonics.specs.FenceLetters.{letters_text}
+use Rattle.fs_instr.specs.Names.{op_of, name_text, register_names, immediate_names, branch_names, single_names, plain_names, acquiring_names, releasing_names, both_names, both_apart_names}
+use Rattle.fs_instr.specs.FenceLetters.{letters_text}
 use Rattle.fs_instr.specs.Instructions.{parts_of, op_of_instr, operands_of, targeted}
 use Rattle.fs_instr.specs.OfTable.{IsImmediate, HasLetter, IsOfTable}
 use Rattle.fs_instr.specs.Spelled.{Spells, spells}
 use Rattle.fs_instr.specs.Writing.{part_text, parts_text, row_text, instr_text}
 use Rattle.fs_instr.specs.PrintedTokens.{part_tokens, parts_tokens, instr_tokens, IsApart, in_line, label_of, HasPrintedTokens, TextReadsBack}
-use Rattle.fs_mnemonics.specs.declared.names.Op.{Op}
+use Rattle.fs_instr.specs.declared.names.Op.{Op}
 use Rattle.fs_instr.specs.declared.operands.Operands.{Operands}
 use Rattle.fs_instr.specs.declared.operands.OperandPart.{OperandPart}
 use Rattle.fs_instr.specs.declared.operands.OperandPart.TheVariants as part

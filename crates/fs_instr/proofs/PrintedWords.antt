@@ -12,7 +12,7 @@ use Rattle.fs_tokens.specs.Bytes.{is_letter, is_blank}
 use Rattle.fs_tokens.specs.Tokens.{Front, Take, piece, word, Lined, AreTokens, token}
 use Rattle.std.specs.Fmt.{decimal}
 use Rattle.std.proofs.lemmas.Fmt.{decimal_is_IsNumeral}
-use Rattle.fs_mnemonics.specs.Rows.{look_up}
+use Rattle.fs_instr.specs.Rows.{look_up}
 use Rattle.fs_instr.specs.PrintedTokens.{IsApart}
 
 abbrev pub all_letters : List ℕ → Bool

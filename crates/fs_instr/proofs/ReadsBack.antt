@@ -7,17 +7,17 @@ use Rattle.fs_instr.specs.Operands.{Filled, immediate_of, below_of}
 use Rattle.fs_instr.specs.Spelled.{plus, minus, IsPart, rd, first, second, sign, imm, below, constant, label, x0, before, after, no_offset, none, next, spells}
 use Rattle.fs_instr.specs.PrintedTokens.{ReadsBack, number_tokens}
 use Rattle.fs_instr.specs.OfTable.{IsImmediate, HasLetter, IsOfTable}
-use Rattle.fs_mnemonics.specs.FenceLetters.{letters_of, letters_text}
+use Rattle.fs_instr.specs.FenceLetters.{letters_of, letters_text}
 use Rattle.fs_instr.specs.Registers.{register_of as register_named, low_x}
-use Rattle.fs_mnemonics.specs.declared.letters.Letters.{Letters}
+use Rattle.fs_instr.specs.declared.letters.Letters.{Letters}
 use Rattle.fs_instr.specs.declared.instr.Instr.{Instr}
-use Rattle.fs_mnemonics.specs.declared.names.RegOp.{RegOp}
-use Rattle.fs_mnemonics.specs.declared.names.ImmOp.{ImmOp}
-use Rattle.fs_mnemonics.specs.declared.names.ShiftOp.{ShiftOp}
-use Rattle.fs_mnemonics.specs.declared.names.Op.TheVariants as op
+use Rattle.fs_instr.specs.declared.names.RegOp.{RegOp}
+use Rattle.fs_instr.specs.declared.names.ImmOp.{ImmOp}
+use Rattle.fs_instr.specs.declared.names.ShiftOp.{ShiftOp}
+use Rattle.fs_instr.specs.declared.names.Op.TheVariants as op
 use Rattle.fs_instr.specs.Reading.{is_refused}
-use Rattle.fs_mnemonics.specs.declared.names.AmoOp.{AmoOp}
-use Rattle.fs_mnemonics.specs.declared.names.BranchOp.{BranchOp}
+use Rattle.fs_instr.specs.declared.names.AmoOp.{AmoOp}
+use Rattle.fs_instr.specs.declared.names.BranchOp.{BranchOp}
 use Rattle.std.specs.List.{list_any}
 use Rattle.std.specs.Char.{digit_value}
 use Rattle.std.specs.Fmt.{decimal}
@@ -25,7 +25,7 @@ use Rattle.std.specs.Str.Parse.{AllDigits}
 use Rattle.std.proofs.lemmas.Fmt.{decimal_is_IsNumeral}
 use Rattle.fs_instr.specs.declared.operands.OperandPart.TheVariants as part
 use Rattle.fs_instr.specs.declared.instr.Instr.TheVariants as instr
-use Rattle.fs_mnemonics.specs.Names.{op_of, single_names, branch_names, immediate_names, register_names}
+use Rattle.fs_instr.specs.Names.{op_of, single_names, branch_names, immediate_names, register_names}
 use Rattle.fs_instr.proofs.RoundTrip.{register_name, branch_name, amo_name, immediate_name, shift_name, lr_name, sc_name, letters_back, ann_of}
 use Rattle.fs_instr.proofs.Printed.{register_back, number_back}
 

@@ -1,19 +1,19 @@
 -- What is printed reads back: names, registers and letters.
 use Rattle.std.proofs.Common.{◌≡◌, Some, Bool, true, false, ◌||◌, refl}
-use Rattle.fs_mnemonics.specs.Names.{op_of, name_text, register_names, immediate_names, branch_names, single_names, plain_names, acquiring_names, releasing_names, both_names, both_apart_names}
-use Rattle.fs_mnemonics.specs.FenceLetters.{letters_of, letters_rows, letters_text, some_letters}
-use Rattle.fs_mnemonics.specs.declared.names.Ann.{Ann}
-use Rattle.fs_mnemonics.specs.declared.names.RegOp.{RegOp}
-use Rattle.fs_mnemonics.specs.declared.names.AmoOp.{AmoOp}
-use Rattle.fs_mnemonics.specs.declared.names.BranchOp.{BranchOp}
-use Rattle.fs_mnemonics.specs.declared.names.Op.TheVariants.{Register, Immediate, Shift, Lr, Sc, Amo, Branch}
-use Rattle.fs_mnemonics.specs.declared.names.ImmOp.{ImmOp}
-use Rattle.fs_mnemonics.specs.declared.names.ShiftOp.{ShiftOp}
-use Rattle.fs_mnemonics.specs.declared.names.RegOp.TheVariants as reg
-use Rattle.fs_mnemonics.specs.declared.names.ImmOp.TheVariants as imm
-use Rattle.fs_mnemonics.specs.declared.names.ShiftOp.TheVariants as shift
-use Rattle.fs_mnemonics.specs.declared.names.AmoOp.TheVariants as amo
-use Rattle.fs_mnemonics.specs.declared.names.BranchOp.TheVariants as branch
+use Rattle.fs_instr.specs.Names.{op_of, name_text, register_names, immediate_names, branch_names, single_names, plain_names, acquiring_names, releasing_names, both_names, both_apart_names}
+use Rattle.fs_instr.specs.FenceLetters.{letters_of, letters_rows, letters_text, some_letters}
+use Rattle.fs_instr.specs.declared.names.Ann.{Ann}
+use Rattle.fs_instr.specs.declared.names.RegOp.{RegOp}
+use Rattle.fs_instr.specs.declared.names.AmoOp.{AmoOp}
+use Rattle.fs_instr.specs.declared.names.BranchOp.{BranchOp}
+use Rattle.fs_instr.specs.declared.names.Op.TheVariants.{Register, Immediate, Shift, Lr, Sc, Amo, Branch}
+use Rattle.fs_instr.specs.declared.names.ImmOp.{ImmOp}
+use Rattle.fs_instr.specs.declared.names.ShiftOp.{ShiftOp}
+use Rattle.fs_instr.specs.declared.names.RegOp.TheVariants as reg
+use Rattle.fs_instr.specs.declared.names.ImmOp.TheVariants as imm
+use Rattle.fs_instr.specs.declared.names.ShiftOp.TheVariants as shift
+use Rattle.fs_instr.specs.declared.names.AmoOp.TheVariants as amo
+use Rattle.fs_instr.specs.declared.names.BranchOp.TheVariants as branch
 
 abbrev pub ann_of : Bool → Bool → Ann
 ann_of a r = record { acquire = a; release = r }

@@ -8,18 +8,18 @@ use Rattle.fs_tokens.specs.declared.token.Mark.{Mark}
 use Rattle.fs_tokens.specs.declared.token.Mark.TheVariants as mark
 use Rattle.fs_instr.specs.Registers.{register_of}
 use Rattle.fs_tokens.specs.Numbers.{number_of}
-use Rattle.fs_mnemonics.specs.FenceLetters.{letters_of}
+use Rattle.fs_instr.specs.FenceLetters.{letters_of}
 use Rattle.fs_instr.specs.Operands.{Filled, blank, take_word, take_name, mark_number, is_mark, take_sign, take_register, take_letters, take_unsigned, take_number, signed, immediate_of, below_of, read_part, read_parts}
 use Rattle.fs_instr.specs.Spelled.{IsNumber, plus, minus, IsPart, rd, first, second, x0, sign, imm, below, constant, no_offset, zero_offset, label, before, after, AreParts, none, next, Spells, spells, IsUnsupported, unsupported, IsUnknown, unknown, Answers}
-use Rattle.fs_mnemonics.specs.Names.{op_of}
+use Rattle.fs_instr.specs.Names.{op_of}
 use Rattle.fs_instr.specs.Instructions.{parts_of}
 use Rattle.fs_instr.specs.Reading.{Outcome, is_refused, is_alone, is_empty, made, read_row, read_named, read_tokens}
-use Rattle.fs_mnemonics.specs.declared.names.Op.{Op}
-use Rattle.fs_mnemonics.specs.declared.names.Op.TheVariants as op
+use Rattle.fs_instr.specs.declared.names.Op.{Op}
+use Rattle.fs_instr.specs.declared.names.Op.TheVariants as op
 use Rattle.fs_instr.specs.declared.instr.Instr.{Instr}
 use Rattle.fs_instr.specs.declared.reading.Refused.TheVariants.{Form, Name, Suffix}
 use Rattle.std.specs.Option.{is_some}
-use Rattle.fs_mnemonics.specs.declared.letters.Letters.{Letters}
+use Rattle.fs_instr.specs.declared.letters.Letters.{Letters}
 use Rattle.fs_instr.specs.declared.operands.OperandPart.{OperandPart}
 use Rattle.fs_instr.specs.declared.operands.OperandPart.TheVariants as part
 

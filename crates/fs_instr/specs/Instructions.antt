@@ -3,9 +3,9 @@ use Rattle.std.specs.Prelude.{ℕ, List, [], ◌∷◌, Option, Some, None, Bool
 use Rattle.fs_tokens.specs.declared.token.Mark.TheVariants.{Comma, OpenParen, CloseParen}
 use Rattle.fs_instr.specs.Registers.{named}
 use Rattle.fs_instr.specs.Operands.{all_letters}
-use Rattle.fs_mnemonics.specs.declared.names.Op.{Op}
-use Rattle.fs_mnemonics.specs.declared.names.Op.TheVariants as op
-use Rattle.fs_mnemonics.specs.declared.names.ImmOp.TheVariants.{Addi}
+use Rattle.fs_instr.specs.declared.names.Op.{Op}
+use Rattle.fs_instr.specs.declared.names.Op.TheVariants as op
+use Rattle.fs_instr.specs.declared.names.ImmOp.TheVariants.{Addi}
 use Rattle.fs_instr.specs.declared.operands.Operands.{Operands}
 use Rattle.fs_instr.specs.declared.operands.OperandPart.{OperandPart}
 use Rattle.fs_instr.specs.declared.operands.OperandPart.TheVariants.{Rd, First, Second, Zero, Sign, Immediate, Below, Constant, NoOffset, Label, Before, After}

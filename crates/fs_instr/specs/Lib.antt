@@ -1,3 +1,6 @@
+pub mod Rows
+pub mod Names
+pub mod FenceLetters
 pub mod Registers
 pub mod Operands
 pub mod Instructions

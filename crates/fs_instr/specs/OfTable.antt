@@ -1,8 +1,8 @@
 -- Which instructions the table has: numbers in their ranges, annotations that it lists (RV32I and the A extension).
 use Rattle.std.specs.Prelude.{◌≡◌, ◌<◌, ◌^◌, ◌||◌, ℤ, pos, negsuc, false, IsTrue}
 use Rattle.fs_instr.specs.Reading.{is_refused}
-use Rattle.fs_mnemonics.specs.declared.letters.Letters.{Letters}
-use Rattle.fs_mnemonics.specs.declared.names.Op.TheVariants as op
+use Rattle.fs_instr.specs.declared.letters.Letters.{Letters}
+use Rattle.fs_instr.specs.declared.names.Op.TheVariants as op
 use Rattle.fs_instr.specs.declared.instr.Instr.{Instr}
 use Rattle.fs_instr.specs.declared.instr.Instr.TheVariants as instr
 

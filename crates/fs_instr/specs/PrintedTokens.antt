@@ -4,8 +4,8 @@ use Rattle.std.specs.Fmt.{decimal}
 use Rattle.fs_tokens.specs.Bytes.{is_letter}
 use Rattle.fs_tokens.specs.Tokens.{Tok, Sign, Lined, AreTokens, word}
 use Rattle.fs_tokens.specs.declared.token.Mark.TheVariants.{Minus}
-use Rattle.fs_mnemonics.specs.Names.{name_text}
-use Rattle.fs_mnemonics.specs.FenceLetters.{letters_text}
+use Rattle.fs_instr.specs.Names.{name_text}
+use Rattle.fs_instr.specs.FenceLetters.{letters_text}
 use Rattle.fs_instr.specs.Instructions.{parts_of, op_of_instr, operands_of, targeted}
 use Rattle.fs_instr.specs.Spelled.{Spells}
 use Rattle.fs_instr.specs.Writing.{register_text, instr_text}

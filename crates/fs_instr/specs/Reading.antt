@@ -1,11 +1,11 @@
 -- Instructions from tokens.
 use Rattle.std.specs.Prelude.{ℕ, List, [], ◌∷◌, Option, Some, None, option_map, Bool, true, false, not, ◌&&◌, Result, Ok, Err, if◌then◌else◌}
 use Rattle.fs_tokens.specs.Tokens.{Tok, Word}
-use Rattle.fs_mnemonics.specs.Names.{op_of}
+use Rattle.fs_instr.specs.Names.{op_of}
 use Rattle.fs_instr.specs.Operands.{Filled, blank, read_parts}
 use Rattle.fs_instr.specs.Instructions.{parts_of, instr_of}
-use Rattle.fs_mnemonics.specs.declared.names.Op.{Op}
-use Rattle.fs_mnemonics.specs.declared.names.Op.TheVariants.{Lr, Sc, Fence, FenceAll}
+use Rattle.fs_instr.specs.declared.names.Op.{Op}
+use Rattle.fs_instr.specs.declared.names.Op.TheVariants.{Lr, Sc, Fence, FenceAll}
 use Rattle.fs_instr.specs.declared.instr.Instr.{Instr}
 use Rattle.fs_instr.specs.declared.operands.Operands.{Operands}
 use Rattle.fs_instr.specs.declared.reading.Parsed.{Parsed}

@@ -1,6 +1,6 @@
 -- The names of registers.
 use Rattle.std.specs.Prelude.{ℕ, List, [], ◌∷◌, Option, Some, None, codes, ◌==◌, if◌then◌else◌}
-use Rattle.fs_mnemonics.specs.Rows.{look_up}
+use Rattle.fs_instr.specs.Rows.{look_up}
 use Rattle.std.specs.Option.{option_or}
 
 -- x0 to x10

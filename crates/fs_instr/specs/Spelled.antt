@@ -5,16 +5,16 @@ use Rattle.fs_tokens.specs.Tokens.{Tok, Word, Sign}
 use Rattle.fs_tokens.specs.declared.word.Class.{Class}
 use Rattle.fs_tokens.specs.declared.token.Mark.{Mark}
 use Rattle.fs_tokens.specs.declared.token.Mark.TheVariants.{OpenParen, Minus}
-use Rattle.fs_mnemonics.specs.Names.{op_of}
+use Rattle.fs_instr.specs.Names.{op_of}
 use Rattle.fs_instr.specs.Registers.{register_of}
 use Rattle.fs_tokens.specs.Numbers.{number_of}
-use Rattle.fs_mnemonics.specs.FenceLetters.{letters_of}
+use Rattle.fs_instr.specs.FenceLetters.{letters_of}
 use Rattle.fs_instr.specs.Operands.{Filled, blank, immediate_of, below_of, constant_of}
 use Rattle.fs_instr.specs.Instructions.{parts_of, instr_of}
 use Rattle.fs_instr.specs.Reading.{is_refused, is_alone, is_empty, operands_in, Outcome}
 use Rattle.fs_instr.specs.declared.reading.Refused.TheVariants.{Form, Name, Suffix}
-use Rattle.fs_mnemonics.specs.declared.letters.Letters.{Letters}
-use Rattle.fs_mnemonics.specs.declared.names.Op.{Op}
+use Rattle.fs_instr.specs.declared.letters.Letters.{Letters}
+use Rattle.fs_instr.specs.declared.names.Op.{Op}
 use Rattle.fs_instr.specs.declared.instr.Instr.{Instr}
 use Rattle.fs_instr.specs.declared.operands.OperandPart.{OperandPart}
 use Rattle.fs_instr.specs.declared.operands.OperandPart.TheVariants as part

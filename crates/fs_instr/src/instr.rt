@@ -3,12 +3,13 @@
 ghost use Rattle.std.specs.Prelude.{◌≡◌};
 ghost use Rattle.fs_instr.specs.Instructions.{parts_of, instr_of, op_of_instr, operands_of, targeted, target_of, is_memory, is_conditional, roles_of, dest_of, sources_of, address_of, data_of, carries_of};
 
+use crate::letters::Letters;
+use crate::names::{AmoOp, Ann, BranchOp, ImmOp, Op, RegOp, ShiftOp};
 use crate::operands::OperandPart::{
     self, After, Before, Below, Constant, First, Immediate, Label, NoOffset, Rd, Second, Sign, Zero,
 };
 use crate::operands::Operands;
 use crate::reg::Reg;
-use fs_mnemonics::{AmoOp, Ann, BranchOp, ImmOp, Letters, Op, RegOp, ShiftOp};
 use fs_tokens::Mark::{CloseParen, Comma, OpenParen};
 
 /// An instruction of the table (RV32I and the A extension of the unprivileged manual, 20191213). Registers hold words of

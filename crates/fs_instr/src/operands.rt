@@ -5,8 +5,8 @@ ghost use Rattle.fs_instr.specs.declared.operands.Operands.{Operands};
 ghost use Rattle.fs_instr.specs.declared.operands.OperandPart.TheVariants.{Immediate, Below, NoOffset};
 ghost use Rattle.fs_instr.specs.Operands.{filled, toks, take_word, take_name, is_mark, take_sign, take_letters, take_unsigned, take_number, immediate_of, below_of, constant_of, read_part, read_parts, blank};
 
+use crate::letters::Letters;
 use crate::reg::Reg;
-use fs_mnemonics::Letters;
 use fs_tokens::{Kind, Mark, Token, number_of};
 
 /// A part of the operands, in the order of the text.

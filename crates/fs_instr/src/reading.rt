@@ -8,8 +8,8 @@ ghost use Rattle.fs_instr.specs.OfTable.{IsOfTable};
 ghost use Rattle.fs_instr.specs.declared.instr.Instr.{Instr};
 
 use crate::instr::{Instr, build, parts};
+use crate::names::{Ann, Op};
 use crate::operands::read_parts;
-use fs_mnemonics::{Ann, Op};
 use fs_tokens::{Kind, Token};
 
 /// An instruction as read; a branch or a jump has the target 0 still, and the label that it names.

@@ -4,7 +4,7 @@ use Rattle.std.specs.Prelude.{slice_get}
 use Rattle.std.specs.List.{AllZip, Contains}
 use Rattle.std.specs.Result.{IsErrAnd}
 use Rattle.std.proofs.lemmas.Option.{slice_get_within}
-use Rattle.fs_syntax.specs.declared.test.Test.{Test}
+use Rattle.fs_model.specs.declared.test.Test.{Test}
 use Rattle.fs_kinds.specs.declared.fault.Fault.{Fault}
 use Rattle.fs_kinds.specs.declared.fault.Fault.TheVariants as fault
 use Rattle.fs_model.specs.TooMany.{IsRunFault}

@@ -4,7 +4,7 @@ ghost use Rattle.std.specs.Prelude.{◌≡◌, IfOk, IfSome, IsOkUnless};
 ghost use Rattle.std.specs.Arc.{arc_value};
 ghost use Rattle.fs_kinds.specs.declared.fault.Fault.TheVariants.{Memory};
 ghost use Rattle.fs_kinds.specs.Placement.{slots_of};
-ghost use Rattle.fs_syntax.specs.Slots.{slots};
+ghost use Rattle.fs_model.specs.Slots.{slots};
 ghost use Rattle.fs_judge.specs.Verdicts.{IsShownWith, IsVerdict};
 
 use crate::problem::Problem;
@@ -26,7 +26,7 @@ pub struct Judge {
 impl Model for Judge {
     ghost use Rattle.std.specs.Arc.{arc_value};
     ghost use Rattle.std.specs.Coded.{codes};
-    ghost use Rattle.fs_syntax.specs.contracts.outcome.Outcome as outcome;
+    ghost use Rattle.fs_model.specs.contracts.outcome.Outcome as outcome;
     ghost use Rattle.fs_evidence.specs.Evidence.{Question as Asked};
 
     ghost Value = { Asked };

@@ -2,7 +2,7 @@
 
 ghost use Rattle.std.specs.Prelude.{◌≡◌, ◌≤◌, length, IfOk, IsOkUnless};
 ghost use Rattle.fs_kinds.specs.declared.fault.Fault.TheVariants.{Memory};
-ghost use Rattle.fs_syntax.specs.Test.{IsBounded};
+ghost use Rattle.fs_model.specs.Test.{IsBounded};
 ghost use Rattle.fs_model.specs.Execution.{initial_words};
 ghost use Rattle.fs_answer.specs.Candidates.{IsShowing};
 ghost use Rattle.fs_cand.specs.Candidates.{candidate_of, IsMade};
@@ -15,8 +15,8 @@ use fs_cand::Candidate;
 use fs_evidence::{Link, Witness};
 use fs_kinds::{Fault, Placement, Slot};
 use fs_list::List;
+use fs_model::Test;
 use fs_relation::{Judged, judge};
-use fs_syntax::Test;
 use fs_witness::widest_witness;
 use std::alloc::Global;
 

@@ -3,7 +3,7 @@
 ghost use Rattle.std.specs.Prelude.{◌≡◌, ◌≢◌, ◌≤◌, ◌<◌, ◌^◌, Some, All, length, slice_get, IfOk, OnOk, IfErr, IsOkUnless};
 ghost use Rattle.fs_kinds.specs.declared.fault.Fault.{Fault as RunFault};
 ghost use Rattle.fs_kinds.specs.declared.fault.Fault.TheVariants.{Memory};
-ghost use Rattle.fs_syntax.specs.Test.{IsBounded, IsStart};
+ghost use Rattle.fs_model.specs.Test.{IsBounded, IsStart};
 ghost use Rattle.fs_answer.specs.CandidateFaults.{IsCandidateFault};
 ghost use Rattle.fs_answer.specs.Candidates.{Candidate as Defined};
 ghost use Rattle.fs_answer.specs.Listings.{IsListing};
@@ -13,8 +13,8 @@ ghost use Rattle.fs_judge.specs.inner.Bases.{IsPrejudged, ArePrejudged};
 use crate::prejudged::Prejudged;
 use fs_evidence::Question;
 use fs_kinds::Fault;
+use fs_model::Test;
 use fs_showing::Showing;
-use fs_syntax::Test;
 use fs_values::Values;
 use std::alloc::Global;
 use std::sync::Arc;

@@ -15,9 +15,9 @@ use crate::prejudged::Prejudged;
 use fs_evidence::{Cycles, Link, Witness};
 use fs_kinds::{Fault, Placement, Slot};
 use fs_list::List;
+use fs_model::Test;
 use fs_relation::has_order;
 use fs_showing::Showing;
-use fs_syntax::Test;
 use fs_witness::widest_witness;
 use std::alloc::{AllocError, Global};
 

@@ -1,9 +1,9 @@
 //! Judges of one problem, beside what the problem itself says.
 ghost use Rattle.std.specs.Prelude.{◌≡◌};
-ghost use Rattle.fs_syntax.specs.Test.{IsBounded};
+ghost use Rattle.fs_model.specs.Test.{IsBounded};
 
-use crate::questions::{placement_of, verdict_on};
-use fs_examples::{PRICES, question_of};
+use crate::questions::verdict_on;
+use fs_examples::{PRICES, placement_of, question_of};
 use fs_judge::{Judge, Problem, Verdict};
 use fs_kinds::Fault;
 use fs_model::Choice;

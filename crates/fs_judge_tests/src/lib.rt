@@ -1,13 +1,14 @@
-//! Tests of what the search stands on, on litmus tests as text: the rows of candidates, verdicts on placements, and the board.
+//! Tests of what the search stands on: relations, and, on litmus tests as text, the rows of candidates and verdicts on placements.
+//! They stand apart, so that no crate is proved twice for the sake of its tests.
 #![tactic(auto)]
 
-#[cfg(test)]
-mod boards;
 #[cfg(test)]
 mod edges;
 #[cfg(test)]
 mod judges;
 #[cfg(test)]
 mod questions;
+#[cfg(test)]
+mod relations;
 #[cfg(test)]
 mod verdicts;

@@ -9,7 +9,7 @@ use Rattle.fs_kinds.specs.declared.slot.Slot.{Slot}
 use Rattle.fs_kinds.specs.Kind.{Pair, ReadRead, ReadWrite, WriteRead, WriteWrite, is_subset}
 use Rattle.fs_kinds.specs.Placement.{kind_at, pairs_kept, slots_of}
 use Rattle.fs_kinds.specs.Slot.{is_rising, is_same_slot}
-use Rattle.fs_syntax.specs.declared.test.Test.{Test}
+use Rattle.fs_model.specs.declared.test.Test.{Test}
 use Rattle.fs_model.specs.Numbers.{between, numbers_below, stands_before}
 use Rattle.fs_model.specs.Operations.{PreExecution, operation, operations, place, classes, trace_of, instr_at, po}
 use Rattle.fs_model.specs.Source.{gmo, source_in}

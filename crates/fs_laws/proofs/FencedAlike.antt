@@ -4,8 +4,8 @@ use Rattle.std.proofs.Common.{◌≡◌, ℕ, ◌==◌, Bool, true, false, ◌&&
 use Rattle.std.specs.Prelude.{is_some, option_and_then, unwrap_or}
 use Rattle.std.specs.List.{list_any, list_all, last_or, range_with_len}
 use Rattle.fs_kinds.specs.declared.placement.Entry.{Entry}
-use Rattle.fs_mnemonics.specs.declared.names.Ann.{Ann}
-use Rattle.fs_syntax.specs.Test.{address_of}
+use Rattle.fs_instr.specs.declared.names.Ann.{Ann}
+use Rattle.fs_model.specs.Test.{address_of}
 use Rattle.fs_model.specs.Forms.{annotation}
 use Rattle.fs_model.specs.Numbers.{is_same, numbers_below, has_number, stands_before}
 use Rattle.fs_model.specs.Operations.{PreExecution, accesses, operation, is_load, is_store, same_word, same_hart, po, any_between, is_rcsc, is_amo_or_sc, paired}

@@ -7,10 +7,10 @@ use Rattle.fs_kinds.specs.declared.kind.Kind.{Kind}
 use Rattle.fs_kinds.specs.declared.kind.Kind.TheVariants.{RR, RW, RRw, WR, WW, WRw, RwR, RwW, RwRw, Tso}
 use Rattle.fs_kinds.specs.declared.placement.Entry.{Entry}
 use Rattle.fs_kinds.specs.Placement.{kind_at}
-use Rattle.fs_syntax.specs.Slots.{slot_at}
-use Rattle.fs_syntax.specs.Fenced.{is_filled, position, moved, fences, fence_of, fenced_code}
-use Rattle.fs_syntax.specs.Moved.{place}
-use Rattle.fs_syntax.proofs.FencedPlaces.{bit, count, count_first, with_fences, fences_code}
+use Rattle.fs_model.specs.Slots.{slot_at}
+use Rattle.fs_model.specs.Fenced.{is_filled, position, moved, fences, fence_of, fenced_code}
+use Rattle.fs_model.specs.Moved.{place}
+use Rattle.fs_model.proofs.FencedPlaces.{bit, count, count_first, with_fences, fences_code}
 use Rattle.fs_model.specs.declared.hart.Hart.{Hart}
 use Rattle.fs_model.specs.declared.step.Step.{Step}
 use Rattle.fs_model.specs.Execute.{does_branch, next_after, executed, read}

@@ -7,7 +7,7 @@ use Rattle.fs_instr.specs.Instructions.{roles_of, is_conditional, sources_of, ca
 use Rattle.fs_kinds.specs.declared.kind.Kind.{Kind}
 use Rattle.fs_kinds.specs.declared.kind.Classes.{Classes}
 use Rattle.fs_kinds.specs.declared.placement.Entry.{Entry}
-use Rattle.fs_syntax.proofs.FencedPlaces.{bit}
+use Rattle.fs_model.proofs.FencedPlaces.{bit}
 use Rattle.fs_model.specs.declared.step.Step.{Step}
 use Rattle.fs_model.specs.Forms.{is_lr, is_sc}
 use Rattle.fs_model.specs.Numbers.{between, is_same}

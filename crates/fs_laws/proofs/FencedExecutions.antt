@@ -8,10 +8,10 @@ use Rattle.fs_kinds.specs.declared.placement.Entry.{Entry}
 use Rattle.fs_kinds.specs.declared.slot.Slot.{Slot}
 use Rattle.fs_kinds.specs.Slot.{is_same_slot}
 use Rattle.fs_kinds.specs.Placement.{kind_at, all_with}
-use Rattle.fs_syntax.specs.declared.test.Test.{Test}
-use Rattle.fs_syntax.specs.Slots.{slots}
-use Rattle.fs_syntax.specs.Fenced.{fenced, fenced_code}
-use Rattle.fs_syntax.proofs.FencedSteps.{length-fenced_codes}
+use Rattle.fs_model.specs.declared.test.Test.{Test}
+use Rattle.fs_model.specs.Slots.{slots}
+use Rattle.fs_model.specs.Fenced.{fenced, fenced_code}
+use Rattle.fs_model.proofs.FencedSteps.{length-fenced_codes}
 use Rattle.fs_model.specs.declared.step.Step.{Step}
 use Rattle.fs_model.specs.Trace.{Runs}
 use Rattle.fs_model.specs.Operations.{steps_of}

@@ -7,8 +7,8 @@ use Rattle.fs_kinds.specs.declared.kind.Kind.{Kind}
 use Rattle.fs_kinds.specs.declared.kind.Kind.TheVariants.{RR, RW, RRw, WR, WW, WRw, RwR, RwW, RwRw, Tso}
 use Rattle.fs_kinds.specs.declared.kind.Classes.{Classes}
 use Rattle.fs_kinds.specs.declared.placement.Entry.{Entry}
-use Rattle.fs_syntax.specs.Fenced.{moved, fence_of}
-use Rattle.fs_syntax.specs.Moved.{IsMoved}
+use Rattle.fs_model.specs.Fenced.{moved, fence_of}
+use Rattle.fs_model.specs.Moved.{IsMoved}
 use Rattle.fs_model.specs.Forms.{is_lr, is_sc, is_amo, is_storing, annotation}
 use Rattle.fs_model.specs.Fences.{instr_orders, kind_orders}
 use Rattle.fs_model.specs.Execute.{address_in, stored_in, executed}

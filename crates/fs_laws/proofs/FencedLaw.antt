@@ -5,9 +5,9 @@ use Rattle.std.specs.List.{list_any}
 use Rattle.fs_kinds.specs.declared.placement.Entry.{Entry}
 use Rattle.fs_kinds.specs.declared.slot.Slot.{Slot}
 use Rattle.fs_kinds.specs.Placement.{kind_at}
-use Rattle.fs_syntax.specs.declared.test.Test.{Test}
-use Rattle.fs_syntax.specs.Slots.{slots, slot_at}
-use Rattle.fs_syntax.specs.Fenced.{fenced}
+use Rattle.fs_model.specs.declared.test.Test.{Test}
+use Rattle.fs_model.specs.Slots.{slots, slot_at}
+use Rattle.fs_model.specs.Fenced.{fenced}
 use Rattle.fs_model.specs.declared.step.Step.{Step}
 use Rattle.fs_model.specs.Numbers.{between}
 use Rattle.fs_model.specs.Operations.{PreExecution, operation, classes, place, trace_of, instr_at}

@@ -7,10 +7,10 @@ use Rattle.fs_instr.specs.declared.instr.Instr.{Instr}
 use Rattle.fs_kinds.specs.declared.kind.Kind.{Kind}
 use Rattle.fs_kinds.specs.declared.placement.Entry.{Entry}
 use Rattle.fs_kinds.specs.Placement.{kind_at}
-use Rattle.fs_syntax.specs.Slots.{slot_at}
-use Rattle.fs_syntax.specs.Fenced.{position, moved, fence_of, fenced_code}
-use Rattle.fs_syntax.specs.Moved.{place}
-use Rattle.fs_syntax.proofs.FencedTest.{ahead, no_further}
+use Rattle.fs_model.specs.Slots.{slot_at}
+use Rattle.fs_model.specs.Fenced.{position, moved, fence_of, fenced_code}
+use Rattle.fs_model.specs.Moved.{place}
+use Rattle.fs_model.proofs.FencedTest.{ahead, no_further}
 use Rattle.fs_model.specs.declared.hart.Hart.{Hart}
 use Rattle.fs_model.specs.declared.step.Step.{Step}
 use Rattle.fs_model.specs.Trace.{Accesses, IsStep, AreSteps, Runs, after_step, hart_after, start_with}

@@ -1,9 +1,9 @@
 -- Tests that are the same but for where the parts of their conditions lie have the same executions.
 use Rattle.std.proofs.Common.{◌≡◌, ◌↔◌, List, ap, sym, subst, ◌∙◌}
 use Rattle.fs_kinds.specs.declared.placement.Entry.{Entry}
-use Rattle.fs_syntax.specs.declared.test.Test.{Test}
-use Rattle.fs_syntax.specs.Test.{IsSame}
-use Rattle.fs_syntax.specs.Fenced.{fenced}
+use Rattle.fs_model.specs.declared.test.Test.{Test}
+use Rattle.fs_model.specs.Test.{IsSame}
+use Rattle.fs_model.specs.Fenced.{fenced}
 use Rattle.fs_model.specs.Allows.{Allows, Shows, no_fences}
 use Rattle.fs_model.specs.Execution.{Execution, pre_execution}
 use Rattle.fs_model.specs.Shows.{holds, is_outcome, final_register, final_word, has_outcome}

@@ -3,7 +3,7 @@ use Rattle.std.proofs.Common.{◌≡◌, ℕ, zero, suc, ◌+◌, ◌-◌, ◌<�
 use Rattle.std.specs.List.{list_any, range_with_len}
 use Rattle.std.proofs.lemmas.Bool.{cases_lt}
 use Rattle.std.proofs.lemmas.Bool.Decides.{nat_tests}
-use Rattle.fs_syntax.proofs.FencedPlaces.{bit}
+use Rattle.fs_model.proofs.FencedPlaces.{bit}
 use Rattle.fs_model.specs.Numbers.{between}
 
 pub or_false : (b : Bool) → (b || false) ≡ b

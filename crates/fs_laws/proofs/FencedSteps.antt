@@ -4,9 +4,9 @@ use Rattle.std.specs.Prelude.{is_some, option_map, option_and_then, unwrap_or, s
 use Rattle.fs_kinds.specs.declared.kind.Kind.{Kind}
 use Rattle.fs_kinds.specs.declared.placement.Entry.{Entry}
 use Rattle.fs_kinds.specs.Placement.{kind_at}
-use Rattle.fs_syntax.specs.Slots.{slot_at}
-use Rattle.fs_syntax.specs.Fenced.{is_filled, moved, fence_of}
-use Rattle.fs_syntax.proofs.FencedPlaces.{bit}
+use Rattle.fs_model.specs.Slots.{slot_at}
+use Rattle.fs_model.specs.Fenced.{is_filled, moved, fence_of}
+use Rattle.fs_model.proofs.FencedPlaces.{bit}
 use Rattle.fs_model.specs.declared.step.Step.{Step}
 use Rattle.fs_instr.specs.Instructions.{nop}
 use Rattle.fs_model.specs.Operations.{instr_at}

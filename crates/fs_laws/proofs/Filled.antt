@@ -10,8 +10,8 @@ use Rattle.fs_kinds.specs.Kind.{is_subset}
 use Rattle.fs_kinds.specs.Placement.{slots_of, all_with, pairs_kept, is_weaker}
 use Rattle.fs_kinds.specs.PriceTable.{PriceTable, IsPriceTable, is_offered, are_offered}
 use Rattle.fs_kinds.proofs.Entries.{slots_of-all_with}
-use Rattle.fs_syntax.specs.declared.test.Test.{Test}
-use Rattle.fs_syntax.specs.Slots.{slots}
+use Rattle.fs_model.specs.declared.test.Test.{Test}
+use Rattle.fs_model.specs.Slots.{slots}
 use Rattle.fs_model.specs.Execution.{Execution}
 use Rattle.fs_model.specs.Allows.{Shows, IsPlacement, RefutesAll}
 use Rattle.fs_laws.specs.Strength.{AllAreRefuted, IsAlwaysAllowed, HasNoAnswer}

@@ -9,7 +9,7 @@ use Rattle.fs_kinds.specs.declared.slot.Slot.{Slot}
 use Rattle.fs_kinds.specs.Kind.{Pair, ReadRead, ReadWrite, WriteRead, WriteWrite, product, any_pair, is_subset}
 use Rattle.fs_kinds.specs.Placement.{kind_at, pairs_kept, slots_of}
 use Rattle.fs_kinds.specs.Slot.{is_before, is_rising, is_same_slot}
-use Rattle.fs_syntax.specs.Slots.{slot_at}
+use Rattle.fs_model.specs.Slots.{slot_at}
 use Rattle.fs_model.specs.declared.step.Step.{Step}
 use Rattle.fs_model.specs.Fences.{kind_orders}
 

@@ -10,8 +10,8 @@ use Rattle.fs_kinds.specs.declared.placement.Entry.{Entry}
 use Rattle.fs_kinds.specs.Kind.{Pair, ReadRead, ReadWrite, WriteRead, WriteWrite, pairs_order, product, is_subset}
 use Rattle.fs_kinds.specs.Slot.{is_same_slot}
 use Rattle.fs_kinds.specs.Placement.{slots_of, kind_at, pairs_kept, is_weaker, keeps_no_more}
-use Rattle.fs_syntax.specs.declared.test.Test.{Test}
-use Rattle.fs_syntax.specs.Slots.{slot_at}
+use Rattle.fs_model.specs.declared.test.Test.{Test}
+use Rattle.fs_model.specs.Slots.{slot_at}
 use Rattle.fs_model.specs.declared.step.Step.{Step}
 use Rattle.fs_model.specs.Operations.{PreExecution, operation, classes, trace_of, po}
 use Rattle.fs_model.specs.Fences.{kind_orders, placed_before, fence_between}

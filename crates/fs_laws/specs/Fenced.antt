@@ -4,11 +4,11 @@ use Rattle.std.specs.List.{enumerate_from, flat_map}
 use Rattle.fs_kinds.specs.declared.kind.Kind.{Kind}
 use Rattle.fs_kinds.specs.declared.placement.Entry.{Entry}
 use Rattle.fs_kinds.specs.Placement.{kind_at}
-use Rattle.fs_syntax.specs.declared.test.Test.{Test}
-use Rattle.fs_syntax.specs.Slots.{slot_at}
-use Rattle.fs_syntax.specs.Fenced.{fence_of, fenced, moved, position}
-use Rattle.fs_syntax.specs.Moved.{place}
-use Rattle.fs_syntax.specs.Test.{IsSame}
+use Rattle.fs_model.specs.declared.test.Test.{Test}
+use Rattle.fs_model.specs.Slots.{slot_at}
+use Rattle.fs_model.specs.Fenced.{fence_of, fenced, moved, position}
+use Rattle.fs_model.specs.Moved.{place}
+use Rattle.fs_model.specs.Test.{IsSame}
 use Rattle.fs_model.specs.declared.step.Step.{Step}
 use Rattle.fs_model.specs.declared.step.Choice.{Choice}
 use Rattle.fs_model.specs.Allows.{Allows, Shows, no_fences}

@@ -5,7 +5,7 @@ use Rattle.fs_kinds.specs.declared.placement.Entry.{Entry}
 use Rattle.fs_kinds.specs.Kind.{Pair}
 use Rattle.fs_kinds.specs.Placement.{kind_at, pairs_kept}
 use Rattle.fs_kinds.specs.PriceTable.{PriceTable}
-use Rattle.fs_syntax.specs.declared.test.Test.{Test}
+use Rattle.fs_model.specs.declared.test.Test.{Test}
 use Rattle.fs_model.specs.Execution.{Execution, IsExecution}
 use Rattle.fs_model.specs.Allows.{Shows, Allows, IsPlacement, IsCheapest, RefutesAll}
 

@@ -3,7 +3,7 @@
 ghost use Rattle.std.specs.Prelude.{◌≡◌, ℕ, ◌≤◌, List, length};
 ghost use Rattle.fs_kinds.specs.declared.placement.Entry.{Entry};
 ghost use Rattle.fs_kinds.specs.PriceTable.{PriceTable};
-ghost use Rattle.fs_syntax.specs.declared.test.Test.{Test};
+ghost use Rattle.fs_model.specs.declared.test.Test.{Test};
 ghost use Rattle.fs_model.specs.Execution.{Execution};
 ghost use Rattle.fs_model.specs.Allows.{RefutesAll};
 ghost use Rattle.fs_answer.specs.Candidates.{Candidate};

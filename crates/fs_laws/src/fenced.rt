@@ -2,8 +2,8 @@
 
 ghost use Rattle.std.specs.Prelude.{◌↔◌, List, []};
 ghost use Rattle.fs_kinds.specs.declared.placement.Entry.{Entry};
-ghost use Rattle.fs_syntax.specs.declared.test.Test.{Test};
-ghost use Rattle.fs_syntax.specs.Test.{IsSame};
+ghost use Rattle.fs_model.specs.declared.test.Test.{Test};
+ghost use Rattle.fs_model.specs.Test.{IsSame};
 ghost use Rattle.fs_model.specs.Allows.{Allows, Shows, no_fences};
 ghost use Rattle.fs_model.specs.Execution.{Execution, IsExecution};
 ghost use Rattle.fs_laws.specs.Fenced.{AllowsAlike, AllowsAsRead, ExecutesAlike, KeepsOutcome, ShowsAlike};

@@ -12,7 +12,7 @@ use Rattle.fs_tokens.specs.Bytes.{is_letter, is_blank, begins, tail, comment_end
 use Rattle.fs_tokens.specs.Words as words
 use Rattle.fs_tokens.specs.Words.{keyword_of, classed, plain_class, class_or, class_of, is_number, begins_name, has_dot}
 use Rattle.fs_tokens.specs.Tokens.{Tok, Word, Lined, Front, Skip, Take, Unclosed, after_comment, single, mark_of, piece, AreTokens, none as no_tokens, skip, token, unclosed}
-use Rattle.fs_syntax.specs.Test.{is_name}
+use Rattle.fs_model.specs.Test.{is_name}
 use Rattle.fs_litmus.proofs.Bools.{both, neither, both_true}
 
 -- the word is made of letters, and has its class

@@ -8,7 +8,7 @@ use Rattle.fs_instr.specs.declared.instr.Instr.{Instr}
 use Rattle.fs_code.specs.Cells.{Item, Label, Instruction, AreLabels, none as no_labels, label as one_label, IsCell, labels as only_labels, instruction as with_instruction, AreCells, empty, next}
 use Rattle.fs_code.specs.Labels.{StandsAt, here, past_label, past_instruction, AreResolved, none, label, plain, branch, instruction_count}
 use Rattle.fs_instr.specs.Instructions.{target_of}
-use Rattle.fs_syntax.specs.Test.{GoesForward}
+use Rattle.fs_model.specs.Test.{GoesForward}
 use Rattle.fs_litmus.proofs.Jumps.{spelled_no_jump, targeted_jump}
 
 -- each instruction is spelled by some tokens

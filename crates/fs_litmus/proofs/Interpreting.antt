@@ -13,10 +13,10 @@ use Rattle.fs_instr.specs.Instructions.{is_memory}
 use Rattle.fs_instr.specs.declared.instr.Instr.{Instr}
 use Rattle.fs_code.specs.Codes.{AreCodes}
 use Rattle.fs_code.specs.declared.hart.HartCode.{HartCode}
-use Rattle.fs_syntax.specs.Condition.{Condition, Always, Never, Deny, Both, Either, condition_of, nesting, SpeaksOf}
-use Rattle.fs_syntax.specs.Test.{GoesForward, IsBounded}
-use Rattle.fs_syntax.specs.declared.test.Location.{Location}
-use Rattle.fs_syntax.specs.declared.test.Test.{Test}
+use Rattle.fs_model.specs.Condition.{Condition, Always, Never, Deny, Both, Either, condition_of, nesting, SpeaksOf}
+use Rattle.fs_model.specs.Test.{GoesForward, IsBounded}
+use Rattle.fs_model.specs.declared.test.Location.{Location}
+use Rattle.fs_model.specs.declared.test.Test.{Test}
 use Rattle.fs_litmus.specs.Locations.{Names}
 use Rattle.fs_litmus.specs.Settings.{entry_bindings, settings_after, setting_of}
 use Rattle.fs_litmus.specs.Starts.{starts_of, registers_of, AreLocations}

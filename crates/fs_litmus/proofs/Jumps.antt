@@ -5,8 +5,8 @@ use Rattle.fs_instr.specs.Operands.{Filled, blank}
 use Rattle.fs_instr.specs.Instructions.{parts_of, instr_of, targeted}
 use Rattle.fs_instr.specs.Reading.{is_alone, is_empty, operands_in}
 use Rattle.fs_instr.specs.Spelled.{IsPart, AreParts, Spells, none, next, label, spells}
-use Rattle.fs_mnemonics.specs.declared.names.Op.{Op}
-use Rattle.fs_mnemonics.specs.declared.names.Op.TheVariants as op
+use Rattle.fs_instr.specs.declared.names.Op.{Op}
+use Rattle.fs_instr.specs.declared.names.Op.TheVariants as op
 use Rattle.fs_instr.specs.declared.instr.Instr.{Instr}
 use Rattle.fs_instr.specs.declared.instr.Instr.TheVariants as instr
 use Rattle.fs_instr.specs.declared.operands.OperandPart.{OperandPart}

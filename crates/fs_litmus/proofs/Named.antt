@@ -16,7 +16,7 @@ use Rattle.fs_form.specs.declared.rows.Quantifier.{Quantifier}
 use Rattle.fs_form.specs.Form.{Form, IsForm, form}
 use Rattle.fs_condition.specs.Grammar.{Syntax, IsUnit, atom, truth, falsity, tilde, denial, group, IsConjunction, unit, both, IsDisjunction, conjunction, either, IsCondition}
 use Rattle.fs_condition.specs.Meaning.{atoms_of}
-use Rattle.fs_syntax.specs.Test.{is_name}
+use Rattle.fs_model.specs.Test.{is_name}
 use Rattle.fs_litmus.specs.Locations.{Names, Binding, with_name, with_target, with_value, declared}
 use Rattle.fs_litmus.specs.Settings.{entry_bindings}
 use Rattle.fs_litmus.proofs.Classed.{AreClassed, classed_is_name}

@@ -6,10 +6,10 @@ use Rattle.fs_condition.specs.Grammar.{Syntax}
 use Rattle.fs_condition.specs.Meaning as meaning
 use Rattle.fs_kinds.specs.declared.fault.Fault.{Fault}
 use Rattle.fs_code.proofs.HartLemmas.{codes_only}
-use Rattle.fs_syntax.specs.Condition.{condition_of}
-use Rattle.fs_syntax.specs.Test.{IsSame}
-use Rattle.fs_syntax.specs.declared.test.Location.{Location}
-use Rattle.fs_syntax.specs.declared.test.Test.{Test}
+use Rattle.fs_model.specs.Condition.{condition_of}
+use Rattle.fs_model.specs.Test.{IsSame}
+use Rattle.fs_model.specs.declared.test.Location.{Location}
+use Rattle.fs_model.specs.declared.test.Test.{Test}
 use Rattle.fs_litmus.specs.declared.settings.Setting.{Setting}
 use Rattle.fs_litmus.specs.Locations.{Names}
 use Rattle.fs_litmus.specs.Settings.{entry_bindings, settings_after}

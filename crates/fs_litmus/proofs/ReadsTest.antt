@@ -11,10 +11,10 @@ use Rattle.fs_condition.specs.Grammar.{Syntax}
 use Rattle.fs_condition.specs.Meaning as meaning
 use Rattle.fs_condition.specs.Meaning.{atoms_of, grouped_depth}
 use Rattle.fs_kinds.specs.declared.fault.Fault.{Fault}
-use Rattle.fs_syntax.specs.Condition.{condition_of, SpeaksOf}
-use Rattle.fs_syntax.specs.Test.{IsBounded, IsStart, IsTest, is_name}
-use Rattle.fs_syntax.specs.declared.test.Location.{Location}
-use Rattle.fs_syntax.specs.declared.test.Test.{Test}
+use Rattle.fs_model.specs.Condition.{condition_of, SpeaksOf}
+use Rattle.fs_model.specs.Test.{IsBounded, IsStart, IsTest, is_name}
+use Rattle.fs_model.specs.declared.test.Location.{Location}
+use Rattle.fs_model.specs.declared.test.Test.{Test}
 use Rattle.fs_litmus.specs.Locations.{declared}
 use Rattle.fs_litmus.specs.Settings.{entry_bindings}
 use Rattle.fs_litmus.specs.Starts.{registers_of}

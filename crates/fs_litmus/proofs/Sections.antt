@@ -15,7 +15,7 @@ use Rattle.fs_form.specs.Reading.{Refuses}
 use Rattle.fs_condition.specs.Grammar.{Syntax, IsCondition, True, conjunction, unit, truth}
 use Rattle.fs_condition.specs.Answer.{Means, StopsAt}
 use Rattle.fs_condition.specs.declared.condition.Condition as conditions
-use Rattle.fs_syntax.specs.declared.test.Test.{Test}
+use Rattle.fs_model.specs.declared.test.Test.{Test}
 use Rattle.fs_kinds.specs.FaultOrder.{IsFirst}
 use Rattle.fs_litmus.specs.Title.{after_line, last_line, HasTitle, IsBody}
 use Rattle.fs_litmus.specs.Reads.{HasTokens, HasForm}

@@ -12,8 +12,8 @@ use Rattle.fs_tokens.specs.Values.{Target, Register, Location, Value, Number, Ad
 use Rattle.fs_instr.specs.Registers.{register_of}
 use Rattle.fs_instr.proofs.OfTableLemmas.{register_below}
 use Rattle.fs_condition.specs.Meaning as meaning
-use Rattle.fs_syntax.specs.Condition.{Condition, Always, Never, Deny, Both, Either, SpeaksOf}
-use Rattle.fs_syntax.specs.Test.{IsStart}
+use Rattle.fs_model.specs.Condition.{Condition, Always, Never, Deny, Both, Either, SpeaksOf}
+use Rattle.fs_model.specs.Test.{IsStart}
 use Rattle.fs_litmus.specs.Locations.{Names, Binding, number_of_location}
 use Rattle.fs_litmus.specs.Settings.{signed, address_word, word_of, register_holder, holder_of, setting_of, IsThere, is_x0, same_holder, holders, fresh, settings_after}
 use Rattle.fs_litmus.specs.Starts.{word_at, registers_of, starts_of}

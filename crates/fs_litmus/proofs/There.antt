@@ -9,8 +9,8 @@ use Rattle.fs_condition.specs.Answer.{Means}
 use Rattle.fs_condition.specs.Views.{tree_of}
 use Rattle.fs_condition.specs.declared.condition.Condition as conditions
 use Rattle.fs_condition.specs.declared.condition.Tree.{Tree}
-use Rattle.fs_syntax.specs.Condition as ours
-use Rattle.fs_syntax.specs.Condition.{Condition}
+use Rattle.fs_model.specs.Condition as ours
+use Rattle.fs_model.specs.Condition.{Condition}
 use Rattle.fs_litmus.specs.Locations.{Names, Binding}
 use Rattle.fs_litmus.specs.Settings.{setting_of, are_there}
 use Rattle.fs_litmus.specs.Atoms.{atom_at, condition_in, with_both}

@@ -1,7 +1,7 @@
 -- A condition in terms of a test's harts, registers and locations.
 use Rattle.std.specs.Prelude.{ℕ, Option, Some, option_map, option_and_then}
 use Rattle.fs_condition.specs.Meaning as written
-use Rattle.fs_syntax.specs.Condition.{Condition, Always, Never, RegisterIs, LocationIs, Deny, Both, Either}
+use Rattle.fs_model.specs.Condition.{Condition, Always, Never, RegisterIs, LocationIs, Deny, Both, Either}
 use Rattle.fs_litmus.specs.Locations.{Names, Binding}
 use Rattle.fs_litmus.specs.Settings.{setting_of}
 use Rattle.fs_litmus.specs.declared.settings.Holder.{Holder}

@@ -11,12 +11,12 @@ use Rattle.fs_condition.specs.Grammar.{Syntax, IsCondition}
 use Rattle.fs_condition.specs.Meaning as meaning
 use Rattle.fs_condition.specs.Meaning.{atoms_of, depth_of}
 use Rattle.fs_code.specs.Codes.{AreCodes}
-use Rattle.fs_syntax.specs.Condition.{condition_of}
+use Rattle.fs_model.specs.Condition.{condition_of}
 use Rattle.fs_instr.specs.Instructions.{is_memory}
-use Rattle.fs_syntax.specs.declared.outcome.Outcome.{Outcome}
-use Rattle.fs_syntax.specs.declared.test.Test.{Test}
-use Rattle.fs_syntax.specs.declared.test.Quantifier.{Quantifier}
-use Rattle.fs_syntax.specs.declared.test.Quantifier.TheVariants.{Exists, NotExists, Forall}
+use Rattle.fs_model.specs.declared.outcome.Outcome.{Outcome}
+use Rattle.fs_model.specs.declared.test.Test.{Test}
+use Rattle.fs_model.specs.declared.test.Quantifier.{Quantifier}
+use Rattle.fs_model.specs.declared.test.Quantifier.TheVariants.{Exists, NotExists, Forall}
 use Rattle.fs_litmus.specs.Title.{after_line, HasTitle, IsBody}
 use Rattle.fs_litmus.specs.Locations.{Names, declared}
 use Rattle.fs_litmus.specs.Settings.{entry_bindings, settings_after}

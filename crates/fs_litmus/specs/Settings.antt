@@ -5,7 +5,7 @@ use Rattle.fs_form.specs.Init.{Entry}
 use Rattle.fs_tokens.specs.Numbers.{number_of}
 use Rattle.fs_tokens.specs.Values.{Target, Register, Location, Value, Number, Address}
 use Rattle.fs_instr.specs.Registers.{register_of}
-use Rattle.fs_syntax.specs.Test.{address_of}
+use Rattle.fs_model.specs.Test.{address_of}
 use Rattle.fs_litmus.specs.Locations.{Names, Binding, number_of_location}
 use Rattle.fs_litmus.specs.declared.settings.Holder.{Holder}
 use Rattle.fs_litmus.specs.declared.settings.Holder.TheVariants as holder

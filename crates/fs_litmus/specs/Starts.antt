@@ -1,7 +1,7 @@
 -- What registers and locations begin with.
 use Rattle.std.specs.Prelude.{◌≡◌, ℕ, List, [], ◌∷◌, length, map, if◌then◌else◌}
 use Rattle.std.specs.List.{range_with_len}
-use Rattle.fs_syntax.specs.declared.test.Location.{Location}
+use Rattle.fs_model.specs.declared.test.Location.{Location}
 use Rattle.fs_litmus.specs.Locations.{Names}
 use Rattle.fs_litmus.specs.Settings.{same_holder}
 use Rattle.fs_litmus.specs.declared.settings.Holder.{Holder}

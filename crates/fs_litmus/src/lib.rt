@@ -12,7 +12,7 @@ mod settings;
 mod starts;
 mod title;
 
-pub use fs_syntax::{
+pub use fs_model::{
     Code, Codes, Location, Locations, Name, Outcome, Quantifier, Registers, Starts, Test,
     read_fences, slots, write_fenced,
 };

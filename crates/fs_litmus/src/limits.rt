@@ -12,7 +12,7 @@ ghost use Rattle.fs_litmus.specs.inner.Kept.{instrs_of, is_short};
 use fs_code::HartCode;
 use fs_instr::Instr;
 use fs_kinds::MOST_ACCESSES;
-use fs_syntax::Code;
+use fs_model::Code;
 use std::alloc::{AllocError, Global};
 
 // The code that is kept; nothing where it has too many instructions.

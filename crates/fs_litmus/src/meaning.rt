@@ -8,8 +8,8 @@ ghost use Rattle.fs_instr.specs.Instructions.{is_memory};
 ghost use Rattle.fs_instr.specs.declared.instr.Instr.{Instr};
 ghost use Rattle.fs_code.specs.Codes.{AreCodes, AreKept, IsFault};
 ghost use Rattle.fs_kinds.specs.FaultOrder.{IsFirst};
-ghost use Rattle.fs_syntax.specs.Condition.{condition_of, SpeaksOf};
-ghost use Rattle.fs_syntax.specs.Test.{IsBounded};
+ghost use Rattle.fs_model.specs.Condition.{condition_of, SpeaksOf};
+ghost use Rattle.fs_model.specs.Test.{IsBounded};
 ghost use Rattle.fs_condition.specs.Answer.{Means};
 ghost use Rattle.fs_condition.specs.Grammar.{Syntax};
 ghost use Rattle.fs_condition.specs.Meaning.{atoms_of, depth_of};
@@ -32,7 +32,7 @@ use fs_code::{HartCode, read_codes};
 use fs_condition::{Atom, Condition};
 use fs_form::Form;
 use fs_kinds::{Fault, Limit, MOST_HARTS, MOST_LOCATIONS};
-use fs_syntax::{Code, Codes, Name, Outcome, Quantifier, Test};
+use fs_model::{Code, Codes, Name, Outcome, Quantifier, Test};
 use std::alloc::{AllocError, Global};
 
 fn quantifier_of(asked: fs_form::Quantifier) -> Quantifier

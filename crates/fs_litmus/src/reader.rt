@@ -3,8 +3,8 @@
 ghost use Rattle.std.specs.Prelude.{◌≡◌, ◌≢◌, IfOk, IfErr};
 ghost use Rattle.fs_form.specs.Body.{cells_of, flatten};
 ghost use Rattle.fs_form.specs.Form.{form_of};
-ghost use Rattle.fs_syntax.specs.Test.{IsTest, IsSame};
-ghost use Rattle.fs_syntax.specs.declared.test.Test as tests;
+ghost use Rattle.fs_model.specs.Test.{IsTest, IsSame};
+ghost use Rattle.fs_model.specs.declared.test.Test as tests;
 ghost use Rattle.fs_tokens.specs.Tokens.{views};
 ghost use Rattle.fs_kinds.specs.declared.fault.Fault as faults;
 ghost use Rattle.fs_litmus.specs.Faults.{HasFault, IsTestFault};
@@ -16,7 +16,7 @@ use crate::title::{Body, last_line, read_title, skip_title};
 use fs_condition::{Condition, read_condition};
 use fs_form::{Form, read_form};
 use fs_kinds::Fault;
-use fs_syntax::Test;
+use fs_model::Test;
 use fs_tokens::{Stop, Token, tokens};
 use std::alloc::Global;
 

@@ -6,7 +6,7 @@ ghost use Rattle.fs_litmus.specs.Settings.{signed, word_of, register_holder, hol
 
 use crate::names::Names;
 use fs_instr::Reg;
-use fs_syntax::Location;
+use fs_model::Location;
 use fs_tokens::{Target, Value, number_of};
 
 /// What holds a word: a register of a hart, or a location by its number.

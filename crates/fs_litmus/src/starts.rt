@@ -7,7 +7,7 @@ ghost use Rattle.fs_litmus.specs.Settings.{same_holder};
 
 use crate::names::Names;
 use crate::settings::{Holder, Setting};
-use fs_syntax::{Location, Locations, Name, Registers, Starts};
+use fs_model::{Location, Locations, Name, Registers, Starts};
 use std::alloc::{AllocError, Global};
 
 fn is_register(holder: Holder, hart: u32, register: u8) -> bool

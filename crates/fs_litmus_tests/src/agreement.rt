@@ -1,7 +1,7 @@
 //! The rules of preserved program order and the dependencies, compared with a plain program that computes their definitions.
 ghost use Rattle.std.specs.Prelude.{◌<◌, ◌≤◌};
 ghost use Rattle.std.specs.List.Sorted.{IsStrictlyIncreasing};
-ghost use Rattle.fs_syntax.specs.Test.{IsBounded};
+ghost use Rattle.fs_model.specs.Test.{IsBounded};
 
 use fs_cand::{Candidate, Sources, StoreOrder};
 use fs_deps::Deps;

@@ -1,7 +1,7 @@
 //! Laws cited where code would cite them: what a verdict rests on.
 ghost use Rattle.std.specs.Prelude.{List};
 ghost use Rattle.fs_kinds.specs.declared.placement.Entry.{Entry};
-ghost use Rattle.fs_syntax.specs.declared.test.Test.{Test};
+ghost use Rattle.fs_model.specs.declared.test.Test.{Test};
 ghost use Rattle.fs_model.specs.Allows.{Allows};
 ghost use Rattle.fs_model.specs.Execution.{Execution, IsExecution};
 ghost use Rattle.fs_model.specs.Values.{IsGrounded};

@@ -1,5 +1,5 @@
 //! Which slots a test has, and where they are in the fenced test, read back from its printed form.
-ghost use Rattle.fs_syntax.specs.Test.{IsBounded, IsTest};
+ghost use Rattle.fs_model.specs.Test.{IsBounded, IsTest};
 
 use fs_examples::{MP, MPB, placement_of, told};
 use fs_kinds::{Fault, Placement, Slot};

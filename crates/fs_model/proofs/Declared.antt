@@ -1,7 +1,7 @@
 -- Addresses of locations.
 use Rattle.std.proofs.Common.{◌≡◌, ◌↔◌, IsTrue, nat_lt, ℕ, ◌-◌, ◌/◌, ◌%◌, ◌<◌, ◌≤◌, Some, arith, ap}
 use Rattle.std.proofs.lemmas.Bool.Decides.{nat_tests}
-use Rattle.fs_syntax.specs.Test.{address_of}
+use Rattle.fs_model.specs.Test.{address_of}
 use Rattle.fs_model.specs.Trace.{IsDeclared}
 
 same : {a b : ℕ} → Some a ≡ Some b → a ≡ b

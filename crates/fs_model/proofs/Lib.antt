@@ -1,3 +1,17 @@
+pub mod AccessSteps
+pub mod Addresses
+pub mod Assembled
+pub mod Conditions
+pub mod FencedSteps
+pub mod Numbered
+pub mod Rising
+pub mod SlotLists
+pub mod SmallTest
+pub mod Tested
+pub mod Texts
+pub mod FencedPlaces
+pub mod MovedSlots
+pub mod FencedTest
 pub mod Declared
 pub mod OneStop
 pub mod Preserved
@@ -7,6 +21,7 @@ pub mod Stepping
 pub mod Stops
 pub mod OptionalNumbers
 pub mod ListedNumbers
+pub mod GrowingLists
 pub mod NumberOrders
 pub mod FilteredNumbers
 pub mod LastNumber

@@ -1,16 +1,16 @@
 -- What each instruction does (RISC-V Unprivileged ISA 20191213, chapters "RV32I Base Integer Instruction Set" and "“A” Standard
 -- Extension for Atomic Instructions"). x is the list of the 32 registers' words.
 use Rattle.std.specs.Prelude.{ℕ, ◌+◌, ◌==◌, nat_lt, min, max, not, Bool, bit_and, bit_or, bit_xor, Option, None, Some, is_some, unwrap_or, List, slice_index, slice_set, if◌then◌else◌}
-use Rattle.fs_mnemonics.specs.declared.names.RegOp.{RegOp}
-use Rattle.fs_mnemonics.specs.declared.names.RegOp.TheVariants as reg
-use Rattle.fs_mnemonics.specs.declared.names.ImmOp.{ImmOp}
-use Rattle.fs_mnemonics.specs.declared.names.ImmOp.TheVariants as imm
-use Rattle.fs_mnemonics.specs.declared.names.ShiftOp.{ShiftOp}
-use Rattle.fs_mnemonics.specs.declared.names.ShiftOp.TheVariants as shift
-use Rattle.fs_mnemonics.specs.declared.names.AmoOp.{AmoOp}
-use Rattle.fs_mnemonics.specs.declared.names.AmoOp.TheVariants as amo
-use Rattle.fs_mnemonics.specs.declared.names.BranchOp.{BranchOp}
-use Rattle.fs_mnemonics.specs.declared.names.BranchOp.TheVariants as branch
+use Rattle.fs_instr.specs.declared.names.RegOp.{RegOp}
+use Rattle.fs_instr.specs.declared.names.RegOp.TheVariants as reg
+use Rattle.fs_instr.specs.declared.names.ImmOp.{ImmOp}
+use Rattle.fs_instr.specs.declared.names.ImmOp.TheVariants as imm
+use Rattle.fs_instr.specs.declared.names.ShiftOp.{ShiftOp}
+use Rattle.fs_instr.specs.declared.names.ShiftOp.TheVariants as shift
+use Rattle.fs_instr.specs.declared.names.AmoOp.{AmoOp}
+use Rattle.fs_instr.specs.declared.names.AmoOp.TheVariants as amo
+use Rattle.fs_instr.specs.declared.names.BranchOp.{BranchOp}
+use Rattle.fs_instr.specs.declared.names.BranchOp.TheVariants as branch
 use Rattle.fs_instr.specs.declared.instr.Instr.{Instr}
 use Rattle.fs_instr.specs.declared.instr.Instr.TheVariants.{Register, Immediate, Shift, Lui, Li, Lw, Sw, Lr, Sc, Amo, Branch, Jump}
 use Rattle.fs_instr.specs.Instructions.{dest_of}

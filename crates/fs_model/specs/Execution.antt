@@ -5,7 +5,7 @@ use Rattle.std.specs.Prelude.{◌≡◌, ℕ, ◌<◌, true, false, Option, Some
 use Rattle.std.specs.List.{slice_index_or}
 use Rattle.fs_kinds.specs.declared.placement.Entry.{Entry}
 use Rattle.fs_instr.specs.declared.instr.Instr.{Instr}
-use Rattle.fs_syntax.specs.declared.test.Test.{Test}
+use Rattle.fs_model.specs.declared.test.Test.{Test}
 use Rattle.fs_model.specs.declared.step.Step.{Step}
 use Rattle.fs_model.specs.Numbers.{stands_before}
 use Rattle.fs_model.specs.Trace.{Runs}

@@ -9,7 +9,7 @@ use Rattle.fs_kinds.specs.Kind.{orders, pairs_order, product, tso_pairs}
 use Rattle.fs_kinds.specs.Placement.{kind_at}
 use Rattle.fs_instr.specs.declared.instr.Instr.{Instr}
 use Rattle.fs_instr.specs.declared.instr.Instr.TheVariants.{Fence, FenceTso}
-use Rattle.fs_syntax.specs.Slots.{slot_at}
+use Rattle.fs_model.specs.Slots.{slot_at}
 use Rattle.fs_model.specs.Numbers.{between}
 use Rattle.fs_model.specs.Operations.{PreExecution, operation, place, classes, trace_of, instr_at}
 

@@ -1,7 +1,7 @@
 -- Which instructions load, store, and are annotated or paired (RISC-V Unprivileged ISA 20191213, chapter "“A” Standard Extension
 -- for Atomic Instructions").
 use Rattle.std.specs.Prelude.{Bool, true, false}
-use Rattle.fs_mnemonics.specs.declared.names.Ann.{Ann}
+use Rattle.fs_instr.specs.declared.names.Ann.{Ann}
 use Rattle.fs_instr.specs.declared.instr.Instr.{Instr}
 use Rattle.fs_instr.specs.declared.instr.Instr.TheVariants.{Lw, Sw, Lr, Sc, Amo}
 

@@ -1,3 +1,10 @@
+pub mod Condition
+pub mod Fenced
+pub mod Placed
+pub mod Printed
+pub mod Slots
+pub mod Test
+pub mod Moved
 pub mod Numbers
 pub mod Words
 pub mod Forms

@@ -4,7 +4,7 @@ use Rattle.std.specs.Prelude.{ℕ, nat_lt, Bool, ◌&&◌, ◌||◌, not, None, 
 use Rattle.std.specs.List.{enumerate_from, flat_map, list_any, slice_index_or}
 use Rattle.fs_kinds.specs.declared.kind.Classes.{Classes}
 use Rattle.fs_instr.specs.declared.instr.Instr.{Instr}
-use Rattle.fs_syntax.specs.Test.{address_of}
+use Rattle.fs_model.specs.Test.{address_of}
 use Rattle.fs_model.specs.declared.operation.Operation.{Operation}
 use Rattle.fs_model.specs.declared.step.Step.{Step}
 use Rattle.fs_instr.specs.Instructions.{nop}

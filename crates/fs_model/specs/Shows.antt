@@ -2,11 +2,11 @@
 -- memory order wrote.
 use Rattle.std.specs.Prelude.{ℕ, ◌==◌, Bool, true, false, ◌&&◌, ◌||◌, not, None, Some, List, filter, option_and_then, unwrap_or}
 use Rattle.std.specs.List.{last_or}
-use Rattle.fs_syntax.specs.declared.test.Test.{Test}
-use Rattle.fs_syntax.specs.declared.test.Quantifier.{Quantifier}
-use Rattle.fs_syntax.specs.declared.test.Quantifier.TheVariants.{Exists, NotExists, Forall}
-use Rattle.fs_syntax.specs.Condition.{Condition, condition_of, Always, Never, RegisterIs, LocationIs, Deny, Both, Either}
-use Rattle.fs_syntax.specs.Test.{address_of}
+use Rattle.fs_model.specs.declared.test.Test.{Test}
+use Rattle.fs_model.specs.declared.test.Quantifier.{Quantifier}
+use Rattle.fs_model.specs.declared.test.Quantifier.TheVariants.{Exists, NotExists, Forall}
+use Rattle.fs_model.specs.Condition.{Condition, condition_of, Always, Never, RegisterIs, LocationIs, Deny, Both, Either}
+use Rattle.fs_model.specs.Test.{address_of}
 use Rattle.fs_model.specs.declared.step.Step.{Step}
 use Rattle.fs_model.specs.Numbers.{is_same}
 use Rattle.fs_model.specs.Execute.{read}

@@ -2,8 +2,8 @@
 -- the next. They bound which runs are listed. That each execution keeps to them, where no run over them goes astray, is a law of
 -- the memory model, and no part of what an execution is.
 use Rattle.std.specs.Prelude.{◌≡◌, ℕ, zero, suc, ◌<◌, ◌⊎◌, Some, List, [], ◌∷◌, All, length, slice_get, sum_by, count_by}
-use Rattle.fs_syntax.specs.declared.test.Test.{Test}
-use Rattle.fs_syntax.specs.Test.{address_of}
+use Rattle.fs_model.specs.declared.test.Test.{Test}
+use Rattle.fs_model.specs.Test.{address_of}
 use Rattle.fs_model.specs.declared.step.Step.{Step}
 use Rattle.fs_model.specs.Forms.{is_storing}
 use Rattle.fs_model.specs.Operations.{steps_of}

@@ -10,8 +10,8 @@ ghost use Rattle.fs_model.specs.Trace.{start_with, after_step, IsDeclared};
 
 use crate::registers::{address, execute, next, word_to_store};
 use crate::step::{Choice, Step, Stop};
+use crate::test::Location;
 use fs_instr::Instr;
-use fs_syntax::Location;
 
 // Is it the address of one of the first so many locations?
 fn is_declared(locations: u8, address: u32) -> bool

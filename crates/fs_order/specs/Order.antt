@@ -4,9 +4,9 @@ use Rattle.fs_kinds.specs.declared.fault.Fault.{Fault}
 use Rattle.fs_kinds.specs.declared.fault.Fault.TheVariants.{BadFence, BadWitness, Memory}
 use Rattle.fs_kinds.specs.declared.placement.Entry.{Entry}
 use Rattle.fs_kinds.specs.ReasonText.{reason_text}
-use Rattle.fs_syntax.specs.declared.test.Test.{Test}
-use Rattle.fs_syntax.specs.Placed.{IsPlaced}
-use Rattle.fs_syntax.specs.Slots.{slots}
+use Rattle.fs_model.specs.declared.test.Test.{Test}
+use Rattle.fs_model.specs.Placed.{IsPlaced}
+use Rattle.fs_model.specs.Slots.{slots}
 use Rattle.fs_litmus.specs.Reads.{Reads}
 use Rattle.fs_litmus.specs.Faults.{IsTestFault}
 use Rattle.fs_model.specs.Witness.{Witness}

@@ -1,8 +1,8 @@
 //! What `order` answers.
 ghost use Rattle.std.specs.Prelude.{◌≡◌, ◌++◌, ℕ, List, None, Some, IfOk, IfErr, IsOkUnless, map, string_bytes};
-ghost use Rattle.fs_syntax.specs.Placed.{IsPlaced};
-ghost use Rattle.fs_syntax.specs.Slots.{slots};
-ghost use Rattle.fs_syntax.specs.Test.{IsTest};
+ghost use Rattle.fs_model.specs.Placed.{IsPlaced};
+ghost use Rattle.fs_model.specs.Slots.{slots};
+ghost use Rattle.fs_model.specs.Test.{IsTest};
 ghost use Rattle.fs_litmus.specs.Reads.{Reads};
 ghost use Rattle.fs_order.specs.Order.{IsOrderAnswer, IsFirstOrderFault, verdict_line, verdict_status};
 

@@ -7,7 +7,7 @@ use Rattle.fs_kinds.specs.FaultLine.{number}
 use Rattle.fs_kinds.specs.PriceObject.{ArePrices, IsPriceFault, price_in}
 use Rattle.fs_kinds.specs.declared.kind.Kind.TheVariants.{RwRw}
 use Rattle.fs_kinds.specs.PriceTable.{PriceTable}
-use Rattle.fs_syntax.specs.declared.test.Test.{Test}
+use Rattle.fs_model.specs.declared.test.Test.{Test}
 use Rattle.fs_litmus.specs.Reads.{Reads}
 use Rattle.fs_litmus.specs.Faults.{IsTestFault}
 use Rattle.fs_place.specs.Place.{ArePriced, IsPricesFault, IsBadFences, IsFirstPlaceFault, of_prices, of_test, of_fences, of_memory, no_prices, no_top}

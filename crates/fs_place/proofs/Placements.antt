@@ -6,7 +6,7 @@ use Rattle.fs_kinds.specs.declared.placement.Entry.{Entry}
 use Rattle.fs_kinds.specs.Placement.{slots_of, all_with, with_kind, entry_with}
 use Rattle.fs_kinds.specs.PriceTable.{PriceTable, price_of, is_offered, are_offered}
 use Rattle.fs_kinds.specs.Slot.{is_same_slot}
-use Rattle.fs_syntax.specs.Placed.{fits, placed, IsPlaced}
+use Rattle.fs_model.specs.Placed.{fits, placed, IsPlaced}
 
 slots_of-all_with : (slots : List Slot) → slots_of (all_with None slots) ≡ slots
 slots_of-all_with [] = refl

@@ -3,10 +3,10 @@ ghost use Rattle.std.specs.Prelude.{◌≡◌, ◌++◌, ◌≢◌, ℕ, List, O
 ghost use Rattle.std.specs.Option.{option_copied};
 ghost use Rattle.fs_kinds.specs.Placement.{slots_of};
 ghost use Rattle.fs_kinds.specs.PriceTable.{are_offered};
-ghost use Rattle.fs_syntax.specs.Fenced.{fenced};
-ghost use Rattle.fs_syntax.specs.Printed.{printed};
-ghost use Rattle.fs_syntax.specs.Slots.{slots};
-ghost use Rattle.fs_syntax.specs.Test.{IsBounded, IsTest};
+ghost use Rattle.fs_model.specs.Fenced.{fenced};
+ghost use Rattle.fs_model.specs.Printed.{printed};
+ghost use Rattle.fs_model.specs.Slots.{slots};
+ghost use Rattle.fs_model.specs.Test.{IsBounded, IsTest};
 ghost use Rattle.fs_litmus.specs.Reads.{Reads};
 ghost use Rattle.fs_place.specs.Place.{ArePriced, IsFencedText, IsPricesFault, IsFirstPlaceFault, cost_line};
 

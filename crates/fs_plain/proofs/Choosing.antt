@@ -5,7 +5,7 @@ use Rattle.std.specs.List.{Contains, slice_index_or}
 use Rattle.std.proofs.lemmas.Bool.{cases_eq}
 use Rattle.std.proofs.lemmas.List.{append-nil, get_or_default}
 use Rattle.fs_kinds.specs.declared.placement.Entry.{Entry}
-use Rattle.fs_syntax.specs.declared.test.Test.{Test}
+use Rattle.fs_model.specs.declared.test.Test.{Test}
 use Rattle.fs_hart.specs.declared.trace.Trace.{Trace}
 use Rattle.fs_plain.specs.Decisions.{Decides}
 use Rattle.fs_plain.specs.Allowing.{AreChosen, AreWhole, ShowsAmong, ShowsFrom}

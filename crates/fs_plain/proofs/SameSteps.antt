@@ -2,10 +2,10 @@
 use Rattle.std.proofs.Common.{rules, ◌≡◌, ℕ, Bool, ◌&&◌, refl, true, false, Option, ◌==◌}
 use Rattle.std.specs.Option.{option_eq}
 use Rattle.std.proofs.lemmas.Bool.{false≢true}
-use Rattle.fs_mnemonics.specs.declared.letters.Letters.{Letters}
+use Rattle.fs_instr.specs.declared.letters.Letters.{Letters}
 use Rattle.fs_instr.specs.declared.instr.Instr.{Instr}
 use Rattle.fs_instr.specs.declared.instr.Instr.TheVariants.{Register, Immediate, Shift, Lui, Li, Lw, Sw, Lr, Sc, Amo, Branch, Jump, Fence, FenceTso}
-use Rattle.fs_mnemonics.specs.contracts.letters.LettersPartialEq.TheImpl as letters_test
+use Rattle.fs_instr.specs.contracts.letters.LettersPartialEq.TheImpl as letters_test
 use Rattle.fs_instr.specs.contracts.instr.InstrPartialEq.TheImpl as instr_test
 use Rattle.fs_model.specs.declared.step.Step.{Step}
 use Rattle.fs_model.specs.contracts.step.StepPartialEq.TheImpl as step_test

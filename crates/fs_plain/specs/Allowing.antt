@@ -4,7 +4,7 @@ use Rattle.std.specs.List.{AllZip, Contains, slice_index_or}
 use Rattle.fs_kinds.specs.declared.fault.Fault.{Fault}
 use Rattle.fs_kinds.specs.declared.fault.Fault.TheVariants.{Memory}
 use Rattle.fs_kinds.specs.declared.placement.Entry.{Entry}
-use Rattle.fs_syntax.specs.declared.test.Test.{Test}
+use Rattle.fs_model.specs.declared.test.Test.{Test}
 use Rattle.fs_model.specs.Operations.{steps_of}
 use Rattle.fs_model.specs.Execution.{Execution, IsExecution, IsTrace}
 use Rattle.fs_model.specs.Shows.{has_outcome}

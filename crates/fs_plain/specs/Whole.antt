@@ -1,6 +1,6 @@
 -- Whole runs of a test's harts, given by their steps.
 use Rattle.std.specs.Prelude.{◌≡◌, ℕ, ◌<◌, Option, None, Some, List, length}
-use Rattle.fs_syntax.specs.declared.test.Test.{Test}
+use Rattle.fs_model.specs.declared.test.Test.{Test}
 use Rattle.fs_model.specs.declared.step.Step.{Step}
 use Rattle.fs_model.specs.Operations.{PreExecution, steps_of}
 use Rattle.fs_model.specs.Execution.{IsTrace, pre_execution}

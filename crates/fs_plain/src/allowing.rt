@@ -3,7 +3,7 @@
 ghost use Rattle.std.specs.Prelude.{◌≡◌, List, All, length, ◌++◌, IfOk, OnOk, IfErr, IsOkUnless};
 ghost use Rattle.std.specs.List.Sorted.{IsStrictlyIncreasing};
 ghost use Rattle.fs_kinds.specs.declared.fault.Fault.TheVariants.{Memory};
-ghost use Rattle.fs_syntax.specs.Test.{IsBounded, IsStart};
+ghost use Rattle.fs_model.specs.Test.{IsBounded, IsStart};
 ghost use Rattle.fs_hart.specs.declared.trace.Trace.{Trace};
 ghost use Rattle.fs_plain.specs.Decisions.{Decides};
 ghost use Rattle.fs_plain.specs.Allowing.{AllowsOver, AreWhole, AreChosen, ShowsAmong, AreListed, HaveRuns, IsListingFault};
@@ -11,7 +11,7 @@ ghost use Rattle.fs_plain.specs.Allowing.{AllowsOver, AreWhole, AreChosen, Shows
 use crate::orders::shows_in_some_order;
 use fs_hart::{Steps, Trace, Words, traces_over};
 use fs_kinds::{Fault, Placement};
-use fs_syntax::Test;
+use fs_model::Test;
 use std::alloc::{AllocError, Global};
 use std::marker::Model;
 

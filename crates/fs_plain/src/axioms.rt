@@ -4,7 +4,7 @@ ghost use Rattle.std.specs.Prelude.{◌≡◌, ◌≤◌, All, length, true, IfO
 ghost use Rattle.std.specs.List.{list_all};
 ghost use Rattle.fs_kinds.specs.Limits.{most_harts, most_instructions, most_numbered};
 ghost use Rattle.fs_kinds.specs.declared.fault.Fault.TheVariants.{Memory};
-ghost use Rattle.fs_syntax.specs.Test.{IsBounded};
+ghost use Rattle.fs_model.specs.Test.{IsBounded};
 ghost use Rattle.fs_model.specs.Numbers.{numbers_below};
 ghost use Rattle.fs_model.specs.Operations.{accesses, operations as operations_of};
 ghost use Rattle.fs_model.specs.Source.{gmo, source_in, lists_each_once};
@@ -17,7 +17,7 @@ use crate::rules::ppo;
 use fs_axioms::{Ordered, lists_each_once};
 use fs_hart::{Trace, operations};
 use fs_kinds::{Fault, Placement};
-use fs_syntax::Test;
+use fs_model::Test;
 use std::alloc::Global;
 
 // How many operations the harts have.

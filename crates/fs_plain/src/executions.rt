@@ -2,7 +2,7 @@
 
 ghost use Rattle.std.specs.Prelude.{◌≡◌, ◌<◌, ℕ, All, length, IfSome, IfNone, IfOk, IsOkUnless};
 ghost use Rattle.fs_kinds.specs.declared.fault.Fault.TheVariants.{Memory};
-ghost use Rattle.fs_syntax.specs.Test.{IsBounded, IsStart};
+ghost use Rattle.fs_model.specs.Test.{IsBounded, IsStart};
 ghost use Rattle.fs_model.specs.Operations.{steps_of};
 ghost use Rattle.fs_model.specs.Execution.{IsTrace};
 ghost use Rattle.fs_axioms.specs.Final.{AreFinal};
@@ -16,8 +16,7 @@ use crate::runs::registers_after;
 use fs_axioms::{GlobalOrder, has_outcome};
 use fs_hart::{Steps, Trace, operations};
 use fs_kinds::{Fault, Placement};
-use fs_model::Step;
-use fs_syntax::Test;
+use fs_model::{Step, Test};
 use std::alloc::{AllocError, Global};
 
 // The run of these steps, with its registers at the end; nothing where they aren't a run of the hart.

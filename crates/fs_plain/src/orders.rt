@@ -4,7 +4,7 @@ ghost use Rattle.std.specs.Prelude.{◌≡◌, ◌==◌, ◌≤◌, [], length, 
 ghost use Rattle.std.specs.List.{list_any};
 ghost use Rattle.fs_kinds.specs.Limits.{most_numbered};
 ghost use Rattle.fs_kinds.specs.declared.fault.Fault.TheVariants.{Memory};
-ghost use Rattle.fs_syntax.specs.Test.{IsBounded};
+ghost use Rattle.fs_model.specs.Test.{IsBounded};
 ghost use Rattle.fs_model.specs.Operations.{accesses};
 ghost use Rattle.fs_model.specs.Execution.{pre_execution};
 ghost use Rattle.fs_hart.specs.Steps.{steps_in};
@@ -15,7 +15,7 @@ use crate::executions::traces_show;
 use fs_axioms::count_accesses;
 use fs_hart::{Trace, operations};
 use fs_kinds::{Fault, Placement};
-use fs_syntax::Test;
+use fs_model::Test;
 use std::alloc::Global;
 
 // Is the number in the list?

@@ -1,7 +1,7 @@
 //! Runs of harts, step by step.
 
 ghost use Rattle.std.specs.Prelude.{◌≡◌, ◌<◌, All, length, slice_get};
-ghost use Rattle.fs_syntax.specs.Test.{IsBounded, IsStart};
+ghost use Rattle.fs_model.specs.Test.{IsBounded, IsStart};
 ghost use Rattle.fs_model.specs.Choices.{choice_by};
 ghost use Rattle.fs_model.specs.Trace.{IsStep};
 ghost use Rattle.fs_model.specs.Execution.{IsTrace, code_of, registers_of};
@@ -9,8 +9,7 @@ ghost use Rattle.fs_plain.specs.Decisions.{Decides};
 ghost use Rattle.fs_plain.specs.Whole.{EndsWith};
 
 use fs_instr::Instr;
-use fs_model::{Choice, Hart, Step};
-use fs_syntax::Test;
+use fs_model::{Choice, Hart, Step, Test};
 
 // The code of the hart.
 fn code_of(test: &Test, hart: u8) -> &[Instr]

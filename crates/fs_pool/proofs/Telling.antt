@@ -4,7 +4,7 @@ use Rattle.std.specs.Prelude.{Result, IfOk}
 use Rattle.std.proofs.lemmas.Bool.{false≢true}
 use Rattle.std.proofs.lemmas.Result.{IfOk-weaker}
 use Rattle.fs_kinds.specs.PriceTable.{PriceTable}
-use Rattle.fs_syntax.specs.declared.test.Test.{Test}
+use Rattle.fs_model.specs.declared.test.Test.{Test}
 use Rattle.fs_answer.specs.Parts.{Part}
 use Rattle.fs_history.specs.Board.{Board, Status, Event, Reply, Take, Claim, Adopt, SplitAt, CutCost, CutWitness, CutBound, Post, Peek, Given, Seen, is_open, is_held, part_at}
 use Rattle.fs_history.specs.Histories.{LogEntry, Steps, IsHistory}

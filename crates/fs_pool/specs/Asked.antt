@@ -1,8 +1,8 @@
 -- What a desk's board is asked, and what it tells the workers.
 use Rattle.std.specs.Prelude.{◌≡◌, ℕ, option_map, [], map}
 use Rattle.std.specs.Arc.{arc_value}
-use Rattle.fs_syntax.specs.declared.outcome.Outcome.TheVariants as outcome
-use Rattle.fs_syntax.specs.declared.test.Quantifier.TheVariants as quantifier
+use Rattle.fs_model.specs.declared.outcome.Outcome.TheVariants as outcome
+use Rattle.fs_model.specs.declared.test.Quantifier.TheVariants as quantifier
 use Rattle.fs_model.specs.Allows.{Allows}
 use Rattle.fs_model.specs.Execution.{Execution}
 use Rattle.fs_answer.specs.Valid.{HasCycles}

@@ -26,7 +26,7 @@ pub(crate) struct Shared<A: Asked> {
 
 impl<A: Asked> Model for Shared<A> {
     ghost use Rattle.std.specs.Coded.{codes};
-    ghost use Rattle.fs_syntax.specs.contracts.outcome.Outcome as outcome;
+    ghost use Rattle.fs_model.specs.contracts.outcome.Outcome as outcome;
     ghost use Rattle.fs_board.specs.View.{Search};
     ghost use Rattle.fs_pool.specs.Asked.{IsAsked};
 

@@ -9,7 +9,7 @@ ghost use Rattle.fs_ppo.specs.Rules.{OfRuns};
 use crate::dependencies::{address_between, control_dependency, is_forwarded};
 use crate::operations::{
     is_acquire, is_amo_or_sc, is_load, is_rcsc, is_release, is_same_source, is_same_word, is_store,
-    is_stored_between, reads_from,
+    is_stored_between,
 };
 use fs_cand::Candidate;
 
@@ -35,7 +35,7 @@ pub(crate) fn loads_from_another(candidate: &Candidate, a: usize, b: usize) -> b
 pub(crate) fn loads_from_amo_or_sc(candidate: &Candidate, a: usize, b: usize) -> bool
     ensures { OfRuns candidate.now (λ x. result ≡ case_of x [] (rf candidate.now) a b Rule3) }
 {
-    is_amo_or_sc(candidate, a) && is_load(candidate, b) && reads_from(candidate, b, a)
+    is_amo_or_sc(candidate, a) && is_load(candidate, b) && candidate.reads_from(b, a)
 }
 
 // a is an acquire.

@@ -12,7 +12,7 @@ ghost use Rattle.fs_cand.specs.Candidates.{rf};
 ghost use Rattle.fs_ppo.specs.Rules.{OfRuns};
 ghost use Rattle.fs_ppo.specs.inner.Parts.{deps_of};
 
-use crate::operations::{hart, is_store, place, precedes, source, steps};
+use crate::operations::{hart, is_store, place, precedes, steps};
 use fs_cand::Candidate;
 use fs_deps::Deps;
 use fs_model::are_paired;
@@ -130,7 +130,7 @@ pub(crate) fn is_forwarded(candidate: &Candidate, a: usize, b: usize) -> bool
         ≡ any_between x (λ m. is_store x m && (address_dependency x a m || data_dependency x a m)
         && is_same (rf candidate.now b) (Some m)) a b) }
 {
-    match source(candidate, b) {
+    match candidate.source_of(b) {
         Some(store) => is_dependent_store(candidate, a, usize::from(store), b),
         None => false,
     }

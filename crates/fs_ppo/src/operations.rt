@@ -1,6 +1,6 @@
 //! What the rules read of single operations, and of two of them.
 
-ghost use Rattle.std.specs.Prelude.{◌≡◌, ◌&&◌, Some, is_some};
+ghost use Rattle.std.specs.Prelude.{◌≡◌, ◌&&◌, is_some};
 ghost use Rattle.std.specs.List.{list_any};
 ghost use Rattle.fs_model.specs.Numbers.{is_same};
 ghost use Rattle.fs_model.specs.Operations.{operation, place, is_load, is_store, same_word, precedes, po, any_between, is_acquire, is_release, is_rcsc, is_amo_or_sc, classes, trace_of};
@@ -102,27 +102,14 @@ pub(crate) fn is_stored_between(candidate: &Candidate, a: usize, b: usize) -> bo
     )
 }
 
-pub(crate) fn source(candidate: &Candidate, a: usize) -> Option<u8>
-    ensures { result ≡ rf candidate.now a }
-{
-    candidate.source.as_slice().get(a).copied().flatten()
-}
-
 // Do a and b load of the same store?
 pub(crate) fn is_same_source(candidate: &Candidate, a: usize, b: usize) -> bool
     ensures { result ≡ is_same (rf candidate.now a) (rf candidate.now b) }
 {
-    match (source(candidate, a), source(candidate, b)) {
+    match (candidate.source_of(a), candidate.source_of(b)) {
         (Some(store), Some(other)) => store == other,
         _ => false,
     }
-}
-
-// Does b load what a stores?
-pub(crate) fn reads_from(candidate: &Candidate, b: usize, a: usize) -> bool
-    ensures { result ≡ is_same (rf candidate.now b) (Some a) }
-{
-    source(candidate, b).is_some_and(|store| usize::from(store) == a)
 }
 
 pub(crate) fn is_acquire(candidate: &Candidate, a: usize) -> bool

@@ -2,15 +2,15 @@
 use Rattle.std.proofs.Common.{◌≡◌, inl, inr, ℕ, Option, None, Some, List, [], ◌∷◌, ◌++◌, sym, ap, subst, ◌∙◌}
 use Rattle.fs_kinds.specs.declared.placement.Entry.{Entry}
 use Rattle.fs_kinds.specs.PriceTable.{cost}
-use Rattle.fs_syntax.specs.Test.{IsSame}
+use Rattle.fs_model.specs.Test.{IsSame}
 use Rattle.fs_litmus.proofs.ReadsTest.{is_test}
 use Rattle.fs_litmus.proofs.ReadsOnce.{reads_once}
-use Rattle.fs_same.proofs.KeptCertificates.{valid_same}
+use Rattle.fs_promise.proofs.KeptCertificates.{valid_same}
 use Rattle.fs_answer.specs.Certificate.{Certificate}
 use Rattle.fs_answer.specs.Texts.{fenced_lines, none_lines}
 use Rattle.fs_answer.specs.Valid.{IsValid}
 use Rattle.fs_checker.proofs.OneFile.{file_once}
-use Rattle.fs_verdicts.proofs.Verdicts.{one_answer, not_refused}
+use Rattle.fs_promise.proofs.Verdicts.{one_answer, not_refused}
 use Rattle.fs_io.specs.declared.status.Status.{Status}
 use Rattle.fs_promise.specs.Checked.{IsYesTo}
 use Rattle.fs_promise.proofs.SameCertificates.{same_certificates}

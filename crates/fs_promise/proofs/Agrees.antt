@@ -5,11 +5,11 @@ use Rattle.fs_instr.specs.declared.instr.Instr.{Instr}
 use Rattle.fs_kinds.specs.declared.placement.Entry.{Entry}
 use Rattle.fs_kinds.specs.Placement.{slots_of}
 use Rattle.fs_kinds.specs.PriceTable.{PriceTable}
-use Rattle.fs_syntax.specs.declared.test.Test.{Test}
-use Rattle.fs_syntax.specs.Fenced.{fenced}
-use Rattle.fs_syntax.specs.Placed.{IsPlaced}
-use Rattle.fs_syntax.specs.Slots.{slots, slots_in}
-use Rattle.fs_syntax.specs.Test.{IsSame, IsTest}
+use Rattle.fs_model.specs.declared.test.Test.{Test}
+use Rattle.fs_model.specs.Fenced.{fenced}
+use Rattle.fs_model.specs.Placed.{IsPlaced}
+use Rattle.fs_model.specs.Slots.{slots, slots_in}
+use Rattle.fs_model.specs.Test.{IsSame, IsTest}
 use Rattle.fs_litmus.specs.Reads.{Reads}
 use Rattle.fs_litmus.proofs.ReadsTest.{is_test}
 use Rattle.fs_litmus.proofs.ReadsOnce.{reads_once}
@@ -26,7 +26,7 @@ use Rattle.fs_io.specs.declared.status.Status.TheVariants.{Success, Denied}
 use Rattle.fs_laws.proofs.FencedSame.{allows_as_read}
 use Rattle.fs_laws.proofs.Filled.{filled-shows}
 use Rattle.fs_place.proofs.Placements.{slots_of-IsPlaced}
-use Rattle.fs_same.proofs.KeptPlacements.{allows_same}
+use Rattle.fs_promise.proofs.KeptPlacements.{allows_same}
 use Rattle.fs_promise.specs.Headline.{IsPossible, CheapestRulesOut, NothingRulesOut}
 use Rattle.fs_solve.specs.Solve.{IsSolved}
 use Rattle.fs_promise.proofs.Meaning.{holds, same_itself}

@@ -1,3 +1,15 @@
+pub mod Kept
+pub mod KeptRuns
+pub mod KeptCandidates
+pub mod KeptPlacements
+pub mod KeptReasons
+pub mod KeptBoards
+pub mod KeptCertificates
+mod Listed
+pub mod Worded
+mod Firsts
+mod Walks
+pub mod Verdicts
 mod Accepted
 mod Agrees
 mod LineEnds

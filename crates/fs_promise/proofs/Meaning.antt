@@ -3,15 +3,15 @@ use Rattle.std.proofs.Common.{◌≡◌, inl, inr, ℕ, nat_lt, ◌==◌, ◌&&�
 use Rattle.fs_kinds.specs.declared.placement.Entry.{Entry}
 use Rattle.fs_kinds.specs.Placement.{precedes}
 use Rattle.fs_kinds.specs.PriceTable.{PriceTable}
-use Rattle.fs_syntax.specs.declared.test.Test.{Test}
-use Rattle.fs_syntax.specs.Fenced.{fenced}
-use Rattle.fs_syntax.specs.Printed.{printed}
-use Rattle.fs_syntax.specs.Test.{IsTest, IsSame}
+use Rattle.fs_model.specs.declared.test.Test.{Test}
+use Rattle.fs_model.specs.Fenced.{fenced}
+use Rattle.fs_model.specs.Printed.{printed}
+use Rattle.fs_model.specs.Test.{IsTest, IsSame}
 use Rattle.fs_litmus.specs.Reads.{Reads}
 use Rattle.fs_litmus.proofs.ReadsTest.{is_test}
 use Rattle.fs_litmus.proofs.ReadsOnce.{reads_once}
-use Rattle.fs_same.proofs.KeptPlacements.{cheapest_same, of_witness_same, refutes_all_same}
-use Rattle.fs_same.proofs.KeptCandidates.{candidate_fault_same}
+use Rattle.fs_promise.proofs.KeptPlacements.{cheapest_same, of_witness_same, refutes_all_same}
+use Rattle.fs_promise.proofs.KeptCandidates.{candidate_fault_same}
 use Rattle.fs_answer.specs.Texts.{fenced_lines, witness_text}
 use Rattle.fs_answer.specs.WitnessFile.{IsWitnessFile}
 use Rattle.fs_round_trip.proofs.Fencing.{read_back}

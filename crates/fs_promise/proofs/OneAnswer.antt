@@ -2,9 +2,9 @@
 use Rattle.std.proofs.Common.{◌≡◌, ℕ, All, List, None, Some, length, refl, sym, subst, ap, ◌∙◌}
 use Rattle.fs_instr.specs.declared.instr.Instr.{Instr}
 use Rattle.fs_kinds.specs.declared.placement.Entry.{Entry}
-use Rattle.fs_syntax.specs.declared.test.Test.{Test}
-use Rattle.fs_syntax.specs.Placed.{IsPlaced}
-use Rattle.fs_syntax.specs.Test.{GoesForward, IsSame}
+use Rattle.fs_model.specs.declared.test.Test.{Test}
+use Rattle.fs_model.specs.Placed.{IsPlaced}
+use Rattle.fs_model.specs.Test.{GoesForward, IsSame}
 use Rattle.fs_litmus.proofs.ReadsTest.{is_test}
 use Rattle.fs_litmus.proofs.ReadsOnce.{reads_once}
 use Rattle.fs_model.specs.Witness.{Witness}
@@ -15,7 +15,7 @@ use Rattle.fs_check.specs.declared.order.OrderVerdict.TheVariants.{Yes, No}
 use Rattle.fs_check.specs.Verdicts.{IsVerdict}
 use Rattle.fs_check.proofs.OneVerdict.{no_reason_and_yes, one_reason}
 use Rattle.fs_io.specs.declared.status.Status.{Status}
-use Rattle.fs_same.proofs.KeptReasons.{yes_same, reason_same}
+use Rattle.fs_promise.proofs.KeptReasons.{yes_same, reason_same}
 use Rattle.fs_promise.specs.Agreement.{Place}
 use Rattle.fs_order.specs.Order.{IsOrderAnswer, verdict_line, verdict_status}
 use Rattle.fs_promise.proofs.Agrees.{slots_alike}

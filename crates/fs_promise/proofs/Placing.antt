@@ -8,14 +8,14 @@ use Rattle.fs_kinds.specs.declared.placement.Entry.{Entry}
 use Rattle.fs_kinds.specs.Placement.{slots_of, all_with, has_slot, kind_at, with_kind}
 use Rattle.fs_kinds.specs.Slot.{IsSlot, fence_word, is_same_slot, is_before, is_rising}
 use Rattle.fs_kinds.proofs.Entries.{slots_of-all_with, slots_of-with_kind}
-use Rattle.fs_syntax.specs.declared.test.Test.{Test}
-use Rattle.fs_syntax.specs.Placed.{word_of, fits, placed}
-use Rattle.fs_syntax.specs.Slots.{slots}
-use Rattle.fs_syntax.specs.Test.{IsBounded}
-use Rattle.fs_syntax.proofs.Rising.{rising-slots_from}
-use Rattle.fs_syntax.proofs.SlotLists.{same_slot, same_slot-refl}
+use Rattle.fs_model.specs.declared.test.Test.{Test}
+use Rattle.fs_model.specs.Placed.{word_of, fits, placed}
+use Rattle.fs_model.specs.Slots.{slots}
+use Rattle.fs_model.specs.Test.{IsBounded}
+use Rattle.fs_model.proofs.Rising.{rising-slots_from}
+use Rattle.fs_model.proofs.SlotLists.{same_slot, same_slot-refl}
 use Rattle.fs_answer.specs.Certificate.{fence_words, words_at}
-use Rattle.fs_verdicts.proofs.Worded.{same_fence, small_slots}
+use Rattle.fs_promise.proofs.Worded.{same_fence, small_slots}
 use Rattle.fs_promise.proofs.SamePrices.{AreSlots}
 use Rattle.fs_promise.specs.Agreement.{Place}
 

@@ -14,10 +14,10 @@ use Rattle.fs_kinds.specs.Kind.{word}
 use Rattle.fs_kinds.specs.Placement.{slots_of}
 use Rattle.fs_kinds.specs.Slot.{IsSlot}
 use Rattle.fs_kinds.proofs.Names.{cut-same, word-injective}
-use Rattle.fs_syntax.specs.declared.test.Test.{Test}
-use Rattle.fs_syntax.specs.Placed.{word_of}
-use Rattle.fs_syntax.specs.Slots.{slots}
-use Rattle.fs_syntax.specs.Test.{IsBounded}
+use Rattle.fs_model.specs.declared.test.Test.{Test}
+use Rattle.fs_model.specs.Placed.{word_of}
+use Rattle.fs_model.specs.Slots.{slots}
+use Rattle.fs_model.specs.Test.{IsBounded}
 use Rattle.fs_litmus.specs.Reads.{Reads}
 use Rattle.fs_litmus.proofs.ReadsTest.{is_test}
 use Rattle.fs_model.specs.Witness.{Witness}
@@ -25,7 +25,7 @@ use Rattle.fs_answer.specs.Certificate.{fence_words}
 use Rattle.fs_answer.specs.Texts.{fence_line, fenced_lines, none_lines, witness_text}
 use Rattle.fs_answer.specs.WitnessFile.{IsWitnessFile}
 use Rattle.fs_answer.proofs.Once.{file-once}
-use Rattle.fs_verdicts.proofs.Worded.{small_slots}
+use Rattle.fs_promise.proofs.Worded.{small_slots}
 use Rattle.fs_promise.specs.Agreement.{Place}
 use Rattle.fs_promise.specs.Lines.{SayOneAnswer}
 use Rattle.fs_promise.proofs.Placing.{fences_at, fences_of, words_are, words_place, one_placement}

@@ -9,15 +9,15 @@ use Rattle.fs_kinds.specs.Kind.{all_kinds}
 use Rattle.fs_kinds.specs.Placement.{slots_of, precedes}
 use Rattle.fs_kinds.specs.PriceTable.{PriceTable, is_offered, entry_cost, cost}
 use Rattle.fs_kinds.specs.Slot.{IsSlot, is_same_slot}
-use Rattle.fs_syntax.specs.declared.test.Test.{Test}
-use Rattle.fs_syntax.specs.Slots.{slots}
-use Rattle.fs_syntax.specs.Test.{IsBounded}
+use Rattle.fs_model.specs.declared.test.Test.{Test}
+use Rattle.fs_model.specs.Slots.{slots}
+use Rattle.fs_model.specs.Test.{IsBounded}
 use Rattle.fs_answer.specs.Certificate.{Certificate, Version, First, Second, Fenced, Item, SplitAt, Costly, Refuted, Bounded, fence_words}
 use Rattle.fs_answer.specs.Parts.{Part, Decision, undecided, floor, decide, options, child_parts}
 use Rattle.fs_answer.specs.Pruning.{breaks, breaking_ways, breaking_at, is_empty, is_breakable, least, least_break, share_a_slot, are_apart, sum_of, lower_bound, is_no_better, is_pruned}
 use Rattle.fs_answer.specs.Valid.{is_costly, Covers, IsValid}
 use Rattle.fs_answer.specs.Widths.{Width, width}
-use Rattle.fs_verdicts.proofs.Worded.{small_slots}
+use Rattle.fs_promise.proofs.Worded.{small_slots}
 use Rattle.fs_promise.proofs.SamePrices.{Agree, AreSlots, entry_same, cost_same, offered_same, same_placement, same_costs}
 
 -- ---- the slots of parts have numbers of one byte

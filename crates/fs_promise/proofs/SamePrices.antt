@@ -9,11 +9,11 @@ use Rattle.fs_kinds.specs.Placement.{slots_of}
 use Rattle.fs_kinds.specs.PriceTable.{PriceTable, price_of, weight_of, kind_cost, entry_cost, cost, is_offered, are_offered}
 use Rattle.fs_kinds.specs.PriceObject.{ArePrices, IsTableOf}
 use Rattle.fs_kinds.specs.Slot.{IsSlot}
-use Rattle.fs_syntax.specs.declared.test.Test.{Test}
-use Rattle.fs_syntax.specs.Slots.{slots}
-use Rattle.fs_syntax.specs.Test.{IsBounded}
+use Rattle.fs_model.specs.declared.test.Test.{Test}
+use Rattle.fs_model.specs.Slots.{slots}
+use Rattle.fs_model.specs.Test.{IsBounded}
 use Rattle.fs_model.specs.Allows.{IsPlacement}
-use Rattle.fs_verdicts.proofs.Worded.{small_slots}
+use Rattle.fs_promise.proofs.Worded.{small_slots}
 use Rattle.fs_place.specs.Place.{ArePricesOf}
 
 -- the same price for each kind, and the same weight for each slot

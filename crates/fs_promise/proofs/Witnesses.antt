@@ -8,8 +8,8 @@ use Rattle.fs_instr.specs.declared.instr.Instr.{Instr}
 use Rattle.fs_instr.specs.declared.instr.Instr.TheVariants.{Lw, Lr, Sc, Amo}
 use Rattle.fs_kinds.specs.declared.placement.Entry.{Entry}
 use Rattle.fs_kinds.specs.declared.reason.OperationName.{OperationName as Name}
-use Rattle.fs_syntax.specs.declared.test.Test.{Test}
-use Rattle.fs_syntax.specs.Test.{IsBounded}
+use Rattle.fs_model.specs.declared.test.Test.{Test}
+use Rattle.fs_model.specs.Test.{IsBounded}
 use Rattle.fs_model.specs.declared.hart.Hart.{Hart}
 use Rattle.fs_model.specs.declared.step.Step.{Step}
 use Rattle.fs_model.specs.declared.step.Choice.{Choice}
@@ -26,8 +26,8 @@ use Rattle.fs_model.proofs.ListedNumbers.{has-here}
 use Rattle.fs_model.proofs.OnceListed.{order_below}
 use Rattle.fs_answer.specs.Texts.{witness_text}
 use Rattle.fs_answer.specs.WitnessFile.{IsWitnessFile, in_range}
-use Rattle.fs_check.proofs.NamedOrder.{NamesInRange}
-use Rattle.fs_check.proofs.RunNames.{ranged}
+use Rattle.fs_cand.proofs.NamedOrder.{NamesInRange}
+use Rattle.fs_cand.proofs.RunNames.{ranged}
 use Rattle.fs_promise.proofs.WitnessTexts.{Each, IsSmallChoice, IsSmallName, text_says}
 
 -- ---- choices

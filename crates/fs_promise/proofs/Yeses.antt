@@ -4,14 +4,14 @@ use Rattle.fs_kinds.specs.declared.kind.Kind.TheVariants.{RwRw}
 use Rattle.fs_kinds.specs.declared.placement.Entry.{Entry}
 use Rattle.fs_kinds.specs.Placement.{all_with}
 use Rattle.fs_kinds.specs.PriceTable.{PriceTable, cost}
-use Rattle.fs_syntax.specs.declared.test.Test.{Test}
-use Rattle.fs_syntax.specs.Slots.{slots}
-use Rattle.fs_syntax.specs.Test.{IsTest, IsSame}
+use Rattle.fs_model.specs.declared.test.Test.{Test}
+use Rattle.fs_model.specs.Slots.{slots}
+use Rattle.fs_model.specs.Test.{IsTest, IsSame}
 use Rattle.fs_litmus.specs.Reads.{Reads}
 use Rattle.fs_litmus.proofs.ReadsTest.{is_test}
 use Rattle.fs_litmus.proofs.ReadsOnce.{reads_once}
-use Rattle.fs_same.proofs.KeptPlacements.{cheapest_same, least_cost_same, of_witness_same, refutes_all_same}
-use Rattle.fs_same.proofs.KeptCandidates.{candidate_fault_same}
+use Rattle.fs_promise.proofs.KeptPlacements.{cheapest_same, least_cost_same, of_witness_same, refutes_all_same}
+use Rattle.fs_promise.proofs.KeptCandidates.{candidate_fault_same}
 use Rattle.fs_model.specs.Allows.{RefutesAll}
 use Rattle.fs_model.specs.Execution.{Execution}
 use Rattle.fs_model.specs.Witness.{Witness, IsOfWitness}

@@ -3,9 +3,9 @@ use Rattle.std.specs.Prelude.{◌≡◌, ◌⊎◌, ◌++◌, ℕ, true, None, S
 use Rattle.fs_kinds.specs.declared.placement.Entry.{Entry}
 use Rattle.fs_kinds.specs.Placement.{slots_of}
 use Rattle.fs_kinds.specs.PriceTable.{PriceTable, cost}
-use Rattle.fs_syntax.specs.declared.test.Test.{Test}
-use Rattle.fs_syntax.specs.Placed.{IsPlaced}
-use Rattle.fs_syntax.specs.Slots.{slots}
+use Rattle.fs_model.specs.declared.test.Test.{Test}
+use Rattle.fs_model.specs.Placed.{IsPlaced}
+use Rattle.fs_model.specs.Slots.{slots}
 use Rattle.fs_litmus.specs.Reads.{Reads}
 use Rattle.fs_model.specs.Allows.{IsPlacement, is_better}
 use Rattle.fs_answer.specs.Certificate.{fence_words}

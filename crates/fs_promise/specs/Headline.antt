@@ -3,10 +3,10 @@ use Rattle.std.specs.Prelude.{◌≡◌, ◌⊎◌, ℕ, true, List, length}
 use Rattle.fs_kinds.specs.declared.placement.Entry.{Entry}
 use Rattle.fs_kinds.specs.Placement.{slots_of}
 use Rattle.fs_kinds.specs.PriceTable.{PriceTable, cost}
-use Rattle.fs_syntax.specs.declared.test.Test.{Test}
-use Rattle.fs_syntax.specs.Fenced.{fenced}
-use Rattle.fs_syntax.specs.Printed.{printed}
-use Rattle.fs_syntax.specs.Slots.{slots}
+use Rattle.fs_model.specs.declared.test.Test.{Test}
+use Rattle.fs_model.specs.Fenced.{fenced}
+use Rattle.fs_model.specs.Printed.{printed}
+use Rattle.fs_model.specs.Slots.{slots}
 use Rattle.fs_litmus.specs.Reads.{Reads}
 use Rattle.fs_model.specs.Allows.{Allows, IsPlacement, full_fences, is_better, no_fences}
 use Rattle.fs_model.specs.Reasons.{IsYes}

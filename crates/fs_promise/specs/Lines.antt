@@ -2,8 +2,8 @@
 use Rattle.std.specs.Prelude.{◌≡◌, ℕ, List, length}
 use Rattle.fs_kinds.specs.declared.placement.Entry.{Entry}
 use Rattle.fs_kinds.specs.Placement.{slots_of}
-use Rattle.fs_syntax.specs.declared.test.Test.{Test}
-use Rattle.fs_syntax.specs.Slots.{slots}
+use Rattle.fs_model.specs.declared.test.Test.{Test}
+use Rattle.fs_model.specs.Slots.{slots}
 use Rattle.fs_model.specs.Witness.{Witness}
 use Rattle.fs_answer.specs.Texts.{fenced_lines, none_lines, witness_text}
 use Rattle.fs_answer.specs.WitnessFile.{IsWitnessFile}

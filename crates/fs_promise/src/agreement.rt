@@ -1,7 +1,7 @@
 //! What `order` says of the answers that `solve` prints, and that it says one thing only.
 
 ghost use Rattle.std.specs.Prelude.{◌≡◌, ℕ, List};
-ghost use Rattle.fs_syntax.specs.declared.test.Test.{Test};
+ghost use Rattle.fs_model.specs.declared.test.Test.{Test};
 ghost use Rattle.fs_litmus.specs.Reads.{Reads};
 ghost use Rattle.fs_io.specs.declared.status.Status.{Status};
 ghost use Rattle.fs_solve.specs.Solve.{IsSolved};

@@ -1,14 +1,22 @@
 //! The promises of the commands, as laws over the bytes of files: what an answer of `solve` means, that `order` agrees with it,
 //! that `solve` and `order` have one answer, that printed lines say one answer, what a yes of `check` means, and that the certificate of
-//! `solve --cert` gets one. No other crate stands on this one, and nothing in it runs.
+//! `solve --cert` gets one; that a certificate has one verdict; and that two tests that are the same wherever the parts of their
+//! conditions lie in memory have all else alike. No other crate stands on this one, and nothing in it runs.
 #![tactic(auto)]
 
 mod agreement;
+mod alike;
 mod checked;
 mod lines;
 mod promise;
+mod verdict;
 
 pub use agreement::{order_agrees, order_answers_once, words_place_fences};
+pub use alike::{
+    same_tests_allow_alike, same_tests_are_judged_alike, same_tests_certify_alike,
+    same_tests_fail_alike, same_tests_list_alike, same_tests_search_alike,
+};
 pub use checked::{certified_is_accepted, yes_is_true};
 pub use lines::{lines_say_one_answer, solve_answers_once};
 pub use promise::headline;
+pub use verdict::one_verdict;

@@ -1,7 +1,7 @@
 //! That the lines which `solve` prints, and `check` below a `yes`, say one answer, and that `solve` has one answer to the same files.
 
 ghost use Rattle.std.specs.Prelude.{ℕ, List};
-ghost use Rattle.fs_syntax.specs.declared.test.Test.{Test};
+ghost use Rattle.fs_model.specs.declared.test.Test.{Test};
 ghost use Rattle.fs_litmus.specs.Reads.{Reads};
 ghost use Rattle.fs_io.specs.declared.status.Status.{Status};
 ghost use Rattle.fs_solve.specs.Solve.{IsSolved};

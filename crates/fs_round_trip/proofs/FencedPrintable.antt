@@ -3,13 +3,13 @@ use Rattle.std.proofs.Common.{◌≤◌, List, length, All, sym, ◌∙◌, subs
 use Rattle.fs_instr.specs.OfTable.{IsOfTable}
 use Rattle.fs_instr.specs.declared.instr.Instr.{Instr}
 use Rattle.fs_kinds.specs.declared.placement.Entry.{Entry}
-use Rattle.fs_syntax.specs.Condition.{condition_of, SpeaksOf}
-use Rattle.fs_syntax.specs.Fenced.{fenced}
-use Rattle.fs_syntax.specs.Test.{GoesForward, IsTest}
-use Rattle.fs_syntax.specs.declared.test.Test.{Test}
-use Rattle.fs_syntax.proofs.FencedPlaces.{fences_code}
-use Rattle.fs_syntax.proofs.FencedSteps.{length-fenced_codes, short-fenced_codes}
-use Rattle.fs_syntax.proofs.FencedTest.{forward_fenced, table_fenced, accesses_kept, each_fenced}
+use Rattle.fs_model.specs.Condition.{condition_of, SpeaksOf}
+use Rattle.fs_model.specs.Fenced.{fenced}
+use Rattle.fs_model.specs.Test.{GoesForward, IsTest}
+use Rattle.fs_model.specs.declared.test.Test.{Test}
+use Rattle.fs_model.proofs.FencedPlaces.{fences_code}
+use Rattle.fs_model.proofs.FencedSteps.{length-fenced_codes, short-fenced_codes}
+use Rattle.fs_model.proofs.FencedTest.{forward_fenced, table_fenced, accesses_kept, each_fenced}
 use Rattle.fs_round_trip.specs.inner.Printable.{IsPrintable}
 
 -- what the instructions of a code are

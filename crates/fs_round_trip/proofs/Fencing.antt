@@ -4,14 +4,14 @@ use Rattle.std.specs.Result.{IsErrAnd}
 use Rattle.fs_kinds.specs.FaultLine.{number}
 use Rattle.fs_kinds.specs.declared.fault.Fault.TheVariants.{Memory, BadFence}
 use Rattle.fs_kinds.specs.Placement.{slots_of}
-use Rattle.fs_syntax.specs.Slots.{slots}
+use Rattle.fs_model.specs.Slots.{slots}
 use Rattle.fs_round_trip.specs.Fence.{IsFenceFault, other_slots}
 use Rattle.fs_kinds.specs.declared.fault.Fault.{Fault}
 use Rattle.fs_kinds.specs.declared.placement.Entry.{Entry}
-use Rattle.fs_syntax.specs.Fenced.{fenced}
-use Rattle.fs_syntax.specs.Printed.{printed}
-use Rattle.fs_syntax.specs.Test.{IsTest, IsSame}
-use Rattle.fs_syntax.specs.declared.test.Test.{Test}
+use Rattle.fs_model.specs.Fenced.{fenced}
+use Rattle.fs_model.specs.Printed.{printed}
+use Rattle.fs_model.specs.Test.{IsTest, IsSame}
+use Rattle.fs_model.specs.declared.test.Test.{Test}
 use Rattle.fs_litmus.specs.Reads.{MeanTest, Reads}
 use Rattle.fs_litmus.proofs.Once.{title_once, parts_once}
 use Rattle.fs_litmus.proofs.ReadsOnce.{means_once}

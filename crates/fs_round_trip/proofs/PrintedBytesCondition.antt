@@ -11,12 +11,12 @@ use Rattle.fs_tokens.specs.declared.token.Mark.{Mark}
 use Rattle.fs_tokens.specs.declared.token.Mark.TheVariants as mark
 use Rattle.fs_instr.specs.PrintedTokens.{IsApart}
 use Rattle.fs_instr.proofs.PrintedWords.{is_word, decimal_word}
-use Rattle.fs_syntax.specs.Test.{is_name}
-use Rattle.fs_syntax.specs.Condition.{Condition, Always, Never, RegisterIs, LocationIs, Deny, Both, Either, SpeaksOf}
-use Rattle.fs_syntax.specs.Printed.{name_of, value_text, quantifier_text, condition_text}
-use Rattle.fs_syntax.specs.declared.test.Location.{Location}
-use Rattle.fs_syntax.specs.declared.test.Quantifier.{Quantifier}
-use Rattle.fs_syntax.specs.declared.test.Quantifier.TheVariants.{Exists, NotExists, Forall}
+use Rattle.fs_model.specs.Test.{is_name}
+use Rattle.fs_model.specs.Condition.{Condition, Always, Never, RegisterIs, LocationIs, Deny, Both, Either, SpeaksOf}
+use Rattle.fs_model.specs.Printed.{name_of, value_text, quantifier_text, condition_text}
+use Rattle.fs_model.specs.declared.test.Location.{Location}
+use Rattle.fs_model.specs.declared.test.Quantifier.{Quantifier}
+use Rattle.fs_model.specs.declared.test.Quantifier.TheVariants.{Exists, NotExists, Forall}
 use Rattle.fs_round_trip.specs.inner.Written.{syntax_of, syntax_toks, quantifier_toks}
 use Rattle.fs_round_trip.proofs.PrintedBytes.{Prints, Opens, opened, then, then_open, closed_by, word_opens, blank, equals, tilde, close_paren, and_sign, or_sign, open_paren_tokens, cons_ascii}
 use Rattle.fs_round_trip.proofs.PrintedBytesValues.{AreNamed, first_of, rest_of, name_word, name_opens, value_opens, register_is_opens}

@@ -11,16 +11,16 @@ use Rattle.fs_tokens.specs.Tokens.{Tok, Word, Lined, without_lines}
 use Rattle.fs_tokens.specs.declared.word.Class.{Class}
 use Rattle.fs_tokens.specs.declared.token.Mark.{Mark}
 use Rattle.fs_tokens.specs.declared.token.Mark.TheVariants as mark
-use Rattle.fs_mnemonics.specs.Rows.{look_up}
-use Rattle.fs_mnemonics.specs.Names.{op_of, name_text, register_names, immediate_names, branch_names, single_names, plain_names, acquiring_names, releasing_names, both_names, both_apart_names}
-use Rattle.fs_mnemonics.specs.FenceLetters.{letter, letters_text}
+use Rattle.fs_instr.specs.Rows.{look_up}
+use Rattle.fs_instr.specs.Names.{op_of, name_text, register_names, immediate_names, branch_names, single_names, plain_names, acquiring_names, releasing_names, both_names, both_apart_names}
+use Rattle.fs_instr.specs.FenceLetters.{letter, letters_text}
 use Rattle.fs_instr.specs.Instructions.{parts_of, op_of_instr, operands_of}
 use Rattle.fs_instr.specs.OfTable.{IsImmediate, IsOfTable}
 use Rattle.fs_instr.specs.Spelled.{Spells, spells}
 use Rattle.fs_instr.specs.Writing.{mark_text, part_text, parts_text, space_text, instr_text}
 use Rattle.fs_instr.specs.PrintedTokens.{instr_tokens, in_line}
-use Rattle.fs_mnemonics.specs.declared.letters.Letters.{Letters}
-use Rattle.fs_mnemonics.specs.declared.names.Op.{Op}
+use Rattle.fs_instr.specs.declared.letters.Letters.{Letters}
+use Rattle.fs_instr.specs.declared.names.Op.{Op}
 use Rattle.fs_instr.specs.declared.operands.Operands.{Operands}
 use Rattle.fs_instr.specs.declared.operands.OperandPart.{OperandPart}
 use Rattle.fs_instr.specs.declared.operands.OperandPart.TheVariants as part

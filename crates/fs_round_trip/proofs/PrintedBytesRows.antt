@@ -11,7 +11,7 @@ use Rattle.fs_instr.specs.PrintedTokens.{instr_tokens}
 use Rattle.fs_instr.specs.OfTable.{IsOfTable}
 use Rattle.fs_instr.specs.declared.instr.Instr.{Instr}
 use Rattle.fs_instr.proofs.PrintedWords.{lettered_word}
-use Rattle.fs_syntax.specs.Printed.{joined, ended, label, cell, end_cells, column, header, row, height, rows_text, is_target}
+use Rattle.fs_model.specs.Printed.{joined, ended, label, cell, end_cells, column, header, row, height, rows_text, is_target}
 use Rattle.fs_round_trip.specs.inner.Written as written
 use Rattle.fs_round_trip.specs.inner.Written.{label_toks, cell_toks, column_toks, row_cells, tallest, row_toks, header_cells}
 use Rattle.fs_round_trip.proofs.PrintedBytes.{Prints, Opens, nothing, nothing_open, opened, then, then_open, closed_by, word_opens, blank, semicolon, colon, bar, ended_line}

@@ -14,9 +14,9 @@ use Rattle.fs_tokens.specs.Tokens.{Tok, Sign, word}
 use Rattle.fs_tokens.specs.declared.token.Mark.TheVariants as mark
 use Rattle.fs_tokens.specs.Values.{Value, Address}
 use Rattle.fs_instr.proofs.PrintedWords.{all_letters, is_word, decimal_word, lettered_word}
-use Rattle.fs_syntax.specs.Test.{is_name, IsStart, address_of}
-use Rattle.fs_syntax.specs.declared.test.Location.{Location}
-use Rattle.fs_syntax.specs.Printed.{value_from, value_text, location_text, locations_text, register_is, register_text, set_registers, start_text, starts_text, line_of}
+use Rattle.fs_model.specs.Test.{is_name, IsStart, address_of}
+use Rattle.fs_model.specs.declared.test.Location.{Location}
+use Rattle.fs_model.specs.Printed.{value_from, value_text, location_text, locations_text, register_is, register_text, set_registers, start_text, starts_text, line_of}
 use Rattle.fs_round_trip.specs.inner.Written as written
 use Rattle.fs_round_trip.specs.inner.Written.{entry_toks, binding_toks, value_toks, location_binding, register_binding, start_bindings}
 use Rattle.fs_round_trip.proofs.PrintedBytes.{Prints, Opens, nothing, opened, then, then_open, closed_by, parted_from, word_opens, blank, semicolon, colon, equals, ended_line}

@@ -9,11 +9,11 @@ use Rattle.std.specs.Str.{IsUtf8}
 use Rattle.std.specs.List.{flat_map, enumerate_from, prefix_len, list_any, last_or}
 use Rattle.fs_tokens.specs.Tokens.{Tok, Sign, Lined, none, without_lines}
 use Rattle.fs_tokens.specs.declared.token.Mark.TheVariants as mark
-use Rattle.fs_syntax.specs.Test.{is_title, is_visible}
+use Rattle.fs_model.specs.Test.{is_title, is_visible}
 use Rattle.fs_round_trip.specs.inner.Printable.{IsPrintable}
-use Rattle.fs_syntax.specs.Condition.{condition_of}
-use Rattle.fs_syntax.specs.Printed.{printed, ended, locations_text, starts_text, header, rows_text, column, quantifier_text, condition_text}
-use Rattle.fs_syntax.specs.declared.test.Test.{Test}
+use Rattle.fs_model.specs.Condition.{condition_of}
+use Rattle.fs_model.specs.Printed.{printed, ended, locations_text, starts_text, header, rows_text, column, quantifier_text, condition_text}
+use Rattle.fs_model.specs.declared.test.Test.{Test}
 use Rattle.fs_litmus.specs.Title as title
 use Rattle.fs_litmus.specs.Title.{after_line, is_within_line, ends_in_blank, begins_with_blank, IsTrimmed, HasTitle, IsBody, here}
 use Rattle.fs_litmus.specs.Reads.{HasTokens}

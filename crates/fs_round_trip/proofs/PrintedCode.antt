@@ -6,9 +6,9 @@ use Rattle.fs_code.specs.Codes.{AreCodes, IsHart}
 use Rattle.fs_instr.specs.OfTable.{IsOfTable}
 use Rattle.fs_instr.specs.declared.instr.Instr.{Instr}
 use Rattle.fs_tokens.specs.Tokens.{Lined, without_lines}
-use Rattle.fs_syntax.specs.Test.{GoesForward}
+use Rattle.fs_model.specs.Test.{GoesForward}
 use Rattle.fs_round_trip.specs.inner.Printable.{IsPrintable}
-use Rattle.fs_syntax.specs.declared.test.Test.{Test}
+use Rattle.fs_model.specs.declared.test.Test.{Test}
 use Rattle.fs_round_trip.specs.inner.Written.{rows_toks}
 use Rattle.fs_round_trip.proofs.PrintedCodeRows.{HasColumn, column_cells}
 use Rattle.fs_round_trip.proofs.PrintedCodeItems.{items_of_cells}

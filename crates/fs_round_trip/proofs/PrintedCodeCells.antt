@@ -9,7 +9,7 @@ use Rattle.fs_tokens.specs.Words.{is_name, class_of, keyword_of, is_number, is_d
 use Rattle.fs_tokens.specs.declared.word.Class.{Class}
 use Rattle.fs_tokens.specs.declared.token.Mark.TheVariants.{Colon}
 use Rattle.fs_instr.specs.Instructions.{targeted, parts_of, op_of_instr, operands_of}
-use Rattle.fs_mnemonics.specs.Names.{name_text}
+use Rattle.fs_instr.specs.Names.{name_text}
 use Rattle.fs_instr.specs.OfTable.{IsOfTable}
 use Rattle.fs_instr.specs.PrintedTokens.{instr_tokens, parts_tokens, label_of}
 use Rattle.fs_instr.specs.Spelled.{Spells}

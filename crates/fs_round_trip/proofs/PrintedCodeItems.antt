@@ -7,7 +7,7 @@ use Rattle.fs_instr.specs.OfTable.{IsOfTable}
 use Rattle.fs_instr.specs.PrintedTokens.{instr_tokens, label_of}
 use Rattle.fs_instr.specs.declared.instr.Instr.{Instr}
 use Rattle.fs_code.specs.Cells.{Item, Label, Instruction, AreCells, next}
-use Rattle.fs_syntax.specs.Printed.{is_target}
+use Rattle.fs_model.specs.Printed.{is_target}
 use Rattle.fs_round_trip.specs.inner.Written.{label_toks, cell_toks, end_cells}
 use Rattle.fs_round_trip.proofs.PrintedCodeCells.{label_name, bare_cell, labelled_cell, end_cell, blank_cells}
 

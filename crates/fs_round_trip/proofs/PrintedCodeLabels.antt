@@ -9,8 +9,8 @@ use Rattle.fs_instr.specs.declared.instr.Instr.TheVariants as instr
 use Rattle.fs_kinds.specs.declared.fault.Fault.{Fault}
 use Rattle.fs_code.specs.Cells.{Item, Label, Instruction}
 use Rattle.fs_code.specs.Labels.{StandsAt, here, past_label, past_instruction, IsTwice, again, later, AreResolved, none, label, plain, branch, IsCode}
-use Rattle.fs_syntax.specs.Printed.{is_target, goes_to}
-use Rattle.fs_syntax.specs.Test.{GoesForward}
+use Rattle.fs_model.specs.Printed.{is_target, goes_to}
+use Rattle.fs_model.specs.Test.{GoesForward}
 use Rattle.fs_round_trip.proofs.PrintedCodeCells.{label_name}
 use Rattle.fs_round_trip.proofs.PrintedCodeItems.{ArePrinted, finish, end_label, bare, labelled}
 

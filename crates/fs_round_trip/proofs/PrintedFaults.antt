@@ -17,13 +17,13 @@ use Rattle.fs_instr.specs.Instructions.{is_memory}
 use Rattle.fs_instr.specs.declared.instr.Instr.{Instr}
 use Rattle.fs_kinds.specs.FaultOrder.{IsFirst, IsNoLater}
 use Rattle.fs_code.proofs.HartLemmas.{codes_only, codes_clean}
-use Rattle.fs_syntax.specs.Condition as ours
+use Rattle.fs_model.specs.Condition as ours
 use Rattle.fs_kinds.specs.Placement.{slots_of}
-use Rattle.fs_syntax.specs.Slots.{slots}
-use Rattle.fs_syntax.specs.Fenced.{fenced}
-use Rattle.fs_syntax.specs.Printed.{printed}
-use Rattle.fs_syntax.specs.Test.{IsTest}
-use Rattle.fs_syntax.specs.declared.test.Test.{Test}
+use Rattle.fs_model.specs.Slots.{slots}
+use Rattle.fs_model.specs.Fenced.{fenced}
+use Rattle.fs_model.specs.Printed.{printed}
+use Rattle.fs_model.specs.Test.{IsTest}
+use Rattle.fs_model.specs.declared.test.Test.{Test}
 use Rattle.fs_litmus.specs.Atoms.{atom_at, condition_in}
 use Rattle.fs_litmus.specs.Faults.{IsPassed, harts, instructions, accesses, locations, depth, IsFormFault, code, entry, atom, limit, HasFault, encoding, title, form, meaning as of_form}
 use Rattle.fs_litmus.specs.Locations.{Names}

@@ -8,12 +8,12 @@ use Rattle.fs_form.specs.Init.{block}
 use Rattle.fs_form.specs.Header.{IsHeader}
 use Rattle.fs_form.specs.Form.{Form, IsForm, form}
 use Rattle.fs_instr.specs.OfTable.{IsOfTable}
-use Rattle.fs_syntax.specs.Condition.{condition_of}
-use Rattle.fs_syntax.specs.Test as tests
-use Rattle.fs_syntax.specs.Test.{IsStart}
+use Rattle.fs_model.specs.Condition.{condition_of}
+use Rattle.fs_model.specs.Test as tests
+use Rattle.fs_model.specs.Test.{IsStart}
 use Rattle.fs_round_trip.specs.inner.Printable.{IsPrintable}
-use Rattle.fs_syntax.specs.declared.test.Test.{Test}
-use Rattle.fs_syntax.specs.declared.test.Quantifier.{Quantifier}
+use Rattle.fs_model.specs.declared.test.Test.{Test}
+use Rattle.fs_model.specs.declared.test.Quantifier.{Quantifier}
 use Rattle.fs_litmus.specs.Locations.{Binding}
 use Rattle.fs_litmus.specs.Settings.{entry_bindings}
 use Rattle.fs_round_trip.specs.inner.Written.{bindings_of, location_binding, start_bindings, entry_toks, row_toks, header_cells, rows_toks, column_toks, tallest, quantifier_toks, written_quantifier, syntax_of, syntax_toks, text_toks, HasWrittenForm}

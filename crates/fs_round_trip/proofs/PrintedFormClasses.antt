@@ -16,13 +16,13 @@ use Rattle.fs_tokens.specs.Words.{class_of, keyword_of, is_number, is_name, plai
 use Rattle.fs_tokens.specs.declared.word.Class.{Class}
 use Rattle.fs_tokens.specs.declared.word.Class.TheVariants as class
 use Rattle.fs_form.specs.Body.{is_stop}
-use Rattle.fs_syntax.specs.Test as tests
-use Rattle.fs_mnemonics.specs.Rows.{look_up}
-use Rattle.fs_mnemonics.specs.Names.{op_of, name_text, register_names, immediate_names, branch_names, single_names, plain_names, acquiring_names, releasing_names, both_names, both_apart_names}
+use Rattle.fs_model.specs.Test as tests
+use Rattle.fs_instr.specs.Rows.{look_up}
+use Rattle.fs_instr.specs.Names.{op_of, name_text, register_names, immediate_names, branch_names, single_names, plain_names, acquiring_names, releasing_names, both_names, both_apart_names}
 use Rattle.fs_instr.specs.Instructions.{op_of_instr}
 use Rattle.fs_instr.specs.OfTable.{IsOfTable}
 use Rattle.fs_instr.specs.Spelled.{Spells, spells}
-use Rattle.fs_mnemonics.specs.declared.names.Op.{Op}
+use Rattle.fs_instr.specs.declared.names.Op.{Op}
 use Rattle.fs_instr.specs.declared.instr.Instr.{Instr}
 use Rattle.fs_instr.proofs.ReadsBack.{reads_back}
 

@@ -5,9 +5,9 @@ use Rattle.fs_tokens.specs.Words.{class_of, keyword_of}
 use Rattle.fs_tokens.specs.declared.token.Mark.TheVariants as mark
 use Rattle.fs_condition.specs.Grammar as syntax
 use Rattle.fs_condition.specs.Grammar.{Syntax, IsUnit, IsConjunction, IsDisjunction, IsCondition, atom, truth, falsity, tilde, group, unit, both, conjunction, either}
-use Rattle.fs_syntax.specs.Condition as condition
-use Rattle.fs_syntax.specs.Condition.{Condition}
-use Rattle.fs_syntax.specs.declared.test.Location as locations
+use Rattle.fs_model.specs.Condition as condition
+use Rattle.fs_model.specs.Condition.{Condition}
+use Rattle.fs_model.specs.declared.test.Location as locations
 use Rattle.fs_litmus.specs.Locations.{Binding}
 use Rattle.fs_round_trip.specs.inner.Written.{syntax_of, syntax_toks, binding_toks}
 use Rattle.fs_round_trip.proofs.PrintedFormLines.{Are, next, none, regrouped, Begins, first}

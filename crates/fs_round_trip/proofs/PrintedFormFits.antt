@@ -10,12 +10,12 @@ use Rattle.fs_instr.specs.OfTable.{IsOfTable}
 use Rattle.fs_instr.specs.PrintedTokens.{instr_tokens}
 use Rattle.fs_instr.specs.declared.instr.Instr.{Instr}
 use Rattle.fs_instr.specs.declared.instr.Instr.TheVariants as instr
-use Rattle.fs_syntax.specs.Condition as condition
-use Rattle.fs_syntax.specs.Condition.{Condition, SpeaksOf}
-use Rattle.fs_syntax.specs.Printed.{set_registers, is_target, name_of}
-use Rattle.fs_syntax.specs.Test as tests
-use Rattle.fs_syntax.specs.Test.{IsStart, address_of}
-use Rattle.fs_syntax.specs.declared.test.Location as locations
+use Rattle.fs_model.specs.Condition as condition
+use Rattle.fs_model.specs.Condition.{Condition, SpeaksOf}
+use Rattle.fs_model.specs.Printed.{set_registers, is_target, name_of}
+use Rattle.fs_model.specs.Test as tests
+use Rattle.fs_model.specs.Test.{IsStart, address_of}
+use Rattle.fs_model.specs.declared.test.Location as locations
 use Rattle.fs_round_trip.specs.inner.Written.{value_from, location_binding, register_binding, start_bindings, label_toks, cell_toks, end_cells, column_toks, row_cells, syntax_of}
 use Rattle.fs_round_trip.proofs.PrintedFormClasses.{decimal_class, name_class, label_begins, name_begins}
 use Rattle.fs_round_trip.proofs.PrintedFormEntries.{Fits, FitsTarget, FitsValue}

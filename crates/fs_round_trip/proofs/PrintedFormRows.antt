@@ -5,8 +5,8 @@ use Rattle.fs_tokens.specs.Tokens.{Tok, Sign, Lined, without_lines}
 use Rattle.fs_tokens.specs.Words.{class_of, keyword_of}
 use Rattle.fs_tokens.specs.declared.token.Mark.TheVariants as mark
 use Rattle.fs_form.specs.Body.{is_plain, is_stop, BeginsRow, Cell, IsCell, nothing, plain, IsRow, one, cells, IsQuantifier, exists, not_exists, forall, bare, IsBody, ending, row}
-use Rattle.fs_syntax.specs.declared.test.Quantifier.{Quantifier}
-use Rattle.fs_syntax.specs.declared.test.Quantifier.TheVariants.{Exists, NotExists, Forall}
+use Rattle.fs_model.specs.declared.test.Quantifier.{Quantifier}
+use Rattle.fs_model.specs.declared.test.Quantifier.TheVariants.{Exists, NotExists, Forall}
 use Rattle.fs_round_trip.specs.inner.Written.{row_toks, quantifier_toks, written_quantifier}
 use Rattle.fs_round_trip.proofs.PrintedFormLines.{Are, next, regrouped, Begins, first}
 

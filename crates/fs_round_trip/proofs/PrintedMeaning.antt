@@ -14,11 +14,11 @@ use Rattle.fs_litmus.specs.Settings.{entry_bindings, settings_after}
 use Rattle.fs_litmus.specs.Starts.{starts_of, AreLocations}
 use Rattle.fs_litmus.specs.Atoms.{condition_in}
 use Rattle.fs_litmus.specs.Reads.{MeanTest, IsWithinLimits, names_in, quantifier_of}
-use Rattle.fs_syntax.specs.Condition.{condition_of}
+use Rattle.fs_model.specs.Condition.{condition_of}
 use Rattle.fs_round_trip.specs.inner.Printable.{IsPrintable}
-use Rattle.fs_syntax.specs.declared.test.Test.{Test}
-use Rattle.fs_syntax.specs.declared.test.Quantifier.{Quantifier}
-use Rattle.fs_syntax.specs.declared.test.Quantifier.TheVariants.{Exists, NotExists, Forall}
+use Rattle.fs_model.specs.declared.test.Test.{Test}
+use Rattle.fs_model.specs.declared.test.Quantifier.{Quantifier}
+use Rattle.fs_model.specs.declared.test.Quantifier.TheVariants.{Exists, NotExists, Forall}
 use Rattle.fs_round_trip.specs.inner.Written.{bindings_of, rows_toks, syntax_of, written_quantifier, HasWrittenForm}
 use Rattle.fs_round_trip.proofs.PrintedCode.{codes_mean}
 use Rattle.fs_round_trip.proofs.PrintedMeaningNames.{names_of, AreApart, are_apart, names_are}

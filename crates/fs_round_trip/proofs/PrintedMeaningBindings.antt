@@ -2,8 +2,8 @@
 use Rattle.std.proofs.Common.{◌≡◌, ℕ, ◌+◌, ◌<◌, ◌≤◌, ◌^◌, suc, List, [], ◌∷◌, ◌++◌, map, flat_map, length, get_or, slice_get, Some, Bool, true, false, not, cond, ◌==◌, eqb-true, All, refl, sym, ap, ◌∙◌, subst, arith, suc-le-suc}
 use Rattle.std.specs.List.{enumerate_from}
 use Rattle.fs_litmus.specs.Settings.{settings_after}
-use Rattle.fs_syntax.specs.Test.{IsStart}
-use Rattle.fs_syntax.specs.declared.test.Location.{Location}
+use Rattle.fs_model.specs.Test.{IsStart}
+use Rattle.fs_model.specs.declared.test.Location.{Location}
 use Rattle.fs_round_trip.specs.inner.Written.{location_binding, register_binding, start_bindings}
 use Rattle.fs_round_trip.proofs.PrintedMeaningNames.{names_of, AreApart}
 use Rattle.fs_round_trip.proofs.PrintedMeaningValues.{register_set, location_set, AreFrom, from_first, from_later}

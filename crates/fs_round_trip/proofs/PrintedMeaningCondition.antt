@@ -3,9 +3,9 @@ use Rattle.std.proofs.Common.{◌≡◌, ℕ, ◌+◌, ◌≤◌, max, List, len
 use Rattle.fs_condition.specs.Meaning as meaning
 use Rattle.fs_condition.specs.Meaning.{written_depth, grouped_depth, depth_of}
 use Rattle.fs_litmus.specs.Atoms.{atom_at, condition_in, with_both}
-use Rattle.fs_syntax.specs.Condition as condition
-use Rattle.fs_syntax.specs.Condition.{Condition, nesting, SpeaksOf}
-use Rattle.fs_syntax.specs.declared.test.Location.{Location}
+use Rattle.fs_model.specs.Condition as condition
+use Rattle.fs_model.specs.Condition.{Condition, nesting, SpeaksOf}
+use Rattle.fs_model.specs.declared.test.Location.{Location}
 use Rattle.fs_round_trip.specs.inner.Written.{syntax_of}
 use Rattle.fs_round_trip.proofs.PrintedMeaningNames.{names_of, AreApart}
 use Rattle.fs_round_trip.proofs.PrintedMeaningValues.{register_set, location_asked}

@@ -7,11 +7,11 @@ use Rattle.std.proofs.lemmas.Slice.Eq.{bytes_eq-Decides}
 use Rattle.fs_tokens.specs.Values.{Value, Address}
 use Rattle.fs_condition.specs.Meaning.{atoms_of}
 use Rattle.fs_litmus.specs.Locations.{Names, Binding, with_name, with_target, with_value, declared, number_of_location}
-use Rattle.fs_syntax.specs.Condition as condition
-use Rattle.fs_syntax.specs.Condition.{Condition, SpeaksOf}
-use Rattle.fs_syntax.specs.Printed.{name_of}
-use Rattle.fs_syntax.specs.Test.{address_of}
-use Rattle.fs_syntax.specs.declared.test.Location.{Location}
+use Rattle.fs_model.specs.Condition as condition
+use Rattle.fs_model.specs.Condition.{Condition, SpeaksOf}
+use Rattle.fs_model.specs.Printed.{name_of}
+use Rattle.fs_model.specs.Test.{address_of}
+use Rattle.fs_model.specs.declared.test.Location.{Location}
 use Rattle.fs_round_trip.specs.inner.Written.{value_from, written_value, location_binding, register_binding, start_bindings, syntax_of}
 use Rattle.std.proofs.lemmas.Bool.{false_from_ne_true}
 use Rattle.std.proofs.lemmas.Option.{slice_get_within}

@@ -8,7 +8,7 @@ use Rattle.fs_litmus.specs.Settings.{same_holder}
 use Rattle.fs_litmus.specs.Starts.{word_at, registers_of, starts_of, AreLocations}
 use Rattle.fs_litmus.specs.declared.settings.Holder.TheVariants as holder
 use Rattle.fs_litmus.specs.declared.settings.Setting.{Setting}
-use Rattle.fs_syntax.specs.declared.test.Location.{Location}
+use Rattle.fs_model.specs.declared.test.Location.{Location}
 use Rattle.fs_round_trip.proofs.PrintedMeaningNames.{names_of}
 use Rattle.fs_round_trip.proofs.PrintedMeaningSettings.{rank_from, other_holder, Rises, rises_from, rises_to, rises_join, word_below, word_later, word_earlier}
 

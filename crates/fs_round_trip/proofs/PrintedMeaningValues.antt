@@ -9,9 +9,9 @@ use Rattle.fs_litmus.specs.Settings as settings
 use Rattle.fs_litmus.specs.Settings.{word_of, holder_of, register_holder, setting_of}
 use Rattle.fs_litmus.specs.declared.settings.Holder.{Holder}
 use Rattle.fs_litmus.specs.declared.settings.Holder.TheVariants as holder
-use Rattle.fs_syntax.specs.Printed.{name_of}
-use Rattle.fs_syntax.specs.Test.{address_of}
-use Rattle.fs_syntax.specs.declared.test.Location as locations
+use Rattle.fs_model.specs.Printed.{name_of}
+use Rattle.fs_model.specs.Test.{address_of}
+use Rattle.fs_model.specs.declared.test.Location as locations
 use Rattle.fs_round_trip.specs.inner.Written.{value_from, written_value, register_name, location_binding, register_binding}
 use Rattle.fs_round_trip.proofs.PrintedMeaningNames.{names_of, AreApart, number_of_name}
 use Rattle.std.proofs.lemmas.Option.{slice_get_within}

@@ -2,10 +2,10 @@
 use Rattle.std.proofs.Common.{arith}
 use Rattle.fs_form.specs.Form.{Form}
 use Rattle.fs_condition.specs.Grammar.{Syntax}
-use Rattle.fs_syntax.specs.Condition.{condition_of}
-use Rattle.fs_syntax.specs.Printed.{printed}
-use Rattle.fs_syntax.specs.Test.{IsTest}
-use Rattle.fs_syntax.specs.declared.test.Test.{Test}
+use Rattle.fs_model.specs.Condition.{condition_of}
+use Rattle.fs_model.specs.Printed.{printed}
+use Rattle.fs_model.specs.Test.{IsTest}
+use Rattle.fs_model.specs.declared.test.Test.{Test}
 use Rattle.fs_litmus.specs.Reads.{HasForm, MeanTest, IsWithinLimits, Reads}
 use Rattle.fs_round_trip.specs.Fence.{IsShort}
 use Rattle.fs_round_trip.specs.inner.Printable.{IsPrintable}

@@ -2,16 +2,16 @@
 
 ghost use Rattle.std.specs.Prelude.{◌≡◌, ◌≢◌, IfOk, OnOk, IfErr};
 ghost use Rattle.fs_kinds.specs.Placement.{slots_of};
-ghost use Rattle.fs_syntax.specs.Fenced.{fenced};
-ghost use Rattle.fs_syntax.specs.Printed.{printed};
-ghost use Rattle.fs_syntax.specs.Slots.{slots};
-ghost use Rattle.fs_syntax.specs.Test.{IsTest, IsSame};
+ghost use Rattle.fs_model.specs.Fenced.{fenced};
+ghost use Rattle.fs_model.specs.Printed.{printed};
+ghost use Rattle.fs_model.specs.Slots.{slots};
+ghost use Rattle.fs_model.specs.Test.{IsTest, IsSame};
 ghost use Rattle.fs_litmus.specs.Reads.{Reads};
 ghost use Rattle.fs_round_trip.specs.Fence.{IsFenceFault, ReadsBack};
 
 use fs_kinds::{Fault, Placement};
 use fs_litmus::read_test;
-use fs_syntax::{Test, write_fenced};
+use fs_model::{Test, write_fenced};
 use std::alloc::Global;
 
 /// A law: the printed form of a test reads as that test, and that of a fenced test as the fenced test; where a hart has too

@@ -1,10 +1,10 @@
 -- The words that a location can hold to which two harts each add 1.
 use Rattle.std.proofs.Common.{◌≡◌, ℕ, zero, suc, ◌+◌, ◌%◌, ◌^◌, ◌*◌, ◌<◌, ◌≤◌, ◌⊎◌, ◌↔◌, Option, None, Some, List, [], ◌∷◌, inl, inr, refl, sym, subst, arith, lit<, lit≤, pos}
-use Rattle.fs_mnemonics.specs.declared.names.AmoOp.TheVariants.{Add}
-use Rattle.fs_mnemonics.specs.declared.names.ImmOp.TheVariants.{Ori}
+use Rattle.fs_instr.specs.declared.names.AmoOp.TheVariants.{Add}
+use Rattle.fs_instr.specs.declared.names.ImmOp.TheVariants.{Ori}
 use Rattle.fs_instr.specs.declared.instr.Instr.TheVariants.{Immediate, Amo}
-use Rattle.fs_syntax.proofs.Tested.{All-nil, All-cons}
-use Rattle.fs_syntax.specs.Test.{address_of}
+use Rattle.fs_model.proofs.Tested.{All-nil, All-cons}
+use Rattle.fs_model.specs.Test.{address_of}
 use Rattle.fs_model.specs.declared.step.Step.{Step}
 use Rattle.fs_model.specs.Execution.{IsTrace, code_of, registers_of}
 use Rattle.fs_model.specs.Trace.{start_with, after_step}

@@ -8,8 +8,8 @@ use Rattle.fs_kinds.specs.declared.reason.OperationName.{OperationName as Name}
 use Rattle.fs_kinds.specs.declared.reason.Reason.TheVariants as reason
 use Rattle.fs_kinds.specs.declared.slot.Slot.{Slot}
 use Rattle.fs_kinds.specs.PriceTable.{cost}
-use Rattle.fs_syntax.specs.declared.test.Test.{Test}
-use Rattle.fs_syntax.specs.Slots.{slot_at}
+use Rattle.fs_model.specs.declared.test.Test.{Test}
+use Rattle.fs_model.specs.Slots.{slot_at}
 use Rattle.fs_model.specs.Operations.{PreExecution}
 use Rattle.fs_model.specs.Witness.{name_of}
 use Rattle.fs_answer.specs.Certificate.{First, Second, Fenced, Link, Costly, Refuted, IsAnswered, fence_words}

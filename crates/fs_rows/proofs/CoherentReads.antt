@@ -2,9 +2,9 @@
 use Rattle.std.proofs.Common.{◌≡◌, ℕ, zero, suc, ◌+◌, ◌*◌, ◌<◌, Bool, true, ◌&&◌, not, Option, None, Some, [], ◌∷◌, inl, inr, refl, sym, subst, arith, lit<, lit≤, Box}
 use Rattle.std.specs.declared.alloc.Global.{Global}
 use Rattle.std.proofs.lemmas.Bool.{and_from, not-true, false≢true, both_ways}
-use Rattle.fs_syntax.proofs.Tested.{All-nil, All-cons}
-use Rattle.fs_syntax.specs.declared.test.Test.{Test}
-use Rattle.fs_syntax.specs.Test.{address_of}
+use Rattle.fs_model.proofs.Tested.{All-nil, All-cons}
+use Rattle.fs_model.specs.declared.test.Test.{Test}
+use Rattle.fs_model.specs.Test.{address_of}
 use Rattle.fs_model.specs.declared.step.Step.{Step}
 use Rattle.fs_model.specs.Operations.{PreExecution, steps_of, is_store, same_hart, po, paired}
 use Rattle.fs_model.specs.Execution.{IsTrace}

@@ -2,7 +2,7 @@
 use Rattle.std.proofs.Common.{◌≡◌, true, false, [], ◌∷◌, refl}
 use Rattle.fs_kinds.specs.declared.kind.Kind.TheVariants.{RR, WR, WW}
 use Rattle.fs_instr.specs.declared.instr.Instr.TheVariants.{Fence, FenceTso}
-use Rattle.fs_syntax.specs.Fenced.{read, write}
+use Rattle.fs_model.specs.Fenced.{read, write}
 use Rattle.fs_model.specs.Operations.{are_paired}
 use Rattle.fs_model.specs.Preserved.{Rule1, Rule2, Rule3, Rule4, Rule5, Rule6, Rule7, Rule8, Rule9, Rule10, Rule11, Rule12, Rule13}
 use Rattle.fs_rows.specs.Examples.{rules_of, fence_at, load_then_store, coherent_reads, reserved, swap_then_read, store_then_read, read_store_read, store_then_load, swap_then_load, around, load_and_store_around, jumped, reserved_twice, tried_twice, output, input, message_passing, release_then_acquire, address_known_late, forwarded, branched, carried, overwritten, branch_then_load, address_then_load}

@@ -4,9 +4,9 @@ use Rattle.std.specs.Prelude.{slice_get}
 use Rattle.std.specs.List.{list_all}
 use Rattle.std.proofs.lemmas.Bool.{and_parts, or_cases, eqb-true, false≢true}
 use Rattle.std.proofs.lemmas.Option.{slice_get_past}
-use Rattle.fs_mnemonics.specs.declared.names.Ann.{Ann}
-use Rattle.fs_mnemonics.specs.declared.names.AmoOp.{AmoOp}
-use Rattle.fs_mnemonics.specs.declared.names.ImmOp.{ImmOp}
+use Rattle.fs_instr.specs.declared.names.Ann.{Ann}
+use Rattle.fs_instr.specs.declared.names.AmoOp.{AmoOp}
+use Rattle.fs_instr.specs.declared.names.ImmOp.{ImmOp}
 use Rattle.fs_instr.specs.declared.instr.Instr.{Instr}
 use Rattle.fs_instr.specs.declared.instr.Instr.TheVariants.{Immediate, Lw, Sw, Amo}
 use Rattle.fs_model.specs.declared.hart.Hart.{Hart}

@@ -11,9 +11,9 @@ use Rattle.fs_kinds.specs.declared.reason.Reason.TheVariants as reason
 use Rattle.fs_kinds.specs.Placement.{all_with}
 use Rattle.fs_kinds.specs.PriceTable.{cost}
 use Rattle.fs_kinds.specs.Slot.{fence_word}
-use Rattle.fs_syntax.specs.declared.test.Test.{Test}
-use Rattle.fs_syntax.specs.Condition.{condition_of}
-use Rattle.fs_syntax.specs.Slots.{slots, slot_at}
+use Rattle.fs_model.specs.declared.test.Test.{Test}
+use Rattle.fs_model.specs.Condition.{condition_of}
+use Rattle.fs_model.specs.Slots.{slots, slot_at}
 use Rattle.fs_model.specs.declared.step.Choice.TheVariants.{Word}
 use Rattle.fs_model.specs.Operations.{steps_of}
 use Rattle.fs_model.specs.Execution.{Execution, code_of, registers_of, pre_execution}

@@ -3,12 +3,12 @@ use Rattle.std.proofs.Common.{◌≡◌, ℕ, zero, suc, ◌+◌, ◌*◌, ◌<�
 use Rattle.std.specs.List.{Contains, slice_index_or}
 use Rattle.std.specs.declared.alloc.Global.{Global}
 use Rattle.std.proofs.lemmas.Bool.{and_from, and_parts, eqb-true, not-true, false≢true, both_ways}
-use Rattle.fs_mnemonics.specs.declared.names.ImmOp.TheVariants.{Ori}
+use Rattle.fs_instr.specs.declared.names.ImmOp.TheVariants.{Ori}
 use Rattle.fs_instr.specs.declared.instr.Instr.TheVariants.{Immediate, Lw, Sw}
-use Rattle.fs_syntax.proofs.Tested.{All-nil, All-cons}
-use Rattle.fs_syntax.specs.declared.test.Test.{Test}
-use Rattle.fs_syntax.specs.Condition.{condition_of}
-use Rattle.fs_syntax.specs.Test.{address_of}
+use Rattle.fs_model.proofs.Tested.{All-nil, All-cons}
+use Rattle.fs_model.specs.declared.test.Test.{Test}
+use Rattle.fs_model.specs.Condition.{condition_of}
+use Rattle.fs_model.specs.Test.{address_of}
 use Rattle.fs_model.specs.declared.step.Step.{Step}
 use Rattle.fs_model.specs.Operations.{PreExecution, steps_of, operations, is_store, same_hart, po, paired}
 use Rattle.fs_model.specs.Execution.{IsTrace, code_of, registers_of}

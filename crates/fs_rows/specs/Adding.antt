@@ -1,13 +1,13 @@
 -- Two harts that each add 1 to a location.
 use Rattle.std.specs.Prelude.{List, [], ◌∷◌, false, pos, codes}
-use Rattle.fs_mnemonics.specs.declared.names.Ann.{Ann}
-use Rattle.fs_mnemonics.specs.declared.names.AmoOp.TheVariants.{Add}
-use Rattle.fs_mnemonics.specs.declared.names.ImmOp.TheVariants.{Ori}
+use Rattle.fs_instr.specs.declared.names.Ann.{Ann}
+use Rattle.fs_instr.specs.declared.names.AmoOp.TheVariants.{Add}
+use Rattle.fs_instr.specs.declared.names.ImmOp.TheVariants.{Ori}
 use Rattle.fs_instr.specs.declared.instr.Instr.{Instr}
 use Rattle.fs_instr.specs.declared.instr.Instr.TheVariants.{Immediate, Amo}
-use Rattle.fs_syntax.specs.declared.outcome.Outcome.TheVariants as outcome
-use Rattle.fs_syntax.specs.declared.test.Test.{Test}
-use Rattle.fs_syntax.specs.declared.test.Quantifier.TheVariants.{Exists}
+use Rattle.fs_model.specs.declared.outcome.Outcome.TheVariants as outcome
+use Rattle.fs_model.specs.declared.test.Test.{Test}
+use Rattle.fs_model.specs.declared.test.Quantifier.TheVariants.{Exists}
 use Rattle.fs_rows.specs.CoherentReads.{registers}
 
 abbrev pub relaxed : Ann

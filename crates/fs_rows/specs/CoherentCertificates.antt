@@ -1,7 +1,7 @@
 -- Certificates of coherent reads: no fence is needed, and the one candidate that shows the outcome has a cycle.
 use Rattle.std.specs.Prelude.{ℕ, None, List, [], ◌∷◌}
 use Rattle.fs_kinds.specs.declared.placement.Entry.{Entry}
-use Rattle.fs_syntax.specs.Slots.{slot_at}
+use Rattle.fs_model.specs.Slots.{slot_at}
 use Rattle.fs_model.specs.Preserved.{Rule1, Rule2}
 use Rattle.fs_answer.specs.Judged.{Cause, Preserved, ReadsFrom, Coherence, FromReads}
 use Rattle.fs_answer.specs.Certificate.{Certificate, Version, First, Fenced, Link, Item, SplitAt, Costly}

@@ -2,11 +2,11 @@
 use Rattle.std.specs.Prelude.{ℕ, None, Some, List, [], ◌∷◌, pos, codes}
 use Rattle.std.proofs.Common.{Box}
 use Rattle.std.specs.declared.alloc.Global.{Global}
-use Rattle.fs_mnemonics.specs.declared.names.ImmOp.TheVariants.{Ori}
+use Rattle.fs_instr.specs.declared.names.ImmOp.TheVariants.{Ori}
 use Rattle.fs_instr.specs.declared.instr.Instr.TheVariants.{Immediate, Lw, Sw}
-use Rattle.fs_syntax.specs.declared.outcome.Outcome.TheVariants as outcome
-use Rattle.fs_syntax.specs.declared.test.Test.{Test}
-use Rattle.fs_syntax.specs.declared.test.Quantifier.TheVariants.{Exists}
+use Rattle.fs_model.specs.declared.outcome.Outcome.TheVariants as outcome
+use Rattle.fs_model.specs.declared.test.Test.{Test}
+use Rattle.fs_model.specs.declared.test.Quantifier.TheVariants.{Exists}
 use Rattle.fs_model.specs.declared.step.Step.{Step}
 use Rattle.fs_answer.specs.Candidates.{Candidate}
 use Rattle.fs_model.specs.Preserved.{Rule2}

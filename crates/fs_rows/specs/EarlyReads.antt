@@ -3,8 +3,8 @@ use Rattle.std.specs.Prelude.{◌≡◌, true, ◌||◌, not, None, [], ◌∷�
 use Rattle.fs_kinds.specs.declared.slot.Slot.{Slot}
 use Rattle.fs_kinds.specs.Kind.{Pair, tso_pairs}
 use Rattle.fs_kinds.specs.Slot.{is_same_slot}
-use Rattle.fs_syntax.specs.declared.test.Test.{Test}
-use Rattle.fs_syntax.specs.Slots.{slot_at}
+use Rattle.fs_model.specs.declared.test.Test.{Test}
+use Rattle.fs_model.specs.Slots.{slot_at}
 use Rattle.fs_model.specs.Execution.{Execution}
 use Rattle.fs_answer.specs.Widths.{Width, width}
 use Rattle.fs_answer.specs.Parts.{Part}

@@ -4,14 +4,14 @@
 use Rattle.std.specs.Prelude.{ℕ, Bool, true, false, Option, None, Some, List, [], ◌∷◌, filter, pos}
 use Rattle.fs_kinds.specs.declared.kind.Kind.{Kind}
 use Rattle.fs_kinds.specs.declared.placement.Entry.{Entry}
-use Rattle.fs_mnemonics.specs.declared.names.Ann.{Ann}
-use Rattle.fs_mnemonics.specs.declared.names.AmoOp.TheVariants.{Swap}
-use Rattle.fs_mnemonics.specs.declared.names.RegOp.TheVariants.{Xor}
-use Rattle.fs_mnemonics.specs.declared.names.BranchOp.TheVariants.{Bne}
-use Rattle.fs_mnemonics.specs.declared.letters.Letters.{Letters}
+use Rattle.fs_instr.specs.declared.names.Ann.{Ann}
+use Rattle.fs_instr.specs.declared.names.AmoOp.TheVariants.{Swap}
+use Rattle.fs_instr.specs.declared.names.RegOp.TheVariants.{Xor}
+use Rattle.fs_instr.specs.declared.names.BranchOp.TheVariants.{Bne}
+use Rattle.fs_instr.specs.declared.letters.Letters.{Letters}
 use Rattle.fs_instr.specs.declared.instr.Instr.{Instr}
 use Rattle.fs_instr.specs.declared.instr.Instr.TheVariants.{Register, Li, Lw, Sw, Lr, Sc, Amo, Branch}
-use Rattle.fs_syntax.specs.Slots.{slot_at}
+use Rattle.fs_model.specs.Slots.{slot_at}
 use Rattle.fs_model.specs.declared.step.Step.{Step}
 use Rattle.fs_model.specs.Operations.{PreExecution}
 use Rattle.fs_model.specs.Source.{source_in}

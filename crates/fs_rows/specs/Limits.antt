@@ -1,7 +1,7 @@
 -- Boards of store buffering that a limit stops.
 use Rattle.std.specs.Prelude.{ℕ, None, Some, List, [], ◌∷◌}
 use Rattle.fs_kinds.specs.declared.kind.Kind.TheVariants.{WR}
-use Rattle.fs_syntax.specs.Slots.{slot_at}
+use Rattle.fs_model.specs.Slots.{slot_at}
 use Rattle.fs_answer.specs.Parts.{child_parts}
 use Rattle.fs_history.specs.Board.{Board, Take, Claim, SplitAt, Split, Given, Children, NotYours, Decided, Full, with_status, with_open, opening}
 use Rattle.fs_history.specs.Histories.{LogEntry}

@@ -6,7 +6,7 @@ use Rattle.fs_kinds.specs.declared.reason.OperationName.{OperationName as Name}
 use Rattle.fs_kinds.specs.declared.reason.Reason.{Reason}
 use Rattle.fs_kinds.specs.declared.reason.Reason.TheVariants.{Rule}
 use Rattle.fs_kinds.specs.PriceTable.{PriceTable}
-use Rattle.fs_syntax.specs.Slots.{slot_at}
+use Rattle.fs_model.specs.Slots.{slot_at}
 use Rattle.fs_model.specs.declared.step.Choice.TheVariants.{Word}
 use Rattle.fs_model.specs.Witness.{Witness}
 use Rattle.fs_rows.specs.StoreBuffering.{fences}

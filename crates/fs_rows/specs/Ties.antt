@@ -7,13 +7,13 @@ use Rattle.fs_kinds.specs.declared.kind.Kind.{Kind}
 use Rattle.fs_kinds.specs.declared.kind.Kind.TheVariants.{WW, WRw, RwRw}
 use Rattle.fs_kinds.specs.declared.placement.Entry.{Entry}
 use Rattle.fs_kinds.specs.PriceTable.{PriceTable}
-use Rattle.fs_mnemonics.specs.declared.names.ImmOp.TheVariants.{Ori}
+use Rattle.fs_instr.specs.declared.names.ImmOp.TheVariants.{Ori}
 use Rattle.fs_instr.specs.declared.instr.Instr.{Instr}
 use Rattle.fs_instr.specs.declared.instr.Instr.TheVariants.{Immediate, Sw}
-use Rattle.fs_syntax.specs.declared.outcome.Outcome.TheVariants as outcome
-use Rattle.fs_syntax.specs.declared.test.Test.{Test}
-use Rattle.fs_syntax.specs.declared.test.Quantifier.TheVariants.{Exists}
-use Rattle.fs_syntax.specs.Slots.{slot_at}
+use Rattle.fs_model.specs.declared.outcome.Outcome.TheVariants as outcome
+use Rattle.fs_model.specs.declared.test.Test.{Test}
+use Rattle.fs_model.specs.declared.test.Quantifier.TheVariants.{Exists}
+use Rattle.fs_model.specs.Slots.{slot_at}
 use Rattle.fs_answer.specs.Parts.{Part}
 use Rattle.fs_history.specs.Board.{Take, Claim, SplitAt, CutCost, Post, Given, Children, Closed, Cheaper}
 use Rattle.fs_history.specs.Histories.{LogEntry}

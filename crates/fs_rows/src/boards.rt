@@ -5,7 +5,7 @@ ghost use Rattle.std.proofs.Common.{Box};
 ghost use Rattle.std.specs.declared.alloc.Global.{Global};
 ghost use Rattle.fs_kinds.specs.declared.kind.Kind.TheVariants.{WW, WRw, RwRw};
 ghost use Rattle.fs_kinds.specs.PriceTable.{cost};
-ghost use Rattle.fs_syntax.specs.Slots.{slots};
+ghost use Rattle.fs_model.specs.Slots.{slots};
 ghost use Rattle.fs_model.specs.Allows.{Allows};
 ghost use Rattle.fs_answer.specs.Parts.{options};
 ghost use Rattle.fs_history.specs.Board.{Board, is_full};

@@ -1,12 +1,13 @@
 //! Worked rows over the definitions, by computation: the rules of preserved program order in small runs; what is said of witnesses,
-//! boards, candidates and certificates of small tests; and the words that a location can come to hold. The functions do nothing: each
-//! stands for the laws that it promises.
+//! boards, candidates and certificates of small tests; and the words that a location can come to hold. Beside them a theorem on the
+//! plain program, which lists all runs and all orders. The functions do nothing: each stands for the laws that it promises.
 #![tactic(auto)]
 
 mod answers;
 mod boards;
 mod certificates;
 mod early;
+mod plain;
 mod rules;
 mod values;
 
@@ -17,6 +18,7 @@ pub use certificates::{
     refused_trees, valid_certificates,
 };
 pub use early::{early_reads, early_widths};
+pub use plain::value_sets_decide;
 pub use rules::{
     annotations, dependencies, dependencies_carried, fences_by_position, loads_run_ahead,
     overlapping_addresses, pairs, placed_fences, store_buffering, stores_and_reads, written_fences,

@@ -6,7 +6,7 @@ ghost use Rattle.std.proofs.Common.{Box};
 ghost use Rattle.std.specs.declared.alloc.Global.{Global};
 ghost use Rattle.fs_kinds.specs.declared.kind.Kind.TheVariants.{RR, WR, WW};
 ghost use Rattle.fs_instr.specs.declared.instr.Instr.TheVariants.{Fence, FenceTso};
-ghost use Rattle.fs_syntax.specs.Fenced.{read, write};
+ghost use Rattle.fs_model.specs.Fenced.{read, write};
 ghost use Rattle.fs_model.specs.Operations.{are_paired};
 ghost use Rattle.fs_model.specs.Preserved.{Rule1, Rule2, Rule3, Rule4, Rule5, Rule6, Rule7, Rule8, Rule9, Rule10, Rule11, Rule12, Rule13};
 ghost use Rattle.fs_model.specs.Execution.{IsExecution};

@@ -3,7 +3,7 @@ use Rattle.std.proofs.Common.{◌≡◌, ℕ, zero, suc, ◌+◌, ◌<◌, ◌�
 use Rattle.std.specs.Prelude.{slice_get, slice_set, if◌then◌else◌, option_and_then}
 use Rattle.std.proofs.lemmas.Bool.{false≢true}
 use Rattle.fs_kinds.specs.PriceTable.{PriceTable}
-use Rattle.fs_syntax.specs.declared.test.Test.{Test}
+use Rattle.fs_model.specs.declared.test.Test.{Test}
 use Rattle.fs_answer.specs.Parts.{Part}
 use Rattle.fs_history.specs.Board.{Board, Node, Status, Open, Held, Split, Costly, Witnessed, Bounded, Posted, Event, Reply, is_open, is_held, is_held_by, part_at}
 use Rattle.fs_history.specs.Histories.{IsHistory, HoldsNode}

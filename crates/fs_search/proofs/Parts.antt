@@ -8,7 +8,7 @@ use Rattle.fs_kinds.specs.declared.kind.Kind.TheVariants.{RwRw}
 use Rattle.fs_kinds.specs.declared.placement.Entry.{Entry}
 use Rattle.fs_kinds.specs.declared.slot.Slot.{Slot}
 use Rattle.fs_kinds.specs.Placement.{slots_of}
-use Rattle.fs_syntax.specs.declared.test.Test.{Test}
+use Rattle.fs_model.specs.declared.test.Test.{Test}
 use Rattle.fs_model.specs.Execution.{Execution}
 use Rattle.fs_model.specs.Allows.{Shows}
 use Rattle.fs_answer.specs.Shown.{IsShownBy}

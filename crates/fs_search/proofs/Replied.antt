@@ -3,7 +3,7 @@ use Rattle.std.proofs.Common.{◌≡◌, ℕ, ◌<◌, true, false, Some, None, 
 use Rattle.std.proofs.lemmas.Bool.{false≢true}
 use Rattle.fs_kinds.specs.declared.slot.Slot.{Slot}
 use Rattle.fs_kinds.specs.declared.placement.Entry.{Entry}
-use Rattle.fs_syntax.specs.Slots.{slots}
+use Rattle.fs_model.specs.Slots.{slots}
 use Rattle.fs_model.specs.Witness.{Witness}
 use Rattle.fs_answer.specs.Parts.{Part, floor, filled, is_undecided, child_parts}
 use Rattle.fs_answer.specs.Shown.{IsShownBy}

@@ -3,7 +3,7 @@
 ghost use Rattle.std.specs.Prelude.{◌≡◌, ◌≢◌, ◌<◌, IfOk, IfErr, MatchOption, OnOk, OnErr, IsOkUnless, length, true, false, is_none};
 ghost use Rattle.std.specs.List.{list_any};
 ghost use Rattle.std.specs.Arc.{arc_value};
-ghost use Rattle.fs_syntax.specs.Slots.{slots};
+ghost use Rattle.fs_model.specs.Slots.{slots};
 ghost use Rattle.fs_model.specs.Execution.{Execution};
 ghost use Rattle.fs_model.specs.Allows.{Allows};
 ghost use Rattle.fs_answer.specs.Parts.{Part as PartValue, floor, filled, is_undecided};
@@ -18,8 +18,8 @@ ghost use Rattle.fs_search.specs.Histories.{GoesOn};
 ghost use Rattle.fs_board.specs.Growth.{AreWitnesses};
 ghost use Rattle.fs_search.specs.inner.Steps.{IsTried, MovesOn, IsTaken, is_closed, is_split_so};
 
+use crate::next_node::{Child, WORKER};
 use crate::store::Store;
-use crate::taking::{Child, WORKER};
 use fs_board::{Board, Part, Reply};
 use fs_evidence::{Forbidden, Witness};
 use fs_judge::{Judge, Verdict};

@@ -4,8 +4,8 @@ ghost use Rattle.std.specs.Prelude.{◌≡◌, ◌≢◌, ◌≤◌, ◌<◌, le
 ghost use Rattle.std.specs.Arc.{arc_value};
 ghost use Rattle.fs_kinds.specs.Placement.{all_with};
 ghost use Rattle.fs_kinds.specs.PriceTable.{IsPriceTable, are_offered, cost};
-ghost use Rattle.fs_syntax.specs.Test.{IsBounded, IsStart};
-ghost use Rattle.fs_syntax.specs.Slots.{slots};
+ghost use Rattle.fs_model.specs.Test.{IsBounded, IsStart};
+ghost use Rattle.fs_model.specs.Slots.{slots};
 ghost use Rattle.fs_model.specs.Allows.{Allows};
 ghost use Rattle.fs_answer.specs.CandidateFaults.{IsCandidateFault};
 ghost use Rattle.fs_history.specs.Board.{is_finished};
@@ -20,7 +20,7 @@ use fs_board::Board;
 use fs_evidence::Question;
 use fs_judge::{Judge, Problem, Verdict};
 use fs_kinds::{Fault, Kind, Placement, Prices};
-use fs_syntax::slots;
+use fs_model::slots;
 use std::alloc::Global;
 use std::sync::Arc;
 

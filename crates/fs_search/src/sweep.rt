@@ -2,7 +2,7 @@
 
 ghost use Rattle.std.specs.Prelude.{◌≡◌, ◌≢◌, ◌<◌, IfOk, IfErr, OnOk, OnErr, IsOkUnless, length, true, false};
 ghost use Rattle.std.specs.Arc.{arc_value};
-ghost use Rattle.fs_syntax.specs.Slots.{slots};
+ghost use Rattle.fs_model.specs.Slots.{slots};
 ghost use Rattle.fs_history.specs.Board.{is_finished};
 ghost use Rattle.fs_history.specs.Sizes.{tree_size};
 ghost use Rattle.fs_search.specs.Histories.{GoesOn};
@@ -10,8 +10,8 @@ ghost use Rattle.fs_board.specs.Growth.{AreWitnesses};
 ghost use Rattle.fs_search.specs.inner.Steps.{MovesOn, IsTaken};
 
 use crate::closing::{settle, split_node};
+use crate::next_node::{Child, Taken, next_node};
 use crate::store::Store;
-use crate::taking::{Child, Taken, next_node};
 use crate::tries::try_all;
 use fs_board::Board;
 use fs_judge::Judge;

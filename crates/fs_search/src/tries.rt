@@ -2,18 +2,18 @@
 
 ghost use Rattle.std.specs.Prelude.{◌≡◌, IfOk, IsOkUnless};
 ghost use Rattle.std.specs.Arc.{arc_value};
-ghost use Rattle.fs_syntax.specs.Slots.{slots};
+ghost use Rattle.fs_model.specs.Slots.{slots};
 ghost use Rattle.fs_bound.specs.Bounds.{slots_in_part};
 ghost use Rattle.fs_search.specs.Histories.{GoesOn};
 ghost use Rattle.fs_board.specs.Growth.{AreWitnesses};
 ghost use Rattle.fs_search.specs.inner.Steps.{IsTried};
 
-use crate::choosing::{
+use crate::closing::{try_bound, try_cost, try_post, try_witness};
+use crate::floor_and_filled::{
     is_filled_new, is_floor_new, judge_floor, look_at_filled, stored_over_filled,
 };
-use crate::closing::{try_bound, try_cost, try_post, try_witness};
+use crate::next_node::Taken;
 use crate::store::Store;
-use crate::taking::Taken;
 use fs_board::Board;
 use fs_judge::Judge;
 use fs_kinds::Fault;

@@ -8,7 +8,7 @@ use Rattle.fs_model.specs.TooMany.{IsHartFault}
 use Rattle.std.specs.List.{AllPairs, Contains, slice_index_or}
 use Rattle.std.proofs.lemmas.List.{get_or-map, length-map}
 use Rattle.std.proofs.lemmas.List.Elements.{All-weaker}
-use Rattle.fs_syntax.specs.declared.test.Test.{Test}
+use Rattle.fs_model.specs.declared.test.Test.{Test}
 use Rattle.fs_model.specs.declared.step.Step.{Step}
 use Rattle.fs_model.specs.Choices.{choices_of, ComesBefore}
 use Rattle.fs_model.specs.Execution.{IsTrace}

@@ -4,8 +4,8 @@ use Rattle.std.specs.Prelude.{slice_get, option_map}
 use Rattle.std.proofs.lemmas.Bool.{cases_lt}
 use Rattle.std.proofs.lemmas.Option.{slice_get-map, slice_get-get_or}
 use Rattle.fs_kinds.specs.declared.fault.Fault.{Fault}
-use Rattle.fs_syntax.specs.declared.test.Test.{Test}
-use Rattle.fs_syntax.specs.Test.{IsBounded}
+use Rattle.fs_model.specs.declared.test.Test.{Test}
+use Rattle.fs_model.specs.Test.{IsBounded}
 use Rattle.fs_hart.specs.declared.trace.Trace.{Trace}
 use Rattle.fs_hart.specs.Steps.{steps_in}
 use Rattle.fs_answer.specs.CandidateFaults.{most_candidates, HasTooMany}

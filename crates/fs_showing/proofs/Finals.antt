@@ -1,8 +1,8 @@
 -- The final registers of listed runs.
 use Rattle.std.proofs.Common.{◌≡◌, ◌∙◌, ℕ, ◌<◌, List, [], map, length, get_or, refl, sym, ap, subst, arith, All}
 use Rattle.std.proofs.lemmas.List.{get_or-map}
-use Rattle.fs_syntax.specs.declared.test.Test.{Test}
-use Rattle.fs_syntax.specs.Test.{IsBounded}
+use Rattle.fs_model.specs.declared.test.Test.{Test}
+use Rattle.fs_model.specs.Test.{IsBounded}
 use Rattle.fs_model.proofs.Pigeonhole.{IsAmong, all_among, each_among}
 use Rattle.fs_hart.specs.declared.trace.Trace.{Trace}
 use Rattle.fs_hart.specs.Listing.{trace_at}

@@ -8,7 +8,7 @@ use Rattle.std.proofs.lemmas.List.{length-map, length-take-le, get_or-map, map-a
 use Rattle.std.proofs.lemmas.List.Elements.{filter-append}
 use Rattle.std.proofs.lemmas.List.Concat.{get_or-flat_map}
 use Rattle.std.proofs.lemmas.List.FromFn.{length-range_with_len}
-use Rattle.fs_syntax.specs.declared.test.Test.{Test}
+use Rattle.fs_model.specs.declared.test.Test.{Test}
 use Rattle.fs_model.specs.Numbers.{numbers_below}
 use Rattle.fs_model.specs.Operations.{PreExecution, accesses}
 use Rattle.fs_model.specs.Shows.{is_store_to}

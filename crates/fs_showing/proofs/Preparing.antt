@@ -1,7 +1,7 @@
 -- The runs of each number can be prepared.
 use Rattle.std.proofs.Common.{ℕ, ◌<◌, List, map, refl}
-use Rattle.fs_syntax.specs.declared.test.Test.{Test}
-use Rattle.fs_syntax.specs.Test.{IsBounded}
+use Rattle.fs_model.specs.declared.test.Test.{Test}
+use Rattle.fs_model.specs.Test.{IsBounded}
 use Rattle.fs_model.specs.Operations.{operations}
 use Rattle.fs_model.specs.Execution.{pre_execution}
 use Rattle.fs_hart.specs.declared.trace.Trace.{Trace}

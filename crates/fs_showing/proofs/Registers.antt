@@ -5,10 +5,10 @@ use Rattle.std.specs.List.{slice_index_or}
 use Rattle.std.proofs.lemmas.Bool.{false≢true, cases_lt}
 use Rattle.std.proofs.Math.ListN.{get_or-eq_default}
 use Rattle.std.proofs.lemmas.List.{length-map}
-use Rattle.fs_syntax.specs.declared.test.Test.{Test}
-use Rattle.fs_syntax.specs.Condition.{Condition, condition_of, Always, Never, RegisterIs, LocationIs, Deny, Both, Either}
-use Rattle.fs_syntax.specs.declared.test.Quantifier.{Quantifier}
-use Rattle.fs_syntax.specs.declared.test.Quantifier.TheVariants.{Exists, NotExists, Forall}
+use Rattle.fs_model.specs.declared.test.Test.{Test}
+use Rattle.fs_model.specs.Condition.{Condition, condition_of, Always, Never, RegisterIs, LocationIs, Deny, Both, Either}
+use Rattle.fs_model.specs.declared.test.Quantifier.{Quantifier}
+use Rattle.fs_model.specs.declared.test.Quantifier.TheVariants.{Exists, NotExists, Forall}
 use Rattle.fs_model.specs.Execute.{read}
 use Rattle.fs_model.specs.Trace.{start_with, hart_after}
 use Rattle.fs_model.specs.Operations.{steps_of}

@@ -4,7 +4,7 @@ use Rattle.std.specs.Prelude.{not}
 use Rattle.std.specs.List.{list_any, list_all}
 use Rattle.std.proofs.lemmas.Bool.{false≢true, cases_lt, cases_Bool, and_parts, and_from, or_left}
 use Rattle.std.proofs.lemmas.List.{get_or_past}
-use Rattle.fs_syntax.specs.declared.test.Test.{Test}
+use Rattle.fs_model.specs.declared.test.Test.{Test}
 use Rattle.fs_model.specs.Numbers.{has_number, numbers_below}
 use Rattle.fs_model.specs.Operations.{PreExecution, operations, operation, same_hart, po, paired}
 use Rattle.fs_model.proofs.ListedNumbers.{has-range, all_at, all_from, has-cases}

@@ -4,8 +4,8 @@ use Rattle.std.specs.Prelude.{is_some, if◌then◌else◌}
 use Rattle.std.specs.List.{list_any, slice_index_or}
 use Rattle.std.proofs.lemmas.Bool.{false≢true, cases_lt, cases_eq, and_parts, and_from, or_cases, eq-eqb, eqb-true}
 use Rattle.std.proofs.lemmas.List.{length-map}
-use Rattle.fs_syntax.specs.declared.test.Test.{Test}
-use Rattle.fs_syntax.specs.Test.{address_of}
+use Rattle.fs_model.specs.declared.test.Test.{Test}
+use Rattle.fs_model.specs.Test.{address_of}
 use Rattle.fs_model.specs.Numbers.{has_number, is_same, numbers_below, stands_before}
 use Rattle.fs_model.specs.Operations.{PreExecution, accesses, operations, operation, is_store}
 use Rattle.fs_model.specs.Shows.{is_store_to}

@@ -1,7 +1,7 @@
 -- The runs over the value sets.
 use Rattle.std.specs.Prelude.{◌≡◌, ℕ, ◌<◌, List, [], All, length}
 use Rattle.std.specs.List.{slice_index_or}
-use Rattle.fs_syntax.specs.declared.test.Test.{Test}
+use Rattle.fs_model.specs.declared.test.Test.{Test}
 use Rattle.fs_hart.specs.declared.trace.Trace.{Trace}
 use Rattle.fs_hart.specs.Listing.{AreTraces}
 use Rattle.fs_hart.specs.Runs.{registers_after}

@@ -1,7 +1,7 @@
 -- The raw candidates of a test, each once and in their order, from all runs of each hart.
 use Rattle.std.specs.Prelude.{◌≡◌, ℕ, ◌+◌, ◌<◌, ◌↔◌, ◌⊎◌, Option, None, Some, List, [], ◌∷◌, ◌++◌, map, filter, length, AllPairs, if◌then◌else◌}
 use Rattle.std.specs.List.{Contains, flat_map, range_with_len, slice_index_or}
-use Rattle.fs_syntax.specs.declared.test.Test.{Test}
+use Rattle.fs_model.specs.declared.test.Test.{Test}
 use Rattle.fs_model.specs.declared.step.Step.{Step}
 use Rattle.fs_model.specs.Numbers.{numbers_below}
 use Rattle.fs_model.specs.Operations.{PreExecution, accesses, operations, is_load}

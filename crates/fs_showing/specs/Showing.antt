@@ -1,6 +1,6 @@
 -- The candidates of a test that show its outcome, listed.
 use Rattle.std.specs.Prelude.{List}
-use Rattle.fs_syntax.specs.declared.test.Test.{Test}
+use Rattle.fs_model.specs.declared.test.Test.{Test}
 use Rattle.fs_answer.specs.Candidates.{Candidate}
 
 -- a test and candidates of it

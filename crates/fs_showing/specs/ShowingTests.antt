@@ -1,8 +1,8 @@
 -- What makes a raw candidate show the outcome, as tests of one operation or of two.
 use Rattle.std.specs.Prelude.{ℕ, Bool, true, ◌&&◌, ◌||◌, not, Option, None, Some, List, length, filter}
 use Rattle.std.specs.List.{list_any, list_all}
-use Rattle.fs_syntax.specs.declared.test.Test.{Test}
-use Rattle.fs_syntax.specs.Condition.{condition_of}
+use Rattle.fs_model.specs.declared.test.Test.{Test}
+use Rattle.fs_model.specs.Condition.{condition_of}
 use Rattle.fs_model.specs.declared.step.Step.{Step}
 use Rattle.fs_model.specs.Numbers.{numbers_below}
 use Rattle.fs_model.specs.Operations.{PreExecution, operations, is_store, same_word, same_hart, po, paired}

@@ -9,8 +9,7 @@ ghost use Rattle.fs_showing.specs.inner.Chosen.{AreChoices};
 
 use fs_axioms::count_accesses;
 use fs_list::List;
-use fs_model::Operation;
-use fs_syntax::Location;
+use fs_model::{Location, Operation};
 use std::alloc::{AllocError, Global};
 
 // Are both there, and the same word?

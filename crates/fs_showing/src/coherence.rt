@@ -2,25 +2,11 @@
 
 ghost use Rattle.std.specs.Prelude.{◌≡◌, ◌&&◌, not, length};
 ghost use Rattle.std.specs.List.{list_any, list_all};
-ghost use Rattle.fs_model.specs.Numbers.{numbers_below, stands_before};
+ghost use Rattle.fs_model.specs.Numbers.{numbers_below};
 ghost use Rattle.fs_showing.specs.inner.Tested.{stands_in, source_in, older_among, newer_among, coherent_among, all_coherent_among};
 
 use fs_list::List;
-use fs_model::Operation;
-
-// Is a in the list, and b after it?
-fn stands_before(listed: &[u8], a: usize, b: usize) -> bool
-    ensures { result ≡ stands_before listed.now a b }
-{
-    let mut is_past = false;
-    let mut is_before = false;
-    for number in listed {
-        let number = usize::from(*number);
-        is_before |= is_past & (number == b);
-        is_past |= number == a;
-    }
-    is_before
-}
+use fs_model::{Operation, stands_before};
 
 /// Does a stand before b in one of the orders?
 pub(crate) fn stands_in(orders: &[List<u8>], a: usize, b: usize) -> bool

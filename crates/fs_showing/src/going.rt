@@ -3,7 +3,7 @@
 ghost use Rattle.std.specs.Prelude.{◌≡◌, ◌≤◌, ◌<◌, ◌*◌, ◌++◌, [], map, length, IfOk, OnOk, IsOkUnless};
 ghost use Rattle.std.specs.List.{slice_index_or};
 ghost use Rattle.fs_kinds.specs.declared.fault.Fault.TheVariants.{Memory};
-ghost use Rattle.fs_syntax.specs.Test.{IsBounded};
+ghost use Rattle.fs_model.specs.Test.{IsBounded};
 ghost use Rattle.fs_model.specs.Execution.{initial_words, pre_execution};
 ghost use Rattle.fs_hart.specs.Steps.{steps_in};
 ghost use Rattle.fs_answer.specs.CandidateFaults.{most_candidates};
@@ -20,7 +20,7 @@ use crate::prepared::Prepared;
 use fs_cand::{Candidate, StoreOrder};
 use fs_kinds::Fault;
 use fs_list::List;
-use fs_syntax::Test;
+use fs_model::Test;
 use std::alloc::{AllocError, Global};
 
 impl Prepared {

@@ -1,7 +1,7 @@
 //! Laws of the listing: what the raw candidates of all runs are, and how many.
 
 ghost use Rattle.std.specs.Prelude.{◌≡◌, ◌*◌, length, List};
-ghost use Rattle.fs_syntax.specs.declared.test.Test.{Test};
+ghost use Rattle.fs_model.specs.declared.test.Test.{Test};
 ghost use Rattle.fs_model.specs.declared.step.Step.{Step};
 ghost use Rattle.fs_model.specs.Execution.{pre_execution};
 ghost use Rattle.fs_answer.specs.Listings.{IsListing};

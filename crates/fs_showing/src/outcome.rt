@@ -2,7 +2,7 @@
 
 ghost use Rattle.std.specs.Prelude.{◌≡◌, false, ℕ, List, Option, None, [], option_and_then, unwrap_or};
 ghost use Rattle.std.specs.List.{last_or, slice_index_or};
-ghost use Rattle.fs_syntax.specs.Condition.{condition_of};
+ghost use Rattle.fs_model.specs.Condition.{condition_of};
 ghost use Rattle.fs_model.specs.Operations.{PreExecution, operations as operations_of};
 ghost use Rattle.fs_model.specs.Execution.{pre_execution};
 ghost use Rattle.fs_model.specs.Shows.{holds, is_outcome};
@@ -16,8 +16,7 @@ ghost use Rattle.fs_showing.specs.inner.Tested.{may_be, word_among};
 use fs_hart::Trace;
 use fs_instr::Reg;
 use fs_list::List;
-use fs_model::Operation;
-use fs_syntax::{Outcome, Quantifier, Test};
+use fs_model::{Operation, Outcome, Quantifier, Test};
 
 // The word that a hart's register ends with; 0 where there is no such hart.
 fn final_register(traces: &[Trace], hart: u8, register: Reg) -> u32

@@ -2,7 +2,7 @@
 
 ghost use Rattle.std.specs.Prelude.{◌≡◌, ◌&&◌, ℕ, Option, List, IfOk, IsOkUnless};
 ghost use Rattle.fs_kinds.specs.declared.fault.Fault.TheVariants.{Memory};
-ghost use Rattle.fs_syntax.specs.Test.{IsBounded};
+ghost use Rattle.fs_model.specs.Test.{IsBounded};
 ghost use Rattle.fs_hart.specs.Steps.{steps_in};
 ghost use Rattle.fs_showing.specs.RawCandidates.{candidate};
 ghost use Rattle.fs_showing.specs.ShowingTests.{has_outcome, shows};
@@ -16,7 +16,7 @@ use crate::outcome::has_outcome;
 use fs_hart::{Operations, Trace, operations};
 use fs_kinds::Fault;
 use fs_list::List;
-use fs_syntax::Test;
+use fs_model::Test;
 use std::alloc::Global;
 
 /// Runs of each hart, their operations, and what may be chosen with them.

@@ -4,7 +4,7 @@ ghost use Rattle.std.specs.Prelude.{◌≡◌, ◌≤◌, ◌<◌, ◌++◌, [],
 ghost use Rattle.std.specs.List.{slice_index_or};
 ghost use Rattle.std.specs.List.Sorted.{IsStrictlyIncreasing};
 ghost use Rattle.fs_kinds.specs.declared.fault.Fault.TheVariants.{Memory};
-ghost use Rattle.fs_syntax.specs.Test.{IsBounded, IsStart};
+ghost use Rattle.fs_model.specs.Test.{IsBounded, IsStart};
 ghost use Rattle.fs_answer.specs.CandidateFaults.{most_candidates};
 ghost use Rattle.fs_hart.specs.Listing.{IsOffered};
 ghost use Rattle.fs_values.specs.Rounds.{HasNoFault};
@@ -16,7 +16,7 @@ use crate::counting::count_choices;
 use fs_hart::{Steps, Trace, Words, traces_over};
 use fs_kinds::Fault;
 use fs_list::List;
-use fs_syntax::Test;
+use fs_model::Test;
 use std::alloc::{AllocError, Global};
 
 fn copy(alloc: Global, trace: &Trace) -> Result<Trace, AllocError>

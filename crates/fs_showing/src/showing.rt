@@ -3,7 +3,7 @@
 ghost use Rattle.std.specs.Prelude.{◌≡◌, ◌≢◌, ◌≤◌, ◌<◌, ◌++◌, Some, All, length, map, slice_get, IfOk, OnOk, IfErr, IsOkUnless};
 ghost use Rattle.std.specs.Arc.{arc_value};
 ghost use Rattle.fs_kinds.specs.declared.fault.Fault.TheVariants.{Memory, TooManyCandidates};
-ghost use Rattle.fs_syntax.specs.Test.{IsBounded, IsStart};
+ghost use Rattle.fs_model.specs.Test.{IsBounded, IsStart};
 ghost use Rattle.fs_model.specs.Execution.{initial_words};
 ghost use Rattle.fs_hart.specs.Listing.{IsOffered};
 ghost use Rattle.fs_answer.specs.CandidateFaults.{HasTooMany};
@@ -24,7 +24,7 @@ use fs_cand::Candidate;
 use fs_hart::Trace;
 use fs_kinds::Fault;
 use fs_list::List;
-use fs_syntax::Test;
+use fs_model::Test;
 use fs_values::Values;
 use std::alloc::Global;
 use std::marker::Model;
@@ -43,7 +43,7 @@ impl Model for Showing {
     ghost use Rattle.std.specs.Prelude.{map};
     ghost use Rattle.std.specs.Arc.{arc_value};
     ghost use Rattle.std.specs.Coded.{codes};
-    ghost use Rattle.fs_syntax.specs.contracts.outcome.Outcome as outcome;
+    ghost use Rattle.fs_model.specs.contracts.outcome.Outcome as outcome;
     ghost use Rattle.fs_showing.specs.Showing.{Listed};
     ghost use Rattle.fs_showing.specs.inner.Places.{candidate_at, AreKept};
 

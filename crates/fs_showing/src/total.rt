@@ -2,7 +2,7 @@
 
 ghost use Rattle.std.specs.Prelude.{◌≡◌, ◌≢◌, ◌≤◌, ◌<◌, ◌+◌, All, length, map, IfOk, OnOk, IfErr, IsOkUnless};
 ghost use Rattle.fs_kinds.specs.declared.fault.Fault.TheVariants.{Memory, TooManyCandidates};
-ghost use Rattle.fs_syntax.specs.Test.{IsBounded};
+ghost use Rattle.fs_model.specs.Test.{IsBounded};
 ghost use Rattle.fs_answer.specs.CandidateFaults.{most_candidates, HasTooMany};
 ghost use Rattle.fs_hart.specs.Steps.{steps_in};
 ghost use Rattle.fs_showing.specs.Over.{HaveFinal};
@@ -15,7 +15,7 @@ use crate::runs::runs_at;
 use fs_hart::{Trace, operations};
 use fs_kinds::Fault;
 use fs_list::List;
-use fs_syntax::Test;
+use fs_model::Test;
 use std::alloc::Global;
 
 // How many raw candidates there are with the runs of this number, or one more than there may be.

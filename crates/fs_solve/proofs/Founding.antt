@@ -6,9 +6,9 @@ use Rattle.fs_kinds.specs.declared.fault.Fault.TheVariants.{Memory}
 use Rattle.fs_kinds.specs.declared.placement.Entry.{Entry}
 use Rattle.fs_kinds.specs.Placement.{all_with}
 use Rattle.fs_kinds.specs.PriceTable.{PriceTable}
-use Rattle.fs_syntax.specs.declared.test.Test.{Test}
-use Rattle.fs_syntax.specs.Test.{IsBounded}
-use Rattle.fs_syntax.specs.Slots.{slots}
+use Rattle.fs_model.specs.declared.test.Test.{Test}
+use Rattle.fs_model.specs.Test.{IsBounded}
+use Rattle.fs_model.specs.Slots.{slots}
 use Rattle.fs_model.specs.Allows.{RefutesAll}
 use Rattle.fs_model.specs.Execution.{Execution}
 use Rattle.fs_model.specs.Witness.{Witness}

@@ -3,8 +3,8 @@
 ghost use Rattle.std.specs.Prelude.{◌≡◌, ◌≢◌, ◌≤◌, ℕ, List, None, IfOk, IfErr, IsOkUnless, string_bytes};
 ghost use Rattle.std.specs.Arc.{arc_value};
 ghost use Rattle.fs_kinds.specs.PriceTable.{PriceTable, IsPriceTable};
-ghost use Rattle.fs_syntax.specs.declared.test.Test.{Test as Tests};
-ghost use Rattle.fs_syntax.specs.Test.{IsTest};
+ghost use Rattle.fs_model.specs.declared.test.Test.{Test as Tests};
+ghost use Rattle.fs_model.specs.Test.{IsTest};
 ghost use Rattle.fs_litmus.specs.Reads.{Reads};
 ghost use Rattle.fs_evidence.specs.Evidence.{Question as Asked};
 ghost use Rattle.fs_crew.specs.Answers.{IsAnswer, IsShownLeast, placement_of};

@@ -1,6 +1,6 @@
 //! `solve`, compared with a plain program that tries all placements, each by all runs and all orders of their operations.
 ghost use Rattle.std.specs.Prelude.{All};
-ghost use Rattle.fs_syntax.specs.Test.{IsBounded, IsStart};
+ghost use Rattle.fs_model.specs.Test.{IsBounded, IsStart};
 
 use crate::made::made_test;
 use fs_examples::{

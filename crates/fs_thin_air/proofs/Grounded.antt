@@ -9,8 +9,8 @@ use Rattle.fs_kinds.specs.declared.placement.Entry.{Entry}
 use Rattle.fs_instr.specs.Instructions.{address_of as address_role, data_of, sources_of, is_conditional}
 use Rattle.fs_model.specs.Dependencies.{depends, address_depends}
 use Rattle.fs_model.specs.Operations.{instr_at}
-use Rattle.fs_syntax.specs.declared.test.Test.{Test}
-use Rattle.fs_syntax.specs.Test.{IsBounded, address_of}
+use Rattle.fs_model.specs.declared.test.Test.{Test}
+use Rattle.fs_model.specs.Test.{IsBounded, address_of}
 use Rattle.fs_model.specs.declared.operation.Operation.{Operation}
 use Rattle.fs_model.specs.declared.step.Step.{Step}
 use Rattle.fs_model.specs.Numbers.{is_same, between}

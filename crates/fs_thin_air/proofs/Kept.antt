@@ -6,7 +6,7 @@ use Rattle.std.proofs.lemmas.Bool.{cases_eq, eq-eqb, both_ways, or_left, or_righ
 use Rattle.fs_instr.specs.declared.instr.Instr.{Instr}
 use Rattle.fs_instr.specs.declared.instr.Instr.TheVariants.{Lw, Sw, Lr, Sc, Amo}
 use Rattle.fs_instr.specs.Instructions.{sources_of, address_of, data_of, is_conditional}
-use Rattle.fs_syntax.specs.Test.{GoesForward, address_of as location_address}
+use Rattle.fs_model.specs.Test.{GoesForward, address_of as location_address}
 use Rattle.fs_model.specs.declared.hart.Hart.{Hart}
 use Rattle.fs_model.specs.declared.step.Step.{Step}
 use Rattle.fs_model.specs.Numbers.{between}

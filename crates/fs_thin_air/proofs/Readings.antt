@@ -2,7 +2,7 @@
 use Rattle.std.proofs.Common.{◌↔◌, List}
 use Rattle.fs_kinds.specs.declared.placement.Entry.{Entry}
 use Rattle.fs_kinds.specs.PriceTable.{PriceTable}
-use Rattle.fs_syntax.specs.declared.test.Test.{Test}
+use Rattle.fs_model.specs.declared.test.Test.{Test}
 use Rattle.fs_model.specs.Execution.{Execution}
 use Rattle.fs_model.specs.Allows.{Shows, Allows, IsCheapest}
 use Rattle.fs_thin_air.specs.ThinAir.{IsAlwaysGrounded}

@@ -3,8 +3,8 @@
 #![tactic(auto)]
 
 ghost use Rattle.std.specs.Prelude.{◌≡◌, ℕ, Bool, true};
-ghost use Rattle.fs_syntax.specs.declared.test.Test.{Test};
-ghost use Rattle.fs_syntax.specs.Test.{IsBounded};
+ghost use Rattle.fs_model.specs.declared.test.Test.{Test};
+ghost use Rattle.fs_model.specs.Test.{IsBounded};
 ghost use Rattle.fs_model.specs.Values.{IsValueAfter};
 ghost use Rattle.fs_thin_air.specs.Readings.{SaysTheSame};
 ghost use Rattle.fs_thin_air.specs.ThinAir.{BeginsWithWords, HasRunsOverValues, IsAlwaysGrounded, KeepsStores, MeetsNoFault, NeverAstray, RestsOnNoCycle};

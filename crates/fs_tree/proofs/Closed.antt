@@ -5,7 +5,7 @@ use Rattle.std.specs.List.{AllZip, range_with_len}
 use Rattle.fs_kinds.specs.declared.placement.Entry.{Entry}
 use Rattle.fs_kinds.specs.declared.slot.Slot.{Slot}
 use Rattle.fs_kinds.specs.PriceTable.{PriceTable}
-use Rattle.fs_syntax.specs.declared.test.Test.{Test}
+use Rattle.fs_model.specs.declared.test.Test.{Test}
 use Rattle.fs_model.specs.Execution.{Execution}
 use Rattle.fs_model.specs.Witness.{Witness}
 use Rattle.fs_model.specs.Allows.{IsPlacement, is_better}

@@ -7,7 +7,7 @@ use Rattle.fs_kinds.specs.declared.placement.Entry.{Entry}
 use Rattle.fs_kinds.specs.declared.slot.Slot.{Slot}
 use Rattle.fs_kinds.specs.Placement.{precedes}
 use Rattle.fs_kinds.specs.PriceTable.{PriceTable, cost}
-use Rattle.fs_syntax.specs.declared.test.Test.{Test}
+use Rattle.fs_model.specs.declared.test.Test.{Test}
 use Rattle.fs_model.specs.Allows.{Shows, Allows, IsPlacement, is_better}
 use Rattle.fs_answer.specs.Parts.{Part, undecided, floor, is_under, is_undecided, child_parts}
 use Rattle.fs_answer.specs.Certificate.{Certificate, Version, First, Second, Item, SplitAt, Costly, Refuted, Bounded, IsBest}

@@ -11,8 +11,8 @@ use Rattle.fs_kinds.specs.declared.slot.Slot.{Slot}
 use Rattle.fs_kinds.specs.Kind.{is_subset}
 use Rattle.fs_kinds.specs.Placement.{slots_of, all_with, pairs_kept, is_weaker}
 use Rattle.fs_kinds.specs.PriceTable.{PriceTable, IsPriceTable, entry_cost}
-use Rattle.fs_syntax.specs.declared.test.Test.{Test}
-use Rattle.fs_syntax.specs.Slots.{slots, slot_at}
+use Rattle.fs_model.specs.declared.test.Test.{Test}
+use Rattle.fs_model.specs.Slots.{slots, slot_at}
 use Rattle.fs_model.specs.Execution.{Execution}
 use Rattle.fs_model.specs.Witness.{Witness}
 use Rattle.fs_model.specs.Allows.{Shows, Allows, IsPlacement}

@@ -10,8 +10,8 @@ use Rattle.fs_kinds.specs.declared.kind.Kind.{Kind}
 use Rattle.fs_kinds.specs.declared.slot.Slot.{Slot}
 use Rattle.fs_kinds.specs.PriceTable.{PriceTable}
 use Rattle.fs_kinds.specs.Slot.{is_same_slot, is_before, is_rising}
-use Rattle.fs_syntax.specs.declared.test.Test.{Test}
-use Rattle.fs_syntax.specs.Slots.{slots}
+use Rattle.fs_model.specs.declared.test.Test.{Test}
+use Rattle.fs_model.specs.Slots.{slots}
 use Rattle.fs_answer.specs.Parts.{Part, Decision, is_undecided, decide, options, child_parts}
 use Rattle.fs_history.specs.Board.{Board, Node, Open, Split, SplitAt, Full, is_held_by, opening}
 use Rattle.fs_history.specs.Histories.{LogEntry, Lead, IsHistory, Steps}

@@ -11,8 +11,8 @@ use Rattle.fs_kinds.specs.Kind.{all_kinds}
 use Rattle.fs_kinds.specs.Placement.{slots_of}
 use Rattle.fs_kinds.specs.PriceTable.{PriceTable, is_offered, are_offered}
 use Rattle.fs_kinds.specs.Slot.{is_same_slot, is_before}
-use Rattle.fs_syntax.specs.declared.test.Test.{Test}
-use Rattle.fs_syntax.specs.Slots.{slots}
+use Rattle.fs_model.specs.declared.test.Test.{Test}
+use Rattle.fs_model.specs.Slots.{slots}
 use Rattle.fs_model.specs.Allows.{IsPlacement}
 use Rattle.fs_answer.specs.Parts.{Part, undecided, floor, is_under, is_undecided, decide, options, child_parts}
 use Rattle.fs_bound.specs.Bounds.{slots_in_part}

@@ -4,8 +4,8 @@ use Rattle.std.specs.List.{count_by}
 use Rattle.fs_kinds.specs.declared.placement.Entry.{Entry}
 use Rattle.fs_kinds.specs.declared.slot.Slot.{Slot}
 use Rattle.fs_kinds.specs.PriceTable.{PriceTable, are_offered}
-use Rattle.fs_syntax.specs.declared.test.Test.{Test}
-use Rattle.fs_syntax.specs.Slots.{slots}
+use Rattle.fs_model.specs.declared.test.Test.{Test}
+use Rattle.fs_model.specs.Slots.{slots}
 use Rattle.fs_answer.specs.Parts.{Part, floor, is_under, is_undecided, child_parts}
 use Rattle.fs_bound.specs.Bounds.{slots_in_part}
 use Rattle.fs_history.specs.Board.{Board, Node, Status, Open, Held, Split, Event, Reply, SplitAt, CutCost, CutWitness, CutBound, Post, Children, Closed}

@@ -3,7 +3,7 @@
 ghost use Rattle.std.specs.Prelude.{Option, List};
 ghost use Rattle.fs_kinds.specs.declared.placement.Entry.{Entry};
 ghost use Rattle.fs_kinds.specs.PriceTable.{PriceTable};
-ghost use Rattle.fs_syntax.specs.declared.test.Test.{Test};
+ghost use Rattle.fs_model.specs.declared.test.Test.{Test};
 ghost use Rattle.fs_answer.specs.Certificate.{Certificate};
 ghost use Rattle.fs_answer.specs.Valid.{IsValid};
 ghost use Rattle.fs_thin_air.specs.ThinAir.{CanBeListed};

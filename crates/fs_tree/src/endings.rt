@@ -4,7 +4,7 @@ ghost use Rattle.std.specs.Prelude.{◌≡◌, ◌⊎◌, ℕ, ◌≤◌, true, 
 ghost use Rattle.std.specs.List.{count_by};
 ghost use Rattle.fs_kinds.specs.declared.placement.Entry.{Entry};
 ghost use Rattle.fs_kinds.specs.PriceTable.{PriceTable};
-ghost use Rattle.fs_syntax.specs.declared.test.Test.{Test};
+ghost use Rattle.fs_model.specs.declared.test.Test.{Test};
 ghost use Rattle.fs_model.specs.Allows.{is_better};
 ghost use Rattle.fs_history.specs.Board.{Board, Node, Event, Reply};
 ghost use Rattle.fs_history.specs.Histories.{LogEntry, Steps, Lead, HoldsNode};

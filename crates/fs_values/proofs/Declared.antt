@@ -1,7 +1,7 @@
 -- A run stores at declared locations only.
 use Rattle.std.proofs.Common.{◌≡◌, ℕ, ◌<◌, inl, inr, None, Some, List, [], ◌∷◌, length, refl, sym, ◌∙◌, subst, arith}
-use Rattle.fs_syntax.specs.declared.test.Test.{Test}
-use Rattle.fs_syntax.specs.Test.{address_of}
+use Rattle.fs_model.specs.declared.test.Test.{Test}
+use Rattle.fs_model.specs.Test.{address_of}
 use Rattle.fs_instr.specs.declared.instr.Instr.{Instr}
 use Rattle.fs_instr.specs.declared.instr.Instr.TheVariants.{Lw, Sw, Lr, Sc, Amo}
 use Rattle.fs_model.specs.declared.hart.Hart.{Hart}

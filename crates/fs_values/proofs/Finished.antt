@@ -4,8 +4,8 @@ use Rattle.std.specs.Cmp.Lexicographic.{pointwise, same_text}
 use lib.Dec.{eqb}
 use Rattle.std.proofs.lemmas.Bool.{false≢true, cases_lt, eqb-true, ltb-true, or_cases, and_parts}
 use Rattle.fs_kinds.specs.declared.fault.Fault.{Fault}
-use Rattle.fs_syntax.specs.declared.test.Test.{Test}
-use Rattle.fs_syntax.specs.Test.{IsBounded}
+use Rattle.fs_model.specs.declared.test.Test.{Test}
+use Rattle.fs_model.specs.Test.{IsBounded}
 use Rattle.fs_model.specs.Values.{IsValueAfter, rounds}
 use Rattle.fs_model.specs.TooMany.{IsHartFault, IsRunFault}
 use Rattle.fs_hart.specs.Listing.{IsOffered}

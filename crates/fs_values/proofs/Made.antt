@@ -6,9 +6,9 @@ use Rattle.std.specs.List.Sorted.{IsStrictlyIncreasing}
 use Rattle.std.proofs.lemmas.Bool.{cases_lt}
 use Rattle.std.proofs.lemmas.List.{length_push, get_or_push, get_or_past, get_or_append_left, length-map}
 use Rattle.std.proofs.lemmas.List.Elements.{All-nil, All-cons, All-push}
-use Rattle.fs_syntax.specs.declared.test.Test.{Test}
-use Rattle.fs_syntax.specs.declared.test.Location.{Location}
-use Rattle.fs_syntax.specs.Test.{address_of}
+use Rattle.fs_model.specs.declared.test.Test.{Test}
+use Rattle.fs_model.specs.declared.test.Location.{Location}
+use Rattle.fs_model.specs.Test.{address_of}
 use Rattle.fs_model.specs.Values.{IsValueAfter}
 use Rattle.fs_hart.specs.Listing.{IsOffered}
 use Rattle.fs_values.specs.declared.stores.Store.{Store}

@@ -1,7 +1,7 @@
 -- The rounds in which values are found, and the faults that are met in them. V says which words a load may take at each location.
 use Rattle.std.specs.Prelude.{◌↔◌, ◌⊎◌, ℕ, suc, ◌<◌, List, length}
 use Rattle.fs_kinds.specs.declared.fault.Fault.{Fault}
-use Rattle.fs_syntax.specs.declared.test.Test.{Test}
+use Rattle.fs_model.specs.declared.test.Test.{Test}
 use Rattle.fs_model.specs.declared.step.Step.{Step}
 use Rattle.fs_model.specs.Execution.{IsTrace}
 use Rattle.fs_model.specs.Values.{IsValueAfter, LoadsFrom, StoresWord}

@@ -1,7 +1,7 @@
 -- The value sets of a test: for each location the words that it can come to hold.
 use Rattle.std.specs.Prelude.{◌≡◌, ◌↔◌, ℕ, List, All, length}
 use Rattle.std.specs.List.Sorted.{IsStrictlyIncreasing}
-use Rattle.fs_syntax.specs.declared.test.Test.{Test}
+use Rattle.fs_model.specs.declared.test.Test.{Test}
 use Rattle.fs_model.specs.Values.{IsValue}
 use Rattle.fs_hart.specs.Listing.{IsOffered}
 

@@ -2,7 +2,7 @@
 
 ghost use Rattle.std.specs.Prelude.{◌↔◌, ◌≤◌, ℕ, List};
 ghost use Rattle.fs_kinds.specs.declared.fault.Fault.{Fault};
-ghost use Rattle.fs_syntax.specs.declared.test.Test.{Test};
+ghost use Rattle.fs_model.specs.declared.test.Test.{Test};
 ghost use Rattle.fs_model.specs.Values.{IsValueAfter};
 ghost use Rattle.fs_model.specs.TooMany.{IsHartFault};
 ghost use Rattle.fs_hart.specs.Listing.{IsOffered};

@@ -1,12 +1,12 @@
 //! How many rounds there are.
 
 ghost use Rattle.std.specs.Prelude.{◌≡◌, ◌≤◌, length, count_by};
-ghost use Rattle.fs_syntax.specs.Test.{IsBounded};
+ghost use Rattle.fs_model.specs.Test.{IsBounded};
 ghost use Rattle.fs_model.specs.Forms.{is_storing};
 ghost use Rattle.fs_model.specs.Values.{rounds};
 
 use fs_instr::Instr;
-use fs_syntax::Test;
+use fs_model::Test;
 
 // Can the instruction store a word?
 fn is_storing(instr: &Instr) -> bool

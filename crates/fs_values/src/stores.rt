@@ -4,7 +4,7 @@ ghost use Rattle.std.specs.Prelude.{◌≡◌, ◌≢◌, ◌++◌, ◌⊎◌, �
 ghost use Rattle.std.specs.List.{Contains};
 ghost use Rattle.std.specs.List.Sorted.{IsStrictlyIncreasing};
 ghost use Rattle.fs_kinds.specs.declared.fault.Fault.TheVariants.{Memory};
-ghost use Rattle.fs_syntax.specs.Test.{IsBounded, IsStart};
+ghost use Rattle.fs_model.specs.Test.{IsBounded, IsStart};
 ghost use Rattle.fs_hart.specs.Listing.{IsOffered};
 ghost use Rattle.fs_values.specs.Rounds.{HasNoFault, IsFirstHartFault};
 ghost use Rattle.fs_values.specs.inner.Stores.{store_of, stores_of, stores_in, AreStoresBelow};
@@ -12,8 +12,7 @@ ghost use Rattle.fs_values.specs.inner.Stores.{store_of, stores_of, stores_in, A
 use crate::rising::rising;
 use fs_hart::{Trace, Words, traces_over};
 use fs_kinds::Fault;
-use fs_model::Step;
-use fs_syntax::Test;
+use fs_model::{Step, Test};
 use std::alloc::{AllocError, Global};
 
 // A word that is stored at an address.

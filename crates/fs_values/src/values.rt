@@ -5,7 +5,7 @@ ghost use Rattle.std.specs.List.{slice_index_or};
 ghost use Rattle.std.specs.List.Sorted.{IsStrictlyIncreasing};
 ghost use Rattle.fs_kinds.specs.declared.fault.Fault.{Fault};
 ghost use Rattle.fs_kinds.specs.declared.fault.Fault.TheVariants.{Memory};
-ghost use Rattle.fs_syntax.specs.Test.{IsBounded, IsStart};
+ghost use Rattle.fs_model.specs.Test.{IsBounded, IsStart};
 ghost use Rattle.fs_model.specs.TooMany.{IsRunFault};
 ghost use Rattle.fs_model.specs.Values.{IsValueAfter};
 ghost use Rattle.fs_hart.specs.Listing.{IsOffered};
@@ -17,7 +17,7 @@ use crate::rounds::rounds;
 use crate::stores::{stores_over, with_stores};
 use fs_hart::Words;
 use fs_kinds::Fault;
-use fs_syntax::{Location, Test};
+use fs_model::{Location, Test};
 use std::alloc::{AllocError, Global};
 use std::marker::Model;
 

@@ -6,8 +6,8 @@ use Rattle.fs_kinds.specs.declared.placement.Entry.{Entry}
 use Rattle.fs_kinds.specs.declared.reason.OperationName.{OperationName as Name}
 use Rattle.fs_kinds.specs.declared.reason.Reason.{Reason}
 use Rattle.fs_kinds.specs.PriceTable.{PriceTable, cost}
-use Rattle.fs_syntax.specs.declared.test.Test.{Test}
-use Rattle.fs_syntax.specs.Test.{IsBounded}
+use Rattle.fs_model.specs.declared.test.Test.{Test}
+use Rattle.fs_model.specs.Test.{IsBounded}
 use Rattle.fs_model.specs.Execution.{Execution, pre_execution}
 use Rattle.fs_model.specs.Operations.{PreExecution}
 use Rattle.fs_model.specs.Reasons.{AreRuns}
@@ -20,8 +20,8 @@ use Rattle.fs_answer.specs.WitnessFile.{in_range, KeepsWitness}
 use Rattle.fs_answer.specs.declared.witness.WitnessFile.{WitnessFile}
 use Rattle.fs_certificate.specs.declared.certificate.Certificate.{Certificate as Kept}
 use Rattle.fs_certificate.specs.Kept.{KeepsCertificate, answer_of}
-use Rattle.fs_check.proofs.NamedOrder.{NamesInRange}
-use Rattle.fs_check.proofs.RunNames.{ranged}
+use Rattle.fs_cand.proofs.NamedOrder.{NamesInRange}
+use Rattle.fs_cand.proofs.RunNames.{ranged}
 use Rattle.fs_checker.specs.declared.verdict.CheckVerdict.TheVariants.{Yes, No}
 use Rattle.fs_checker.specs.Checks.{IsCheckVerdict}
 use Rattle.fs_io.specs.declared.status.Status.TheVariants.{Success, Denied}

@@ -2,8 +2,8 @@
 
 ghost use Rattle.std.specs.Prelude.{◌≡◌, ◌≢◌, ℕ, List, None, Some, IfOk, IfErr, OnOk, IsOkUnless, string_bytes};
 ghost use Rattle.fs_kinds.specs.PriceTable.{PriceTable};
-ghost use Rattle.fs_syntax.specs.declared.test.Test.{Test as Tests};
-ghost use Rattle.fs_syntax.specs.Test.{IsBounded, IsTest};
+ghost use Rattle.fs_model.specs.declared.test.Test.{Test as Tests};
+ghost use Rattle.fs_model.specs.Test.{IsBounded, IsTest};
 ghost use Rattle.fs_answer.specs.Certificate.{Certificate as Said};
 ghost use Rattle.fs_answer.specs.CandidateFaults.{HasNoCandidateFault};
 ghost use Rattle.fs_checker.specs.declared.verdict.CheckVerdict.TheVariants.{Yes, No};

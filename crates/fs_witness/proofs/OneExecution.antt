@@ -1,15 +1,15 @@
 -- A witness gives one execution.
 use Rattle.std.proofs.Common.{◌≡◌, ◌<◌, List, [], length, sym, ◌∙◌, ap, subst, arith}
 use Rattle.std.proofs.lemmas.List.{ext_get_or}
-use Rattle.fs_syntax.specs.declared.test.Test.{Test}
-use Rattle.fs_syntax.specs.Test.{IsBounded}
+use Rattle.fs_model.specs.declared.test.Test.{Test}
+use Rattle.fs_model.specs.Test.{IsBounded}
 use Rattle.fs_model.specs.declared.step.Step.{Step}
 use Rattle.fs_model.specs.Execution.{Execution, pre_execution, code_of, registers_of}
 use Rattle.fs_model.specs.Witness.{Witness, IsOfWitness}
 use Rattle.fs_model.specs.Reasons.{AreRuns, HaveNames, choices_for}
 use Rattle.fs_model.proofs.Runs.{run_once}
-use Rattle.fs_check.proofs.NamedOrder.{names_say}
-use Rattle.fs_check.proofs.RunNames.{known}
+use Rattle.fs_cand.proofs.NamedOrder.{names_say}
+use Rattle.fs_cand.proofs.RunNames.{known}
 
 module _ (t : Test) (w : Witness) where
   runs_of : (e : Execution) → IsOfWitness t w e → AreRuns t w e.traces

@@ -1,4 +1,5 @@
-//! Witnesses of candidate executions without a cycle.
+//! From a showing candidate whose judged relation has no cycle to a witness: an execution that shows the outcome under a placement,
+//! and under as many fences more as it bears.
 #![tactic(auto)]
 
 mod choices;

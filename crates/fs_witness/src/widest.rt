@@ -2,7 +2,7 @@
 
 ghost use Rattle.std.specs.Prelude.{◌≡◌, ◌<◌, ◌≤◌, ℕ, List, true, length, IfOk, IsOkUnless};
 ghost use Rattle.fs_kinds.specs.declared.fault.Fault.TheVariants.{Memory};
-ghost use Rattle.fs_syntax.specs.Test.{IsBounded};
+ghost use Rattle.fs_model.specs.Test.{IsBounded};
 ghost use Rattle.fs_model.specs.Numbers.{has_number};
 ghost use Rattle.fs_model.specs.Execution.{Execution, initial_words};
 ghost use Rattle.fs_model.specs.Allows.{Shows};
@@ -23,8 +23,8 @@ use fs_cand::Candidate;
 use fs_edges::{Sides, sides_of};
 use fs_evidence::Witness;
 use fs_kinds::{Fault, Placement, Slot};
+use fs_model::Test;
 use fs_relation::Rows;
-use fs_syntax::Test;
 use std::alloc::Global;
 
 // What an order of the candidate's operations says: choices, names and widths.

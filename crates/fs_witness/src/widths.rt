@@ -3,8 +3,8 @@
 ghost use Rattle.std.specs.Prelude.{◌≡◌, IfOk, IsOkUnless};
 ghost use Rattle.std.specs.List.{list_all};
 ghost use Rattle.fs_kinds.specs.declared.fault.Fault.TheVariants.{Memory};
-ghost use Rattle.fs_syntax.specs.Slots.{slots};
-ghost use Rattle.fs_syntax.specs.Test.{IsBounded};
+ghost use Rattle.fs_model.specs.Slots.{slots};
+ghost use Rattle.fs_model.specs.Test.{IsBounded};
 ghost use Rattle.fs_evidence.specs.Evidence.{pairs_at, widths_of};
 ghost use Rattle.fs_witness.specs.inner.Keeping.{are_ordered, before_in, after_in, is_kept, keeps_all, width_in};
 
@@ -12,8 +12,8 @@ use fs_edges::Sides;
 use fs_evidence::Pairs;
 use fs_kinds::{Fault, Slot};
 use fs_list::List;
+use fs_model::{Test, slots};
 use fs_relation::Rows;
-use fs_syntax::{Test, slots};
 use std::alloc::{AllocError, Global};
 
 // Operations that load, or those that store.

@@ -1,13 +1,13 @@
 //! Events of the search board.
 ghost use Rattle.std.specs.Prelude.{◌≡◌, ◌≤◌, IfOk};
 ghost use Rattle.std.specs.Arc.{arc_value};
-ghost use Rattle.fs_syntax.specs.Test.{IsBounded, IsTest};
+ghost use Rattle.fs_model.specs.Test.{IsBounded, IsTest};
 
 use crate::printing::{print_fences, print_reply, say_refused};
 use crate::questions::{Request, forbidden_on, witness_on, witnesses_on};
 use fs_board::{Board, Reply};
 use fs_evidence::Question;
-use fs_examples::{MP11, PRICES, SB, cost_of, question_of};
+use fs_examples::{MP11, PRICES, SB, TWO_WRITES, cost_of, question_of};
 use fs_judge::Problem;
 use fs_kinds::{Fault, Slot};
 use std::alloc::Global;
@@ -165,17 +165,18 @@ fn ask_board<R: Print>(
     ask_all(rt, alloc, problem, &mut board, asks)
 }
 
-/// Asks a board of the test with this limit.
+/// Asks a board of the test and the prices with this limit.
 fn make_board<R: Print>(
     rt: &R,
     alloc: Global,
     text: &str,
+    prices: &str,
     limit: usize,
     asks: &[(u8, Request)],
 ) -> Result<(), Fault>
     requires { limit ≤ 1000000 }
 {
-    let question = question_of(alloc, text, PRICES)?;
+    let question = question_of(alloc, text, prices)?;
     let problem = Problem::new(alloc, Arc::try_clone(&question)?)?;
     ask_board(rt, alloc, &question, &problem, limit, asks)
 }
@@ -185,7 +186,8 @@ const fn slot(hart: u8) -> Slot {
     Slot { hart, at: 2 }
 }
 
-/// Two workers on a board of store buffering, with all replies but those of the other boards.
+/// Two workers on a board of store buffering, with all replies but those of the other boards; and the first calls on a board that is
+/// full by one node sooner.
 fn make_first<R: Print>(rt: &R, alloc: Global) -> Result<(), Fault> {
     let asks = [
         (0, Request::Take),
@@ -208,7 +210,8 @@ fn make_first<R: Print>(rt: &R, alloc: Global) -> Result<(), Fault> {
         (1, Request::Peek(0)),
         (0, Request::CutBound(6, "P0:2=rw,rw")),
     ];
-    make_board(rt, alloc, SB, 14, &asks)
+    make_board(rt, alloc, SB, PRICES, 14, &asks)?;
+    make_board(rt, alloc, SB, PRICES, 13, &asks[..7])
 }
 
 /// A board of message passing in order, whose root is closed by a witness.
@@ -222,7 +225,7 @@ fn make_second<R: Print>(rt: &R, alloc: Global) -> Result<(), Fault> {
         (1, Request::Peek(1)),
         (1, Request::Take),
     ];
-    make_board(rt, alloc, MP11, 1, &asks)
+    make_board(rt, alloc, MP11, PRICES, 1, &asks)
 }
 
 /// A board of store buffering, whose root nothing closes.
@@ -235,13 +238,38 @@ fn make_third<R: Print>(rt: &R, alloc: Global) -> Result<(), Fault> {
         (1, Request::Adopt(0)),
         (1, Request::Post(0, "P0:2=w,r P1:2=w,r")),
     ];
-    make_board(rt, alloc, SB, 1, &asks)
+    make_board(rt, alloc, SB, PRICES, 1, &asks)
 }
 
-/// Asks the three boards.
+/// A board of 2+2W, of whose placements that cost as much the bound is the first: `w,w` stands before `w,rw`. Node 8 has `rw,rw` at
+/// P1:3, and so costs 5; node 5 has no fence there, and costs 2.
+fn make_fourth<R: Print>(rt: &R, alloc: Global) -> Result<(), Fault> {
+    let prices = r#"{"w,w":2,"w,rw":2,"rw,rw":3}"#;
+    let first = Slot { hart: 0, at: 3 };
+    let second = Slot { hart: 1, at: 3 };
+    let asks = [
+        (0, Request::Take),
+        (0, Request::Split(0, first)),
+        (0, Request::Claim(3)),
+        (0, Request::Split(3, second)),
+        (0, Request::Claim(7)),
+        (0, Request::Post(7, "P0:3=w,rw P1:3=w,rw")),
+        (0, Request::Claim(6)),
+        (0, Request::CutCost(6)),
+        (0, Request::Post(6, "P0:3=w,rw P1:3=w,w")),
+        (0, Request::Claim(8)),
+        (0, Request::CutCost(8)),
+        (0, Request::Claim(5)),
+        (0, Request::CutCost(5)),
+    ];
+    make_board(rt, alloc, TWO_WRITES, prices, 8, &asks)
+}
+
+/// Asks the boards.
 pub(crate) fn make<R: Print + AllocGlobal>(rt: &R) -> Result<(), Fault> {
     let alloc = rt.alloc();
     make_first(rt, alloc)?;
     make_second(rt, alloc)?;
-    make_third(rt, alloc)
+    make_third(rt, alloc)?;
+    make_fourth(rt, alloc)
 }

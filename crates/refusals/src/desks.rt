@@ -1,7 +1,7 @@
 //! Calls of two workers at a desk, from one thread, and how they end.
 ghost use Rattle.std.specs.Prelude.{◌≡◌, ◌≤◌};
 ghost use Rattle.std.specs.Arc.{arc_value};
-ghost use Rattle.fs_syntax.specs.Test.{IsBounded, IsTest};
+ghost use Rattle.fs_model.specs.Test.{IsBounded, IsTest};
 
 use crate::printing::{print_reply, say_refused};
 use crate::questions::{Request, forbidden_on, witness_on, witnesses_on};
@@ -177,6 +177,36 @@ fn make_desk<A: Asked, R: Print + Wait>(
     ask_desk::<A, R>(rt, alloc, question, &problem, requests, kept)
 }
 
+/// A worker leaves a desk of the question with a node, which another takes over. Leaving is no event.
+fn make_left<A: Asked, R: Print + Wait>(
+    rt: &R,
+    alloc: Global,
+    question: &Arc<Question>,
+    problem: &Problem,
+) -> Result<(), Fault>
+    requires test { IsTest (arc_value question.now).test }
+    requires question { arc_value question.now ≡ A.question }
+    requires same { problem.now ≡ A.question }
+    requires limit { A.limit ≡ 14 }
+{
+    let _ = rt.println("a desk that a worker leaves");
+    let (desk, mut passes) = twice!(rt, desk_of::<A>(alloc, question, 2))?;
+    let before = [(1, Request::Take)];
+    ask_all(rt, alloc, problem, &desk, &mut passes, &before)?;
+    if let Some(pass) = passes.get(1) {
+        desk.leave(rt, pass);
+        print_pass(rt, pass);
+    }
+    let after = [
+        (0, Request::Take),
+        (0, Request::Adopt(0)),
+        (0, Request::Claim(0)),
+    ];
+    ask_all(rt, alloc, problem, &desk, &mut passes, &after)?;
+    print_end(rt, desk, passes);
+    Ok(())
+}
+
 /// Prints how a desk of the question ends with the first pass of its own and that of another desk.
 fn make_two<A: Asked, R: Print>(
     rt: &R,
@@ -233,6 +263,8 @@ fn make_desks<A: Asked, R: Print + Wait>(
     make_desk::<A, R>(rt, alloc, question, &requests, 2)?;
     make_desk::<A, R>(rt, alloc, question, &peeks, 2)?;
     make_desk::<A, R>(rt, alloc, question, &peeks, 1)?;
+    let problem = Problem::new(alloc, Arc::try_clone(question)?)?;
+    make_left::<A, R>(rt, alloc, question, &problem)?;
     make_two::<A, R>(rt, alloc, question)
 }
 

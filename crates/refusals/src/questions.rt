@@ -1,10 +1,8 @@
-//! What workers ask of a board or a desk, and placements and verdicts from texts.
-ghost use Rattle.std.specs.Prelude.{◌≡◌, List, IfOk, map};
+//! What workers ask of a board or a desk, and verdicts on placements from texts.
+ghost use Rattle.std.specs.Prelude.{List, IfOk, map};
 ghost use Rattle.std.specs.Arc.{arc_value};
-ghost use Rattle.fs_kinds.specs.Placement.{slots_of};
 ghost use Rattle.fs_kinds.specs.declared.placement.Entry.{Entry};
-ghost use Rattle.fs_syntax.specs.Slots.{slots};
-ghost use Rattle.fs_syntax.specs.Test.{IsBounded};
+ghost use Rattle.fs_model.specs.Test.{IsBounded};
 ghost use Rattle.fs_model.specs.Allows.{Allows};
 ghost use Rattle.fs_model.specs.Execution.{Execution};
 ghost use Rattle.fs_answer.specs.Valid.{HasCycles};
@@ -13,10 +11,10 @@ ghost use Rattle.fs_board.specs.Growth.{AreWitnesses};
 ghost use Rattle.fs_judge.specs.Verdicts.{IsVerdict};
 
 use fs_evidence::{Forbidden, Witness};
+use fs_examples::placement_of;
 use fs_judge::{Problem, Verdict};
-use fs_kinds::{Fault, Placement, Slot};
+use fs_kinds::{Fault, Slot};
 use fs_list::List;
-use fs_litmus::{Test, read_fences};
 use std::alloc::Global;
 use std::sync::Arc;
 
@@ -35,18 +33,6 @@ pub(crate) enum Request {
     /// That the placement that the words name be posted, which forbids the outcome.
     Post(usize, &'static str),
     Peek(usize),
-}
-
-/// The placement that the words name, which spaces part.
-pub(crate) fn placement_of(alloc: Global, test: &Test, words: &str) -> Result<Placement, Fault>
-    requires { IsBounded test.now }
-    ensures { IfOk result (λ placement. slots_of placement ≡ slots test.now) }
-{
-    let mut fences = Vec::new(alloc);
-    for word in words.split_whitespace() {
-        fences.push(String::from_str(alloc, word)?)?;
-    }
-    read_fences(alloc, test, None, &fences)
 }
 
 /// The verdict on the placement that the words name.

@@ -1,5 +1,5 @@
 //! Tests that are read, fences that are placed in them, and the text that is printed.
-ghost use Rattle.fs_syntax.specs.Test.{IsBounded};
+ghost use Rattle.fs_model.specs.Test.{IsBounded};
 
 use crate::printing::say_refused;
 use fs_examples::{MP, MPB, PRICES};

@@ -1,12 +1,12 @@
 //! A question that is made ready, and verdicts on placements: of the problem, and of a judge, who keeps what it found last.
 ghost use Rattle.std.specs.Prelude.{◌≡◌, IfOk};
 ghost use Rattle.std.specs.Arc.{arc_value};
-ghost use Rattle.fs_syntax.specs.Test.{IsBounded, IsTest};
+ghost use Rattle.fs_model.specs.Test.{IsBounded, IsTest};
 
 use crate::printing::say_refused;
-use crate::questions::{placement_of, verdict_on};
+use crate::questions::verdict_on;
 use fs_evidence::{Question, Witness};
-use fs_examples::{PRICES, SB, question_of};
+use fs_examples::{PRICES, SB, placement_of, question_of};
 use fs_judge::{Judge, Problem, Verdict};
 use fs_kinds::Fault;
 use std::alloc::Global;

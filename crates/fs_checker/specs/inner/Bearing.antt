@@ -2,7 +2,7 @@
 use Rattle.std.specs.Prelude.{ℕ, Bool, ◌&&◌, not, List, map, filter, length}
 use Rattle.std.specs.List.{list_all, flat_map}
 use Rattle.fs_kinds.specs.declared.placement.Entry.{Entry}
-use Rattle.fs_syntax.specs.declared.test.Test.{Test}
+use Rattle.fs_model.specs.declared.test.Test.{Test}
 use Rattle.fs_model.specs.Numbers.{numbers_below, stands_before}
 use Rattle.fs_model.specs.Operations.{operations, po}
 use Rattle.fs_model.specs.Source.{gmo}

@@ -1,29 +1,16 @@
 -- What breaks a witness, and what it is within, by the pairs that it keeps at each slot of a part.
-use Rattle.std.specs.Prelude.{ℕ, ◌*◌, nat_lt, Bool, true, false, ◌&&◌, not, if◌then◌else◌, Option, None, Some, is_none, is_some, unwrap_or, List, [], ◌∷◌, map, slice_get}
+use Rattle.std.specs.Prelude.{ℕ, nat_lt, Bool, false, ◌&&◌, if◌then◌else◌, Option, None, Some, is_none, is_some, unwrap_or, List, [], ◌∷◌, map, slice_get}
 use Rattle.std.specs.List.{list_all, count_by, enumerate_from, zip}
 use Rattle.fs_kinds.specs.declared.kind.Kind.{Kind}
 use Rattle.fs_kinds.specs.declared.placement.Entry.{Entry}
 use Rattle.fs_kinds.specs.declared.slot.Slot.{Slot}
-use Rattle.fs_kinds.specs.Kind.{all_kinds, is_subset}
-use Rattle.fs_kinds.specs.Placement.{pairs_kept}
-use Rattle.fs_kinds.specs.PriceTable.{PriceTable, is_offered, kind_cost, weight_of, cost}
+use Rattle.fs_kinds.specs.Kind.{all_kinds}
+use Rattle.fs_kinds.specs.PriceTable.{PriceTable, weight_of, cost}
 use Rattle.fs_answer.specs.Parts.{Part, Decision, floor}
-use Rattle.fs_answer.specs.Pruning.{lesser, sum_of, is_no_better}
+use Rattle.fs_answer.specs.Pruning.{sum_of, is_no_better}
 use Rattle.fs_evidence.specs.declared.evidence.Pairs.{Pairs}
 use Rattle.fs_evidence.specs.Evidence.{keeps}
-
--- the slot with what is decided, or with none
-abbrev pub floor_entry : Decision → Entry
-floor_entry d = record { slot = d.slot; kind = unwrap_or d.decided None }
-
--- the kind, or none, orders only these pairs
-abbrev pub fits : Pairs → Option Kind → Bool
-fits pairs kind = is_subset (pairs_kept kind) (keeps pairs)
-
--- each slot's kind orders only what is kept there, where undecided slots have this kind
-abbrev pub is_kept : Option Kind → Part → List Pairs → Bool
-is_kept kind (d ∷ part) (pairs ∷ widths) = fits pairs (unwrap_or d.decided kind) && is_kept kind part widths
-is_kept kind _ _ = true
+use Rattle.fs_parts.specs.Breaks.{is_kept, break_cost, lesser_of, least_of}
 
 -- a witness of which this is kept shows the outcome, and so it does with what is decided and this kind elsewhere
 abbrev pub is_shown_with : Option Kind → Part → Option (Option (List Pairs)) → Bool
@@ -41,23 +28,6 @@ widths_in kept = unwrap_or kept []
 -- all ways to decide a slot
 abbrev pub all_options : List (Option Kind)
 all_options = None ∷ map (λ kind. Some kind) all_kinds
-
--- the kind is offered, and orders a pair that isn't kept
-abbrev pub is_break : PriceTable → Pairs → Option Kind → Bool
-is_break prices pairs kind = is_offered prices kind && not (fits pairs kind)
-
--- and then it costs so much at a slot of this weight
-abbrev pub break_cost : PriceTable → Pairs → (weight : ℕ) → Option Kind → Option ℕ
-break_cost prices pairs weight kind = if is_break prices pairs kind then Some (kind_cost prices kind * weight) else None
-
-abbrev pub lesser_of : Option ℕ → Option ℕ → Option ℕ
-lesser_of None n = n
-lesser_of (Some m) n = Some (lesser m n)
-
--- the least of all that the function gives
-abbrev pub least_of : {A : Type 0} → (A → Option ℕ) → List A → Option ℕ
-least_of f [] = None
-least_of f (x ∷ xs) = lesser_of (f x) (least_of f xs)
 
 -- what the cheapest offered fence costs that breaks the witness at the slot
 abbrev pub break_at : PriceTable → Slot → Pairs → Option ℕ

@@ -5,7 +5,7 @@ use Rattle.fs_kinds.specs.declared.placement.Entry.{Entry}
 use Rattle.fs_kinds.specs.declared.reason.OperationName.{OperationName as Name}
 use Rattle.fs_kinds.specs.declared.reason.Reason.{Reason}
 use Rattle.fs_kinds.specs.declared.reason.Reason.TheVariants as reason
-use Rattle.fs_syntax.specs.declared.test.Test.{Test}
+use Rattle.fs_model.specs.declared.test.Test.{Test}
 use Rattle.fs_model.specs.Operations.{PreExecution, operations}
 use Rattle.fs_hart.specs.Steps.{steps_in}
 use Rattle.fs_answer.specs.Candidates.{Candidate, runs_of}
@@ -13,7 +13,7 @@ use Rattle.fs_answer.specs.Certificate.{Link}
 use Rattle.fs_answer.specs.Refusals.{IsFirstBad}
 use Rattle.fs_answer.specs.Valid.{IsCycle, around, are_edges, most_links}
 use Rattle.fs_evidence.specs.Evidence.{cause_of}
-use Rattle.fs_check.specs.inner.NamedOrder.{name_in, numbers_of}
+use Rattle.fs_cand.specs.inner.NamedOrder.{name_in, numbers_of}
 use Rattle.fs_cand.specs.declared.candidate.Candidate.{Candidate as Made}
 use Rattle.fs_certificate.specs.declared.certificate.CertificateLink.{CertificateLink}
 

@@ -4,9 +4,9 @@ use Rattle.fs_kinds.specs.declared.placement.Entry.{Entry}
 use Rattle.fs_kinds.specs.declared.reason.Reason.{Reason}
 use Rattle.fs_kinds.specs.declared.slot.Slot.{Slot}
 use Rattle.fs_kinds.specs.PriceTable.{PriceTable}
-use Rattle.fs_syntax.specs.declared.test.Test.{Test}
-use Rattle.fs_syntax.specs.Slots.{slots}
-use Rattle.fs_syntax.specs.Test.{IsBounded}
+use Rattle.fs_model.specs.declared.test.Test.{Test}
+use Rattle.fs_model.specs.Slots.{slots}
+use Rattle.fs_model.specs.Test.{IsBounded}
 use Rattle.fs_answer.specs.Parts.{Part}
 use Rattle.fs_answer.specs.Certificate.{Certificate, Item}
 use Rattle.fs_answer.specs.Valid.{Covers}

@@ -4,7 +4,7 @@ use Rattle.fs_kinds.specs.declared.kind.Classes.{Classes}
 use Rattle.fs_kinds.specs.declared.kind.Kind.{Kind}
 use Rattle.fs_kinds.specs.declared.placement.Entry.{Entry}
 use Rattle.fs_kinds.specs.Placement.{kind_at}
-use Rattle.fs_syntax.specs.Slots.{slot_at}
+use Rattle.fs_model.specs.Slots.{slot_at}
 use Rattle.fs_model.specs.declared.operation.Operation.{Operation}
 use Rattle.fs_model.specs.Numbers.{is_same}
 use Rattle.fs_model.specs.Operations.{PreExecution, operation, steps_of}

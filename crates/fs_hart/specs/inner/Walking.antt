@@ -6,8 +6,8 @@ use Rattle.std.specs.Option.{option_or}
 use Rattle.fs_kinds.specs.declared.fault.Fault.{Fault}
 use Rattle.fs_kinds.specs.declared.fault.Fault.TheVariants.{TooManyTraces, Memory}
 use Rattle.fs_instr.specs.declared.instr.Instr.{Instr}
-use Rattle.fs_syntax.specs.Test.{location_of}
-use Rattle.fs_syntax.specs.declared.test.Test.{Test}
+use Rattle.fs_model.specs.Test.{location_of}
+use Rattle.fs_model.specs.declared.test.Test.{Test}
 use Rattle.fs_model.specs.declared.hart.Hart.{Hart}
 use Rattle.fs_model.specs.declared.step.Step.{Step}
 use Rattle.fs_model.specs.declared.step.Choice.{Choice}

@@ -2,7 +2,7 @@
 use Rattle.std.specs.Prelude.{◌≡◌, ℕ, ◌≤◌, Some, List, [], length, slice_get}
 use Rattle.std.specs.List.{list_any}
 use Rattle.fs_kinds.specs.declared.placement.Entry.{Entry}
-use Rattle.fs_syntax.specs.declared.test.Test.{Test}
+use Rattle.fs_model.specs.declared.test.Test.{Test}
 use Rattle.fs_model.specs.Operations.{operations}
 use Rattle.fs_answer.specs.Candidates.{Candidate, runs_of}
 use Rattle.fs_answer.specs.Judged.{is_judged}

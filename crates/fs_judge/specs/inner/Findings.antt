@@ -1,7 +1,7 @@
 -- What is found of candidates with placed fences.
 use Rattle.std.specs.Prelude.{List}
 use Rattle.fs_kinds.specs.declared.placement.Entry.{Entry}
-use Rattle.fs_syntax.specs.declared.test.Test.{Test}
+use Rattle.fs_model.specs.declared.test.Test.{Test}
 use Rattle.fs_model.specs.Allows.{Allows}
 use Rattle.fs_answer.specs.Candidates.{Candidate}
 use Rattle.fs_answer.specs.Valid.{IsCycle, HasCycles}

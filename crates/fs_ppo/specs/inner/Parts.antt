@@ -3,7 +3,7 @@ use Rattle.std.specs.Prelude.{ℕ, Option, option_and_then, unwrap_or, List, [],
 use Rattle.fs_kinds.specs.declared.kind.Kind.{Kind}
 use Rattle.fs_kinds.specs.declared.placement.Entry.{Entry}
 use Rattle.fs_kinds.specs.Placement.{kind_at}
-use Rattle.fs_syntax.specs.Slots.{slot_at}
+use Rattle.fs_model.specs.Slots.{slot_at}
 use Rattle.fs_model.specs.declared.step.Step.{Step}
 use Rattle.fs_deps.specs.declared.deps.Masks.{Masks}
 use Rattle.fs_cand.specs.declared.candidate.Candidate.{Candidate}

@@ -4,9 +4,9 @@ use Rattle.std.specs.Str.{IsUtf8}
 use Rattle.fs_kinds.specs.Limits.{most_harts, most_accesses, most_locations, most_depth}
 use Rattle.fs_instr.specs.Instructions.{is_memory}
 use Rattle.fs_instr.specs.OfTable.{IsOfTable}
-use Rattle.fs_syntax.specs.Condition.{condition_of, nesting, SpeaksOf}
-use Rattle.fs_syntax.specs.Test.{GoesForward, IsStart, is_name, is_title}
-use Rattle.fs_syntax.specs.declared.test.Test.{Test}
+use Rattle.fs_model.specs.Condition.{condition_of, nesting, SpeaksOf}
+use Rattle.fs_model.specs.Test.{GoesForward, IsStart, is_name, is_title}
+use Rattle.fs_model.specs.declared.test.Test.{Test}
 
 -- the bounds of a test, but that a hart may have too many instructions
 pub record IsAlmostBounded (t : Test) : Type 0 where

@@ -12,14 +12,14 @@ use Rattle.fs_condition.specs.Grammar as syntax
 use Rattle.fs_condition.specs.Grammar.{Syntax, IsCondition}
 use Rattle.fs_instr.specs.PrintedTokens.{instr_tokens}
 use Rattle.fs_instr.specs.declared.instr.Instr.{Instr}
-use Rattle.fs_syntax.specs.Condition as condition
-use Rattle.fs_syntax.specs.Condition.{Condition, condition_of}
-use Rattle.fs_syntax.specs.Printed.{set_registers, is_target, name_of}
-use Rattle.fs_syntax.specs.Test.{address_of}
-use Rattle.fs_syntax.specs.declared.test.Location as locations
-use Rattle.fs_syntax.specs.declared.test.Test.{Test}
-use Rattle.fs_syntax.specs.declared.test.Quantifier.{Quantifier}
-use Rattle.fs_syntax.specs.declared.test.Quantifier.TheVariants.{Exists, NotExists, Forall}
+use Rattle.fs_model.specs.Condition as condition
+use Rattle.fs_model.specs.Condition.{Condition, condition_of}
+use Rattle.fs_model.specs.Printed.{set_registers, is_target, name_of}
+use Rattle.fs_model.specs.Test.{address_of}
+use Rattle.fs_model.specs.declared.test.Location as locations
+use Rattle.fs_model.specs.declared.test.Test.{Test}
+use Rattle.fs_model.specs.declared.test.Quantifier.{Quantifier}
+use Rattle.fs_model.specs.declared.test.Quantifier.TheVariants.{Exists, NotExists, Forall}
 use Rattle.fs_litmus.specs.Locations.{Binding}
 use Rattle.fs_litmus.specs.Settings.{entry_bindings}
 

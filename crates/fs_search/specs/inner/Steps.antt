@@ -1,6 +1,6 @@
 -- What one step of a search does to its board: it tries to close a node, or it is done with one.
 use Rattle.std.specs.Prelude.{◌≡◌, ℕ, ◌<◌, ◌≤◌, Bool, true, false, ◌&&◌, not}
-use Rattle.fs_syntax.specs.Slots.{slots}
+use Rattle.fs_model.specs.Slots.{slots}
 use Rattle.fs_answer.specs.Parts.{Part}
 use Rattle.fs_bound.specs.Bounds.{slots_in_part}
 use Rattle.fs_history.specs.Board.{Board, Status, Reply, Closed, Given, Children, is_open, is_held}

@@ -1,7 +1,7 @@
 -- Sources and stores among operations, as they are listed and counted.
 use Rattle.std.specs.Prelude.{ℕ, ◌+◌, ◌-◌, ◌==◌, ◌&&◌, nat_lt, Bool, not, is_some, Option, None, Some, List, [], ◌∷◌, ◌++◌, map, filter, length, if◌then◌else◌}
 use Rattle.std.specs.List.{range_with_len, slice_index_or}
-use Rattle.fs_syntax.specs.Test.{address_of}
+use Rattle.fs_model.specs.Test.{address_of}
 use Rattle.fs_model.specs.declared.operation.Operation.{Operation}
 use Rattle.fs_model.specs.Numbers.{is_same, numbers_below}
 use Rattle.fs_model.specs.Operations.{nothing}

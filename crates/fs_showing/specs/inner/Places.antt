@@ -1,8 +1,8 @@
 -- Raw candidates by number: that of their runs, and then that among the raw candidates of these runs.
 use Rattle.std.specs.Prelude.{◌≡◌, ℕ, ◌<◌, ◌≤◌, List, [], map, filter, length, All}
 use Rattle.std.specs.List.{flat_map, range_with_len, slice_index_or}
-use Rattle.fs_syntax.specs.declared.test.Test.{Test}
-use Rattle.fs_syntax.specs.Test.{IsBounded}
+use Rattle.fs_model.specs.declared.test.Test.{Test}
+use Rattle.fs_model.specs.Test.{IsBounded}
 use Rattle.fs_model.specs.Numbers.{numbers_below}
 use Rattle.fs_model.specs.Operations.{operations}
 use Rattle.fs_model.specs.Execution.{pre_execution}

@@ -1,7 +1,7 @@
 -- The tests of a raw candidate, said of a list of operations and of its coherence orders.
 use Rattle.std.specs.Prelude.{ℕ, ◌==◌, Bool, true, false, ◌&&◌, ◌||◌, not, is_some, Option, None, Some, option_map, option_and_then, unwrap_or, List, [], length}
 use Rattle.std.specs.List.{list_any, list_all, last_or, slice_index_or}
-use Rattle.fs_syntax.specs.Condition.{Condition, Always, Never, RegisterIs, LocationIs, Deny, Both, Either}
+use Rattle.fs_model.specs.Condition.{Condition, Always, Never, RegisterIs, LocationIs, Deny, Both, Either}
 use Rattle.fs_model.specs.declared.operation.Operation.{Operation}
 use Rattle.fs_model.specs.declared.step.Step.{Step}
 use Rattle.fs_model.specs.Numbers.{is_same, numbers_below, stands_before}

@@ -1,7 +1,7 @@
 -- How many raw candidates there are with the first lists of runs.
 use Rattle.std.specs.Prelude.{ℕ, List, [], length}
 use Rattle.std.specs.List.{slice_index_or}
-use Rattle.fs_syntax.specs.declared.test.Test.{Test}
+use Rattle.fs_model.specs.declared.test.Test.{Test}
 use Rattle.fs_hart.specs.declared.trace.Trace.{Trace}
 use Rattle.fs_hart.specs.Steps.{steps_in}
 use Rattle.fs_showing.specs.Ways.{products}

@@ -1,8 +1,8 @@
 -- An answer that was found, before it is printed.
 use Rattle.std.specs.Prelude.{◌≡◌, ℕ, List, IfNone, IfSome}
 use Rattle.fs_kinds.specs.PriceTable.{PriceTable, IsPriceTable}
-use Rattle.fs_syntax.specs.declared.test.Test.{Test}
-use Rattle.fs_syntax.specs.Test.{IsBounded, IsTest}
+use Rattle.fs_model.specs.declared.test.Test.{Test}
+use Rattle.fs_model.specs.Test.{IsBounded, IsTest}
 use Rattle.fs_litmus.specs.Reads.{Reads}
 use Rattle.fs_answer.specs.CandidateFaults.{HasNoCandidateFault}
 use Rattle.fs_evidence.specs.Evidence.{Question}

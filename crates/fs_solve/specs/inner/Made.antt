@@ -1,7 +1,7 @@
 -- What is made of an answer: its lines, a certificate and the text of that. Where the answer is none, each has its witness.
 use Rattle.std.specs.Prelude.{◌≡◌, ℕ, Some, List, [], ◌∷◌}
 use Rattle.fs_kinds.specs.PriceTable.{PriceTable}
-use Rattle.fs_syntax.specs.declared.test.Test.{Test}
+use Rattle.fs_model.specs.declared.test.Test.{Test}
 use Rattle.fs_model.specs.Witness.{Witness}
 use Rattle.fs_answer.specs.Texts.{none_lines}
 use Rattle.fs_certificate.specs.declared.certificate.Certificate.{Certificate}

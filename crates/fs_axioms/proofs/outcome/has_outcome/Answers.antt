@@ -3,8 +3,8 @@ use Rattle.std.specs.List.{slice_index_or}
 use Rattle.std.proofs.lemmas.Bool.{cases_lt}
 use Rattle.std.proofs.Math.ListN.{get_or-eq_default}
 use Rattle.std.proofs.lemmas.List.{length-map}
-use Rattle.fs_syntax.specs.declared.test.Test.{Test}
-use Rattle.fs_syntax.specs.Condition.{Condition, condition_of, Always, Never, RegisterIs, LocationIs, Deny, Both, Either}
+use Rattle.fs_model.specs.declared.test.Test.{Test}
+use Rattle.fs_model.specs.Condition.{Condition, condition_of, Always, Never, RegisterIs, LocationIs, Deny, Both, Either}
 use Rattle.fs_model.specs.declared.operation.Operation.{Operation}
 use Rattle.fs_model.specs.Execute.{read}
 use Rattle.fs_model.specs.Trace.{start_with, hart_after}

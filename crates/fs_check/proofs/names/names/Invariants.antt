@@ -1,5 +1,5 @@
 use Rattle.std.proofs.Common.{◌≡◌, map, take}
-use Rattle.fs_check.specs.inner.NamedOrder.{name_in}
+use Rattle.fs_cand.specs.inner.NamedOrder.{name_in}
 use Rattle.fs_check.proofs.names.names.Given as goal
 
 -- the names of the operations so far

@@ -1,7 +1,7 @@
 use Rattle.std.proofs.Common.{◌≡◌, ◌++◌, option_map, ◌+◌, sym, ◌∙◌, ap, None, drop}
 use Rattle.std.proofs.lemmas.List.{drop_more}
-use Rattle.fs_check.specs.inner.NamedOrder.{numbers_of}
-use Rattle.fs_check.proofs.NamedOrder.{one_more, no_more, none_kept}
+use Rattle.fs_cand.specs.inner.NamedOrder.{numbers_of}
+use Rattle.fs_cand.proofs.NamedOrder.{one_more, no_more, none_kept}
 use Rattle.fs_check.proofs.names.numbers.Goals as goal
 
 pub returns-in_default-clause-ok : goal.returns-in_default-clause-ok

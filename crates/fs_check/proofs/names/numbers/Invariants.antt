@@ -1,5 +1,5 @@
 use Rattle.std.proofs.Common.{◌≡◌, ◌++◌, option_map, drop}
-use Rattle.fs_check.specs.inner.NamedOrder.{numbers_of}
+use Rattle.fs_cand.specs.inner.NamedOrder.{numbers_of}
 use Rattle.fs_check.proofs.names.numbers.Given as goal
 
 -- the numbers so far, and those of the names to come

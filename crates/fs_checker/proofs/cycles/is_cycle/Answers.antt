@@ -1,6 +1,6 @@
 use Rattle.std.proofs.Common.{◌≡◌, Some, option_map, length, sym, ◌∙◌, ap, arith}
 use Rattle.std.proofs.lemmas.List.{length-map}
-use Rattle.fs_check.specs.inner.NamedOrder.{numbers_of}
+use Rattle.fs_cand.specs.inner.NamedOrder.{numbers_of}
 use Rattle.fs_certificate.specs.declared.certificate.CertificateLink.{CertificateLink}
 use Rattle.fs_checker.specs.inner.Cycles.{names_in, wanted}
 use Rattle.fs_checker.proofs.Looked.{as_many}

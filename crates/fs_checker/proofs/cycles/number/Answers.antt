@@ -1,7 +1,7 @@
 use Rattle.std.proofs.Common.{◌≡◌, ◌∙◌}
 use Rattle.std.specs.List.{position}
 use Rattle.fs_hart.specs.Steps.{steps_in}
-use Rattle.fs_check.specs.inner.NamedOrder.{name_in, is_same_name}
+use Rattle.fs_cand.specs.inner.NamedOrder.{name_in, is_same_name}
 use Rattle.fs_checker.proofs.Looked.{position_map}
 use Rattle.fs_checker.proofs.cycles.number.Goals as goal
 

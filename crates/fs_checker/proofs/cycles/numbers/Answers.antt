@@ -1,6 +1,6 @@
 use Rattle.std.proofs.Common.{◌≡◌, ◌++◌, ◌+◌, None, option_map, drop, sym, ◌∙◌, ap}
-use Rattle.fs_check.specs.inner.NamedOrder.{numbers_of}
-use Rattle.fs_check.proofs.NamedOrder.{one_more, no_more, none_kept}
+use Rattle.fs_cand.specs.inner.NamedOrder.{numbers_of}
+use Rattle.fs_cand.proofs.NamedOrder.{one_more, no_more, none_kept}
 use Rattle.fs_checker.specs.inner.Cycles.{names_in, wanted}
 use Rattle.fs_checker.proofs.Looked.{wanted_more}
 use Rattle.fs_checker.proofs.cycles.numbers.Goals as goal

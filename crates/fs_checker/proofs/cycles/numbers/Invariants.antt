@@ -1,5 +1,5 @@
 use Rattle.std.proofs.Common.{◌≡◌, ◌++◌, option_map, drop}
-use Rattle.fs_check.specs.inner.NamedOrder.{numbers_of}
+use Rattle.fs_cand.specs.inner.NamedOrder.{numbers_of}
 use Rattle.fs_checker.specs.inner.Cycles.{names_in, wanted}
 use Rattle.fs_checker.proofs.cycles.numbers.Given as goal
 

@@ -1,5 +1,5 @@
 use Rattle.std.proofs.Common.{subst}
-use Rattle.fs_syntax.specs.declared.test.Test.{Test}
+use Rattle.fs_model.specs.declared.test.Test.{Test}
 use Rattle.fs_checker.specs.inner.Judgements.{IsJudgement}
 use Rattle.fs_checker.proofs.verdict.check_certificate.Goals as goal
 

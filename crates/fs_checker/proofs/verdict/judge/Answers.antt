@@ -1,5 +1,5 @@
 use Rattle.std.proofs.Common.{IfOk, map, string_bytes, subst, sym, ap, ◌∙◌}
-use Rattle.fs_syntax.specs.declared.test.Test.{Test}
+use Rattle.fs_model.specs.declared.test.Test.{Test}
 use Rattle.fs_answer.specs.Certificate.{Fenced}
 use Rattle.fs_certificate.specs.Kept.{answer_of}
 use Rattle.fs_checker.specs.inner.Judgements.{IsJudgement}

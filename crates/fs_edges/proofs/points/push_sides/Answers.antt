@@ -1,7 +1,7 @@
 use Rattle.std.proofs.Common.{rules, arith, ◌≡◌, Some, refl}
 use Rattle.std.specs.Prelude.{slice_get}
 use Rattle.std.proofs.lemmas.Option.{slice_get_read}
-use Rattle.fs_syntax.specs.Slots.{slot_at}
+use Rattle.fs_model.specs.Slots.{slot_at}
 use Rattle.fs_cand.specs.Candidates.{runs_of}
 use Rattle.fs_model.specs.Operations.{steps_of}
 use Rattle.fs_edges.specs.Fencing.{orders_at}

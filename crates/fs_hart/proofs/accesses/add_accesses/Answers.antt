@@ -1,5 +1,5 @@
 use Rattle.std.proofs.Common.{◌++◌, [], ◌∷◌, map, filter, sym, ap, ◌∙◌, arith}
-use Rattle.fs_syntax.proofs.Numbered.{numbered_end}
+use Rattle.fs_model.proofs.Numbered.{numbered_end}
 use Rattle.fs_model.specs.Operations.{access_of}
 use Rattle.fs_hart.proofs.Numbering.{does_access, access_added, access_skipped}
 use Rattle.fs_hart.proofs.accesses.add_accesses.Goals as goal

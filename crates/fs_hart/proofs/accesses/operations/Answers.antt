@@ -1,7 +1,7 @@
 use Rattle.std.proofs.Common.{◌≡◌, ℕ, ◌<◌, ◌≤◌, ◌++◌, List, [], ◌∷◌, map, flat_map, length, get_or, sym, ap, ◌∙◌, arith}
 use Rattle.std.proofs.lemmas.List.{append-nil, length-map}
-use Rattle.fs_syntax.specs.declared.test.Location.{Location}
-use Rattle.fs_syntax.proofs.Numbered.{numbered_end, numbered_flat}
+use Rattle.fs_model.specs.declared.test.Location.{Location}
+use Rattle.fs_model.proofs.Numbered.{numbered_end, numbered_flat}
 use Rattle.fs_model.specs.Operations.{accesses, accesses_of, initial_store}
 use Rattle.fs_model.specs.Execution.{pre_execution, initial_words}
 use Rattle.fs_hart.specs.declared.trace.Trace.{Trace}

@@ -1,7 +1,7 @@
 use Rattle.std.proofs.Common.{rules, ◌≡◌, is_some, if◌then◌else◌, ◌++◌, [], ◌∷◌, Some, length, refl, sym, ap, subst, arith}
 use Rattle.std.specs.Prelude.{slice_get}
 use Rattle.std.proofs.lemmas.Option.{slice_get_read}
-use Rattle.fs_syntax.specs.Test.{GoesForward}
+use Rattle.fs_model.specs.Test.{GoesForward}
 use Rattle.fs_model.specs.Trace.{after_step}
 use Rattle.fs_hart.proofs.Along.{along_more, along_stop, makes_later, code_forward, stops_by}
 use Rattle.fs_hart.proofs.run.trace_of.Goals as goal

@@ -1,6 +1,6 @@
 use Rattle.std.proofs.Common.{◌≡◌, ℕ, Some, length}
 use Rattle.std.specs.Prelude.{slice_get, slice_index}
-use Rattle.fs_syntax.specs.declared.test.Test.{Test}
+use Rattle.fs_model.specs.declared.test.Test.{Test}
 use Rattle.fs_model.specs.Execution.{initial_words}
 use Rattle.fs_answer.specs.Candidates.{IsRaw, runs_of}
 use Rattle.fs_answer.specs.Certificate.{Link}

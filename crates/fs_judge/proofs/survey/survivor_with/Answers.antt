@@ -1,5 +1,5 @@
 use Rattle.std.proofs.Common.{◌≡◌, ℕ, List, length, sym, ◌∙◌, ap, subst}
-use Rattle.fs_syntax.specs.declared.test.Test.{Test}
+use Rattle.fs_model.specs.declared.test.Test.{Test}
 use Rattle.fs_model.specs.Execution.{initial_words}
 use Rattle.fs_cand.specs.Candidates.{candidate_of, IsMade}
 use Rattle.fs_relation.specs.Edges.{has_edge}

@@ -1,4 +1,4 @@
-use Rattle.fs_syntax.specs.Condition.{condition_of}
+use Rattle.fs_model.specs.Condition.{condition_of}
 use Rattle.fs_litmus.proofs.There.{not_missing}
 use Rattle.fs_litmus.proofs.meaning.read_outcome.Goals as goal
 

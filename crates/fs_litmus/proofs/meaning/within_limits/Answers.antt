@@ -9,7 +9,7 @@ use Rattle.fs_form.specs.Form.{form_of}
 use Rattle.fs_litmus.specs.Starts.{starts_of, AreLocations}
 use Rattle.fs_condition.specs.Grammar.{Syntax}
 use Rattle.fs_condition.specs.Answer.{Means}
-use Rattle.fs_syntax.specs.Condition.{SpeaksOf}
+use Rattle.fs_model.specs.Condition.{SpeaksOf}
 use Rattle.fs_litmus.proofs.Interpreting.{IsMade, means, limits, bounded}
 use Rattle.fs_litmus.proofs.meaning.within_limits.Goals as goal
 

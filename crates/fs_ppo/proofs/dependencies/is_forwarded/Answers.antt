@@ -9,10 +9,10 @@ pub returns-in-Some : goal.returns-in-Some
 returns-in-Some c = λ words made.
     let x = runs_of c.args.candidate.now words in
     passes_one x (λ m. is_store x m && (address_dependency x c.args.a m || data_dependency x c.args.a m)) (rf c.args.candidate.now c.args.b) c.args.a c.args.b
-    c.from.result c.is_dependent_store.result (cc (c.source.ensures, c.in-Some.is, c.from.ensures)) (c.is_dependent_store.ensures words made)
+    c.from.result c.is_dependent_store.result (cc (c.source_of.ensures, c.in-Some.is, c.from.ensures)) (c.is_dependent_store.ensures words made)
 
 pub returns-in-None : goal.returns-in-None
 returns-in-None c = λ words made.
     let x = runs_of c.args.candidate.now words in
     passes_none x (λ m. is_store x m && (address_dependency x c.args.a m || data_dependency x c.args.a m)) (rf c.args.candidate.now c.args.b) c.args.a c.args.b
-    (cc (c.source.ensures, c.in-None.is))
+    (cc (c.source_of.ensures, c.in-None.is))

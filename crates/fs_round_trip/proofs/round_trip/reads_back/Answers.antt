@@ -1,4 +1,4 @@
-use Rattle.fs_syntax.specs.Fenced.{fenced}
+use Rattle.fs_model.specs.Fenced.{fenced}
 use Rattle.fs_round_trip.proofs.FencedPrintable.{fenced_printable}
 use Rattle.fs_round_trip.proofs.PrintedReads.{printable, reads, tested}
 use Rattle.fs_round_trip.proofs.PrintedFaults.{long_first}

@@ -1,6 +1,6 @@
 use Rattle.std.proofs.Common.{◌≡◌, None, Some, inr, sym, subst, ap, ◌∙◌}
 use Rattle.fs_kinds.specs.Placement.{all_with}
-use Rattle.fs_syntax.specs.Slots.{slots}
+use Rattle.fs_model.specs.Slots.{slots}
 use Rattle.fs_evidence.specs.Evidence.{Question, Refuted}
 use Rattle.fs_judge.specs.Verdicts.{IsVerdict}
 use Rattle.fs_search.specs.declared.answer.Answer.{Answer}

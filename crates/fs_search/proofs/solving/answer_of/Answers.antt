@@ -1,7 +1,7 @@
 use Rattle.std.proofs.Common.{◌≡◌, Option, None, Some, MatchOption, sym, subst}
 use Rattle.fs_kinds.specs.declared.kind.Kind.TheVariants.{RwRw}
 use Rattle.fs_kinds.specs.Placement.{all_with}
-use Rattle.fs_syntax.specs.Slots.{slots}
+use Rattle.fs_model.specs.Slots.{slots}
 use Rattle.fs_judge.specs.Verdicts.{IsVerdict}
 use Rattle.fs_search.specs.declared.answer.Answer.{Answer}
 use Rattle.fs_search.specs.Answers.{IsAnswer, placement_of}

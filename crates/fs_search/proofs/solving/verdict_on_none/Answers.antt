@@ -1,7 +1,7 @@
 use Rattle.std.proofs.Common.{◌≡◌, ap, ◌∙◌}
 use Rattle.fs_kinds.specs.Placement.{slots_of}
 use Rattle.fs_kinds.proofs.Entries.{slots_of-all_with}
-use Rattle.fs_syntax.specs.Slots.{slots}
+use Rattle.fs_model.specs.Slots.{slots}
 use Rattle.fs_evidence.specs.Evidence.{Question}
 use Rattle.fs_search.proofs.solving.verdict_on_none.Goals as goal
 

@@ -1,5 +1,5 @@
 use Rattle.std.proofs.Common.{subst, sym}
-use Rattle.fs_syntax.specs.Test.{IsBounded}
+use Rattle.fs_model.specs.Test.{IsBounded}
 use Rattle.fs_evidence.specs.Evidence.{Question}
 use Rattle.fs_solve.proofs.Founding.{board-there, least-there}
 use Rattle.fs_solve.proofs.solve.fenced_certificate.Goals as goal

@@ -1,5 +1,5 @@
 use Rattle.std.proofs.Common.{◌≡◌, ap, ◌∙◌}
-use Rattle.fs_syntax.specs.Slots.{slots}
+use Rattle.fs_model.specs.Slots.{slots}
 use Rattle.fs_evidence.specs.Evidence.{Question}
 use Rattle.refusals.proofs.verdicts.judged_on.Goals as goal
 

@@ -6,7 +6,8 @@ use Rattle.fs_history.specs.Board.{CutBound, NotCovered, Cheaper, Bounded}
 use Rattle.fs_evidence.specs.Evidence.{Shown, witness_in}
 use Rattle.fs_board.specs.Growth.{AreWitnesses, board_of}
 use Rattle.fs_board.specs.View.{Search}
-use Rattle.fs_board.specs.inner.Breaks.{is_kept, is_bounded, widths_in}
+use Rattle.fs_parts.specs.Breaks.{is_kept}
+use Rattle.fs_board.specs.inner.Breaks.{is_bounded, widths_in}
 use Rattle.fs_board.proofs.Backed.{plain_witnesses}
 use Rattle.fs_board.proofs.Cuts.{Holds, MayClose, all_uncovered, all_cheaper, may_bound}
 use Rattle.fs_board.proofs.Replays.{StepsFrom}

@@ -6,7 +6,7 @@ use Rattle.fs_history.specs.Board.{CutWitness, NotCovered, Witnessed}
 use Rattle.fs_evidence.specs.Evidence.{Shown, IsWitnessFor, witness_in}
 use Rattle.fs_board.specs.Growth.{board_of}
 use Rattle.fs_board.specs.View.{Search}
-use Rattle.fs_board.specs.inner.Breaks.{is_kept}
+use Rattle.fs_parts.specs.Breaks.{is_kept}
 use Rattle.fs_board.proofs.Backed.{plain_witnesses}
 use Rattle.fs_board.proofs.Cuts.{Holds, MayClose, uncovered, may_witness}
 use Rattle.fs_board.proofs.Replays.{StepsFrom}

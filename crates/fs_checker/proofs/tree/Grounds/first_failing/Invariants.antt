@@ -1,5 +1,5 @@
 use Rattle.std.proofs.Common.{map, drop}
-use Rattle.fs_syntax.specs.declared.test.Test.{Test}
+use Rattle.fs_model.specs.declared.test.Test.{Test}
 use Rattle.fs_answer.specs.Certificate.{Certificate}
 use Rattle.fs_certificate.specs.Kept.{item_of}
 use Rattle.fs_checker.specs.inner.Walks.{AreGrounds}

@@ -1,5 +1,5 @@
 use Rattle.std.proofs.Common.{sym, ap, ◌∙◌}
-use Rattle.fs_syntax.specs.Slots.{slots}
+use Rattle.fs_model.specs.Slots.{slots}
 use Rattle.fs_evidence.specs.Evidence.{Question}
 use Rattle.fs_search.proofs.Parts.{floor-slots}
 use Rattle.fs_crew.proofs.scout.Scout.last.Goals as goal

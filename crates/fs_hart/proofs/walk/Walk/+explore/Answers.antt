@@ -1,7 +1,7 @@
 use Rattle.std.proofs.Common.{◌≡◌, ◌<◌, ◌≤◌, ◌+◌, Some, is_some, true, false, [], ◌∷◌, ◌++◌, length, take, refl, sym, ap, subst, ◌∙◌, arith}
 use Rattle.std.specs.Prelude.{slice_get}
 use Rattle.std.proofs.lemmas.Option.{slice_get_read}
-use Rattle.fs_syntax.specs.Test.{GoesForward}
+use Rattle.fs_model.specs.Test.{GoesForward}
 use Rattle.fs_model.specs.Trace.{after_step, hart_after}
 use Rattle.fs_model.specs.Choices.{GoesAstray}
 use Rattle.fs_model.specs.Execution.{code_of}

@@ -2,7 +2,7 @@ use Rattle.std.proofs.Common.{◌≡◌, ◌∙◌, ◌<◌, Some, length, sym, 
 use Rattle.std.specs.Prelude.{slice_get}
 use Rattle.std.specs.Arc.{arc_value}
 use Rattle.std.proofs.lemmas.List.{length-map}
-use Rattle.fs_syntax.specs.declared.test.Test.{Test}
+use Rattle.fs_model.specs.declared.test.Test.{Test}
 use Rattle.fs_cand.specs.Candidates.{candidate_of}
 use Rattle.fs_showing.specs.Showing.{Listed}
 use Rattle.fs_showing.specs.inner.Places.{runs_at, numbered_with, candidate_at, CanBePrepared, IsPlace}

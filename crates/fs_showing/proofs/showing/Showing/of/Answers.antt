@@ -1,6 +1,6 @@
 use Rattle.std.proofs.Common.{map, sym, subst}
 use Rattle.std.specs.Arc.{arc_value}
-use Rattle.fs_syntax.specs.declared.test.Test.{Test}
+use Rattle.fs_model.specs.declared.test.Test.{Test}
 use Rattle.fs_answer.specs.CandidateFaults.{HasTooMany}
 use Rattle.fs_hart.specs.Steps.{steps_in}
 use Rattle.fs_showing.specs.Over.{HaveFinal}

@@ -1,7 +1,7 @@
 use Rattle.std.proofs.Common.{◌≡◌, ◌<◌, ◌^◌, ◌++◌, ◌∷◌, [], All, map, take, length, get_or, ap, subst, sym, ◌∙◌, arith}
 use Rattle.std.proofs.lemmas.List.{map_more, take_more, take_all}
 use Rattle.std.proofs.lemmas.List.Elements.{All-push}
-use Rattle.fs_syntax.specs.declared.test.Location.{Location}
+use Rattle.fs_model.specs.declared.test.Location.{Location}
 use Rattle.fs_values.proofs.Made.{word_alone, initial_sets}
 use Rattle.fs_values.proofs.values.Values.initial.Goals as goal
 

@@ -1,0 +1,462 @@
+//! The names of the instruction table (RV32I and the A extension of the unprivileged manual, 20191213), with their suffixes
+//! spelled out: a name is one of these texts, letter by letter.
+
+ghost use Rattle.std.specs.Prelude.{◌≡◌, Some, map};
+ghost use Rattle.fs_instr.specs.Rows.{look_up};
+ghost use Rattle.fs_instr.specs.Names.{register_names, immediate_names, branch_names, single_names, plain_names, acquiring_names, releasing_names, both_names, both_apart_names, register_text, immediate_text, branch_text, single_text, plain, acquiring, releasing, both, annotation_of, name_text, op_of, all_names};
+ghost use Rattle.std.specs.List.{IsDistinct};
+ghost use Rattle.std.specs.Str.{bytes_eq};
+
+/// What an instruction of two registers computes: shifts by the low 5 bits of the second (`Sra` keeps the sign); `Slt` and
+/// `Sltu` give 1 where the first is less, signed and unsigned, and else 0.
+#[derive(Clone, Copy, Debug, PartialEq, Eq)]
+pub enum RegOp {
+    Add,
+    Sub,
+    Xor,
+    Or,
+    And,
+    Sll,
+    Srl,
+    Sra,
+    Slt,
+    Sltu,
+}
+
+/// What an instruction of a register and a sign-extended number computes; `Slti` compares signed, `Sltiu` unsigned.
+#[derive(Clone, Copy, Debug, PartialEq, Eq)]
+pub enum ImmOp {
+    Addi,
+    Xori,
+    Ori,
+    Andi,
+    Slti,
+    Sltiu,
+}
+
+/// A shift by a number: to the left, to the right with zeros, to the right with the sign.
+#[derive(Clone, Copy, Debug, PartialEq, Eq)]
+pub enum ShiftOp {
+    Slli,
+    Srli,
+    Srai,
+}
+
+/// When a branch goes to its target; `Blt` and `Bge` compare signed, `Bltu` and `Bgeu` unsigned.
+#[derive(Clone, Copy, Debug, PartialEq, Eq)]
+pub enum BranchOp {
+    Beq,
+    Bne,
+    Blt,
+    Bge,
+    Bltu,
+    Bgeu,
+}
+
+/// What an AMO stores, of the word that it read and that of its source: `Swap` the source; `Min` and `Max` compare signed,
+/// `Minu` and `Maxu` unsigned.
+#[derive(Clone, Copy, Debug, PartialEq, Eq)]
+pub enum AmoOp {
+    Swap,
+    Add,
+    Xor,
+    And,
+    Or,
+    Min,
+    Max,
+    Minu,
+    Maxu,
+}
+
+/// The ordering annotations of an lr.w, an sc.w or an AMO: its bits aq and rl.
+#[derive(Clone, Copy, Debug, PartialEq, Eq)]
+pub struct Ann {
+    pub acquire: bool,
+    pub release: bool,
+}
+
+/// A row of the instruction table: a name, or the two of an annotation with both bits. The last five are short for others.
+#[derive(Clone, Copy, Debug, PartialEq, Eq)]
+pub enum Op {
+    Register(RegOp),
+    Immediate(ImmOp),
+    Shift(ShiftOp),
+    Lui,
+    Li,
+    Lw,
+    Sw,
+    /// `lr.w`.
+    Lr(Ann),
+    /// `sc.w`.
+    Sc(Ann),
+    Amo(AmoOp, Ann),
+    Branch(BranchOp),
+    Jal,
+    /// `fence` with letters.
+    Fence,
+    FenceTso,
+    Nop,
+    Mv,
+    /// `beqz` and `bnez`.
+    BranchZero(BranchOp),
+    J,
+    /// `fence` alone.
+    FenceAll,
+}
+
+// The names, and the row that each spells. In groups, since a match of all of them is too large to prove.
+macro_rules! names {
+    (register_of $use:ident $($arguments:tt)*) => {
+        $use! { [$($arguments)*]
+            "add" => Op::Register(RegOp::Add),
+            "sub" => Op::Register(RegOp::Sub),
+            "xor" => Op::Register(RegOp::Xor),
+            "or" => Op::Register(RegOp::Or),
+            "and" => Op::Register(RegOp::And),
+            "sll" => Op::Register(RegOp::Sll),
+            "srl" => Op::Register(RegOp::Srl),
+            "sra" => Op::Register(RegOp::Sra),
+            "slt" => Op::Register(RegOp::Slt),
+            "sltu" => Op::Register(RegOp::Sltu),
+        }
+    };
+    (immediate_of $use:ident $($arguments:tt)*) => {
+        $use! { [$($arguments)*]
+            "addi" => Op::Immediate(ImmOp::Addi),
+            "xori" => Op::Immediate(ImmOp::Xori),
+            "ori" => Op::Immediate(ImmOp::Ori),
+            "andi" => Op::Immediate(ImmOp::Andi),
+            "slti" => Op::Immediate(ImmOp::Slti),
+            "sltiu" => Op::Immediate(ImmOp::Sltiu),
+            "slli" => Op::Shift(ShiftOp::Slli),
+            "srli" => Op::Shift(ShiftOp::Srli),
+            "srai" => Op::Shift(ShiftOp::Srai),
+        }
+    };
+    (branch_of $use:ident $($arguments:tt)*) => {
+        $use! { [$($arguments)*]
+            "beq" => Op::Branch(BranchOp::Beq),
+            "bne" => Op::Branch(BranchOp::Bne),
+            "blt" => Op::Branch(BranchOp::Blt),
+            "bge" => Op::Branch(BranchOp::Bge),
+            "bltu" => Op::Branch(BranchOp::Bltu),
+            "bgeu" => Op::Branch(BranchOp::Bgeu),
+            "beqz" => Op::BranchZero(BranchOp::Beq),
+            "bnez" => Op::BranchZero(BranchOp::Bne),
+            "jal" => Op::Jal,
+            "j" => Op::J,
+        }
+    };
+    (single_of $use:ident $($arguments:tt)*) => {
+        $use! { [$($arguments)*]
+            "lui" => Op::Lui,
+            "li" => Op::Li,
+            "lw" => Op::Lw,
+            "sw" => Op::Sw,
+            "fence" => Op::Fence,
+            "fence.tso" => Op::FenceTso,
+            "nop" => Op::Nop,
+            "mv" => Op::Mv,
+        }
+    };
+    (plain_of $use:ident $($arguments:tt)*) => {
+        $use! { [$($arguments)*]
+            "lr.w" => Op::Lr(Ann { acquire: false, release: false }),
+            "sc.w" => Op::Sc(Ann { acquire: false, release: false }),
+            "amoswap.w" => Op::Amo(AmoOp::Swap, Ann { acquire: false, release: false }),
+            "amoadd.w" => Op::Amo(AmoOp::Add, Ann { acquire: false, release: false }),
+            "amoxor.w" => Op::Amo(AmoOp::Xor, Ann { acquire: false, release: false }),
+            "amoand.w" => Op::Amo(AmoOp::And, Ann { acquire: false, release: false }),
+            "amoor.w" => Op::Amo(AmoOp::Or, Ann { acquire: false, release: false }),
+            "amomin.w" => Op::Amo(AmoOp::Min, Ann { acquire: false, release: false }),
+            "amomax.w" => Op::Amo(AmoOp::Max, Ann { acquire: false, release: false }),
+            "amominu.w" => Op::Amo(AmoOp::Minu, Ann { acquire: false, release: false }),
+            "amomaxu.w" => Op::Amo(AmoOp::Maxu, Ann { acquire: false, release: false }),
+        }
+    };
+    (acquiring_of $use:ident $($arguments:tt)*) => {
+        $use! { [$($arguments)*]
+            "lr.w.aq" => Op::Lr(Ann { acquire: true, release: false }),
+            "sc.w.aq" => Op::Sc(Ann { acquire: true, release: false }),
+            "amoswap.w.aq" => Op::Amo(AmoOp::Swap, Ann { acquire: true, release: false }),
+            "amoadd.w.aq" => Op::Amo(AmoOp::Add, Ann { acquire: true, release: false }),
+            "amoxor.w.aq" => Op::Amo(AmoOp::Xor, Ann { acquire: true, release: false }),
+            "amoand.w.aq" => Op::Amo(AmoOp::And, Ann { acquire: true, release: false }),
+            "amoor.w.aq" => Op::Amo(AmoOp::Or, Ann { acquire: true, release: false }),
+            "amomin.w.aq" => Op::Amo(AmoOp::Min, Ann { acquire: true, release: false }),
+            "amomax.w.aq" => Op::Amo(AmoOp::Max, Ann { acquire: true, release: false }),
+            "amominu.w.aq" => Op::Amo(AmoOp::Minu, Ann { acquire: true, release: false }),
+            "amomaxu.w.aq" => Op::Amo(AmoOp::Maxu, Ann { acquire: true, release: false }),
+        }
+    };
+    (releasing_of $use:ident $($arguments:tt)*) => {
+        $use! { [$($arguments)*]
+            "lr.w.rl" => Op::Lr(Ann { acquire: false, release: true }),
+            "sc.w.rl" => Op::Sc(Ann { acquire: false, release: true }),
+            "amoswap.w.rl" => Op::Amo(AmoOp::Swap, Ann { acquire: false, release: true }),
+            "amoadd.w.rl" => Op::Amo(AmoOp::Add, Ann { acquire: false, release: true }),
+            "amoxor.w.rl" => Op::Amo(AmoOp::Xor, Ann { acquire: false, release: true }),
+            "amoand.w.rl" => Op::Amo(AmoOp::And, Ann { acquire: false, release: true }),
+            "amoor.w.rl" => Op::Amo(AmoOp::Or, Ann { acquire: false, release: true }),
+            "amomin.w.rl" => Op::Amo(AmoOp::Min, Ann { acquire: false, release: true }),
+            "amomax.w.rl" => Op::Amo(AmoOp::Max, Ann { acquire: false, release: true }),
+            "amominu.w.rl" => Op::Amo(AmoOp::Minu, Ann { acquire: false, release: true }),
+            "amomaxu.w.rl" => Op::Amo(AmoOp::Maxu, Ann { acquire: false, release: true }),
+        }
+    };
+    (both_of $use:ident $($arguments:tt)*) => {
+        $use! { [$($arguments)*]
+            "lr.w.aqrl" => Op::Lr(Ann { acquire: true, release: true }),
+            "sc.w.aqrl" => Op::Sc(Ann { acquire: true, release: true }),
+            "amoswap.w.aqrl" => Op::Amo(AmoOp::Swap, Ann { acquire: true, release: true }),
+            "amoadd.w.aqrl" => Op::Amo(AmoOp::Add, Ann { acquire: true, release: true }),
+            "amoxor.w.aqrl" => Op::Amo(AmoOp::Xor, Ann { acquire: true, release: true }),
+            "amoand.w.aqrl" => Op::Amo(AmoOp::And, Ann { acquire: true, release: true }),
+            "amoor.w.aqrl" => Op::Amo(AmoOp::Or, Ann { acquire: true, release: true }),
+            "amomin.w.aqrl" => Op::Amo(AmoOp::Min, Ann { acquire: true, release: true }),
+            "amomax.w.aqrl" => Op::Amo(AmoOp::Max, Ann { acquire: true, release: true }),
+            "amominu.w.aqrl" => Op::Amo(AmoOp::Minu, Ann { acquire: true, release: true }),
+            "amomaxu.w.aqrl" => Op::Amo(AmoOp::Maxu, Ann { acquire: true, release: true }),
+        }
+    };
+    (both_apart_of $use:ident $($arguments:tt)*) => {
+        $use! { [$($arguments)*]
+            "lr.w.aq.rl" => Op::Lr(Ann { acquire: true, release: true }),
+            "sc.w.aq.rl" => Op::Sc(Ann { acquire: true, release: true }),
+            "amoswap.w.aq.rl" => Op::Amo(AmoOp::Swap, Ann { acquire: true, release: true }),
+            "amoadd.w.aq.rl" => Op::Amo(AmoOp::Add, Ann { acquire: true, release: true }),
+            "amoxor.w.aq.rl" => Op::Amo(AmoOp::Xor, Ann { acquire: true, release: true }),
+            "amoand.w.aq.rl" => Op::Amo(AmoOp::And, Ann { acquire: true, release: true }),
+            "amoor.w.aq.rl" => Op::Amo(AmoOp::Or, Ann { acquire: true, release: true }),
+            "amomin.w.aq.rl" => Op::Amo(AmoOp::Min, Ann { acquire: true, release: true }),
+            "amomax.w.aq.rl" => Op::Amo(AmoOp::Max, Ann { acquire: true, release: true }),
+            "amominu.w.aq.rl" => Op::Amo(AmoOp::Minu, Ann { acquire: true, release: true }),
+            "amomaxu.w.aq.rl" => Op::Amo(AmoOp::Maxu, Ann { acquire: true, release: true }),
+        }
+    };
+}
+
+macro_rules! find {
+    ([$word:ident] $($text:literal => $op:expr,)*) => {
+        look_up(&[$(($text, $op)),*], $word)
+    };
+}
+
+// What the first row with this word holds.
+fn look_up(rows: &[(&str, Op)], word: &str) -> Option<Op>
+    ensures { result ≡ look_up (map (λ row. (row.0.now, row.1)) rows.now) word.now }
+{
+    match rows.split_first() {
+        Some(((name, op), rest)) => {
+            if word == *name {
+                Some(*op)
+            } else {
+                look_up(rest, word)
+            }
+        }
+        None => None,
+    }
+}
+
+#[tactic(auto, unfolding(crate::specs::Names::register_names))]
+fn register_of(word: &str) -> Option<Op>
+    ensures { result ≡ look_up register_names word.now }
+{
+    names!(register_of find word)
+}
+
+#[tactic(auto, unfolding(crate::specs::Names::immediate_names))]
+fn immediate_of(word: &str) -> Option<Op>
+    ensures { result ≡ look_up immediate_names word.now }
+{
+    names!(immediate_of find word)
+}
+
+#[tactic(auto, unfolding(crate::specs::Names::branch_names))]
+fn branch_of(word: &str) -> Option<Op>
+    ensures { result ≡ look_up branch_names word.now }
+{
+    names!(branch_of find word)
+}
+
+#[tactic(auto, unfolding(crate::specs::Names::single_names))]
+fn single_of(word: &str) -> Option<Op>
+    ensures { result ≡ look_up single_names word.now }
+{
+    names!(single_of find word)
+}
+
+#[tactic(auto, unfolding(crate::specs::Names::plain_names))]
+fn plain_of(word: &str) -> Option<Op>
+    ensures { result ≡ look_up plain_names word.now }
+{
+    names!(plain_of find word)
+}
+
+#[tactic(auto, unfolding(crate::specs::Names::acquiring_names))]
+fn acquiring_of(word: &str) -> Option<Op>
+    ensures { result ≡ look_up acquiring_names word.now }
+{
+    names!(acquiring_of find word)
+}
+
+#[tactic(auto, unfolding(crate::specs::Names::releasing_names))]
+fn releasing_of(word: &str) -> Option<Op>
+    ensures { result ≡ look_up releasing_names word.now }
+{
+    names!(releasing_of find word)
+}
+
+#[tactic(auto, unfolding(crate::specs::Names::both_names))]
+fn both_of(word: &str) -> Option<Op>
+    ensures { result ≡ look_up both_names word.now }
+{
+    names!(both_of find word)
+}
+
+#[tactic(auto, unfolding(crate::specs::Names::both_apart_names))]
+fn both_apart_of(word: &str) -> Option<Op>
+    ensures { result ≡ look_up both_apart_names word.now }
+{
+    names!(both_apart_of find word)
+}
+
+macro_rules! text {
+    ([$op:ident] $($text:literal => $row:pat,)*) => {
+        match $op {
+            $($row => $text,)*
+            _ => "",
+        }
+    };
+}
+
+macro_rules! only_text {
+    ([$op:ident] $($text:literal => $row:pat,)*) => {
+        match $op {
+            $($row => $text,)*
+            _ => unreachable!(),
+        }
+    };
+}
+
+fn register_text(op: Op) -> &'static str
+    ensures { result.now ≡ register_text op }
+{
+    names!(register_of text op)
+}
+
+fn immediate_text(op: Op) -> &'static str
+    ensures { result.now ≡ immediate_text op }
+{
+    names!(immediate_of text op)
+}
+
+fn branch_text(op: Op) -> &'static str
+    ensures { result.now ≡ branch_text op }
+{
+    names!(branch_of text op)
+}
+
+fn single_text(op: Op) -> &'static str
+    ensures { result.now ≡ single_text op }
+{
+    names!(single_of text op)
+}
+
+fn plain_text(op: Op) -> &'static str
+    requires { annotation_of op ≡ Some plain }
+    ensures { result.now ≡ name_text op }
+{
+    names!(plain_of only_text op)
+}
+
+fn acquiring_text(op: Op) -> &'static str
+    requires { annotation_of op ≡ Some acquiring }
+    ensures { result.now ≡ name_text op }
+{
+    names!(acquiring_of only_text op)
+}
+
+fn releasing_text(op: Op) -> &'static str
+    requires { annotation_of op ≡ Some releasing }
+    ensures { result.now ≡ name_text op }
+{
+    names!(releasing_of only_text op)
+}
+
+fn both_text(op: Op) -> &'static str
+    requires { annotation_of op ≡ Some both }
+    ensures { result.now ≡ name_text op }
+{
+    names!(both_of only_text op)
+}
+
+impl Op {
+    /// The row with this name; nothing for any other word.
+    #[tactic(auto, unfolding(crate::specs::Names::op_of))]
+    pub fn of(word: &str) -> Option<Op>
+        ensures { result ≡ op_of word.now }
+    {
+        if let Some(op) = register_of(word) {
+            return Some(op);
+        }
+        if let Some(op) = immediate_of(word) {
+            return Some(op);
+        }
+        if let Some(op) = branch_of(word) {
+            return Some(op);
+        }
+        if let Some(op) = single_of(word) {
+            return Some(op);
+        }
+        if let Some(op) = plain_of(word) {
+            return Some(op);
+        }
+        if let Some(op) = acquiring_of(word) {
+            return Some(op);
+        }
+        if let Some(op) = releasing_of(word) {
+            return Some(op);
+        }
+        if let Some(op) = both_of(word) {
+            return Some(op);
+        }
+        both_apart_of(word)
+    }
+
+    /// The name that prints the row: `.aqrl` for both bits.
+    pub fn text(self) -> &'static str
+        ensures { result.now ≡ name_text self }
+    {
+        match self {
+            Op::Register(_) => register_text(self),
+            Op::Immediate(_) | Op::Shift(_) => immediate_text(self),
+            Op::Branch(_) | Op::BranchZero(_) | Op::Jal | Op::J => branch_text(self),
+            Op::Lr(ann) | Op::Sc(ann) | Op::Amo(_, ann) => match ann {
+                Ann {
+                    acquire: false,
+                    release: false,
+                } => plain_text(self),
+                Ann {
+                    acquire: true,
+                    release: false,
+                } => acquiring_text(self),
+                Ann {
+                    acquire: false,
+                    release: true,
+                } => releasing_text(self),
+                Ann {
+                    acquire: true,
+                    release: true,
+                } => both_text(self),
+            },
+            Op::FenceAll => "fence",
+            _ => single_text(self),
+        }
+    }
+}
+
+/// A law: each name stands once in the table, so no two rows spell alike.
+pub fn names_stand_once()
+    ensures { IsDistinct bytes_eq all_names }
+{}

@@ -1,5 +1,0 @@
-use Rattle.fs_mnemonics.proofs.DistinctNames.{names_once}
-use Rattle.fs_mnemonics.proofs.names.names_stand_once.Goals as goal
-
-pub returns : goal.returns
-returns c = names_once

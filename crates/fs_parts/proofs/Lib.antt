@@ -1,0 +1,2 @@
+pub mod LeastCosts
+pub mod Apart

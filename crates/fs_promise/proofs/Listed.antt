@@ -1,0 +1,115 @@
+-- A test has one listing of its showing candidates: the order is asymmetric, so two rising lists with the same members are one.
+use Rattle.std.proofs.Common.{◌≡◌, ℕ, zero, suc, ◌<◌, ◌==◌, ◌&&◌, ◌⊎◌, true, List, [], ◌∷◌, length, refl, sym, ap₂, subst, ◌∙◌, arith, inl, inr}
+use Rattle.std.specs.Prelude.{nat_lt}
+use Rattle.std.specs.List.{AllPairs, Contains, slice_index_or}
+use Rattle.std.proofs.lemmas.Bool.{false≢true, and_parts, or_cases, ltb-true, eqb-true}
+use Rattle.fs_model.specs.declared.test.Test.{Test}
+use Rattle.fs_model.specs.declared.step.Step.{Step}
+use Rattle.fs_model.specs.Choices.{choices_of, ComesBefore}
+use Rattle.fs_model.proofs.ChoiceOrder.{comes_not_itself, not_both}
+use Rattle.fs_answer.specs.Candidates.{Candidate}
+use Rattle.fs_answer.specs.Listings.{AreEarlier, is_less, key, Precedes, IsListing}
+
+-- ---- rising lists
+
+contains_first : {A : Type 0} (x : A) (xs : List A) → Contains (x ∷ xs) x
+contains_first x xs = (0, omega arith, refl)
+
+contains_later : {A : Type 0} (x y : A) (xs : List A) → Contains xs y → Contains (x ∷ xs) y
+contains_later x y xs h = let low = h.1 in (suc h.0, omega (arith, low), h.2)
+
+contains_none : {A : Type 0} (y : A) → Contains [] y → ⊥
+contains_none y h = let low = h.1 in absurd (omega (arith, low))
+
+contained_at : {A : Type 0} (x y : A) (xs : List A) (k : ℕ) → k < length (x ∷ xs) → slice_index_or (x ∷ xs) k y ≡ y → (y ≡ x) ⊎ Contains xs y
+contained_at x y xs zero low e = inl (sym e)
+contained_at x y xs (suc k) low e = inr (k, omega (arith, low), e)
+
+contained : {A : Type 0} (x y : A) (xs : List A) → Contains (x ∷ xs) y → (y ≡ x) ⊎ Contains xs y
+contained x y xs h = contained_at x y xs h.0 h.1 h.2
+
+module _ {A : Type 0} (R : A → A → Type 0) (never : (x y : A) → R x y → R y x → ⊥) where
+  first_related : (x y : A) (xs : List A) → AllPairs R (x ∷ xs) → Contains xs y → R x y
+  first_related x y xs h in_xs = let low = in_xs.1 in subst (R x) in_xs.2 (h 0 (suc in_xs.0) y (omega arith) (omega (arith, low)))
+
+  rest_related : (x : A) (xs : List A) → AllPairs R (x ∷ xs) → AllPairs R xs
+  rest_related x xs h = λ i j d before within. h (suc i) (suc j) d (omega (arith, before)) (omega (arith, within))
+
+  same_first : (x y : A) (xs ys : List A) → AllPairs R (x ∷ xs) → AllPairs R (y ∷ ys) → Contains (y ∷ ys) x → Contains (x ∷ xs) y → x ≡ y
+  same_first x y xs ys h k in_ys in_xs = elim (contained y x ys in_ys) [
+    | inl same ↦ same
+    | inr later ↦ elim (contained x y xs in_xs) [
+      | inl same ↦ sym same
+      | inr further ↦ absurd (never x y (first_related x y xs h further) (first_related y x ys k later))
+    ]
+  ]
+
+  rest_contained : (x y z : A) (xs ys : List A) → AllPairs R (x ∷ xs) → x ≡ y → Contains (y ∷ ys) z → Contains xs z → Contains ys z
+  rest_contained x y z xs ys h same in_ys in_xs = elim (contained y z ys in_ys) [
+    | inl first ↦ (let is : z ≡ x = first ∙ sym same in let related = subst (R x) is (first_related x z xs h in_xs) in absurd (never x x related related))
+    | inr later ↦ later
+  ]
+
+  same_list : (xs ys : List A) → AllPairs R xs → AllPairs R ys → ((z : A) → Contains xs z → Contains ys z) → ((z : A) → Contains ys z → Contains xs z) → xs ≡ ys
+  same_list [] [] h k to from = refl
+  same_list [] (y ∷ ys) h k to from = absurd (contains_none y (from y (contains_first y ys)))
+  same_list (x ∷ xs) [] h k to from = absurd (contains_none x (to x (contains_first x xs)))
+  same_list (x ∷ xs) (y ∷ ys) h k to from =
+      let first : x ≡ y = same_first x y xs ys h k (to x (contains_first x xs)) (from y (contains_first y ys)) in
+      ap₂ (λ z zs. z ∷ zs) first
+      (same_list xs ys (rest_related x xs h) (rest_related y ys k)
+      (λ z there. rest_contained x y z xs ys h first (to z (contains_later x z xs there)) there)
+      (λ z there. rest_contained y x z ys xs k (sym first) (from z (contains_later y z ys there)) there))
+
+-- ---- the order of candidates
+
+less_once : (ms ns : List ℕ) → is_less ms ns ≡ true → is_less ns ms ≡ true → ⊥
+less_once [] [] h k = false≢true h
+less_once [] (n ∷ ns) h k = false≢true k
+less_once (m ∷ ms) [] h k = false≢true h
+less_once (m ∷ ms) (n ∷ ns) h k = elim (or_cases (nat_lt m n) ((m == n) && is_less ms ns) h) [
+  | inl low ↦ elim (or_cases (nat_lt n m) ((n == m) && is_less ns ms) k) [
+    | inl high ↦ (let a = ltb-true m n low in let b = ltb-true n m high in absurd (omega (arith, a, b)))
+    | inr later ↦ (let a = ltb-true m n low in let b = eqb-true n m (and_parts (n == m) (is_less ns ms) later).0 in absurd (omega (arith, a, b)))
+  ]
+  | inr rest ↦ elim (or_cases (nat_lt n m) ((n == m) && is_less ns ms) k) [
+    | inl high ↦ (let a = eqb-true m n (and_parts (m == n) (is_less ms ns) rest).0 in let b = ltb-true n m high in absurd (omega (arith, a, b)))
+    | inr later ↦ less_once ms ns (and_parts (m == n) (is_less ms ns) rest).1 (and_parts (n == m) (is_less ns ms) later).1
+  ]
+]
+
+earlier_once : (ss us : List (List Step)) → AreEarlier ss us → AreEarlier us ss → ⊥
+earlier_once [] [] h k = h
+earlier_once [] (u ∷ us) h k = h
+earlier_once (s ∷ ss) [] h k = h
+earlier_once (s ∷ ss) (u ∷ us) h k = elim h [
+  | inl first ↦ elim k [
+    | inl other ↦ not_both (choices_of s) (choices_of u) first other
+    | inr same ↦ comes_not_itself (choices_of s) (subst (λ steps. ComesBefore (choices_of s) (choices_of steps)) same.0 first)
+  ]
+  | inr same ↦ elim k [
+    | inl other ↦ comes_not_itself (choices_of u) (subst (λ steps. ComesBefore (choices_of u) (choices_of steps)) same.0 other)
+    | inr again ↦ earlier_once ss us same.1 again.1
+  ]
+]
+
+not_earlier : (ss us : List (List Step)) → ss ≡ us → AreEarlier ss us → ⊥
+not_earlier ss us same h = let alike = subst (AreEarlier ss) (sym same) h in earlier_once ss ss alike alike
+
+precedes_once : (t : Test) (c d : Candidate) → Precedes t c d → Precedes t d c → ⊥
+precedes_once t c d h k = elim h [
+  | inl runs ↦ elim k [
+    | inl others ↦ earlier_once c.traces d.traces runs others
+    | inr same ↦ not_earlier c.traces d.traces (sym same.0) runs
+  ]
+  | inr same ↦ elim k [
+    | inl others ↦ not_earlier d.traces c.traces (sym same.0) others
+    | inr again ↦ less_once (key t c) (key t d) same.1 again.1
+  ]
+]
+
+pub one_listing : (t : Test) (cs ds : List Candidate) → IsListing t cs → IsListing t ds → cs ≡ ds
+one_listing t cs ds left right =
+    same_list (Precedes t) (precedes_once t) cs ds left.rising right.rising
+    (λ c there. (right.exact c).1 ((left.exact c).0 there))
+    (λ c there. (left.exact c).1 ((right.exact c).0 there))

@@ -1,6 +1,0 @@
-use Rattle.std.proofs.Common.{◌≡◌, map, take}
-use Rattle.fs_syntax.specs.Printed.{column}
-use Rattle.fs_syntax.proofs.columns.columns.Given as goal
-
-abbrev pub invariant-loop-code : goal.invariant-loop-code
-invariant-loop-code l = l.columns.items ≡ map column (take l.code-index l.codes)

@@ -1,5 +1,0 @@
-use Rattle.std.proofs.lemmas.List.{append_assoc}
-use Rattle.fs_syntax.proofs.print.location_text.Goals as goal
-
-pub returns : goal.returns
-returns c = rw (← c.as_str.ensures) (simp append_assoc c.format.ensures.ok)

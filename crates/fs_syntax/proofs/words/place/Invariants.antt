@@ -1,6 +1,0 @@
-use Rattle.std.proofs.Common.{◌≡◌, drop, option_copied}
-use Rattle.fs_syntax.specs.Placed.{placed}
-use Rattle.fs_syntax.proofs.words.place.Given as goal
-
-abbrev pub invariant-loop-slot : goal.invariant-loop-slot
-invariant-loop-slot l = placed (option_copied l.prices) l.placement (drop l.slot-index l.fences) ≡ placed (option_copied l.prices) l.initial.placement l.fences

@@ -1,5 +1,0 @@
-mod Listed
-pub mod Worded
-mod Firsts
-mod Walks
-pub mod Verdicts
