@@ -1,0 +1,10 @@
+//! Locality: what a rule of preserved program order asks of two operations of one hart can be asked of that hart's
+//! run alone, by places or by names. The functions do nothing: each stands for the laws that it promises.
+#![tactic(auto)]
+
+mod local;
+
+pub use local::{
+    links_make_cycles, names_decide, rules_are_local, rules_keep_to_harts, runs_and_sources_serve,
+    runs_serve,
+};

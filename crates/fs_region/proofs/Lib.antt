@@ -1,0 +1,10 @@
+pub mod Lists
+pub mod Names
+pub mod Runs
+pub mod Alone
+pub mod Coherent
+pub mod Edges
+pub mod Outcomes
+pub mod Splits
+pub mod Walk
+pub mod Covering

@@ -1,0 +1,4 @@
+pub mod Regions
+pub mod Musts
+pub mod Splits
+pub mod Trees

@@ -1,0 +1,41 @@
+//! What a refutation shows.
+
+ghost use Rattle.std.specs.Prelude.{◌≡◌, List, All, true};
+ghost use Rattle.fs_kinds.specs.declared.placement.Entry.{Entry};
+ghost use Rattle.fs_kinds.specs.declared.reason.OperationName.{OperationName as Name};
+ghost use Rattle.fs_model.specs.declared.test.Test.{Test};
+ghost use Rattle.fs_model.specs.Test.{GoesForward, IsBounded};
+ghost use Rattle.fs_model.specs.Allows.{Allows, no_fences};
+ghost use Rattle.fs_model.specs.Fenced.{fenced};
+ghost use Rattle.fs_answer.specs.Candidates.{Candidate, IsRaw};
+ghost use Rattle.fs_answer.specs.Certificate.{Link};
+ghost use Rattle.fs_answer.specs.Judged.{Cause};
+ghost use Rattle.fs_answer.specs.Valid.{HasCycles};
+ghost use Rattle.fs_thin_air.specs.ThinAir.{CanBeListed};
+ghost use Rattle.fs_local.specs.Local.{HasLink};
+ghost use Rattle.fs_region.specs.Regions.{Region, In};
+ghost use Rattle.fs_region.specs.Musts.{must};
+ghost use Rattle.fs_region.specs.Trees.{Inference, IsRefuted, Covers, cycles_in};
+
+/// A law: what must hold in a region is so in each raw candidate that is in it: the operations of both names are
+/// there, and the first must come before the second, for the cause that is given.
+pub fn musts_hold()
+    ensures { (t : Test) (c : Candidate) → All GoesForward t.codes → IsRaw t c → (region : Region) → In t c region
+        → (p : List Entry) (cause : Cause) (a b : Name) → must t region p cause a b ≡ true → HasLink t p c a b cause }
+{}
+
+/// A law: where a tree of inferences refutes a test under a placement, each showing candidate has one of the tree's
+/// cycles. So no execution shows the outcome, where the test's runs can be listed, and none of the fenced test, whose
+/// fences are instructions, does. A cycle for each showing candidate does the same.
+pub fn covers_forbid()
+    ensures covers { (t : Test) (p : List Entry) (inferences : List Inference) → IsBounded t → IsRefuted t p inferences
+        → Covers t p (cycles_in inferences) }
+    ensures listed { (t : Test) (p : List Entry) (cycles : List (List Link)) → HasCycles t p cycles
+        → Covers t p cycles }
+    ensures forbids { (t : Test) → CanBeListed t → (p : List Entry) (cycles : List (List Link)) → Covers t p cycles
+        → Allows t p → ⊥ }
+    ensures refuted { (t : Test) → CanBeListed t → (p : List Entry) (inferences : List Inference)
+        → IsRefuted t p inferences → Allows t p → ⊥ }
+    ensures fenced { (t : Test) → CanBeListed t → (p : List Entry) (inferences : List Inference)
+        → IsRefuted t p inferences → Allows (fenced t p) (no_fences (fenced t p)) → ⊥ }
+{}
