@@ -3,13 +3,13 @@
 
     scripts/check_certificate.py TEST PRICES CERTIFICATE
 
-It is written from docs/CERTIFICATE.md, docs/FORMAT.md and docs/MODEL.md alone, and shares no code with the program. The
-sections below name the part of these documents that they follow.
+It is written from docs/CERTIFICATE.md, docs/FORMAT.md and docs/MODEL.md alone, and shares no code with the program.
+The sections below name the part of these documents that they follow.
 
-It prints `yes` and the answer, status 0; or `no: ` and the first reason of docs/CERTIFICATE.md, section 5, status 1. Bytes
-that are no certificate are `fault F18 BadCertificate` on standard error, and any other file that can't be read is another
-line there; both have status 2. It takes it that the program accepts the test and the price list, and looks for no more faults
-in them than it stumbles over.
+It prints `yes` and the answer, status 0; or `no: ` and the first reason of docs/CERTIFICATE.md, section 5, status 1.
+Bytes that are no certificate are `fault F18 BadCertificate` on standard error, and any other file that can't be read
+is another line there; both have status 2. It takes it that the program accepts the test and the price list, and looks
+for no more faults in them than it stumbles over.
 """
 
 import itertools
@@ -28,49 +28,40 @@ class Unreadable(Exception):
 class NotACertificate(Exception):
     """The bytes are no certificate file."""
 
+    def __str__(self):
+        return 'fault F18 BadCertificate'
+
 
 class Refused(Exception):
     """The certificate isn't valid, for this reason."""
 
 
-# --- JSON as the formats ask for it --------------------------------------------------------------------------------------
+# --- JSON as the formats ask for it ------------------------------------------------------------------------------
 
 OTHER_NUMBER = object()
 """Stands for each number that isn't a whole number from 0 to 2^64 - 1. No key takes it."""
 
 
-def in_range(text):
-    """This text of a number, where a double can hold one of its size; a larger one makes no file."""
-    if math.isinf(float(text)):
+def number_of_json(text):
+    """The number that JSON writes so. `-0` is no whole one, and one that no double can hold makes no file; neither do
+    NaN and the infinities, which Python reads and JSON doesn't have."""
+    if not math.isfinite(float(text)):
         raise ValueError(text)
-    return text
+    return int(text) if re.fullmatch('[0-9]{1,20}', text) and int(text) < 2 ** 64 else OTHER_NUMBER
 
 
-def whole_or_other(text):
-    """The whole number that JSON writes so. `-0` is none."""
-    text = in_range(text)
-    if text.startswith('-') or len(text) > 20 or int(text) >= 2 ** 64:
-        return OTHER_NUMBER
-    return int(text)
-
-
-def no_constant(text):
-    """NaN and the infinities, which Python reads and JSON doesn't have."""
-    raise ValueError(text)
-
-
-ESCAPE = re.compile(r'\\u[dD][89abAB][0-9a-fA-F]{2}\\u[dD][c-fC-F][0-9a-fA-F]{2}|(?P<half>\\u[dD][89a-fA-F][0-9a-fA-F]{2})|\\.', re.DOTALL)
+HALF = r'\\u[dD][%s][0-9a-fA-F]{2}'
+ESCAPE = re.compile('%s%s|(?P<half>%s)|%s' % (HALF % '89abAB', HALF % 'c-fC-F', HALF % '89a-fA-F', r'\\.'), re.DOTALL)
 """An escape of a JSON text: both halves of a surrogate pair, half of one by itself, or another."""
 
 
 def json_of(data):
-    """The value that these bytes write, RFC 8259 in UTF-8; of a doubled key the last one counts. Else a ValueError. Half a surrogate pair
-    is no text, wherever it stands; Python would take it."""
+    """The value that these bytes write, RFC 8259 in UTF-8; of a doubled key the last one counts. Else a ValueError.
+    Half a surrogate pair is no text, wherever it stands; Python would take it."""
     text = data.decode('utf-8')
     if any(escape['half'] for escape in ESCAPE.finditer(text)):
         raise ValueError('half a surrogate pair')
-    return json.loads(text, parse_int=whole_or_other, parse_float=lambda text: in_range(text) and OTHER_NUMBER,
-                      parse_constant=no_constant)
+    return json.loads(text, parse_int=number_of_json, parse_float=number_of_json, parse_constant=number_of_json)
 
 
 def is_whole(value, below=2 ** 64):
@@ -90,7 +81,7 @@ def has_keys(value, keys):
     return type(value) is dict and set(value) == set(keys)
 
 
-# --- Kinds of fences (FORMAT 3, MODEL 7) ---------------------------------------------------------------------------------
+# --- Kinds of fences (FORMAT 3, MODEL 7) -------------------------------------------------------------------------
 
 def product_of(before, after):
     """The pairs of the fence `before,after`; its letters i and o order nothing here."""
@@ -103,7 +94,7 @@ PAIRS = {kind: TSO if kind == 'tso' else product_of(*kind.split(',')) for kind i
 ALL_PAIRS = ['RR', 'RW', 'WR', 'WW']
 
 
-# --- Tests (FORMAT 1 and 2) ----------------------------------------------------------------------------------------------
+# --- Tests (FORMAT 1 and 2) --------------------------------------------------------------------------------------
 
 REGISTER_NAMES = ['zero', 'ra', 'sp', 'gp', 'tp', 't0', 't1', 't2', 's0', 's1'] + ['a%d' % n for n in range(8)] \
     + ['s%d' % n for n in range(2, 12)] + ['t%d' % n for n in range(3, 7)]
@@ -124,41 +115,56 @@ COMPUTES = {
     'swap': lambda a, b: b,
     'min': lambda a, b: min(a, b, key=signed), 'max': lambda a, b: max(a, b, key=signed), 'minu': min, 'maxu': max,
 }
-TWO_SOURCES = ['add', 'sub', 'xor', 'or', 'and', 'sll', 'srl', 'sra', 'slt', 'sltu']
-WITH_IMMEDIATE = {'addi': 'add', 'xori': 'xor', 'ori': 'or', 'andi': 'and', 'slti': 'slt', 'sltiu': 'sltu'}
-WITH_SHIFT = {'slli': 'sll', 'srli': 'srl', 'srai': 'sra'}
 BRANCHES = {
     'beq': lambda a, b: a == b, 'bne': lambda a, b: a != b,
     'blt': lambda a, b: signed(a) < signed(b), 'bge': lambda a, b: signed(a) >= signed(b),
     'bltu': lambda a, b: a < b, 'bgeu': lambda a, b: a >= b,
 }
-AMOS = {'amo%s.w' % name: name for name in ['swap', 'add', 'xor', 'and', 'or', 'min', 'max', 'minu', 'maxu']}
-ANNOTATED = ['lr.w', 'sc.w'] + list(AMOS)
-ANNOTATIONS = {'': (False, False), '.aq': (True, False), '.rl': (False, True), '.aqrl': (True, True), '.aq.rl': (True, True)}
+RANGES = {'i': (-2048, 2047), 'n': (0, 31), 'u': (0, 2 ** 20 - 1), 'c': (-2 ** 31, WORDS - 1), 'o': (0, 0)}
+ANNOTATIONS = {'': (False, False), '.aq': (True, False), '.rl': (False, True)}
+ANNOTATIONS.update({'.aqrl': (True, True), '.aq.rl': (True, True)})
+
+FORMS = {
+    'lui': ('d,u', 'compute', COMPUTES['add']), 'li': ('d,c', 'compute', COMPUTES['add']),
+    'nop': ('', 'compute', COMPUTES['add']), 'mv': ('d,s', 'compute', COMPUTES['add']),
+    'lw': ('d,i(a)', 'load', None), 'sw': ('v,i(a)', 'store', None),
+    'beqz': ('s,l', 'branch', BRANCHES['beq']), 'bnez': ('s,l', 'branch', BRANCHES['bne']),
+    'jal': ('z,l', 'jump', None), 'j': ('l', 'jump', None),
+    'fence': ('f,f', 'fence', None), 'fence.tso': ('', 'fence', None),
+}
+"""Of each instruction (FORMAT 2) its operands, its form, and what it computes or when it jumps. Operands are d, the
+register rd; s, one to read plainly; v, the data; a, the address; z, the register x0; l, a label; f, the letters of a
+fence; and the numbers of RANGES, of which o may be left out. Other signs stand for themselves."""
+for _name in ['add', 'sub', 'xor', 'or', 'and', 'sll', 'srl', 'sra', 'slt', 'sltu']:
+    FORMS[_name] = ('d,s,s', 'compute', COMPUTES[_name])
+for _name in ['add', 'xor', 'or', 'and', 'slt', 'sll', 'srl', 'sra']:
+    FORMS[_name + 'i'] = ('d,s,n' if _name in ('sll', 'srl', 'sra') else 'd,s,i', 'compute', COMPUTES[_name])
+FORMS['sltiu'] = ('d,s,i', 'compute', COMPUTES['sltu'])
+FORMS.update({_name: ('s,s,l', 'branch', _jumps) for _name, _jumps in BRANCHES.items()})
+for _bits in ANNOTATIONS:
+    FORMS['lr.w' + _bits] = ('d,o(a)', 'lr', None)
+    FORMS['sc.w' + _bits] = ('d,v,o(a)', 'sc', None)
+    for _name in ['swap', 'add', 'xor', 'and', 'or', 'min', 'max', 'minu', 'maxu']:
+        FORMS['amo%s.w%s' % (_name, _bits)] = ('d,v,o(a)', 'amo', COMPUTES[_name])
 
 
 class Instruction:
     """An instruction with its roles: registers to read for the address, the data and plainly, and the one to write."""
 
-    def __init__(self, form, function=None, rd=0, plain=(), address=None, data=None, number=0, label=None, aq=False, rl=False,
-                 pairs=frozenset()):
+    def __init__(self, form, function):
         self.form = form            # compute, load, store, lr, sc, amo, branch, jump or fence
         self.function = function    # what is computed, or when the branch jumps
-        self.rd = rd
-        self.plain = plain
-        self.address = address
-        self.data = data
-        self.number = number        # immediate or offset
-        self.label = label          # where a branch goes: a name, and once all labels are known, a position
-        self.aq = aq
-        self.rl = rl
-        self.pairs = pairs          # what a written fence orders
+        self.rd = 0
+        self.plain = ()
+        self.address = None
+        self.data = None
+        self.number = 0             # immediate or offset
+        self.label = None           # where a branch goes: a name, and once all labels are known, a position
+        self.aq = self.rl = False
+        self.pairs = frozenset()    # what a written fence orders
 
     def is_memory(self):
         return self.address is not None
-
-    def carries(self):
-        return self.form == 'compute'
 
     def sources(self):
         """All registers that are read; x0 is never a source."""
@@ -184,7 +190,7 @@ class Test:
         return found
 
 
-TOKEN = re.compile(r'[ \t\r\n]+|[A-Za-z0-9_.]+|/\\|\\/|[{};|,:=()\[\]~-]')
+TOKEN = re.compile(r'(?:[ \t\r\n]|\(\*.*?\*\))+|([A-Za-z0-9_.]+|/\\|\\/|[{};|,:=()\[\]~-])', re.DOTALL)
 
 
 def tokens_of(text):
@@ -192,30 +198,22 @@ def tokens_of(text):
     found = []
     at = 0
     while at < len(text):
-        if text.startswith('(*', at):
-            end = text.find('*)', at + 2)
-            if end < 0:
-                raise Unreadable('a comment is not closed')
-            at = end + 2
-            continue
         match = TOKEN.match(text, at)
         if not match:
             raise Unreadable('no token: %a' % text[at])
-        if match.group()[0] not in ' \t\r\n':
-            found.append(match.group())
+        if match[1]:
+            found.append(match[1])
         at = match.end()
     return found
 
 
 def number_of(token):
-    """The number that this word is, or None."""
-    if token and re.fullmatch('0x[0-9A-Fa-f]+', token):
-        digits, base = token[2:].lstrip('0') or '0', 16
-    elif token and re.fullmatch('[0-9]+', token):
-        digits, base = token.lstrip('0') or '0', 10
-    else:
+    """The number that this word is, or None. One of many digits is in no range."""
+    match = re.fullmatch('0x([0-9A-Fa-f]+)|([0-9]+)', token or '')
+    if not match:
         return None
-    return int(digits, base) if len(digits) <= 20 else 10 ** 20
+    digits = match[match.lastindex].lstrip('0') or '0'
+    return int(digits, 16 if match[1] else 10) if len(digits) <= 20 else 10 ** 20
 
 
 def is_name(token):
@@ -300,11 +298,13 @@ class TestReader:
             self.take('[')
             while self.take() != ']':
                 pass
-        denied = self.quantifier() == 'forall'
+        quantifier = self.take('exists', 'forall', '~')
+        if quantifier == '~':
+            self.take('exists')
         condition = self.disjunction()
         if self.peek() is not None:
             raise Unreadable('the test goes on after its condition')
-        self.test.outcome = ('not', condition) if denied else condition
+        self.test.outcome = ('not', condition) if quantifier == 'forall' else condition
         return self.test
 
     def initial_words(self):
@@ -360,93 +360,45 @@ class TestReader:
     def instruction(self):
         """One instruction of the table of FORMAT 2."""
         word = self.take()
-        if word in TWO_SOURCES:
-            rd, rs1, rs2 = self.register(), self.next_register(), self.next_register()
-            return Instruction('compute', COMPUTES[word], rd, (rs1, rs2))
-        if word in WITH_IMMEDIATE or word in WITH_SHIFT:
-            rd, rs1 = self.register(), self.next_register()
-            self.take(',')
-            number = self.signed_number(-2048, 2047) if word in WITH_IMMEDIATE else self.signed_number(0, 31)
-            function = COMPUTES[WITH_IMMEDIATE.get(word) or WITH_SHIFT[word]]
-            return Instruction('compute', function, rd, (rs1,), number=number % WORDS)
-        if word in ('lui', 'li'):
-            rd = self.register()
-            self.take(',')
-            number = self.signed_number(0, 2 ** 20 - 1) * 4096 if word == 'lui' else self.signed_number(-2 ** 31, WORDS - 1)
-            return Instruction('compute', COMPUTES['add'], rd, (0,), number=number % WORDS)
-        if word == 'nop':
-            return Instruction('compute', COMPUTES['add'], 0, (0,))
-        if word == 'mv':
-            return Instruction('compute', COMPUTES['add'], self.register(), (self.next_register(),))
-        if word in ('lw', 'sw'):
-            register = self.register()
-            self.take(',')
-            offset = self.signed_number(-2048, 2047)
-            if word == 'lw':
-                return Instruction('load', rd=register, address=self.in_brackets(), number=offset)
-            return Instruction('store', data=register, address=self.in_brackets(), number=offset)
-        if word in BRANCHES:
-            return self.branch(word, self.register(), self.next_register())
-        if word in ('beqz', 'bnez'):
-            return self.branch(word[:3], self.register(), 0)
-        if word in ('jal', 'j'):
-            if word == 'jal':
-                if self.register() != 0:
-                    raise Unreadable('jal with another register than x0')
-                self.take(',')
-            return Instruction('jump', label=self.take())
-        if word == 'fence.tso':
-            return Instruction('fence', pairs=TSO)
-        if word == 'fence':
-            if self.peek() in ('|', ';'):
-                return Instruction('fence', pairs=product_of('iorw', 'iorw'))
-            before = self.fence_letters()
-            self.take(',')
-            return Instruction('fence', pairs=product_of(before, self.fence_letters()))
-        return self.annotated(word)
+        if word not in FORMS:
+            raise Unreadable('no instruction: %a' % word)
+        operands, form, function = FORMS[word]
+        made = Instruction(form, function)
+        if form in ('lr', 'sc', 'amo'):
+            made.aq, made.rl = ANNOTATIONS[word.partition('.w')[2]]
+        if form == 'fence':
+            made.pairs = TSO if word == 'fence.tso' else product_of(*self.fence_letters())
+            return made
+        for operand in operands:
+            self.operand(operand, made)
+        return made
 
-    def next_register(self):
-        self.take(',')
-        return self.register()
-
-    def in_brackets(self):
-        self.take('(')
-        register = self.register()
-        self.take(')')
-        return register
-
-    def branch(self, word, rs1, rs2):
-        self.take(',')
-        return Instruction('branch', BRANCHES[word], plain=(rs1, rs2), label=self.take())
+    def operand(self, operand, made):
+        """Reads an operand into its place."""
+        if operand in RANGES:
+            if operand != 'o' or self.peek() != '(':
+                number = self.signed_number(*RANGES[operand])
+                made.number = (number * 4096 if operand == 'u' else number) % WORDS
+        elif operand == 'l':
+            made.label = self.take()
+        elif operand == 's':
+            made.plain += (self.register(),)
+        elif operand in 'dav':
+            setattr(made, {'d': 'rd', 'a': 'address', 'v': 'data'}[operand], self.register())
+        elif operand == 'z':
+            if self.register() != 0:
+                raise Unreadable('jal with another register than x0')
+        else:
+            self.take(operand)
 
     def fence_letters(self):
-        letters = self.take()
-        if not re.fullmatch('(?=.)i?o?r?w?', letters):
-            raise Unreadable('no fence: %a' % letters)
-        return letters
-
-    def annotated(self, word):
-        """lr.w, sc.w or an AMO, with the bits aq and rl."""
-        for base in ANNOTATED:
-            if word.startswith(base) and word[len(base):] in ANNOTATIONS:
-                break
-        else:
-            raise Unreadable('no instruction: %a' % word)
-        aq, rl = ANNOTATIONS[word[len(base):]]
-        rd = self.register()
-        data = None if base == 'lr.w' else self.next_register()
-        self.take(',')
-        if self.peek() != '(':
-            self.signed_number(0, 0)
-        form = {'lr.w': 'lr', 'sc.w': 'sc'}.get(base, 'amo')
-        function = COMPUTES[AMOS[base]] if base in AMOS else None
-        return Instruction(form, function, rd, address=self.in_brackets(), data=data, aq=aq, rl=rl)
-
-    def quantifier(self):
-        if self.peek() == '~':
-            self.take()
-            return self.take('exists')
-        return self.take('exists', 'forall')
+        """The letters of a `fence` before and after the comma; all where there are none."""
+        if self.peek() in ('|', ';'):
+            return 'iorw', 'iorw'
+        before, _, after = self.take(), self.take(','), self.take()
+        if not all(re.fullmatch('(?=.)i?o?r?w?', letters) for letters in (before, after)):
+            raise Unreadable('no fence: %a,%a' % (before, after))
+        return before, after
 
     def disjunction(self):
         condition = self.conjunction()
@@ -493,7 +445,7 @@ def test_of(data):
 
 
 def truth(condition, registers, words):
-    """Is the condition true of these registers of harts and words at addresses? None where a word that counts isn't known."""
+    """Is the condition true of these registers and words at addresses? None where a word that counts isn't known."""
     form = condition[0]
     if form == 'constant':
         return condition[1]
@@ -511,7 +463,7 @@ def truth(condition, registers, words):
     return None if None in parts else not decisive
 
 
-# --- Prices (FORMAT 4) ---------------------------------------------------------------------------------------------------
+# --- Prices (FORMAT 4) -------------------------------------------------------------------------------------------
 
 NUMERAL = '(?:0|[1-9][0-9]*)'
 
@@ -548,14 +500,18 @@ def prices_of(data):
     return Prices(value, weight)
 
 
-# --- Runs (MODEL 1, 3 and 8) ---------------------------------------------------------------------------------------------
+# --- Runs (MODEL 1, 3 and 8) -------------------------------------------------------------------------------------
 
 class NoRun(Exception):
     """Choices make no whole run."""
 
 
 class GoesAstray(NoRun):
-    """A run accesses an address of no location."""
+    """A run accesses an address of no location, at this position."""
+
+    def __init__(self, position):
+        super().__init__()
+        self.position = position
 
 
 class ChoicesEnd(NoRun):
@@ -609,9 +565,10 @@ class Run:
         step.origins = {register: self.origins[register] for register in instruction.sources()}
         result = None
         goes_to = position + 1
-        operands = [self.registers[register] for register in instruction.plain]
+        # what is missing is the number, and then 0
+        operands = ([self.registers[register] for register in instruction.plain] + [instruction.number, 0])[:2]
         if instruction.form == 'compute':
-            result = instruction.function(*(operands + [instruction.number])[:2]) % WORDS
+            result = instruction.function(*operands) % WORDS
         elif instruction.form == 'jump' or instruction.form == 'branch' and instruction.function(*operands):
             goes_to = instruction.label
         elif instruction.is_memory():
@@ -620,7 +577,7 @@ class Run:
         self.steps.append(step)
         if result is not None and instruction.rd != 0:
             self.registers[instruction.rd] = result
-            carried = step.origins.values() if instruction.carries() else ()
+            carried = step.origins.values() if instruction.form == 'compute' else ()
             self.origins[instruction.rd] = frozenset([number]).union(*carried)
         return goes_to
 
@@ -632,7 +589,7 @@ class Run:
         if instruction.form == 'sc':
             return self.store_conditional(step, number, address, data)
         if address not in self.test.words:
-            raise GoesAstray()
+            raise GoesAstray(step.position)
         step.address = address
         if instruction.form == 'store':
             step.stored = data
@@ -666,44 +623,44 @@ class Run:
         return self.choices[self.used - 1]
 
 
-def runs_over(test, hart, words, choices=()):
-    """The runs of a hart that load words of these sets alone, by their choices: words rising, success before failure."""
+def ends_over(test, hart, words, choices=()):
+    """The runs of a hart that load words of these sets alone, by their choices: words rising, success before failure.
+    Where one goes astray, that stands in its place."""
     try:
         yield Run(test, hart, choices)
+    except GoesAstray as astray:
+        yield astray
     except ChoicesEnd as end:
         for choice in end.results or sorted(words[end.address]):
-            yield from runs_over(test, hart, words, choices + (choice,))
+            yield from ends_over(test, hart, words, choices + (choice,))
 
 
 def all_runs_over(test, words):
     """Of each hart all its runs over these sets."""
-    try:
-        found = [list(itertools.islice(runs_over(test, hart, words), 100001)) for hart in range(len(test.code))]
-    except GoesAstray:
+    found = [list(itertools.islice(ends_over(test, hart, words), 100001)) for hart in range(len(test.code))]
+    if any(isinstance(run, GoesAstray) for runs in found for run in runs):
         raise Unreadable('a run goes astray, so the candidates of the test are not listed')
     if any(len(runs) > 100000 for runs in found):
         raise Unreadable('a hart has too many runs')
     return found
 
 
-def value_sets(test):
+def value_sets(test, runs_over=all_runs_over):
     """The words that each location may come to hold, round by round (MODEL 11)."""
     sets = {address: {word} for address, word in test.words.items()}
-    rounds = sum(instruction.form in ('store', 'sc', 'amo') for code in test.code for instruction in code)
-    for _ in range(rounds):
+    for _ in range(sum(instruction.form in ('store', 'sc', 'amo') for code in test.code for instruction in code)):
         wider = {address: set(words) for address, words in sets.items()}
-        for runs in all_runs_over(test, sets):
-            for run in runs:
-                for step in run.steps:
-                    if step.stored is not None:
-                        wider[step.address].add(step.stored)
+        for run in itertools.chain.from_iterable(runs_over(test, sets)):
+            for step in run.steps:
+                if step.stored is not None:
+                    wider[step.address].add(step.stored)
         if wider == sets:
             break
         sets = wider
     return sets
 
 
-# --- Operations (MODEL 2) ------------------------------------------------------------------------------------------------
+# --- Operations (MODEL 2) ----------------------------------------------------------------------------------------
 
 class Operation:
     """A load, a store or both; of no hart where it is an initial store."""
@@ -779,7 +736,7 @@ def same_word(a, b):
     return a.address == b.address
 
 
-# --- Preserved program order (MODEL 5 and 7) -----------------------------------------------------------------------------
+# --- Preserved program order (MODEL 5 and 7) ---------------------------------------------------------------------
 
 def orders(pairs, a, b):
     """Does a fence with these pairs order a before b, where it stands between them?"""
@@ -798,8 +755,7 @@ class Preserved:
         self.operations = operations
         self.rf = rf
         self.placed = [(slot, PAIRS[kind]) for slot, kind in zip(slots, placement) if kind is not None]
-        self.rules = [self.rule_1, self.rule_2, self.rule_3, self.rule_4, self.rule_5, self.rule_6, self.rule_7,
-                      self.rule_8, self.rule_9, self.rule_10, self.rule_11, self.rule_12, self.rule_13]
+        self.rules = [getattr(self, 'rule_%d' % number) for number in range(1, 14)]
 
     def rule(self, number, a, b):
         """Does this rule put a before b?"""
@@ -829,7 +785,8 @@ class Preserved:
         written = any(step.instruction.form == 'fence' and orders(step.instruction.pairs, a, b)
                       for step in self.steps_between(a, b))
         run = self.operations.runs[a.hart]
-        return written or any(orders(pairs, a, b) and runs_slot_between(run, slot, a, b) for slot, pairs in self.placed)
+        return written or any(orders(pairs, a, b) and runs_slot_between(run, slot, a, b)
+                              for slot, pairs in self.placed)
 
     def rule_5(self, a, b):
         return a.is_acquire()
@@ -874,7 +831,7 @@ class Preserved:
         return b.stores() and any(self.address_dependency(a, step) for step in self.steps_between(a, b))
 
 
-# --- Candidates that show the outcome (MODEL 15) -------------------------------------------------------------------------
+# --- Candidates that show the outcome (MODEL 15) -----------------------------------------------------------------
 
 class Candidate:
     """Runs with a source for each load (`rf`) and a coherence order of each location's stores (`co`, by address)."""
@@ -901,7 +858,7 @@ class Candidate:
 
 
 def sources_of(operations, load):
-    """What may be the source of this load, the initial store first: other stores of the word there, `own` ones before it."""
+    """What may be the source of this load, the initial store first: stores of its word, of its hart earlier ones."""
     stores = [operations.initial[load.address]] + operations.stores_to(load.address)
     return [store for store in stores if store is not load and store.stored == load.loaded
             and (store.hart != load.hart or po(store, load))]
@@ -914,12 +871,13 @@ def coherence_orders(operations, rf, address):
         place = {store.number: at for at, store in enumerate(order)}
         latest = all(place[store.number] <= place[rf[load.number].number]
                      for load in operations.loads if load.address == address for store in order if po(store, load))
-        if latest and all(keeps_atomicity(order, rf[lr.number], sc) for lr, sc in operations.pairs if sc.address == address):
+        pairs = [(lr, sc) for lr, sc in operations.pairs if sc.address == address]
+        if latest and all(keeps_atomicity(order, rf[lr.number], sc) for lr, sc in pairs):
             yield order
 
 
 def keeps_atomicity(order, source, sc):
-    """In this order of stores, is the source of the lr.w before the store of the sc.w, with no other hart's store between?"""
+    """Is the source of the lr.w before the sc.w in this order of stores, with no other hart's store between?"""
     first, last = order.index(source), order.index(sc)
     return first < last and all(store.hart == sc.hart for store in order[first + 1:last])
 
@@ -932,15 +890,16 @@ def candidates(test):
             continue
         for sources in itertools.product(*[sources_of(operations, load) for load in operations.loads]):
             rf = {load.number: source for load, source in zip(operations.loads, sources)}
-            for orders in itertools.product(*[list(coherence_orders(operations, rf, address)) for address in test.words]):
-                if operations.have_outcome({order[-1].address: order[-1].stored for order in orders}):
-                    yield Candidate(operations, rf, {order[-1].address: order for order in orders})
+            each = [list(coherence_orders(operations, rf, address)) for address in test.words]
+            for found in itertools.product(*each):
+                if operations.have_outcome({order[-1].address: order[-1].stored for order in found}):
+                    yield Candidate(operations, rf, {order[-1].address: order for order in found})
 
 
-# --- Executions that witnesses give (MODEL 4, 6 and 14) ------------------------------------------------------------------
+# --- Executions that witnesses give (MODEL 4, 6 and 14) ----------------------------------------------------------
 
 class Execution:
-    """Runs and an order of the harts' operations. `gmo` is the global memory order, with the initial stores in front."""
+    """Runs and an order of the harts' operations; `gmo` is the global memory order, the initial stores in front."""
 
     def __init__(self, operations, order):
         self.operations = operations
@@ -971,9 +930,10 @@ class Execution:
 
     def width(self, slot):
         """The pairs that a fence at this slot may have and order no two operations against this execution."""
-        return {pair for pair in ALL_PAIRS
-                if all(self.before(a, b) for a in self.operations.of_harts for b in self.operations.of_harts
-                       if po(a, b) and orders([pair], a, b) and runs_slot_between(self.operations.runs[a.hart], slot, a, b))}
+        harts = self.operations.of_harts
+        turned = [(a, b) for a in harts for b in harts if po(a, b) and not self.before(a, b)
+                  and runs_slot_between(self.operations.runs[a.hart], slot, a, b)]
+        return {pair for pair in ALL_PAIRS if not any(orders([pair], a, b) for a, b in turned)}
 
 
 def execution_of(test, witness):
@@ -991,7 +951,7 @@ def execution_of(test, witness):
     return Execution(operations, [operations.named[name] for name in names])
 
 
-# --- The file (CERTIFICATE 1) --------------------------------------------------------------------------------------------
+# --- The file (CERTIFICATE 1) ------------------------------------------------------------------------------------
 
 NAME = 'P%s:%s' % (NUMERAL, NUMERAL)
 CAUSES = ['p%d' % rule for rule in range(1, 14)] + ['rf', 'co', 'fr']
@@ -1015,8 +975,8 @@ def is_cycle(value):
 
 
 def begins_at_least(cycle):
-    """Does the cycle begin at its least operation, by hart and then by instruction? So does each that the program writes; a
-    valid one may begin anywhere, and no check below asks this."""
+    """Does the cycle begin at its least operation, by hart and then by instruction? So does each that the program
+    writes; a valid one may begin anywhere, and no check below asks this."""
     names = [tuple(int(part) for part in name[1:].split(':')) for name, cause in cycle]
     return names[0] == min(names)
 
@@ -1036,8 +996,8 @@ def is_choice(value):
 
 
 def is_witness(value):
-    return (has_keys(value, ['choices', 'order']) and is_list(value['choices'], lambda choices: is_list(choices, is_choice))
-            and is_list(value['order'], is_name_of_operation))
+    return (has_keys(value, ['choices', 'order']) and is_list(value['order'], is_name_of_operation)
+            and is_list(value['choices'], lambda choices: is_list(choices, is_choice)))
 
 
 def certificate_of(data):
@@ -1056,7 +1016,7 @@ def certificate_of(data):
     return value
 
 
-# --- What it must say (CERTIFICATE 2 to 5) -------------------------------------------------------------------------------
+# --- What it must say (CERTIFICATE 2 to 5) -----------------------------------------------------------------------
 
 UNDECIDED = '?'
 
@@ -1071,6 +1031,11 @@ def is_earlier(p, q):
     def ranks(placement):
         return [-1 if kind is None else KINDS.index(kind) for kind in placement]
     return ranks(p) < ranks(q)
+
+
+def fence_lines(slots, placement):
+    """A line for each fence."""
+    return ['fence P%d %d %s' % (slot + (kind,)) for slot, kind in zip(slots, placement) if kind is not None]
 
 
 class Checker:
@@ -1212,23 +1177,19 @@ class Checker:
     def lines(self):
         """The lines of the answer."""
         if self.answer is None:
-            witness = self.certificate['witnesses'][0]
-            return ['none', json.dumps({'choices': witness['choices'], 'order': witness['order']}, separators=(',', ':'))]
-        filled = ['fence P%d %d %s' % (slot + (kind,)) for slot, kind in zip(self.slots, self.answer) if kind is not None]
-        return ['fenced %d' % self.cost] + filled
+            witness = {key: self.certificate['witnesses'][0][key] for key in ('choices', 'order')}
+            return ['none', json.dumps(witness, separators=(',', ':'))]
+        return ['fenced %d' % self.cost] + fence_lines(self.slots, self.answer)
 
 
-# --- The command ---------------------------------------------------------------------------------------------------------
+# --- The command -------------------------------------------------------------------------------------------------
 
 def read(path, reader):
     """What this reader makes of the file."""
     try:
         with open(path, 'rb') as file:
-            data = file.read()
-        return reader(data)
-    except (OSError, ValueError, RecursionError, MemoryError) as error:
-        raise Unreadable('%s can not be read: %s' % (path, error))
-    except Unreadable as error:
+            return reader(file.read())
+    except (OSError, ValueError, RecursionError, MemoryError, Unreadable) as error:
         raise Unreadable('%s can not be read: %s' % (path, error))
 
 
@@ -1246,15 +1207,11 @@ def main(arguments):
     except Refused as reason:
         print('no: %s' % reason)
         return 1
-    except NotACertificate:
-        print('fault F18 BadCertificate', file=sys.stderr)
-        return 2
-    except Unreadable as error:
+    except (NotACertificate, Unreadable) as error:
         print(ascii(str(error))[1:-1], file=sys.stderr)
-        return 2
     except (RecursionError, MemoryError):
         print('the test is too big', file=sys.stderr)
-        return 2
+    return 2
 
 
 if __name__ == '__main__':

@@ -1,6 +1,8 @@
-"""Hostile tests and prices for all commands of `rvfence`, hostile witnesses for `order` and hostile certificates for `check`, each with
-its answer: the line of its fault, or READ, or what the command says. The answers are those of docs/FORMAT.md. None is taken from the program: they are derived where
-the file is made, as the comments say, and for the files that are changed or composed by a second reader of the formats."""
+"""Hostile tests and prices for all commands of `rvfence`, hostile witnesses for `order` and hostile certificates for
+`check`, each with its answer: the line of its fault, or READ, or what the command says. The answers are those of
+docs/FORMAT.md. None is taken from the program: they are derived where the file is made, as the comments say, and for
+the files that are changed or composed by a second reader of the formats. Those that a line describes are in
+scripts/transcripts/hostile.table."""
 import itertools
 import json
 import os
@@ -9,8 +11,9 @@ import re
 
 import check_certificate
 from reference import ANSWERED, READ, fault_of, is_witness
+from running import EXAMPLES, TOP, decoded, read
 
-TOP = os.path.dirname(os.path.dirname(os.path.realpath(__file__)))
+TABLE = f"{TOP}/scripts/transcripts/hostile.table"
 TOKENS_CHANGED = 3000
 TESTS_COMPOSED = 6000
 
@@ -24,9 +27,6 @@ def syntax(line):
 
 UTF8 = "fault F1 BadUtf8"
 TITLE = "fault F2 NotRiscv"
-CONDITION = "fault F8 BadCondition"
-DEPTH = "fault F9 TooBig depth"
-LOCATIONS = "fault F9 TooBig locations"
 PRICES = "fault F10 BadPrices"
 NO_FENCE = "fault F12 BadFence"
 WITNESS = "fault F17 BadWitness"
@@ -46,11 +46,52 @@ def litmus(init="0:x6=x;", cell="lw x5,0(x6)", condition="0:x5=0"):
 
 def examples():
     """The examples, each with its name."""
-    folder = f"{TOP}/examples"
-    for name in sorted(os.listdir(folder)):
+    for name in sorted(os.listdir(EXAMPLES)):
         if name.endswith(".litmus"):
-            with open(f"{folder}/{name}", "rb") as file:
-                yield name, file.read()
+            yield name, read(f"{EXAMPLES}/{name}")
+
+
+def witness_of(choices, order):
+    return b'{"choices":[' + choices + b'],"order":[' + order + b"]}"
+
+
+# What a text of the table stands for.
+PARTS = {"init": lambda text: litmus(init=text), "init, no cell": lambda text: litmus(init=text, cell=""),
+         "cell": lambda text: litmus(cell=text), "condition": lambda text: litmus(condition=text), "whole": str.encode,
+         "choices": lambda text: witness_of(text.encode(), b'"P0:2","P1:2","P0:1","P1:1"'),
+         "order": lambda text: witness_of(b"[0],[0]", text.encode())}
+
+
+def repeated(found):
+    """What stands for a text and how many times it comes."""
+    text, count = found[1], int(found[2])
+    if "#" in text or "§" in text:
+        return "".join(text.replace("#", str(at)).replace("§", f"{at:x}") for at in range(count))
+    return text * count
+
+
+def of_table(group):
+    """The files of a group of the table."""
+    section = decoded(read(TABLE)).partition(f"\n## {group}\n")[2].partition("\n\n")[0]
+    for line in section.rstrip("\n").split("\n"):
+        if not line.startswith("# "):
+            wanted, part, name, text = line.split(" | ", 3)
+            text = re.sub("«(.*?)×([0-9]+)»", repeated, text.replace("⏎", "\n"), flags=re.S)
+            yield name, PARTS[part](text), READ if wanted == "READ" else wanted
+
+
+def beginnings_of(what, whole, answer):
+    """Every beginning of a text."""
+    for count in range(len(whole)):
+        yield f"the first {count} bytes of {what}", whole[:count], answer(whole[:count])
+
+
+def bytes_replaced(what, whole, bytes_for, answer):
+    """The text with each byte replaced by each of these."""
+    for at in range(len(whole)):
+        for byte in bytes_for:
+            text = whole[:at] + bytes([byte]) + whole[at + 1 :]
+            yield f"{what} with byte {at} {byte:#04x}", text, answer(text)
 
 
 def without_documentation(whole):
@@ -60,10 +101,10 @@ def without_documentation(whole):
 
 
 def beginnings():
-    """Every beginning of every example. Up to its name the first line is no title, and the name of each example begins at
-    its seventh byte. From there on the text ends too soon, at its last line: each line begins what the whole test goes
-    on with, and a sign that is cut in two (`/` of `/\\`) is cut at the end. Each condition ends with `)`; what comes
-    after that is the line end alone."""
+    """Every beginning of every example. Up to its name the first line is no title, and the name of each example
+    begins at its seventh byte. From there on the text ends too soon, at its last line: each line begins what the
+    whole test goes on with, and a sign that is cut in two (`/` of `/\\`) is cut at the end. Each condition ends with
+    `)`; what comes after that is the line end alone."""
     for name, whole in examples():
         for count in range(len(whole) + 1):
             text = whole[:count]
@@ -79,22 +120,24 @@ def beginnings():
 TELLING = b"()[]{};|,:=~-/\\*._#\"'+<@!% \t\n\r\0" + b"09xaPw\x7f\x80\xff"
 
 
+def is_ascii(text):
+    return max(text) < 128
+
+
 def bytes_changed():
     """MP with each byte replaced by each telling one. A byte of 128 or more beside ASCII alone is no UTF-8."""
     whole = without_documentation(dict(examples())["MP.litmus"])
-    for at in range(len(whole)):
-        for byte in TELLING:
-            text = whole[:at] + bytes([byte]) + whole[at + 1 :]
-            yield f"MP with byte {at} {byte:#04x}", text, UTF8 if byte >= 128 else fault_of(text)
+    yield from bytes_replaced("MP", whole, TELLING, lambda text: fault_of(text) if is_ascii(text) else UTF8)
 
 
-# What may come in place of a token: marks, line ends, comments, keywords, numbers at the borders of their ranges, names,
-# and instructions whole and in parts.
+# What may come in place of a token: marks, line ends, comments, keywords, numbers at the borders of their ranges,
+# names, and instructions whole and in parts.
 WORDS = (
     "{ } ; | , : = ( ) [ ] ~ - /\\ \\/ # * / \n (* *) (*) (*a\n*) not true false int uint32_t exists forall locations"
-    " 0 1 00 0x0 0x 0x7ff 31 32 2047 2048 1048575 1048576 2147483648 2147483649 4294967295 4294967296 -1 -0 -2048 -2049"
-    " 0: 1: 2: 8: [x] x y z P0 P1 P00 P2 x0 x5 x6 x31 x32 t0 s0 fp zero ra a7 s12 L: LC00: L LC00 _a a.b 0:x6 1:s0 x=1"
-    " x=0 x=1; [y]=2; 0:x9=z; int 1:x9=1; 0:x6=1;"
+    " 0 1 00 0x0 0x 0x7ff 31 32 2047 2048 1048575 1048576 2147483648 2147483649 4294967295 4294967296 -1 -0 -2048"
+    " -2049 0: 1: 2: 8: [x] x y z P0 P1 P00"
+    " P2 x0 x5 x6 x31 x32 t0 s0 fp zero ra a7 s12 L: LC00: L LC00 _a a.b 0:x6 1:s0"
+    " x=1 x=0 x=1; [y]=2; 0:x9=z; int 1:x9=1; 0:x6=1;"
     " nop fence fence.tso rw,rw wr,r w,w r,r iorw lw sw lr.w sc.w lr.w.rl lr.w.aqrl sc.w.aq sc.w.aq.rl amoadd.w"
     " amomaxu.w.rl beq bnez j jal li lui add addi slli srai mv lw.aq 0(x6) (x6) -0(x6) 4(x6) x5,0(x6) x5,(x6)"
     " x5,x5,(x6) x5,x6 x0,L addi\0x5,x5,-2048 slli\0x5,x5,31 li\0x5,-2147483648 beq\0x5,x0,LC00"
@@ -272,105 +315,19 @@ def within(sign, place, before, text):
     return READ
 
 
-def nested(before, after, count, inner="0:x5=0"):
-    return litmus(condition=before * count + inner + after * count)
-
-
 def depths():
     """Conditions of depth 64 are read, and no deeper ones."""
-    for count, wanted in ((64, READ), (65, DEPTH), (500_000, DEPTH)):
-        yield f"{count} parentheses", nested("(", ")", count), wanted
-        yield f"{count} parentheses, one not closed", nested("(", ")", count)[:-2] + b"\n", syntax(5)
-        yield f"{count} denials", nested("~", "", count), wanted
-    for count, wanted in ((64, READ), (65, DEPTH), (200_000, DEPTH)):
-        yield f"{count} denials by word", nested("not ", "", count), wanted
-    for count, wanted in ((32, READ), (33, DEPTH), (300_000, DEPTH)):
-        # each layer is a denial and a pair of parentheses
-        yield f"{count} denied parentheses", nested("~(", ")", count), wanted
-    # 64 connectives join 65 conjuncts. The last conjunct is the shallowest, so 65 connectives are too deep, though a
-    # parenthesis in their last conjunct may be as deep as the rest.
-    for sign in ("/\\", "\\/"):
-        for count, wanted in ((65, READ), (66, DEPTH), (200_000, DEPTH)):
-            yield f"{count} atoms joined by {sign}", litmus(condition=sign.join(["x=0"] * count)), wanted
-        text = litmus(condition=sign.join(["x=0"] * 65 + ["(" * 63 + "x=0" + ")" * 63]))
-        yield f"65 connectives {sign}", text, DEPTH
-        text = litmus(condition=sign.join(["x=0"] * 64 + ["(" * 64 + "x=0" + ")" * 64]))
-        yield f"64 connectives {sign} and 64 parentheses", text, READ
-        # 400,000 conjuncts are more than a mebibyte
-        yield f"400,000 atoms joined by {sign}", litmus(condition=sign.join(["x=0"] * 400_000)), TOO_LONG
-
-
-def names(count):
-    """This many names, all different."""
-    return [f"a{number:x}" for number in range(count)]
+    yield from of_table("depths")
 
 
 def numbers_of_parts():
     """Very many labels, entries, cells and rows."""
-    labels = "".join(f"L{number}:" for number in range(100_000))
-    yield "100,000 labels", litmus(cell=labels), READ
-    yield "100,000 labels and an instruction", litmus(cell=labels + " nop"), READ
-    yield "a branch over 100,000 labels", litmus(cell="beq x0,x0,L99999 ;\n" + labels), READ
-    # the second of two, on line 5
-    yield "a label again after 100,000", litmus(cell=labels + ";\nL50000:"), "fault F6 BadLabel line 5"
-    yield "one label 100,000 times", litmus(cell="L:" * 100_000), "fault F6 BadLabel line 4"
-    # the shortest entry has four bytes, so 500,000 are more than a mebibyte
-    yield "500,000 entries", litmus(init="x=1;" * 500_000), TOO_LONG
-    yield "250,000 entries of one name", litmus(init="x=1;\n" + "x=1;" * 250_000), "fault F7 BadInit line 3"
-    yield "100,000 entries", litmus(init="".join(f"{name}=1;" for name in names(100_000))), LOCATIONS
-    yield "100,000 values", litmus(init="0:x5=a;" + "".join(f"{name}=a;" for name in names(90_000))), LOCATIONS
-    # the atoms are too deep too, and locations come first
-    condition = "\\/".join(f"{name}=1" for name in names(90_000))
-    yield "100,000 locations in atoms", litmus(condition=condition), LOCATIONS
-    for count, wanted in ((8, READ), (9, LOCATIONS)):
-        yield f"{count} locations", litmus(init="".join(f"{name}=1;" for name in names(count)), cell=""), wanted
-    for count, wanted in ((32, READ), (33, "fault F9 TooBig instructions"), (100_000, "fault F9 TooBig instructions")):
-        yield f"{count} instructions", litmus(cell=";\n".join(["nop"] * count)), wanted
-    for count, wanted in ((8, READ), (9, "fault F9 TooBig harts"), (100_000, "fault F9 TooBig harts")):
-        header = "|".join(f"P{hart}" for hart in range(count))
-        yield f"{count} harts", f"RISCV T\n{{ }}\n{header};\n{'|' * (count - 1)};\nexists true\n".encode(), wanted
-        # one cell is missing
-        text = f"RISCV T\n{{ }}\n{header};\n{'|' * (count - 2)};\nexists true\n".encode()
-        yield f"{count} harts and a cell too few", text, syntax(4)
-    rows = "sw x5,0(x6) | sw x5,0(x6) ;\n" * 24
-    for row, wanted in (("", READ), ("| sw x5,0(x6) ;\n", "fault F9 TooBig accesses")):
-        text = f"RISCV T\n{{ }}\nP0 | P1 ;\n{rows}{row}exists true\n".encode()
-        yield f"48 memory instructions{' and one' * (row != '')}", text, wanted
+    yield from of_table("numbers of parts")
 
 
 def long_words():
     """Names and numbers of almost a mebibyte."""
-    name, zeros, nines = (sign * (MEBIBYTE - 200) for sign in "a09")
-    yield "a long title", litmus().replace(b"RISCV T", b"RISCV " + name.encode()), READ
-    yield "a long documentation line", litmus().replace(b"T\n", b"T\n" + name.encode() + b"\n"), READ
-    yield "a long name of a location", litmus(init=f"{name}=1;"), READ
-    yield "a long name in an atom", litmus(condition=f"{name}=1"), READ
-    yield "a long name for an address", litmus(init=f"0:x6={name};"), READ
-    yield "a long name of a register", litmus(init=f"0:{name}=1;"), "fault F7 BadInit line 2"
-    yield "a long name of a register in an atom", litmus(condition=f"0:{name}=1"), CONDITION
-    yield "a long header", litmus().replace(b"P0", b"P" + zeros.encode()), syntax(3)
-    yield "a long mnemonic", litmus(cell=f"{name} x5"), "fault F4 UnknownInstr line 4"
-    yield "a long operand", litmus(cell=f"lw {name},0(x6)"), syntax(4)
-    yield "a long label", litmus(cell=f"{name}: nop"), READ
-    yield "a branch to a long label", litmus(cell=f"j {name}"), "fault F6 BadLabel line 4"
-    yield "a branch to a long label further on", litmus(cell=f"j {name[::2]} ;\n{name[::2]}: nop"), READ
-    yield "a long comment", litmus(init=f"(* {name} *)"), READ
-    # 0 however often it is written, and a 1 after it
-    yield "zeros for a word", litmus(init=f"x={zeros};"), READ
-    yield "zeros for a word in hexadecimal", litmus(init=f"x=0x{zeros};"), READ
-    yield "zeros for a negative word", litmus(init=f"x=-{zeros};"), READ
-    yield "zeros for a hart", litmus(init=f"{zeros}:x6=x;"), READ
-    yield "zeros for a hart in an atom", litmus(condition=f"{zeros}:x6=x"), READ
-    yield "zeros for an offset", litmus(cell=f"lw x5,{zeros}1(x6)"), READ
-    yield "zeros for a constant", litmus(cell=f"li x5,-{zeros}1"), READ
-    yield "zeros for a shift amount", litmus(cell=f"slli x5,x5,{zeros}"), READ
-    yield "zeros for a register", litmus(init=f"0:x{zeros}6=1;"), "fault F7 BadInit line 2"
-    yield "nines for a word", litmus(init=f"x={nines};"), "fault F7 BadInit line 2"
-    yield "nines for a word in an atom", litmus(condition=f"x={nines}"), CONDITION
-    yield "nines for a hart", litmus(init=f"{nines}:x6=x;"), "fault F7 BadInit line 2"
-    yield "nines for a hart in an atom", litmus(condition=f"{nines}:x6=x"), CONDITION
-    yield "nines for an immediate", litmus(cell=f"addi x5,x5,{nines}"), syntax(4)
-    yield "nines for a constant", litmus(cell=f"li x5,{nines}"), syntax(4)
+    yield from of_table("long words")
 
 
 def sizes():
@@ -383,27 +340,22 @@ def sizes():
         yield f"{size} bytes of 0xff", b"\xff" * size, UTF8 if size == MEBIBYTE else TOO_LONG
 
 
+# What begins or ends a value of JSON, or is no part of one.
+SIGNS_OF_JSON = [b"[", b"{", b"]", b"}", b'"', b"\\", b"0", b"-", b"e", b",", b":", b"\0", b"\xff"]
+
+
 def prices():
     """Prices for MP. What is no JSON, or no object of prices, is bad; blanks around are nothing."""
-    good = b'{"rw,rw":1}'
-    signs = [b"[", b"{", b"]", b"}", b'{"rw,rw":', b'{"weights":', b'"', b"\\", b"0", b"-", b"1", b".", b"e", b",", b":"]
-    signs += [b"\0", b"\xff"]
-    for sign in signs:
+    for sign in [*SIGNS_OF_JSON, b'{"rw,rw":', b'{"weights":', b"1", b"."]:
         flood = sign * ((MEBIBYTE - 100) // len(sign))
         yield f"{sign!r} alone", flood, PRICES
         yield f"{sign!r} for a price", b'{"rw,rw":1,"w,w":' + flood + b"}", PRICES
         yield f"{sign!r} for a kind", b'{"rw,rw":1,"' + flood + b'":1}', PRICES
         yield f"{sign!r} for a weight", b'{"rw,rw":1,"weights":{"P0:3":' + flood + b"}}", PRICES
         yield f"{sign!r} for a slot", b'{"rw,rw":1,"weights":{"' + flood + b'":1}}', PRICES
-    for count in range(len(good)):
-        yield f"the first {count} bytes of prices", good[:count], PRICES
-    for size, wanted in ((MEBIBYTE, READ), (MEBIBYTE + 1, TOO_LONG)):
-        yield f"prices of {size} bytes", good + b" " * (size - len(good)), wanted
+    yield from of_table("prices")
     every = ",".join(f'"P{hart}:{at}":{at}' for hart in range(256) for at in range(256))
     yield "a weight for every slot", b'{"rw,rw":1,"weights":{' + every.encode("ascii") + b"}}", READ
-    yield "a price 100,000 times", b"{" + b'"w,w":2,' * 100_000 + good[1:], READ
-    yield "a price 100,000 times and no rw,rw", b"{" + b'"w,w":2,' * 100_000 + b'"r,r":2}', "fault F11 NoTop"
-    yield "no top", b"{}", "fault F11 NoTop"
 
 
 def fault_of_prices(data):
@@ -415,9 +367,10 @@ def fault_of_prices(data):
     if not isinstance(value, dict):
         return PRICES
     weights = value.pop("weights", {})
-    if not isinstance(weights, dict) or not all(is_slot(name) and check_certificate.is_whole(weight, 1001) for name, weight in weights.items()):
+    is_whole = check_certificate.is_whole
+    if not isinstance(weights, dict) or not all(is_slot(name) and is_whole(it, 1001) for name, it in weights.items()):
         return PRICES
-    if not all(kind in check_certificate.KINDS and check_certificate.is_whole(price, 1_000_001) and price for kind, price in value.items()):
+    if not all(kind in check_certificate.KINDS and is_whole(it, 1_000_001) and it for kind, it in value.items()):
         return PRICES
     return READ if "rw,rw" in value else "fault F11 NoTop"
 
@@ -432,34 +385,36 @@ def prices_changed():
     """A price list with each byte replaced by each telling one, and with each of its values replaced by others."""
     value = {"w,w": 2, "tso": 1000000, "rw,rw": 10, "weights": {"P0:3": 3, "P255:255": 1000}}
     whole = json.dumps(value, separators=(",", ":")).encode()
-    for at in range(len(whole)):
-        for byte in TELLING:
-            text = whole[:at] + bytes([byte]) + whole[at + 1 :]
-            yield f"prices with byte {at} {byte:#04x}", text, fault_of_prices(text)
+    yield from bytes_replaced("prices", whole, TELLING, fault_of_prices)
     for name, text in values_changed(value):
         yield f"prices with {name}", text, fault_of_prices(text)
-    for name, text in PAIRS:
-        wanted = READ if name == "a pair" else PRICES
-        yield f"prices with {name} of surrogates, where it doesn't count", b'{"tso":"' + text + b'",' + whole[1:], wanted
+    yield from pairs_of_surrogates("prices", b"tso", whole, READ, PRICES)
 
 
 # What may come in place of a value of JSON, as its text.
 VALUES = [
-    "null", "true", "false", "0", "-0", "1", "-1", "2", "1000", "1001", "1000000", "1000001", "1.0", "1e2", "1e308", "1e309", "-1e309",
-    "2147483648", "4294967295", "4294967296", "18446744073709551615", "18446744073709551616", "9" * 400, '""', '"c"', '"w"', '"none"',
-    '"P0:2"', '"P1:1"', '"P0:2=w,r"', '"rw,rw"', '"p4"', '"\\u0000"', '"\\ud800"', "[]", "[0]", "[[]]", '["c"]', '["w",0]', "{}",
-    '{"choices":[],"order":[]}',
+    "null", "true", "false", "0", "-0", "1", "-1", "2", "1000", "1001", "1000000", "1000001", "1.0", "1e2", "1e308",
+    "1e309", "-1e309", "2147483648", "4294967295", "4294967296", "18446744073709551615", "18446744073709551616", "9"
+    * 400, '""', '"c"', '"w"', '"none"', '"P0:2"', '"P1:1"', '"P0:2=w,r"', '"rw,rw"', '"p4"', '"\\u0000"',
+    '"\\ud800"', "[]", "[0]", "[[]]", '["c"]', '["w",0]', "{}", '{"choices":[],"order":[]}',
 ]
 
-
 # Escapes of surrogates, which stand for a sign only as a pair: the first half and then the second.
-PAIRS = [("a pair", b"\\ud83d\\ude00"), ("a first half", b"\\ud83d"), ("a second half", b"\\ude00"), ("two first halves", b"\\ud83d\\ud83d"),
-         ("a first half before another sign", b"\\ud83dx"), ("the halves the other way round", b"\\ude00\\uD83D")]
+PAIRS = [("a pair", b"\\ud83d\\ude00"), ("a first half", b"\\ud83d"), ("a second half", b"\\ude00"),
+         ("two first halves", b"\\ud83d\\ud83d"), ("a first half before another sign", b"\\ud83dx"),
+         ("the halves the other way round", b"\\ude00\\uD83D")]
+
+
+def pairs_of_surrogates(what, key, whole, good, bad):
+    """The text with each of PAIRS under a key that comes again, where it doesn't count."""
+    for name, text in PAIRS:
+        wanted = good if name == "a pair" else bad
+        yield f"{what} with {name} of surrogates", b'{"' + key + b'":"' + text + b'",' + whole[1:], wanted
 
 
 def values_changed(whole):
-    """A value of JSON as text with each of its parts replaced by each of VALUES, and each entry of a list or an object left out or put in
-    twice, an object's under another key."""
+    """A value of JSON as text with each of its parts replaced by each of VALUES, and each entry of a list or an
+    object left out or put in twice, an object's under another key."""
     mark = "@"
     for place, changed in parts_changed(whole, mark):
         text = json.dumps(changed, separators=(",", ":"))
@@ -471,7 +426,8 @@ def values_changed(whole):
 
 
 def parts_changed(value, mark, place="all"):
-    """The value with the mark in place of itself and of each of its parts, and with an entry less or more, each with a name."""
+    """The value with the mark in place of itself and of each of its parts, and with an entry less or more, each with
+    a name."""
     yield place, mark
     keys = list(value) if isinstance(value, dict) else range(len(value)) if isinstance(value, list) else []
     for key in keys:
@@ -503,8 +459,8 @@ def noise():
 
 
 def samples():
-    """Tests for the commands that read them as `place` does: every beginning of MP, MP with some bytes changed, floods and noise, and
-    sizes."""
+    """Tests for the commands that read them as `place` does: every beginning of MP, MP with some bytes changed,
+    floods and noise, and sizes."""
     whole = dict(examples())["MP.litmus"]
     yield from (case for case in beginnings() if case[0].endswith(" of MP.litmus") and len(case[1]) <= len(whole))
     yield from itertools.islice(bytes_changed(), 0, None, 7)
@@ -518,8 +474,8 @@ def fences():
     """Words for MP that name no fence, or one that its slots don't have."""
     zeros = "0" * 100_000
     words = """
-        = : P P0 P0: P0:3 P0:3= P0:3=w P0:3=w, P0:3=,w P0:3=W,W p0:3=w,w 0:3=w,w P00:3=w,w P0:03=w,w P+0:3=w,w P0:+3=w,w
-        P0:-3=w,w P0:3=w,w=w,w P0:0=w,w P0:1=w,w P0:4=w,w P1:0=r,r P1:2=r,r P2:1=r,r P256:3=w,w P0:259=w,w
+        = : P P0 P0: P0:3 P0:3= P0:3=w P0:3=w, P0:3=,w P0:3=W,W p0:3=w,w 0:3=w,w P00:3=w,w P0:03=w,w P+0:3=w,w
+        P0:+3=w,w P0:-3=w,w P0:3=w,w=w,w P0:0=w,w P0:1=w,w P0:4=w,w P1:0=r,r P1:2=r,r P2:1=r,r P256:3=w,w P0:259=w,w
         P0:4294967299=w,w P0:18446744073709551619=w,w
     """.split()
     words += ["", " ", "P0:3=\u00e9", " P0:3=w,w", "P0:3=w,w ", "P0:3 =w,w", f"P{zeros}:3=w,w", f"P0:{zeros}3=w,w"]
@@ -533,79 +489,45 @@ def fences():
 
 def witness_signs():
     """A mebibyte of each sign alone, and in the places of a witness for SB. None makes a witness of two lists."""
-    signs = [b"[", b"[[", b"{", b"]", b"}", b'{"choices":', b'"', b"\\", b"0", b"9", b"-", b"1.", b"e", b",", b":"]
-    signs += [b"\0", b"\xff"]
-    for sign in signs:
+    for sign in [*SIGNS_OF_JSON, b"[[", b'{"choices":', b"9", b"1."]:
         flood = sign * ((MEBIBYTE - 100) // len(sign))
         yield f"{sign!r} for a witness", flood, WITNESS
-        yield f"{sign!r} for a choice", b'{"choices":[[' + flood + b'],[0]],"order":["P0:2","P1:2","P0:1","P1:1"]}', WITNESS
+        yield f"{sign!r} for a choice", witness_of(b"[" + flood + b"],[0]", b'"P0:2","P1:2","P0:1","P1:1"'), WITNESS
         yield f"{sign!r} for the order", b'{"choices":[[0],[0]],"order":' + flood + b"}", WITNESS
-        yield f"{sign!r} for a name", b'{"choices":[[0],[0]],"order":["' + flood + b'"]}', WITNESS
+        yield f"{sign!r} for a name", witness_of(b"[0],[0]", b'"' + flood + b'"'), WITNESS
         # a name with a number of nines is one, and no operation has it
         wanted = "no: order" if sign == b"9" else WITNESS
-        yield f"{sign!r} for a number", b'{"choices":[[0],[0]],"order":["P0:' + flood + b'"]}', wanted
-
-
-def witness_of(choices, order):
-    return b'{"choices":[' + choices + b'],"order":[' + order + b"]}"
-
-
-def witness_parts():
-    """Witnesses for SB with very many parts, very deep ones and long numbers. Lists that are too long are a matter of the
-    runs, and names are a matter of the order, whatever their numbers; choices come before the order."""
-    good, order = b"[0],[0]", b'"P0:2","P1:2","P0:1","P1:1"'
-    names = b'"P0:1",' * 130_000
-    yield "a name 130,000 times", witness_of(good, names + b'"P0:1"'), "no: order"
-    yield "90,000 names, all different", witness_of(good, b",".join(b'"P1:%d"' % at for at in range(90_000))), "no: order"
-    yield "a comma after 130,000 names", witness_of(good, names), WITNESS
-    yield "300,000 words for a load", witness_of(b"[" + b"0," * 300_000 + b"0],[0]", order), "no: choices P0"
-    yield "150,000 failures for a load", witness_of(b"[0],[" + b"false," * 150_000 + b"false]", order), "no: choices P1"
-    yield "300,000 lists", witness_of(b"[]," * 300_000 + b"[]", order), WITNESS
-    yield "a word of a mebibyte", witness_of(b"[" + b"9" * (MEBIBYTE - 100) + b"],[0]", order), WITNESS
-    yield "a fraction of a mebibyte", witness_of(b"[0." + b"0" * (MEBIBYTE - 100) + b"],[0]", order), WITNESS
-    yield "a number with zeros in a name", witness_of(good, b'"P0:' + b"0" * (MEBIBYTE - 100) + b'1"'), WITNESS
-    yield "a hart of a mebibyte", witness_of(good, b'"P1' + b"0" * (MEBIBYTE - 100) + b':1"'), "no: order"
-    for count in (3, 100, 127, 128, 129, 500_000):
-        yield f"choices {count} lists deep", witness_of(b"[" * count + b"]" * count, order), WITNESS
-        yield f"an order {count} lists deep", witness_of(good, b"[" * count + b"]" * count), WITNESS
-    yield "a key 40,000 times", b"{" + b'"choices":[[0],[0]],' * 40_000 + witness_of(good, order)[1:], "yes"
-    yield "a key 40,000 times, the last one bad", b"{" + b'"choices":[[0],[0]],' * 40_000 + witness_of(b"", order)[1:], WITNESS
-    yield "60,000 keys", b"{" + b"".join(b'"k%d":0,' % key for key in range(60_000)) + witness_of(good, order)[1:], WITNESS
-    yield "an escape for each sign of a name", witness_of(good, order.replace(b"P0:2", b"\\u0050\\u0030\\u003a\\u0032")), "yes"
-    for name, text in PAIRS:
-        wanted = "yes" if name == "a pair" else WITNESS
-        yield f"{name} of surrogates in a witness, where it doesn't count", b'{"order":"' + text + b'",' + witness_of(good, order)[1:], wanted
-    for text in (b"\xff", b"\xc0\xaf", b"\xed\xa0\x80", b"\\ud800", b"\\u0000", b"\n", b"\0"):
-        yield f"{text!r} in a name", witness_of(good, order.replace(b"P0:2", b"P0:2" + text)), WITNESS
-    for size, wanted in ((MEBIBYTE, "yes"), (MEBIBYTE + 1, TOO_LONG)):
-        whole = witness_of(good, order)
-        yield f"a witness of {size} bytes", whole + b" " * (size - len(whole)), wanted
-        yield f"a witness of {size} bytes, blanks first", b"\n" * (size - len(whole)) + whole, wanted
+        yield f"{sign!r} for a number", witness_of(b"[0],[0]", b'"P0:' + flood + b'"'), wanted
 
 
 def witnesses():
-    """Every beginning of a witness for SB, and the witness with each byte replaced by each telling one; then the large ones."""
+    """Every beginning of a witness for SB, and the witness with each byte replaced by each telling one; then the
+    large ones: with very many parts, very deep, and with long numbers. Lists that are too long are a matter of the
+    runs, and names are a matter of the order, whatever their numbers; choices come before the order."""
     whole = witness_of(b"[0],[0]", b'"P0:2","P1:2","P0:1","P1:1"')
-    for count in range(len(whole)):
-        yield f"the first {count} bytes of a witness", whole[:count], WITNESS
-    for at in range(len(whole)):
-        for byte in TELLING:
-            text = whole[:at] + bytes([byte]) + whole[at + 1 :]
-            yield f"a witness with byte {at} {byte:#04x}", text, ANSWERED if is_witness(text, 2) else WITNESS
+
+    def answer(text):
+        return ANSWERED if is_witness(text, 2) else WITNESS
+
+    yield from beginnings_of("a witness", whole, lambda _: WITNESS)
+    yield from bytes_replaced("a witness", whole, TELLING, answer)
     for name, text in values_changed(json.loads(whole)):
-        yield f"a witness with {name}", text, ANSWERED if is_witness(text, 2) else WITNESS
+        yield f"a witness with {name}", text, answer(text)
     for name, text, _ in noise():
         yield f"{name} for a witness", text, WITNESS
     yield from witness_signs()
-    yield from witness_parts()
+    yield from of_table("witness parts")
+    yield from pairs_of_surrogates("a witness", b"order", whole, "yes", WITNESS)
+    for text in (b"\xff", b"\xc0\xaf", b"\xed\xa0\x80", b"\\ud800", b"\\u0000", b"\n", b"\0"):
+        yield f"{text!r} in a name", whole.replace(b"P0:2", b"P0:2" + text), WITNESS
 
 
 class CertificateJudge:
     """What `check` answers to a certificate of SB, by scripts/check_certificate.py."""
 
     def __init__(self):
-        self.test = check_certificate.read(f"{TOP}/examples/SB.litmus", check_certificate.test_of)
-        self.prices = check_certificate.read(f"{TOP}/examples/prices.json", check_certificate.prices_of)
+        self.test = check_certificate.read(f"{EXAMPLES}/SB.litmus", check_certificate.test_of)
+        self.prices = check_certificate.read(f"{EXAMPLES}/prices.json", check_certificate.prices_of)
 
     def verdict(self, text):
         try:
@@ -629,7 +551,8 @@ def large_certificates(whole):
     yield "200,000 splits", dict(whole, tree=[0, 1] * 100_000)
     yield "100,000 items behind", dict(whole, tree=whole["tree"] + ["c"] * 100_000)
     yield "an item that names 200,000 witnesses", dict(whole, tree=[["b", [0] * 200_000], *whole["tree"][1:]])
-    yield "items that name 10,000 witnesses each", dict(whole, tree=[["b", [1] * 10_000] if it == ["b", [1]] else it for it in whole["tree"]])
+    tree = [["b", [1] * 10_000] if it == ["b", [1]] else it for it in whole["tree"]]
+    yield "items that name 10,000 witnesses each", dict(whole, tree=tree)
     yield "an order of 100,000 operations", dict(whole, witnesses=[dict(witness, order=["P0:2"] * 100_000)])
     yield "100,000 lists of choices", dict(whole, witnesses=[dict(witness, choices=[[]] * 100_000)])
     yield "a list of 100,000 choices", dict(whole, witnesses=[dict(witness, choices=[[0] * 100_000, [0]])])
@@ -640,28 +563,22 @@ def large_certificates(whole):
 
 
 def certificates():
-    """Every beginning of a certificate for SB, and the certificate with each byte replaced by some telling ones; then the large ones."""
+    """Every beginning of a certificate for SB, and the certificate with each byte replaced by some telling ones; then
+    the large ones."""
     judge = CertificateJudge()
-    with open(f"{TOP}/examples/certificates/SB.json", encoding="utf-8") as file:
-        read = json.load(file)
-    whole = json.dumps(read, separators=(",", ":")).encode()
-    for count in range(len(whole)):
-        yield f"the first {count} bytes of a certificate", whole[:count], judge.verdict(whole[:count])
-    for at in range(len(whole)):
-        for byte in b'"[]{,: 0129w\xff':
-            text = whole[:at] + bytes([byte]) + whole[at + 1 :]
-            yield f"a certificate with byte {at} {byte:#04x}", text, judge.verdict(text)
-    for name, text in values_changed(read):
+    good = json.loads(read(f"{EXAMPLES}/certificates/SB.json"))
+    whole = json.dumps(good, separators=(",", ":")).encode()
+    yield from beginnings_of("a certificate", whole, judge.verdict)
+    yield from bytes_replaced("a certificate", whole, b'"[]{,: 0129w\xff', judge.verdict)
+    for name, text in values_changed(good):
         yield f"a certificate with {name}", text, judge.verdict(text)
     for name, text, _ in noise():
         yield f"{name} for a certificate", text, CERTIFICATE
-    yes = judge.verdict(whole)
+    yield from pairs_of_surrogates("a certificate", b"tree", whole, judge.verdict(whole), CERTIFICATE)
     for name, text in PAIRS:
-        wanted = yes if name == "a pair" else CERTIFICATE
-        yield f"a certificate with {name} of surrogates, where it doesn't count", b'{"tree":"' + text + b'",' + whole[1:], wanted
         wanted = "no: answer" if name == "a pair" else CERTIFICATE
         yield f"a certificate with {name} of surrogates for a fence", whole.replace(b"P0:2=w,r", text), wanted
-    for name, certificate in large_certificates(read):
+    for name, certificate in large_certificates(good):
         text = json.dumps(certificate, separators=(",", ":")).encode()
         yield f"a certificate with {name}", text, judge.verdict(text)
     for sign in (b"[", b'{"', b'{"tree":', b'"', b" ", b"0", b"[[", b"\xff"):
@@ -673,9 +590,9 @@ HUGE = 100_000_000
 
 
 def huge_certificates():
-    """Certificates of SB of 100 MB, most of them by one part again and again. What it is known for is said beside each."""
-    with open(f"{TOP}/examples/certificates/SB.json", encoding="utf-8") as file:
-        whole = json.load(file)
+    """Certificates of SB of 100 MB, most of them by one part again and again. What it is known for is said beside
+    each."""
+    whole = json.loads(read(f"{EXAMPLES}/certificates/SB.json"))
     text = json.dumps(whole, separators=(",", ":"))
     yes = "yes\nfenced 18\nfence P0 2 w,r\nfence P1 2 w,r"
 

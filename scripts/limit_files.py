@@ -1,5 +1,6 @@
-"""Tests at the limits of `rvfence`, each met and each passed by one. What the program must say of them is said where they are made,
-and why: it follows from docs/FORMAT.md, docs/MODEL.md and docs/SEARCH.md, and none of it is taken from the program."""
+"""Tests at the limits of `rvfence`, each met and each passed by one. What the program must say of them is said where
+they are made, and why: it follows from docs/FORMAT.md, docs/MODEL.md and docs/SEARCH.md, and none of it is taken from
+the program."""
 import itertools
 import json
 
@@ -24,12 +25,14 @@ class Hart:
         self.add(*[NOTHING] * (count - len(self.cells)))
 
     def slots(self):
-        """The instructions before which a fence may stand: memory instructions behind another. There are no labels here."""
+        """The instructions before which a fence may stand: memory instructions behind another. There are no labels
+        here."""
         return [at for at, cell in enumerate(self.cells) if cell.startswith(("lw ", "sw "))][1:]
 
 
 def text_of(name, locations, harts, condition, fences=()):
-    """A test in the printed form, with these fences: pairs of a slot, which is a hart and an instruction, and a kind."""
+    """A test in the printed form, with these fences: pairs of a slot, which is a hart and an instruction, and a
+    kind."""
     kinds = dict(fences)
     columns = []
     for number, hart in enumerate(harts):
@@ -48,21 +51,24 @@ def text_of(name, locations, harts, condition, fences=()):
 
 
 def joined(atoms):
-    """The condition that all these atoms hold, in the printed form. An atom of n stands in n - 1 parentheses, and as many signs."""
+    """The condition that all these atoms hold, in the printed form. An atom of n stands in n - 1 parentheses, and as
+    many signs."""
     condition = atoms[0]
     for atom in atoms[1:]:
         condition = f"({condition} /\\ {atom})"
     return condition
 
 
-# --- What a test may have ---------------------------------------------------------------------------------------------------
+# --- What a test may have
+# ---------------------------------------------------------------------------------------------------
 
 
 def fullest(accesses=48, rows=INSTRUCTIONS, columns=8, locations=8, depth=64):
-    """Store buffering round a ring of seven harts, in a test that has as much of everything as may be: 8 harts of 32 instructions, 48
-    memory instructions, 8 locations, a condition 64 deep. Each hart of the ring stores to its word, loads a word to which nobody stores
-    four times, and loads the next one's word; the eighth hart only loads. The seven atoms stand in six parentheses, and denials stand
-    around them up to the depth, of which an even number says nothing."""
+    """Store buffering round a ring of seven harts, in a test that has as much of everything as may be: 8 harts of 32
+    instructions, 48 memory instructions, 8 locations, a condition 64 deep. Each hart of the ring stores to its word,
+    loads a word to which nobody stores four times, and loads the next one's word; the eighth hart only loads. The
+    seven atoms stand in six parentheses, and denials stand around them up to the depth, of which an even number says
+    nothing."""
     words = "abcdefghi"[:locations]
     harts = []
     for at in range(7):
@@ -80,8 +86,8 @@ def fullest(accesses=48, rows=INSTRUCTIONS, columns=8, locations=8, depth=64):
 
 
 def widest():
-    """Store buffering with 22 loads of another word between each store and load, which are 48 memory instructions in two harts and so 46
-    slots, the most that there may be."""
+    """Store buffering with 22 loads of another word between each store and load, which are 48 memory instructions in
+    two harts and so 46 slots, the most that there may be."""
     harts = []
     for own, other in ("ab", "ba"):
         hart = Hart(x5=1, x6=own, x7=other, x8="c")
@@ -118,12 +124,14 @@ def fenced(cost, fences):
     return [f"fenced {cost}", *[f"fence P{hart} {at} {kind}" for (hart, at), kind in fences]]
 
 
-# --- How many runs and candidates there may be ------------------------------------------------------------------------------
+# --- How many runs and candidates there may be
+# ------------------------------------------------------------------------------
 
 
 def runs_of(plan):
-    """In how many ways the loads of a plan can go, where each may return one of two words. A plan is read from its end: a number stands
-    for loads that can go in so many ways, whatever follows, and `+` for one way more, past all that follows."""
+    """In how many ways the loads of a plan can go, where each may return one of two words. A plan is read from its
+    end: a number stands for loads that can go in so many ways, whatever follows, and `+` for one way more, past all
+    that follows."""
     count = 1
     for part in reversed(plan.split()):
         count = count + 1 if part == "+" else count * int(part)
@@ -131,8 +139,9 @@ def runs_of(plan):
 
 
 class Loads:
-    """A hart that goes through a plan of loads: of the word at x6, and by `+` of the word at x9. Each number of a plan is one more than a
-    power of two, or two: a load, and where it returns 0, up to two more. Their words go to registers from x12 on."""
+    """A hart that goes through a plan of loads: of the word at x6, and by `+` of the word at x9. Each number of a
+    plan is one more than a power of two, or two: a load, and where it returns 0, up to two more. Their words go to
+    registers from x12 on."""
 
     def __init__(self, hart):
         self.hart = hart
@@ -175,11 +184,12 @@ class Loads:
 
 
 def passed_on(plan, *others):
-    """Message passing: hart 0 stores a message and a flag, and hart 1 loads the flag, goes through a plan of loads of the flag, and loads
-    the message last. Other harts go through plans of their own; each of them loads the flag as 1 wherever it comes first in a part of
-    the plan. The outcome is that hart 1 finds the flag set and misses the message. It takes `w,w` before the second store, for 2, and
-    `r,r` before the last load at the latest, for 3; nothing else in the price list of the examples orders two loads for as little, and of
-    the slots that serve the last one is the answer's, since none comes before each kind in the others. Gives the test and that slot."""
+    """Message passing: hart 0 stores a message and a flag, and hart 1 loads the flag, goes through a plan of loads of
+    the flag, and loads the message last. Other harts go through plans of their own; each of them loads the flag as 1
+    wherever it comes first in a part of the plan. The outcome is that hart 1 finds the flag set and misses the
+    message. It takes `w,w` before the second store, for 2, and `r,r` before the last load at the latest, for 3;
+    nothing else in the price list of the examples orders two loads for as little, and of the slots that serve the
+    last one is the answer's, since none comes before each kind in the others. Gives the test and that slot."""
     sender, receiver = Hart(x5=1, x6="flag", x8="message"), Hart(x6="flag", x8="message")
     sender.add("sw x5,0(x8)", "sw x5,0(x6)")
     loads = Loads(receiver)
@@ -200,8 +210,9 @@ def passed_on(plan, *others):
 
 # 2 and 2 ways of the first and the last load, and 25,000 between them: 100,000 choice lists of hart 1.
 MOST_RUNS = "5 5 5 5 5 2 2 2"
-# 2,000 lists of hart 1 and as many of another hart: 4,000,000 lists of runs. Two locations with one store each have one coherence order,
-# and each word one source: as many candidates. Of these 500 show the outcome, since all loads of the other hart return 1.
+# 2,000 lists of hart 1 and as many of another hart: 4,000,000 lists of runs. Two locations with one store each have
+# one coherence order, and each word one source: as many candidates. Of these 500 show the outcome, since all loads of
+# the other hart return 1.
 MOST_LISTS = ("5 5 5 2 2", "5 5 5 2 2 2 2")
 # 41 and 97,561 choice lists. Their product is 4,000,001.
 FEW = "+ 2 2 2 5"
@@ -209,8 +220,8 @@ MANY = "+ 2 2 2 3 3 5 + 2 3 3 3 5"
 
 
 def one_run_more():
-    """A hart with 100,001 choice lists: another load first, and where it returns 1, nothing follows. Whatever is asked, these are too
-    many."""
+    """A hart with 100,001 choice lists: another load first, and where it returns 1, nothing follows. Whatever is
+    asked, these are too many."""
     hart, storing = Hart(x6="flag", x9="way"), Hart(x5=1, x6="flag", x9="way")
     loads = Loads(hart)
     loads.go("+ 2 2 " + MOST_RUNS)
@@ -220,8 +231,9 @@ def one_run_more():
 
 
 def one_list_more():
-    """41 times 97,561 lists of runs, and fewer candidates. Of the 41 runs of hart 1 the one that ends at once stores no flag, so that with
-    it go only those runs of hart 0 that load no flag set: 3, one for each of its ends. So there are 40 times 97,561 candidates and 3."""
+    """41 times 97,561 lists of runs, and fewer candidates. Of the 41 runs of hart 1 the one that ends at once stores
+    no flag, so that with it go only those runs of hart 0 that load no flag set: 3, one for each of its ends. So there
+    are 40 times 97,561 candidates and 3."""
     many, few, storing = Hart(x6="flag", x9="way"), Hart(x5=1, x6="flag", x9="way"), Hart(x5=1, x9="way")
     loads = Loads(many)
     loads.go(MANY)
@@ -235,13 +247,15 @@ def one_list_more():
 
 
 def one_candidate_more():
-    """40 times 97,561 lists of runs, and 41 times as many candidates: in one of the 40 runs of hart 1 a second store comes to a location,
-    which then has two coherence orders."""
-    many, few, storing = Hart(x6="flag", x9="way"), Hart(x5=1, x6="flag", x7="twice", x9="way"), Hart(x5=1, x6="flag", x7="twice", x9="way")
+    """40 times 97,561 lists of runs, and 41 times as many candidates: in one of the 40 runs of hart 1 a second store
+    comes to a location, which then has two coherence orders."""
+    many = Hart(x6="flag", x9="way")
+    few, storing = [Hart(x5=1, x6="flag", x7="twice", x9="way") for _ in range(2)]
     loads = Loads(many)
     loads.go(MANY)
     loads.end()
-    # where the first load returns 1 there is one run; where it returns 0, one and 3 times 13 less one: 1 + 3 (1 + 3 2 2) is 40
+    # where the first load returns 1 there is one run; where it returns 0, one and 3 times 13 less one: 1 + 3 (1 + 3 2
+    # 2) is 40
     few.add("lw x10,0(x9)", "beq x10,x0,GO", "sw x5,0(x7)", "jal x0,END")
     loads = Loads(few)
     loads.label = "GO: "
@@ -252,18 +266,20 @@ def one_candidate_more():
 
 
 def stores(count):
-    """A hart that stores 1, 2 and so on to one word, which ends at 1. Rule 1 keeps them in order, so no fence is needed where there are
-    others. They have as many coherence orders as there are orders of `count` things, of which one in `count` shows the outcome."""
+    """A hart that stores 1, 2 and so on to one word, which ends at 1. Rule 1 keeps them in order, so no fence is
+    needed where there are others. They have as many coherence orders as there are orders of `count` things, of which
+    one in `count` shows the outcome."""
     hart = Hart(**{f"x{5 + at}": 1 + at for at in range(count)}, x28="a")
     hart.add(*[f"sw x{5 + at},0(x28)" for at in range(count)])
     return Test("stores", ["a"], [hart], "a=1")
 
 
-# --- Files ------------------------------------------------------------------------------------------------------------------
+# --- Files
+# ------------------------------------------------------------------------------------------------------------------
 
 SB_HARTS = "0:x5=1; 0:x6=x; 0:x8=y;\n1:x5=1; 1:x6=y; 1:x8=x;"
-SB = f"RISCV SB\n{{\nx=0; y=0;\n{SB_HARTS}\n}}\nP0 | P1 ;\nsw x5,0(x6) | sw x5,0(x6) ;\nlw x7,0(x8) | lw x7,0(x8) ;\n" \
-    "exists (0:x7=0 /\\ 1:x7=0)\n"
+SB = f"RISCV SB\n{{\nx=0; y=0;\n{SB_HARTS}\n}}\nP0 | P1 ;\nsw x5,0(x6) | sw x5,0(x6) ;\n" \
+    "lw x7,0(x8) | lw x7,0(x8) ;\nexists (0:x7=0 /\\ 1:x7=0)\n"
 SB_ANSWER = ["fenced 18", "fence P0 1 w,r", "fence P1 1 w,r"]
 SB_WITNESS = json.dumps({"choices": [[0], [0]], "order": ["P0:1", "P1:1", "P0:0", "P1:0"]})
 

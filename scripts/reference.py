@@ -1,7 +1,10 @@
-"""A second reader of test files and of witness files, written from docs/FORMAT.md and plain rather than fast. It says which
-fault a file has, so that the program's answers can be held against it."""
-import json
+"""A second reader of test files and of witness files, written from docs/FORMAT.md and plain rather than fast. It says
+which fault a file has, so that the program's answers can be held against it. The table of instructions, names and
+numbers are those of scripts/check_certificate.py."""
 import re
+
+import check_certificate as model                               # of this folder
+from check_certificate import FORMS, RANGES, REGISTERS, is_name, number_of
 
 # The answer of a file that is a test.
 READ = "a test"
@@ -13,28 +16,7 @@ TYPES = ("int", "int32_t", "uint32_t")
 TOKEN = re.compile(r"[A-Za-z0-9_.]+|/\\|\\/|[^ \t\r\n]")
 MARKS = set("{};|,:=()[]~-") | {"/\\", "\\/"}
 
-REGISTERS = {f"x{number}": number for number in range(32)}
-REGISTERS |= {"zero": 0, "ra": 1, "sp": 2, "gp": 3, "tp": 4, "t0": 5, "t1": 6, "t2": 7, "s0": 8, "fp": 8, "s1": 9}
-REGISTERS |= {f"a{number}": number + 10 for number in range(8)}
-REGISTERS |= {f"s{number}": number + 16 for number in range(2, 12)}
-REGISTERS |= {f"t{number}": number + 25 for number in range(3, 7)}
-
-# The operands of each instruction: r is a register, i an immediate, n a shift amount, u the number of `lui`, c a
-# constant, o the offset 0, z the register x0, l a label, f the letters of a fence; other signs stand for themselves.
-SHAPES = {}
-SHAPES |= dict.fromkeys("add sub xor or and sll srl sra slt sltu".split(), ["r,r,r"])
-SHAPES |= dict.fromkeys("addi xori ori andi slti sltiu".split(), ["r,r,i"])
-SHAPES |= dict.fromkeys("slli srli srai".split(), ["r,r,n"])
-SHAPES |= dict.fromkeys("beq bne blt bge bltu bgeu".split(), ["r,r,l"])
-SHAPES |= dict.fromkeys("lw sw".split(), ["r,i(r)"])
-SHAPES |= {"lui": ["r,u"], "li": ["r,c"], "jal": ["z,l"], "fence": ["f,f", ""], "fence.tso": [""]}
-SHAPES |= {"nop": [""], "mv": ["r,r"], "beqz": ["r,l"], "bnez": ["r,l"], "j": ["l"]}
-ATOMICS = [f"amo{name}.w" for name in "swap add xor and or min max minu maxu".split()]
-for suffix in ("", ".aq", ".rl", ".aqrl", ".aq.rl"):
-    SHAPES |= dict.fromkeys([name + suffix for name in ["sc.w"] + ATOMICS], ["r,r,o(r)", "r,r,(r)"])
-    SHAPES["lr.w" + suffix] = ["r,o(r)", "r,(r)"]
 REFUSED = ("lr.w.rl", "sc.w.aq")
-RANGES = {"i": (-2048, 2047), "n": (0, 31), "u": (0, 1048575), "c": (-(2**31), 2**32 - 1), "o": (0, 0)}
 
 
 class Fault(Exception):
@@ -45,19 +27,8 @@ def is_word(token):
     return re.match(r"[A-Za-z0-9_.]", token) is not None
 
 
-def is_name(token):
-    return re.fullmatch(r"[A-Za-z_][A-Za-z0-9_]*", token) is not None
-
-
 def is_number(token):
-    return re.fullmatch(r"[0-9]+|0x[0-9A-Fa-f]+", token) is not None
-
-
-def number_of(token):
-    """The number of a word, or 2^64 where it has too many digits to be in any range."""
-    base, digits = (16, token[2:]) if token.startswith("0x") else (10, token)
-    digits = digits.lstrip("0")
-    return int(digits or "0", base) if len(digits) <= 20 else 2**64
+    return number_of(token) is not None
 
 
 class Tokens:
@@ -195,8 +166,8 @@ def read_operand(tokens, stack, atoms):
 
 
 def read_condition(tokens):
-    """The atoms of the condition, and its depth. The stack has what is open: parentheses, denials, and connectives with
-    the depth of what they join to the left."""
+    """The atoms of the condition, and its depth. The stack has what is open: parentheses, denials, and connectives
+    with the depth of what they join to the left."""
     atoms, stack, deepest = [], [], 0
     while True:
         read_operand(tokens, stack, atoms)
@@ -219,6 +190,8 @@ def read_condition(tokens):
 
 def has_operand(letter, words):
     """Takes an operand off the words. Was there one?"""
+    if letter == "o" and words[:1] == ["("]:
+        return True
     negative = letter in RANGES and words[:1] == ["-"]
     if negative:
         words.pop(0)
@@ -226,7 +199,7 @@ def has_operand(letter, words):
     if letter in RANGES:
         low, high = RANGES[letter]
         return is_number(word) and low <= (-number_of(word) if negative else number_of(word)) <= high
-    if letter == "r":
+    if letter in "dsva":
         return word in REGISTERS
     if letter == "z":
         return REGISTERS.get(word) == 0
@@ -237,13 +210,15 @@ def has_operand(letter, words):
     return word == letter
 
 
-def has_shape(shape, words):
+def has_operands(mnemonic, words):
+    """Are these words the operands of the instruction?"""
     words = list(words)
-    return all(has_operand(letter, words) for letter in shape) and not words
+    is_bare = mnemonic == "fence" and not words
+    return is_bare or all(has_operand(letter, words) for letter in FORMS[mnemonic][0]) and not words
 
 
 class Hart:
-    """What the cells of a hart have: instructions, branches with their lines and labels, and labels with their places."""
+    """What a hart's cells have: instructions, branches with their lines and labels, and labels with their places."""
 
     def __init__(self, faults):
         self.faults = faults
@@ -261,9 +236,9 @@ class Hart:
             return
         if not is_word(words[at]):
             self.faults.append((3, lines[0]))
-        elif words[at] not in SHAPES:
+        elif words[at] not in FORMS:
             self.faults.append((4, lines[at]))
-        elif not any(has_shape(shape, words[at + 1 :]) for shape in SHAPES[words[at]]):
+        elif not has_operands(words[at], words[at + 1 :]):
             self.faults.append((3, lines[0]))
         elif words[at] in REFUSED:
             self.faults.append((5, lines[at]))
@@ -271,7 +246,7 @@ class Hart:
             self.add(words[at], words[-1], lines[at])
 
     def add(self, mnemonic, last, line):
-        if "l" in SHAPES[mnemonic][0]:
+        if "l" in FORMS[mnemonic][0]:
             self.branches.append((line, self.instructions, last))
         self.accesses += mnemonic in ("lw", "sw") or ".w" in mnemonic
         self.instructions += 1
@@ -388,36 +363,10 @@ def fault_of(data):
     return READ
 
 
-OPERATION = re.compile(r"P(0|[1-9][0-9]*):(0|[1-9][0-9]*)")
-
-
-def is_choice(value):
-    """Is the value a word, or an sc.w's success or failure?"""
-    return isinstance(value, bool) or isinstance(value, int) and 0 <= value < 2**32
-
-
-def is_operation(value):
-    return isinstance(value, str) and OPERATION.fullmatch(value) is not None
-
-
-def refuse_number(text):
-    raise ValueError(text)
-
-
-def integer(text):
-    """A number that JSON writes as an integer. `-0` is none."""
-    return int(text) if text != "-0" else refuse_number(text)
-
-
 def is_witness(data, harts):
     """Are the bytes a witness for so many harts? Where a key stands twice, the last one counts."""
     try:
-        value = json.loads(data.decode("utf-8"), parse_int=integer, parse_float=refuse_number, parse_constant=refuse_number)
+        value = model.json_of(data)
     except (ValueError, RecursionError):
         return False
-    if not isinstance(value, dict) or set(value) != {"choices", "order"}:
-        return False
-    lists, names = value["choices"], value["order"]
-    if not isinstance(lists, list) or not isinstance(names, list) or len(lists) != harts:
-        return False
-    return all(isinstance(choices, list) and all(map(is_choice, choices)) for choices in lists) and all(map(is_operation, names))
+    return model.is_witness(value) and len(value["choices"]) == harts

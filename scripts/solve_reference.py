@@ -3,15 +3,16 @@
 
     scripts/solve_reference.py TEST PRICES [--listing]
 
-It is written from docs/MODEL.md and docs/FORMAT.md alone and shares no code with the program. Tests, prices, runs, rules and
-candidates are those of scripts/check_certificate.py. The way to the answer is another one than the program's: it has no tree.
+It is written from docs/MODEL.md and docs/FORMAT.md alone and shares no code with the program. Tests, prices, runs,
+rules and candidates are those of scripts/check_certificate.py. The way to the answer is another one than the
+program's: it has no tree.
 
-It prints what `rvfence solve` is to print: `fenced`, the cost and a line for each fence, status 0; or `none` and an execution
-that shows the outcome with `rw,rw` in every slot, status 1. Where the program may print any such execution, this is one. Of
-the faults it knows F13, F14 and F15; it takes it that `rvfence place` accepts the test and the prices.
+It prints what `rvfence solve` is to print: `fenced`, the cost and a line for each fence, status 0; or `none` and an
+execution that shows the outcome with `rw,rw` in every slot, status 1. Where the program may print any such execution,
+this is one. Of the faults it knows F13, F14 and F15; it takes it that `rvfence place` accepts the test and the prices.
 
-With `--listing` it judges all placements one by one, the best first, until one forbids the outcome. That is slow and plain,
-and there to be compared with.
+With `--listing` it judges all placements one by one, the best first, until one forbids the outcome. That is slow and
+plain, and there to be compared with.
 """
 
 import collections
@@ -32,35 +33,13 @@ class Fault(Exception):
     """Why there is no answer, as the line that is printed."""
 
 
-# --- Faults of a test's runs and candidates (MODEL 11 and 15) --------------------------------------------------------------
-
-class PlacedRun(model.Run):
-    """A run that says where it went astray."""
-
-    def execute(self, position):
-        try:
-            return super().execute(position)
-        except model.GoesAstray as astray:
-            astray.position = position
-            raise
-
-
-def ends_over(test, hart, words, choices=()):
-    """How each choice list over these words ends, in the lists' order: None, or the position where it goes astray."""
-    try:
-        PlacedRun(test, hart, choices)
-        yield None
-    except model.GoesAstray as astray:
-        yield astray.position
-    except model.ChoicesEnd as end:
-        for choice in end.results or sorted(words[end.address]):
-            yield from ends_over(test, hart, words, choices + (choice,))
-
+# --- Faults of a test's runs and candidates (MODEL 11 and 15) ----------------------------------------------------
 
 def refuse_runs(test, words):
-    """Raises the first fault of a hart whose loads take these words."""
+    """Raises the first fault of a hart whose loads take these words. Of the runs no more is kept than where they end."""
     for hart in range(len(test.code)):
-        ends = list(itertools.islice(ends_over(test, hart, words), MOST_RUNS + 1))
+        ends = [end.position if isinstance(end, model.GoesAstray) else None
+                for end in itertools.islice(model.ends_over(test, hart, words), MOST_RUNS + 1)]
         if len(ends) > MOST_RUNS:
             raise Fault('fault F13 TooManyTraces')
         for position in ends:
@@ -68,30 +47,27 @@ def refuse_runs(test, words):
                 raise Fault('fault F14 Astray P%d:%d' % (hart, position))
 
 
+def runs_over(test, words):
+    """Of each hart all its runs over these sets, or a fault."""
+    refuse_runs(test, words)
+    return model.all_runs_over(test, words)
+
+
 def sets_of(test):
-    """The value sets, round by round; a fault that a round meets is raised before the next round."""
-    sets = {address: {word} for address, word in test.words.items()}
+    """The value sets; a fault that a round meets is raised before the next round."""
+    sets = model.value_sets(test, runs_over)
     refuse_runs(test, sets)
-    for _ in range(sum(instruction.form in ('store', 'sc', 'amo') for code in test.code for instruction in code)):
-        wider = {address: set(words) for address, words in sets.items()}
-        for runs in model.all_runs_over(test, sets):
-            for step in itertools.chain.from_iterable(run.steps for run in runs):
-                if step.stored is not None:
-                    wider[step.address].add(step.stored)
-        if wider == sets:
-            break
-        sets = wider
-        refuse_runs(test, sets)
     return sets
 
 
 def accesses_of(run):
     """Of each access of a run its address and its loaded and stored words, in no order."""
-    return tuple(sorted(((step.address, step.loaded, step.stored) for step in run.steps if step.address is not None), key=str))
+    accesses = [(step.address, step.loaded, step.stored) for step in run.steps if step.address is not None]
+    return tuple(sorted(accesses, key=str))
 
 
 def raw_candidates(test, accesses):
-    """How many raw candidates have runs with these accesses: sources of each load, times orders of each word's stores."""
+    """How many raw candidates these accesses give: the sources of each load times the orders of each word's stores."""
     stores = collections.Counter()
     for address, _, stored in accesses:
         if stored is not None:
@@ -119,7 +95,7 @@ def count_candidates(test, all_runs, most=MOST_CANDIDATES):
     return count
 
 
-# --- Relations as rows of bits ---------------------------------------------------------------------------------------------
+# --- Relations as rows of bits -----------------------------------------------------------------------------------
 
 def joined(rows, others):
     return [row | other for row, other in zip(rows, others)]
@@ -147,19 +123,20 @@ def order_of(rows):
 
 
 def rows_where(operations, is_edge):
-    """A row for each of these operations, counted from 0. No edge enters an initial store, so these are on no cycle."""
+    """A row for each of these operations, counted from 0. No edge enters an initial store: these are on no cycle."""
     return [sum(1 << at for at, b in enumerate(operations) if b is not a and is_edge(a, b)) for a in operations]
 
 
-# --- What a placement must break ---------------------------------------------------------------------------------------------
+# --- What a placement must break ---------------------------------------------------------------------------------
 
 SOURCE_RULES = (2, 3, 12)       # those that look at sources; of rule 4 the written fences alone are meant here
 OTHER_RULES = (1, 4, 5, 6, 7, 8, 9, 10, 11, 13)
 
 
 class Fences:
-    """What the runs alone decide: the edges of the rules that look at no source, and those of a fence at each slot. Both are
-    within a hart, so they are worked out once for each run; `known` has them, with the hart's operations counted from 0."""
+    """What the runs alone decide: the edges of the rules that look at no source, and those of a fence at each slot.
+    Both are within a hart, so they are worked out once for each run; `known` has them, with the hart's operations
+    counted from 0."""
 
     def __init__(self, operations, slots, known):
         size = len(operations.of_harts)
@@ -213,7 +190,7 @@ class Live:
         return not has_cycle(self.under(placement))
 
     def kept(self, placement):
-        """At each slot pairs that fences may have all at once, those of the placement included, and leave it without a cycle."""
+        """At each slot pairs that fences may have all at once without a cycle, those of the placement included."""
         rows = self.under(placement)
         kept = [set(model.PAIRS[kind]) if kind is not None else set() for kind in placement]
         for at, pairs in enumerate(kept):
@@ -277,7 +254,7 @@ class Problem:
         return self.prices.cost(self.slots, placement)
 
 
-# --- The answer by breaking one execution after the other ----------------------------------------------------------------
+# --- The answer by breaking one execution after the other --------------------------------------------------------
 
 class Breaks:
     """Which placements break all of some executions: for each execution the slots and kinds that break it."""
@@ -289,7 +266,7 @@ class Breaks:
         self.best = None
 
     def add(self, kept):
-        """An execution that stands fences with all the pairs kept at each slot, and breaks where a kind has another pair."""
+        """An execution that stands fences with the pairs kept at each slot, and breaks where a kind has another."""
         self.executions.append([{kind for kind in self.options if kind is not None and not model.PAIRS[kind] <= pairs}
                                 for pairs in kept])
 
@@ -300,8 +277,8 @@ class Breaks:
         return self.best
 
     def visit(self, chosen, cost, left):
-        """Goes on from these decisions for the first slots, which leave these executions unbroken. What is visited later is
-        later in precedence too, so only what is cheaper replaces the best."""
+        """Goes on from these decisions for the first slots, which leave these executions unbroken. What is visited
+        later is later in precedence too, so only what is cheaper replaces the best."""
         least = self.least(len(chosen), left)
         if least is None or self.best is not None and cost + least >= self.best[0]:
             return
@@ -313,8 +290,9 @@ class Breaks:
             self.visit(chosen + (option,), cost + self.problem.price(len(chosen), option), rest)
 
     def useful(self, at, left):
-        """The options at a slot. One is left out where another breaks as much, and costs less or as much and is earlier."""
-        broken = {option: {number for number, breaks in enumerate(left) if option in breaks[at]} for option in self.options}
+        """The options at a slot, but for each that another, which costs less or is earlier at its price, outdoes."""
+        broken = {option: {number for number, breaks in enumerate(left) if option in breaks[at]}
+                  for option in self.options}
 
         def is_better(number, other):
             rank = (self.problem.price(at, self.options[number]), number)
@@ -325,8 +303,8 @@ class Breaks:
         return [self.options[other] for other in numbers if not any(is_better(number, other) for number in numbers)]
 
     def least(self, start, left):
-        """A cost that it takes at least to break these executions at slots from this number on; None where that can't be.
-        Executions that are broken at different slots are paid for each."""
+        """A cost that it takes at least to break these executions at slots from this number on; None where that can't
+        be. Executions that are broken at different slots are paid for each."""
         found = 0
         taken = set()
         for breaks in left:
@@ -340,9 +318,9 @@ class Breaks:
 
 
 def solved(problem):
-    """The first cheapest placement that forbids the outcome; or None. Each round takes the best placement that breaks all
-    executions known so far. Where it leaves a candidate without a cycle that is an execution more to break; else it forbids
-    the outcome, and nothing better does, since that would leave one of the known executions."""
+    """The first cheapest placement that forbids the outcome; or None. Each round takes the best placement that breaks
+    all executions known so far. Where it leaves a candidate without a cycle that is an execution more to break; else
+    it forbids the outcome, and nothing better does, since that would leave one of the known executions."""
     breaks = Breaks(problem)
     while True:
         found = breaks.cheapest()
@@ -354,10 +332,10 @@ def solved(problem):
         breaks.add(live.kept(found[1]))
 
 
-# --- The answer by listing -----------------------------------------------------------------------------------------------
+# --- The answer by listing ---------------------------------------------------------------------------------------
 
 def by_cost(problem):
-    """All placements, each made when it is asked for: the cheapest first, and of one cost in their order of precedence."""
+    """All placements, each made when it is asked for: the cheapest first, those of one cost by precedence."""
     costs = [{0}]                   # what the last slots together may cost, for more and more of them
     options = [None] + problem.prices.offered
     for at in reversed(range(len(problem.slots))):
@@ -386,15 +364,14 @@ def listed(problem):
     return None
 
 
-# --- The command ---------------------------------------------------------------------------------------------------------
+# --- The command -------------------------------------------------------------------------------------------------
 
 def lines_of(problem, placement):
     """What is printed of an answer."""
     if placement is None:
         full = ('rw,rw',) * len(problem.slots)
         return ['none', json.dumps(problem.survivor(full).witness(full), separators=(',', ':'))]
-    filled = ['fence P%d %d %s' % (slot + (kind,)) for slot, kind in zip(problem.slots, placement) if kind is not None]
-    return ['fenced %d' % problem.cost(placement)] + filled
+    return ['fenced %d' % problem.cost(placement)] + model.fence_lines(problem.slots, placement)
 
 
 def answer(test, prices, method=solved):

@@ -1,0 +1,193 @@
+"""Tests that the checks make: random ones with prices, by a number, which makes the same test and the same prices
+each time; and tests of one cell again and again.
+
+The random tests are small: one to four harts, stores, loads, AMOs, LR/SC, dependencies, branches, fences and
+annotations. Most conditions are on final states that fences rule out."""
+import itertools
+import json
+import random
+
+import check_certificate as model                               # of this folder
+import solve_reference as reference
+from running import EXAMPLES, PRICE_LISTS, read
+
+LOCATIONS = {'x6': 'x', 'x8': 'y', 'x10': 'z'}                 # which register has whose address
+WORDS = {'x5': 1, 'x7': 2}
+ANNOTATIONS = [''] * 4 + ['.aq', '.rl', '.aqrl']
+FENCES = ['fence %s' % kind for kind in model.KINDS if kind != 'tso'] + ['fence.tso', 'fence']
+MOST_CANDIDATES = 300
+MOST_PLACEMENTS = 20000
+
+
+class Code:
+    """The code of a hart in the making."""
+
+    def __init__(self, chance, locations):
+        self.chance = chance
+        self.addresses = sorted(LOCATIONS)[:locations]
+        self.cells = []
+        self.accesses = 0
+        self.loaded = []                # the registers that loads have written
+
+    def fresh(self):
+        """A register that nothing has written."""
+        return 'x%d' % (11 + len(self.cells))
+
+    def add(self, cell, accesses=0):
+        self.cells.append(cell)
+        self.accesses += accesses
+
+    def data(self):
+        """A register to store: a word, or what was loaded."""
+        return self.chance.choice(list(WORDS) + self.loaded + ['x0'])
+
+    def address(self):
+        """A register with an address, now and then by a dependency on what was loaded, or what was loaded itself."""
+        base = self.chance.choice(self.addresses)
+        if not self.loaded or self.chance.random() < 0.75:
+            return base
+        if self.chance.random() < 0.1:
+            return self.chance.choice(self.loaded)
+        zero = self.fresh()
+        self.add('xor %s,%s,%s' % ((zero,) + (self.chance.choice(self.loaded),) * 2))
+        address = self.fresh()
+        self.add('add %s,%s,%s' % (address, zero, base))
+        return address
+
+    def load(self):
+        address = self.address()
+        register = self.fresh()
+        self.add('lw %s,0(%s)' % (register, address), 1)
+        self.loaded.append(register)
+
+    def store(self):
+        address = self.address()
+        self.add('sw %s,0(%s)' % (self.data(), address), 1)
+
+    def amo(self):
+        address = self.address()
+        register = self.fresh()
+        name = self.chance.choice(['amoswap.w', 'amoswap.w', 'amoadd.w', 'amoor.w', 'amomaxu.w'])
+        self.add('%s%s %s,%s,(%s)' % (name, self.chance.choice(ANNOTATIONS), register, self.data(), address), 1)
+        self.loaded.append(register)
+
+    def pair(self):
+        """lr.w and sc.w, with a look between now and then."""
+        address = self.address()
+        register = self.fresh()
+        self.add('lr.w%s %s,(%s)' % (self.chance.choice(['', '', '.aq', '.aqrl']), register, address), 1)
+        self.loaded.append(register)
+        if self.chance.random() < 0.3:
+            self.branch()
+        result = self.fresh()
+        self.add('sc.w%s %s,%s,(%s)' % (self.chance.choice(['', '', '.rl', '.aqrl']), result, self.data(), address), 1)
+        self.loaded.append(result)
+
+    def branch(self):
+        if self.loaded:
+            name = self.chance.choice(['beq', 'bne'])
+            self.add('%s %s,%s,OUT' % (name, self.chance.choice(self.loaded), self.chance.choice(['x0', 'x5'])))
+
+    def fence(self):
+        self.add(self.chance.choice(FENCES))
+
+    def make(self, accesses):
+        kinds = [self.load] * 5 + [self.store] * 5 + [self.amo] * 2 + [self.pair, self.branch, self.fence]
+        while self.accesses < accesses and len(self.cells) < 12:
+            self.chance.choice(kinds)()
+        return self.cells + ['OUT:']
+
+
+class Maker:
+    """Makes the test and the prices of a number."""
+
+    def __init__(self, number):
+        self.chance = random.Random('solve %d' % number)
+        self.number = number
+
+    def codes(self):
+        harts = self.chance.choice([1, 2, 2, 2, 2, 2, 3, 3, 4])
+        locations = self.chance.choice([1, 2, 2, 2, 3])
+        most = {1: 5, 2: 4, 3: 3, 4: 2}[harts]
+        return [Code(self.chance, locations).make(self.chance.randint(min(2, most), most)) for _ in range(harts)]
+
+    def text(self, codes, condition):
+        """The test as a file has it."""
+        entries = ['%d:%s=%s;' % (hart, register, value) for hart in range(len(codes))
+                   for register, value in sorted(LOCATIONS.items()) + sorted(WORDS.items())]
+        words = self.words
+        rows = itertools.zip_longest(*codes, fillvalue='')
+        return '\n'.join(['RISCV made%d' % self.number, '{', *entries, *words, '}',
+                          ' | '.join('P%d' % hart for hart in range(len(codes))) + ' ;',
+                          *[' | '.join(row) + ' ;' for row in rows], condition]) + '\n'
+
+    def condition(self, states):
+        """A condition that is true of one or two of these final states."""
+        chosen = self.chance.sample(states, min(len(states), self.chance.choice([1, 1, 1, 2])))
+        text = ' \\/ '.join('(%s)' % (' /\\ '.join(state) or 'true') for state in chosen) or 'false'
+        return self.chance.choice(['exists (%s)', 'exists (%s)', '~exists (%s)', 'forall (~(%s))']) % text
+
+    def prices(self, slots):
+        """One of the lists of examples/ as it is, or made."""
+        if self.chance.random() < 0.4:
+            return json.loads(read(f"{EXAMPLES}/{self.chance.choice(PRICE_LISTS)}"))
+        most = self.chance.choice([2, 4, 12])
+        offered = self.chance.sample(model.KINDS, self.chance.randint(1, 6))
+        prices = {kind: self.chance.randint(1, most) for kind in sorted({*offered, 'rw,rw'})}
+        if self.chance.random() < 0.5:
+            prices['weights'] = {'P%d:%d' % slot: self.chance.randint(0, 3) for slot in slots
+                                 if self.chance.random() < 0.5}
+        return {key: prices[key] for key in sorted(prices)}
+
+    def make(self):
+        """The bytes of a test and of prices. Most tests have final states that are there without fences and not with
+        all."""
+        tries = self.chance.choice([1, 20, 20, 20])
+        while True:
+            codes = self.codes()
+            self.words = ['%s=%s;' % (name, self.chance.choice([0] * 6 + [1, 2, 'z'])) for name in LOCATIONS.values()]
+            test = model.test_of(self.text(codes, 'exists (true)').encode())
+            data = json.dumps(self.prices(test.slots())).encode()
+            prices = model.prices_of(data)
+            if (1 + len(prices.offered)) ** len(test.slots()) > MOST_PLACEMENTS:
+                continue
+            try:
+                reference.count_candidates(test, model.all_runs_over(test, reference.sets_of(test)), MOST_CANDIDATES)
+                states = self.states(test, prices)
+            except reference.Fault as fault:
+                if str(fault).startswith('fault F14') and self.chance.random() < 0.1:
+                    return self.text(codes, 'exists (true)').encode(), data
+                continue
+            tries -= 1
+            if states or tries <= 0:
+                if not states or self.chance.random() < 0.15:
+                    states = sorted({state_of(candidate) for candidate in model.candidates(test)})
+                return self.text(codes, self.condition(states)).encode(), data
+
+    @staticmethod
+    def states(test, prices):
+        """The final states that are there without fences and not with all fences, in one order."""
+        problem = reference.Problem(test, prices)
+        fences = ('rw,rw',) * len(problem.slots)
+        with_all = {state_of(live.candidate) for live in problem.live if live.survives(fences)}
+        return sorted({state_of(live.candidate) for live in problem.live} - with_all)
+
+
+def state_of(candidate):
+    """The words at the end, as atoms: of registers that come from memory, and of locations."""
+    operations, place = candidate.operations, candidate.place
+    from_memory = [(hart, instruction.rd) for hart, code in enumerate(operations.test.code)
+                   for instruction in code if instruction.is_memory() and instruction.rd]
+    atoms = ['%d:x%d=%d' % (hart, register, operations.runs[hart].registers[register])
+             for hart, register in from_memory]
+    for name, address in operations.test.addresses.items():
+        stores = [operations.initial[address]] + operations.stores_to(address)
+        atoms.append('%s=%d' % (name, max(stores, key=lambda store: place[store.number]).stored))
+    return tuple(atoms)
+
+
+def repeated(first, firsts, second, seconds, condition):
+    """A test of two harts, each with a cell so many times. x6 is x, x5 is 1 and x7 is 0."""
+    cells = itertools.zip_longest([first] * firsts, [second] * seconds, fillvalue="")
+    rows = "".join(f"{' | '.join(row)} ;\n" for row in cells)
+    return f"RISCV repeated\n{{ 0:x5=1; 0:x6=x; 1:x5=1; 1:x6=x; }}\nP0 | P1 ;\n{rows}exists ({condition})\n"

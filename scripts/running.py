@@ -1,0 +1,98 @@
+"""Runs the program, and other commands, for the checks from outside and the benches: with a time limit, standard
+input, files and limits on what a run may use, and many side by side."""
+import collections
+import concurrent.futures
+import functools
+import os
+import resource
+import subprocess
+import sys
+
+TOP = os.path.dirname(os.path.dirname(os.path.realpath(__file__)))
+EXAMPLES = f"{TOP}/examples"
+PRICES = f"{EXAMPLES}/prices.json"
+PRICE_LISTS = ["prices.json", "prices-linux.json", "prices-all.json"]
+LONGEST = 60                        # seconds that a run may take
+NO_END = 124                        # the status of a run that took longer, as of `timeout`
+
+# What a run prints on its outputs, as text, and its status, which is negative where a signal ended it. Bytes that
+# aren't UTF-8 are kept.
+Said = collections.namedtuple("Said", "out err status")
+
+
+@functools.cache
+def program():
+    """The program's path, which scripts/program prints. It is proved and built first where it has to be; where it
+    can't be, this run ends with that script's status."""
+    found = subprocess.run([f"{TOP}/scripts/program"], stdout=subprocess.PIPE, text=True, check=False)
+    if found.returncode:
+        sys.exit(found.returncode)
+    return os.path.realpath(found.stdout.strip())
+
+
+def ran(command, stdin=None, timeout=LONGEST, limits=None, **options):
+    """What a run of this command says. Standard input is text, bytes, a file, or empty; `limits` has what the run may
+    use, by the resource, as `{resource.RLIMIT_AS: 400_000_000}`; all else is for `subprocess.run`."""
+    if isinstance(stdin, (str, bytes)):
+        options["input"] = stdin if isinstance(stdin, bytes) else encoded(stdin)
+    else:
+        options["stdin"] = subprocess.DEVNULL if stdin is None else stdin
+    if limits:
+        options["preexec_fn"] = functools.partial(limit, limits)
+    options = {"stdout": subprocess.PIPE, "stderr": subprocess.PIPE, **options}
+    try:
+        done = subprocess.run(command, timeout=timeout, check=False, **options)
+    except subprocess.TimeoutExpired:
+        return Said("", f"no end in {timeout} seconds", NO_END)
+    return Said(decoded(done.stdout), decoded(done.stderr), done.returncode)
+
+
+def rvfence(*words, **options):
+    """What a run of the program with these words says."""
+    return ran([program(), *words], **options)
+
+
+def limit(limits):
+    """Limits what this process may use."""
+    for which, most in limits.items():
+        resource.setrlimit(which, (most, most))
+
+
+def encoded(text):
+    return text.encode("utf-8", "surrogateescape")
+
+
+def decoded(data):
+    return (data or b"").decode("utf-8", "surrogateescape")
+
+
+def side_by_side(function, items, workers=None):
+    """What the function gives of each item, in their order; it is called as many at once as there are processors."""
+    with concurrent.futures.ThreadPoolExecutor(workers or os.cpu_count()) as pool:
+        return list(pool.map(function, items))
+
+
+def read(path):
+    """The bytes of a file."""
+    with open(path, "rb") as file:
+        return file.read()
+
+
+def written(path, data):
+    """Writes bytes or text to a file, and gives its path."""
+    with open(path, "wb") as file:
+        file.write(data if isinstance(data, bytes) else encoded(data))
+    return path
+
+
+def tests_of_examples():
+    """The paths of the tests below examples/, those known by name before the idioms."""
+    folders = [EXAMPLES, f"{EXAMPLES}/idioms"]
+    paths = [f"{folder}/{name}" for folder in folders for name in sorted(os.listdir(folder))]
+    return [path for path in paths if path.endswith(".litmus")]
+
+
+def stored_answers():
+    """The transcripts of examples/answers/solve.transcripts, without their commands, by test and price list."""
+    blocks = decoded(read(f"{EXAMPLES}/answers/solve.transcripts")).strip("\n").split("\n\n")
+    return {tuple(command.split()[3:]): rest for command, rest in (block.split("\n", 1) for block in blocks)}

@@ -1,0 +1,44 @@
+# What the transcripts of this folder call beside `rvfence`, in a folder that has examples/ and the files of files/.
+
+# The test of so many harts with these rows, the first of which is line 4.
+rows() {
+    local columns='P0 | P1 | P2'
+    printf 'RISCV T\n{ }\n%s ;\n%s\nexists true\n' "${columns:0:$((5 * $1 - 3))}" "$2"
+}
+
+# How an instruction is printed.
+cell() { rvfence place <(rows 1 "$1 ;") 2>&1 | sed -n 5p; }
+
+# A witness of these choices and this order.
+witness() { echo "{\"choices\":$1,\"order\":$2}"; }
+
+# The kinds that a price list offers, each with the cost of one fence.
+offered() {
+    local kind
+    for kind in r,r r,w r,rw w,r w,w w,rw rw,r rw,w rw,rw tso; do
+        rvfence place examples/SB.litmus "P0:2=$kind" --prices "$1" 2>&1 | sed -n "s/^(\* cost \(.*\) \*)$/$kind \1/p"
+    done | paste -sd ' '
+}
+
+# What `solve` prints first for the test of two harts with these cells, an init block and a condition. Each hart has
+# the addresses of x in x6, of y in x8 and of z in x11, and 1 in x10.
+grounded() {
+    local at first second init='x6=x; H:x8=y; H:x11=z; H:x10=1; '
+    IFS=';' read -r -a first <<<"$1"
+    IFS=';' read -r -a second <<<"$2"
+    rvfence solve <(
+        printf 'RISCV grounded\n{ 0:%s1:%s%s}\nP0 | P1 ;\n' "${init//H/0}" "${init//H/1}" "$3"
+        for at in 0 1 2 3; do
+            echo "${first[at]} | ${second[at]} ;"
+        done
+        echo "exists ($4)"
+    ) examples/prices.json 2>&1 | head -n 1
+}
+
+# Message passing with a line below the first that fills it up to this many bytes.
+filled() {
+    sed -n 1p examples/MP.litmus
+    head -c $(($1 - $(wc -c <examples/MP.litmus) - 1)) /dev/zero | tr '\0' d
+    echo
+    sed 1d examples/MP.litmus
+}
