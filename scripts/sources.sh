@@ -7,7 +7,7 @@ unfinished=$own.unfinished # stands from the start of a build until it has ended
 own_sum=$own.sum # the sum of the sources that it was built from, where that is known
 released=$top/bin/rvfence-x86_64-linux # comes with the repository
 release_note=$released.txt # the sum of the sources that it was built from, its own, and the toolchain's line
-current=$out/current.$HOSTNAME # names the program that the sources call for, as they were when this file was as old as it is
+current=$out/current.$HOSTNAME # names the program that the sources call for, as they were when this file was as old as it is, and its crates
 start=$out/start.$$ # as old as the moment when the choice of a program began
 
 declare -A needs=() lines=() below=()
@@ -105,7 +105,7 @@ is_released() {
 # Notes that the sources call for this program, as they were when the choice began.
 remember() {
     local program=$1
-    echo "${program#"$top/"}" >"$current.$$" && touch -r "$start" -- "$current.$$" && mv -f -- "$current.$$" "$current"
+    printf '%s\n' "${program#"$top/"}" "${order[*]}" >"$current.$$" && touch -r "$start" -- "$current.$$" && mv -f -- "$current.$$" "$current"
     rm -f -- "$out"/start.* "$current.$$" # with those that a killed run left
 } 2>/dev/null
 
