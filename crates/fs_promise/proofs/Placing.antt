@@ -15,7 +15,7 @@ use Rattle.fs_model.specs.Test.{IsBounded}
 use Rattle.fs_model.proofs.Rising.{rising-slots_from}
 use Rattle.fs_model.proofs.SlotLists.{same_slot, same_slot-refl}
 use Rattle.fs_answer.specs.Certificate.{fence_words, words_at}
-use Rattle.fs_promise.proofs.Worded.{same_fence, small_slots}
+use Rattle.fs_checker.proofs.Words.{same_fence, small_slots}
 use Rattle.fs_promise.proofs.SamePrices.{AreSlots}
 use Rattle.fs_promise.specs.Agreement.{Place}
 

@@ -25,7 +25,7 @@ use Rattle.fs_answer.specs.Certificate.{fence_words}
 use Rattle.fs_answer.specs.Texts.{fence_line, fenced_lines, none_lines, witness_text}
 use Rattle.fs_answer.specs.WitnessFile.{IsWitnessFile}
 use Rattle.fs_answer.proofs.Once.{file-once}
-use Rattle.fs_promise.proofs.Worded.{small_slots}
+use Rattle.fs_checker.proofs.Words.{small_slots}
 use Rattle.fs_promise.specs.Agreement.{Place}
 use Rattle.fs_promise.specs.Lines.{SayOneAnswer}
 use Rattle.fs_promise.proofs.Placing.{fences_at, fences_of, words_are, words_place, one_placement}

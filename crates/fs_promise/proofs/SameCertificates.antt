@@ -17,7 +17,7 @@ use Rattle.fs_answer.specs.Parts.{Part, Decision, undecided, floor, decide, opti
 use Rattle.fs_answer.specs.Pruning.{breaks, breaking_ways, breaking_at, is_empty, is_breakable, least, least_break, share_a_slot, are_apart, sum_of, lower_bound, is_no_better, is_pruned}
 use Rattle.fs_answer.specs.Valid.{is_costly, Covers, IsValid}
 use Rattle.fs_answer.specs.Widths.{Width, width}
-use Rattle.fs_promise.proofs.Worded.{small_slots}
+use Rattle.fs_checker.proofs.Words.{small_slots}
 use Rattle.fs_promise.proofs.SamePrices.{Agree, AreSlots, entry_same, cost_same, offered_same, same_placement, same_costs}
 
 -- ---- the slots of parts have numbers of one byte

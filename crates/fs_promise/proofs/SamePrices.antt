@@ -13,7 +13,7 @@ use Rattle.fs_model.specs.declared.test.Test.{Test}
 use Rattle.fs_model.specs.Slots.{slots}
 use Rattle.fs_model.specs.Test.{IsBounded}
 use Rattle.fs_model.specs.Allows.{IsPlacement}
-use Rattle.fs_promise.proofs.Worded.{small_slots}
+use Rattle.fs_checker.proofs.Words.{small_slots}
 use Rattle.fs_place.specs.Place.{ArePricesOf}
 
 -- the same price for each kind, and the same weight for each slot
