@@ -25,24 +25,16 @@ use std::sync::{Arc, Wait};
 use std::thread;
 use std::thread::Threads;
 
-/// How many workers begin a search. The others join where it is long: few searches are, and before a placement is known
-/// much of what they would look at is closed later by what the first ones find.
-const FIRST_WORKERS: u8 = 2;
-
-/// How many nodes each of the first workers is done with before the others join.
-const FIRST_NODES: usize = 50_000;
-
 /// Where more candidates than this show the outcome, one worker searches alone: then nearly all the time goes into verdicts
 /// on all of them, and most of those that a second worker would come to are of no use once the first one has its own.
 const MOST_CANDIDATES: usize = 10_000;
 
-/// Passes and hands side by side, each pair with the number of nodes that the worker may be done with.
+/// Passes and hands side by side.
 fn side_by_side<A: Asked>(
     alloc: Global,
     passes: Vec<Pass<A>>,
     hands: Vec<Hand>,
-    nodes: usize,
-) -> Result<Vec<(Pass<A>, Hand, usize)>, AllocError> {
+) -> Result<Vec<(Pass<A>, Hand)>, AllocError> {
     let mut passes = passes;
     let mut hands = hands;
     let mut jobs = Vec::new(alloc);
@@ -50,75 +42,15 @@ fn side_by_side<A: Asked>(
         let Some(hand) = hands.pop() else {
             break;
         };
-        jobs.push((pass, hand, nodes))?;
+        jobs.push((pass, hand))?;
     }
     Ok(jobs)
 }
 
-/// Each pass goes with a hand to a thread of its own, works there, and comes back, with whether it could go on. Where no
-/// thread can be made they work one after the other.
-fn work_all<A: Asked + Send + Sync, R: Threads + Wait + Sync, G: Gate + Sync>(
-    rt: &R,
-    alloc: Global,
-    desk: &Desk<A>,
-    gate: &G,
-    problem: &Arc<Problem>,
-    jobs: Vec<(Pass<A>, Hand, usize)>,
-) -> Result<Vec<(Pass<A>, bool)>, AllocError>
-    requires { arc_value problem.now ≡ A.question }
-{
-    thread::map_vec(
-        rt,
-        jobs,
-        &|job: (Pass<A>, Hand, usize)| {
-            let (pass, hand, nodes) = job;
-            let place = Workplace {
-                rt,
-                alloc,
-                desk,
-                gate,
-            };
-            place.work(pass, hand, nodes, problem)
-        },
-    )
-}
-
-/// Takes the passes of the first workers off the others.
-fn split_first<A: Asked>(
-    alloc: Global,
-    passes: Vec<Pass<A>>,
-) -> Result<(Vec<Pass<A>>, Vec<Pass<A>>), AllocError> {
-    let mut first = passes;
-    let mut others = Vec::new(alloc);
-    while first.len() > usize::from(FIRST_WORKERS) {
-        let Some(pass) = first.pop() else {
-            break;
-        };
-        others.push(pass)?;
-    }
-    Ok((first, others))
-}
-
-/// Puts the passes that came back to the others. True where a worker could go on.
-fn join_first<A: Asked>(
-    came: Vec<(Pass<A>, bool)>,
-    others: &mut Vec<Pass<A>>,
-) -> Result<bool, AllocError> {
-    let mut came = came;
-    let mut goes_on = false;
-    while let Some((pass, could)) = came.pop() {
-        goes_on = goes_on || could;
-        others.push(pass)?;
-    }
-    Ok(goes_on)
-}
-
-/// The first workers search, and where that is long and there are more of them, all do.
-fn work_by_stages<A: Asked + Send + Sync, R: Threads + Wait + Sync, G: Gate + Sync>(
-    rt: &R,
-    alloc: Global,
-    desk: &Desk<A>,
-    gate: &G,
+/// Each pass goes with a hand to a thread of its own, works there until there is nothing to do, and comes back. Where no thread can be
+/// made they work one after the other.
+fn work_together<A: Asked + Send + Sync, R: Threads + Wait + Sync, G: Gate + Sync>(
+    place: &Workplace<'_, A, R, G>,
     problem: &Arc<Problem>,
     passes: Vec<Pass<A>>,
     workers: u8,
@@ -127,24 +59,59 @@ fn work_by_stages<A: Asked + Send + Sync, R: Threads + Wait + Sync, G: Gate + Sy
     requires some { 1 ≤ workers }
     ensures { IsOkUnless result Fault.Memory }
 {
-    let (first, mut passes) = split_first(alloc, passes)?;
-    let ring = hands(alloc, workers.min(FIRST_WORKERS))?;
-    let nodes = if workers > FIRST_WORKERS {
-        FIRST_NODES
-    } else {
-        usize::MAX
+    let rt = place.rt;
+    let alloc = place.alloc;
+    let desk = place.desk;
+    let gate = place.gate;
+    let jobs = side_by_side(alloc, passes, hands(alloc, workers)?)?;
+    let came = thread::map_vec(
+        rt,
+        jobs,
+        &|job: (Pass<A>, Hand)| {
+            let (pass, hand) = job;
+            let place = Workplace {
+                rt,
+                alloc,
+                desk,
+                gate,
+            };
+            let (pass, _) = place.work(pass, hand, usize::MAX, problem);
+            pass
+        },
+    )?;
+    Ok(came)
+}
+
+/// The first worker searches alone for so many nodes as the gate says, and where that isn't all, all of them search.
+fn work_all<A: Asked + Send + Sync, R: Threads + Wait + Sync, G: Gate + Sync>(
+    place: &Workplace<'_, A, R, G>,
+    problem: &Arc<Problem>,
+    passes: Vec<Pass<A>>,
+    workers: u8,
+) -> Result<Vec<Pass<A>>, Fault>
+    requires same { arc_value problem.now ≡ A.question }
+    requires some { 1 ≤ workers }
+    ensures { IsOkUnless result Fault.Memory }
+{
+    let nodes = place.gate.nodes_alone();
+    if nodes == 0 {
+        return work_together(place, problem, passes, workers);
+    }
+    let mut passes = passes;
+    let mut ring = hands(place.alloc, 1)?;
+    let Some(hand) = ring.pop() else {
+        return Ok(passes);
     };
-    let jobs = side_by_side(alloc, first, ring, nodes)?;
-    let came = work_all(rt, alloc, desk, gate, problem, jobs)?;
-    let goes_on = join_first(came, &mut passes)?;
+    if passes.is_empty() {
+        return Ok(passes);
+    }
+    let pass = passes.remove(0);
+    let (pass, goes_on) = place.work(pass, hand, nodes, problem);
+    passes.push(pass)?;
     if !goes_on {
         return Ok(passes);
     }
-    let jobs = side_by_side(alloc, passes, hands(alloc, workers)?, usize::MAX)?;
-    let came = work_all(rt, alloc, desk, gate, problem, jobs)?;
-    let mut all = Vec::new(alloc);
-    join_first(came, &mut all)?;
-    Ok(all)
+    work_together(place, problem, passes, workers)
 }
 
 /// Some board of the question: the one that the workers searched and `finish` handed out, with nodes that are open or held
@@ -171,7 +138,13 @@ fn search_together<A: Asked + Send + Sync, R: Threads + Wait + Sync, G: Gate + S
         return Ok(Some(board));
     }
     let (desk, passes) = Desk::<A>::new(alloc, board, workers)?;
-    let passes = work_by_stages(rt, alloc, &desk, gate, problem, passes, workers)?;
+    let place = Workplace {
+        rt,
+        alloc,
+        desk: &desk,
+        gate,
+    };
+    let passes = work_all(&place, problem, passes, workers)?;
     Ok(finish(desk, passes).ok())
 }
 

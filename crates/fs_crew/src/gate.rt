@@ -1,8 +1,11 @@
 //! Where tests look on, and hold a worker up.
 
-/// It is told when a worker calls the desk, but for `leave`, and when it judges: by several threads at once; and once, when all have
-/// stopped, what they left. A call of it that doesn't return stops the search.
+/// It says when the other workers join the first one. It is told when a worker calls the desk, but for `leave`, and when it judges: by
+/// several threads at once; and once, when all have stopped, what they left. A call of it that doesn't return stops the search.
 pub trait Gate {
+    /// How many nodes the first worker is done with before the others join. Where it is none, all begin together.
+    fn nodes_alone(&self) -> usize;
+
     /// The worker will call the desk.
     fn before(&self, worker: u8);
 
@@ -17,11 +20,19 @@ pub trait Gate {
     fn ended(&self, logged: Option<usize>);
 }
 
+/// How many nodes one worker is done with before others are of use: few searches are longer, and where nodes cost little, workers
+/// wait for the lock.
+const NODES_ALONE: usize = 50_000;
+
 /// A gate that holds nobody up.
 #[derive(Clone, Copy)]
 pub struct Open;
 
 impl Gate for Open {
+    fn nodes_alone(&self) -> usize {
+        NODES_ALONE
+    }
+
     fn before(&self, _worker: u8) {}
 
     fn judging(&self, _worker: u8, _node: usize) {}

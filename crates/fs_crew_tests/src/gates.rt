@@ -72,6 +72,10 @@ struct FirstCall<'a, C> {
 }
 
 impl<'a, C: Clock> Gate for FirstCall<'a, C> {
+    fn nodes_alone(&self) -> usize {
+        0
+    }
+
     fn before(&self, worker: u8) {
         self.held.hold(self.clock, worker);
     }
@@ -95,6 +99,10 @@ struct Overlap<'a, C> {
 }
 
 impl<'a, C: Clock> Gate for Overlap<'a, C> {
+    fn nodes_alone(&self) -> usize {
+        0
+    }
+
     fn before(&self, _worker: u8) {}
 
     fn judging(&self, worker: u8, node: usize) {

@@ -34,6 +34,10 @@ impl Ends {
 }
 
 impl Gate for Ends {
+    fn nodes_alone(&self) -> usize {
+        0
+    }
+
     fn before(&self, _worker: u8) {}
 
     fn judging(&self, _worker: u8, _node: usize) {}

@@ -2,7 +2,7 @@ use denote.Param.{param}
 use Rattle.std.proofs.Crossing.{Arc-sync, sync}
 use Rattle.fs_search.proofs.Problems as problem
 use Rattle.fs_crew.proofs.Crosses.{desk_sync, problem_send, problem_sync}
-use Rattle.fs_crew.proofs.crew.work_all.Goals as goal
+use Rattle.fs_crew.proofs.crew.work_together.Goals as goal
 
 -- the closure lends the threads, the allocator, the desk, the gate and the problem to each job, in this order
 pub map_vec-requires-sync-F : goal.map_vec-requires-sync-F
