@@ -3,8 +3,8 @@
 
     scripts/check_certificate.py TEST PRICES CERTIFICATE
 
-It is written from docs/CERTIFICATE.md, docs/FORMAT.md and docs/MODEL.md alone, and shares no code with the program.
-The sections below name the part of these documents that they follow.
+It is written from docs/CERTIFICATE.md, docs/REFUTATIONS.md, docs/FORMAT.md and docs/MODEL.md alone, and shares no code
+with the program. The sections below name the part of these documents that they follow.
 
 It prints `yes` and the answer, status 0; or `no: ` and the first reason of docs/CERTIFICATE.md, section 5, status 1.
 Bytes that are no certificate are `fault F18 BadCertificate` on standard error, and any other file that can't be read
@@ -180,6 +180,7 @@ class Test:
         self.addresses = {}         # of each location, by name and in order
         self.words = {}             # the word at each address at the beginning
         self.outcome = ('constant', True)
+        self.wanted = (self.outcome, True)      # the condition, and the truth value that it has where the outcome is
 
     def slots(self):
         """Hart and instruction of each slot: before a memory instruction whose hart has an earlier one (FORMAT 3)."""
@@ -304,6 +305,7 @@ class TestReader:
         condition = self.disjunction()
         if self.peek() is not None:
             raise Unreadable('the test goes on after its condition')
+        self.test.wanted = (condition, quantifier != 'forall')
         self.test.outcome = ('not', condition) if quantifier == 'forall' else condition
         return self.test
 
@@ -988,7 +990,25 @@ def is_item(value, version):
     if len(value) != 2:
         return False
     return (value[0] == 'w' and is_whole(value[1])
-            or version == 2 and value[0] == 'b' and is_list(value[1], is_whole) and value[1] != [])
+            or version > 1 and value[0] == 'b' and is_list(value[1], is_whole) and value[1] != [])
+
+
+INFERENCES = {'c': [is_name_of_operation], 's': [is_name_of_operation], 'o': [is_name_of_operation] * 2,
+              'd': [is_whole], 'f': [is_whole], 'l': [is_name_of_operation] * 2}
+"""Of each inference of a refutation but a cycle and one of atomicity the forms of what stands behind its letter."""
+
+
+def is_inference(value):
+    """An item of a refutation: a cycle, or a letter and what it speaks of."""
+    if type(value) is not list or not value:
+        return False
+    letter, *rest = value
+    if letter == 'a':
+        return len(rest) in (2, 3) and all(map(is_name_of_operation, rest))
+    if is_text(letter):
+        forms = INFERENCES.get(letter, ())
+        return len(rest) == len(forms) > 0 and all(is_form(part) for is_form, part in zip(forms, rest))
+    return is_cycle(value)
 
 
 def is_choice(value):
@@ -1007,13 +1027,290 @@ def certificate_of(data):
     except (ValueError, RecursionError):
         raise NotACertificate()
     if not (has_keys(value, ['answer', 'cycles', 'tree', 'version', 'witnesses'])
-            and is_whole(value['version']) and value['version'] in (1, 2)
+            and is_whole(value['version']) and value['version'] in (1, 2, 4)
             and is_answer(value['answer'])
-            and is_list(value['cycles'], is_cycle)
+            and is_list(value['cycles'], is_inference if value['version'] == 4 else is_cycle)
             and is_list(value['tree'], lambda item: is_item(item, value['version']))
             and is_list(value['witnesses'], is_witness)):
         raise NotACertificate()
     return value
+
+
+# --- Refutations (REFUTATIONS 1 to 4) ----------------------------------------------------------------------------
+
+INITIAL = 'the initial store'
+"""As the source of a load: the initial store of its location, which has no name."""
+
+
+NOWHERE = (-1, -1)
+"""Stands for each name of no memory instruction."""
+
+
+class OnlyRun:
+    """One run of a hart, while the others do nothing."""
+
+    def __init__(self, test, run, slots, placement):
+        nothing = type('Nothing', (), {'steps': [], 'pairs': [], 'registers': None})
+        runs = [run if hart == run.hart else nothing for hart in range(len(test.code))]
+        operations = Operations(test, runs)
+        self.registers = run.registers
+        self.steps = {step.position: step for step in run.steps}
+        self.operations = {operation.step.position: operation for operation in operations.of_harts}
+        self.preserved = Preserved(operations, {}, slots, placement)
+        self.pairs = [(lr.step.position, sc.step.position) for lr, sc in operations.pairs]
+        self.rules = {}             # what was found of rules that ask for no source
+
+    def loads(self, at):
+        """The address and the word that the operation there loads; None where it is none that loads."""
+        operation = self.operations.get(at)
+        return (operation.address, operation.loaded) if operation and operation.loads() else None
+
+    def stores(self, at):
+        operation = self.operations.get(at)
+        return (operation.address, operation.stored) if operation and operation.stores() else None
+
+    def choice(self, at):
+        """What the run chooses there, as a number: first those that don't execute it; then, as in choice order, words
+        rising, and success before failure. An instruction that chooses nothing has one number."""
+        step = self.steps.get(at)
+        if step is None:
+            return 0
+        if step.instruction.form == 'sc':
+            return 1 if step.stored is not None else 2
+        return 1 if step.loaded is None else step.loaded + 1
+
+    def has_rule(self, number, a, b, source):
+        """Does the rule put the operation at a before the one at b, with these sources of loads, by position?"""
+        if a not in self.operations or b not in self.operations:
+            return False
+        if number not in (2, 3, 12):
+            if (number, a, b) not in self.rules:
+                self.rules[number, a, b] = self.preserved.rule(number, self.operations[a], self.operations[b])
+            return self.rules[number, a, b]
+        self.preserved.rf = {operation.number: source(at) for at, operation in self.operations.items()}
+        return self.preserved.rule(number, self.operations[a], self.operations[b])
+
+
+class Region:
+    """For each hart the runs that are left; of some loads, by name, what they return from; pairs of stores, of which
+    the first comes first in coherence order; and conditions, each with the truth value that it is to have."""
+
+    def __init__(self, runs, sources, before, wanted):
+        self.runs = runs
+        self.sources = sources
+        self.before = before
+        self.wanted = wanted
+
+    def keeping(self, hart, passes):
+        """With those runs of the hart that pass."""
+        runs = list(self.runs)
+        runs[hart] = [run for run in runs[hart] if passes(run)]
+        return Region(runs, self.sources, self.before, self.wanted)
+
+    def with_source(self, load, source):
+        return Region(self.runs, {**self.sources, load: source}, self.before, self.wanted)
+
+    def with_order(self, first, second):
+        return Region(self.runs, self.sources, self.before | {(first, second)}, self.wanted)
+
+    def with_wanted(self, wanted):
+        return Region(self.runs, self.sources, self.before, wanted)
+
+    def is_open(self):
+        return all(self.runs)
+
+
+class Refutation:
+    """The inferences by which no candidate of a test has the outcome without a cycle, under a placement."""
+
+    def __init__(self, test, slots, placement):
+        self.test = test
+        self.runs = [[OnlyRun(test, run, slots, placement) for run in runs]
+                     for runs in all_runs_over(test, value_sets(test))]
+        self.names = [(hart, position) for hart, code in enumerate(test.code)
+                      for position, instruction in enumerate(code) if instruction.is_memory()]
+        self.named = {'P%d:%d' % name: name for name in self.names}
+
+    def root(self):
+        """All candidates that have the outcome, in a list of one region."""
+        root = Region(self.runs, {}, frozenset(), [self.test.wanted])
+        return [root] if root.is_open() else []
+
+    def check(self, inferences):
+        regions = self.root()           # those that are still to be refuted, the next one last
+        for number, inference in enumerate(inferences):
+            if not regions:
+                raise Refused('cycles')
+            children = self.after(regions.pop(), inference)
+            if children is None:
+                raise Refused('cycle %d' % number)
+            regions += reversed(children)
+        if regions:
+            raise Refused('cycles')
+
+    def after(self, region, inference):
+        """The regions that are left to refute after the inference; None where it can't be drawn."""
+        letter, *rest = inference
+        if not is_text(letter):
+            return [] if self.is_cycle(region, inference) else None
+        parts = [self.named.get(part, NOWHERE) if is_text(part) else part for part in rest]
+        ends = {'l': self.is_stale, 'a': self.is_split_pair}
+        if letter in ends:
+            return [] if ends[letter](region, *parts) else None
+        splits = {'c': self.by_choice, 's': self.by_source, 'o': self.by_order, 'd': self.by_cases, 'f': self.by_outcome}
+        children = splits[letter](region, *parts)
+        return None if children is None else [child for child in children if child.is_open()]
+
+    # Splits
+
+    def by_choice(self, region, name):
+        if name is NOWHERE:
+            return None
+        hart, at = name
+        choices = sorted({run.choice(at) for run in region.runs[hart]})
+        return [region.keeping(hart, lambda run, it=choice: run.choice(at) == it) for choice in choices]
+
+    def by_source(self, region, load):
+        if load is NOWHERE:
+            return None
+        known = region.sources.get(load)
+        stores = [store for store in self.names if store[0] != load[0] or store[1] < load[1]]
+        children = [self.from_source(region, load, source) for source in [INITIAL] + stores if known in (None, source)]
+        return [region.keeping(load[0], lambda run: run.loads(load[1]) is None)] + children
+
+    def from_source(self, region, load, source):
+        """The load returns from this source: address and word agree."""
+        decided = region.with_source(load, source)
+        hart, at = load
+        if source == INITIAL:
+            return decided.keeping(hart, lambda run: run.loads(at) in self.test.words.items())
+        if source[0] == hart:
+            return decided.keeping(hart, lambda run: run.loads(at) is not None and run.loads(at) == run.stores(source[1]))
+        stored = {run.stores(source[1]) for run in region.runs[source[0]]} - {None}
+        loaded = {run.loads(at) for run in region.runs[hart]}
+        return decided.keeping(hart, lambda run: run.loads(at) in stored).keeping(
+            source[0], lambda run: run.stores(source[1]) in loaded - {None})
+
+    def by_order(self, region, a, b):
+        may = self.place(region, a, OnlyRun.stores) is not None and a != b
+        if not may or self.place(region, a, OnlyRun.stores) != self.place(region, b, OnlyRun.stores) \
+                or (a, b) in region.before or (b, a) in region.before:
+            return None
+        return [region.with_order(a, b), region.with_order(b, a)]
+
+    def by_cases(self, region, number):
+        """The wanted condition of this number gives way to its parts."""
+        if number >= len(region.wanted):
+            return None
+        condition, value = region.wanted[number]
+        if condition[0] == 'not':
+            ways = [[(condition[1], not value)]]
+        elif condition[0] in ('and', 'or'):
+            parts = [(part, value) for part in condition[1:]]
+            ways = [parts] if value == (condition[0] == 'and') else [[part] for part in parts]
+        else:
+            return None
+        return [region.with_wanted(region.wanted[:number] + way + region.wanted[number + 1:]) for way in ways]
+
+    def by_outcome(self, region, hart):
+        """Of the hart's runs those with each of which the wanted conditions may have their truth values."""
+        if hart >= len(region.runs):
+            return None
+
+        def may_be(run):
+            alone = region.keeping(hart, lambda other: other is run)
+            return all(self.may(alone, condition, value) for condition, value in region.wanted)
+
+        return [region.keeping(hart, may_be)]
+
+    # What may be in some candidate of a region
+
+    def may(self, region, condition, value):
+        """May the condition have this truth value?"""
+        form = condition[0]
+        if form == 'constant':
+            return condition[1] == value
+        if form == 'register':
+            hart, register = condition[1]
+            return any((run.registers[register] == condition[2]) == value for run in region.runs[hart])
+        if form == 'word':
+            return any((word == condition[2]) == value for word in self.last_words(region, condition[1]))
+        if form == 'not':
+            return self.may(region, condition[1], not value)
+        parts = [self.may(region, part, value) for part in condition[1:]]
+        return all(parts) if value == (form == 'and') else any(parts)
+
+    def last_words(self, region, address):
+        """The words with which the location may end."""
+        if not any(self.place(region, name, OnlyRun.stores) == address for name in self.names):
+            yield self.test.words[address]
+        earlier = {first for first, second in region.before}
+        for name in self.names:
+            if name not in earlier:
+                for run in region.runs[name[0]]:
+                    stored = run.stores(name[1])
+                    if stored is not None and stored[0] == address:
+                        yield stored[1]
+
+    # What must be in each candidate of a region
+
+    def place(self, region, name, access):
+        """The address that the operation of this name accesses in each run that is left, or None."""
+        if name is NOWHERE:
+            return None
+        found = {access(run, name[1]) and access(run, name[1])[0] for run in region.runs[name[0]]}
+        return found.pop() if len(found) == 1 else None
+
+    def overwrites(self, region, store, load):
+        """Is the store later in coherence order than what the load returns from?"""
+        source = region.sources.get(load)
+        if source == INITIAL:
+            place = self.place(region, store, OnlyRun.stores)
+            return place is not None and place == self.place(region, load, OnlyRun.loads)
+        return source is not None and (source, store) in region.before
+
+    def has_rule(self, region, number, a, b):
+        """Does the rule put a before b in each run that is left of their hart?"""
+        if a[0] != b[0] or a is NOWHERE:
+            return False
+        if number == 2 and (a not in region.sources or b not in region.sources):
+            return False
+        others = {}                     # an operation of no hart for each source outside of the run
+
+        def sources_in(run):
+            def source(at):
+                known = region.sources.get((a[0], at))
+                if type(known) is tuple and known[0] == a[0] and known[1] in run.operations:
+                    return run.operations[known[1]]
+                return others.setdefault(known, Operation(-1, None))
+            return source
+
+        return all(run.has_rule(number, a[1], b[1], sources_in(run)) for run in region.runs[a[0]])
+
+    def is_edge(self, region, a, cause, b):
+        if cause.startswith('p'):
+            return self.has_rule(region, int(cause[1:]), a, b)
+        if cause == 'rf':
+            return a[0] != b[0] and region.sources.get(b) == a
+        return (a, b) in region.before if cause == 'co' else a != b and self.overwrites(region, b, a)
+
+    def is_cycle(self, region, cycle):
+        links = [(self.named.get(text, NOWHERE), cause) for text, cause in cycle]
+        return all(self.is_edge(region, name, cause, links[(at + 1) % len(links)][0])
+                   for at, (name, cause) in enumerate(links))
+
+    def is_stale(self, region, load, store):
+        """The load returns from a store that one of its own hart, before the load, overwrites."""
+        return store[0] == load[0] and store[1] < load[1] and self.overwrites(region, store, load)
+
+    def is_split_pair(self, region, lr, sc, other=None):
+        """The sc.w of the pair is before what its lr.w returns from, or another hart's store is between the two."""
+        if not self.has_rule(region, 8, lr, sc):
+            return False
+        if other is None:
+            source = region.sources.get(lr)
+            return source not in (None, INITIAL) and (sc, source) in region.before
+        return other[0] != sc[0] and (other, sc) in region.before and self.overwrites(region, other, lr)
 
 
 # --- What it must say (CERTIFICATE 2 to 5) -----------------------------------------------------------------------
@@ -1085,6 +1382,9 @@ class Checker:
     def check_cycles(self):
         """One cycle for each candidate that shows the outcome, in the candidates' order."""
         cycles = self.certificate['cycles']
+        if self.version == 4:
+            Refutation(self.test, self.slots, self.answer).check(cycles)
+            return
         # One more than there are cycles is enough to see that there are too few.
         showing = list(itertools.islice(candidates(self.test), len(cycles) + 1))
         if len(showing) != len(cycles):
@@ -1133,7 +1433,7 @@ class Checker:
     def is_better(self, floor):
         """Is this placement better than the answer? In version 1: is it cheaper?"""
         cost = self.prices.cost(self.slots, floor)
-        return cost < self.cost or self.version == 2 and cost == self.cost and is_earlier(floor, self.answer)
+        return cost < self.cost or self.version > 1 and cost == self.cost and is_earlier(floor, self.answer)
 
     def shown(self, number, placement):
         """The execution of this witness, which must show the outcome under this placement."""
