@@ -1157,7 +1157,8 @@ class Refutation:
         ends = {'l': self.is_stale, 'a': self.is_split_pair}
         if letter in ends:
             return [] if ends[letter](region, *parts) else None
-        splits = {'c': self.by_choice, 's': self.by_source, 'o': self.by_order, 'd': self.by_cases, 'f': self.by_outcome}
+        splits = {'c': self.by_choice, 's': self.by_source, 'o': self.by_order, 'd': self.by_cases,
+                  'f': self.by_outcome}
         children = splits[letter](region, *parts)
         return None if children is None else [child for child in children if child.is_open()]
 
@@ -1185,7 +1186,7 @@ class Refutation:
         if source == INITIAL:
             return decided.keeping(hart, lambda run: run.loads(at) in self.test.words.items())
         if source[0] == hart:
-            return decided.keeping(hart, lambda run: run.loads(at) is not None and run.loads(at) == run.stores(source[1]))
+            return decided.keeping(hart, lambda run: run.loads(at) and run.loads(at) == run.stores(source[1]))
         stored = {run.stores(source[1]) for run in region.runs[source[0]]} - {None}
         loaded = {run.loads(at) for run in region.runs[hart]}
         return decided.keeping(hart, lambda run: run.loads(at) in stored).keeping(
