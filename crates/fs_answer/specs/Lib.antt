@@ -12,3 +12,7 @@ pub mod Refusals
 pub mod WitnessFile
 pub mod CertificateFile
 pub mod Texts
+pub mod Regions
+pub mod Musts
+pub mod Splits
+pub mod Trees

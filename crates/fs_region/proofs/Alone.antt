@@ -26,8 +26,8 @@ use Rattle.fs_local.proofs.Places.{rule_alike}
 use Rattle.fs_local.proofs.Sources.{rule_two, rule_three, rule_twelve, not_twelve, none_twelve}
 use Rattle.fs_local.proofs.Named.{place_named, accessing}
 use Rattle.fs_local.proofs.Links.{numbered}
-use Rattle.fs_region.specs.Regions.{Region, Source, Initial, From, In, same_name, name_in, names}
-use Rattle.fs_region.specs.Musts.{traces_of, alone, has_name, number_of, holds_of, source_number, known_source, knows_enough, is_rule}
+use Rattle.fs_answer.specs.Regions.{Region, Source, Initial, From, In, same_name, name_in, names}
+use Rattle.fs_answer.specs.Musts.{traces_of, alone, has_name, number_of, holds_of, source_number, known_source, knows_enough, is_rule}
 use Rattle.fs_region.proofs.Lists.{found}
 use Rattle.fs_region.proofs.Names.{name_is, runs_forward, once}
 

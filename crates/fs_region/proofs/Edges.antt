@@ -16,8 +16,8 @@ use Rattle.fs_answer.specs.Candidates.{Candidate, IsRaw, runs_of, rf, co}
 use Rattle.fs_answer.specs.Judged.{Cause, Preserved, ReadsFrom, Coherence, FromReads, is_later}
 use Rattle.fs_decide.proofs.Sourced.{source_is}
 use Rattle.fs_local.specs.Local.{HasLink}
-use Rattle.fs_region.specs.Regions.{Region, Source, Initial, From, In, same_name, address_at, loaded_at, stored_at}
-use Rattle.fs_region.specs.Musts.{in_each_run, must_be, is_later_than, overwrites, has_source, knows_enough, must}
+use Rattle.fs_answer.specs.Regions.{Region, Source, Initial, From, In, same_name, address_at, loaded_at, stored_at}
+use Rattle.fs_answer.specs.Musts.{in_each_run, must_be, is_later_than, overwrites, has_source, knows_enough, must}
 use Rattle.fs_region.proofs.Lists.{all_in, any_from}
 use Rattle.fs_region.proofs.Names.{name_is, is_itself, names_differ, once}
 use Rattle.fs_region.proofs.Runs.{done, at_address}

@@ -26,7 +26,7 @@ use Rattle.fs_answer.specs.Candidates.{Candidate, IsRaw, runs_of}
 use Rattle.fs_decide.proofs.Sourced.{are_runs}
 use Rattle.fs_cand.proofs.Distinct.{one_named, named}
 use Rattle.fs_cand.proofs.Distinct as distinct
-use Rattle.fs_region.specs.Regions.{same_name, names_in, names}
+use Rattle.fs_answer.specs.Regions.{same_name, names_in, names}
 use Rattle.fs_region.proofs.Lists.{in_filter, in_map, in_flat_map, in_numbered}
 
 -- ---- names that are the same

@@ -23,8 +23,8 @@ use Rattle.fs_answer.specs.Candidates.{Candidate, IsRaw, runs_of, co, stores_to,
 use Rattle.fs_decide.proofs.Edges.{edge_low}
 use Rattle.fs_decide.proofs.Rules.{judged_co}
 use Rattle.fs_decide.proofs.Sourced.{stores_first, stores_in, store_to_parts, store_to_from, same_location}
-use Rattle.fs_region.specs.Regions.{Region, In, names, truth, stored_at}
-use Rattle.fs_region.specs.Musts.{must_be, passes, stores_such, may_end, has_truth, may, traces_of}
+use Rattle.fs_answer.specs.Regions.{Region, In, names, truth, stored_at}
+use Rattle.fs_answer.specs.Musts.{must_be, passes, stores_such, may_end, has_truth, may, traces_of}
 use Rattle.fs_region.proofs.Lists.{any_in, any_from}
 use Rattle.fs_region.proofs.Names.{name_there, name_low, hart_low, once}
 use Rattle.fs_region.proofs.Runs.{done}

@@ -17,7 +17,7 @@ use Rattle.fs_answer.specs.Candidates.{Candidate, IsRaw, runs_of}
 use Rattle.fs_cand.proofs.Distinct.{named}
 use Rattle.fs_local.proofs.Named.{place_named}
 use Rattle.fs_local.proofs.Links.{numbered}
-use Rattle.fs_region.specs.Regions.{step_at, address_at, loaded_at, stored_at}
+use Rattle.fs_answer.specs.Regions.{step_at, address_at, loaded_at, stored_at}
 use Rattle.fs_region.proofs.Lists.{find_is, found}
 use Rattle.fs_region.proofs.Names.{runs_forward, step_made}
 

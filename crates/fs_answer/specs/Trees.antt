@@ -16,9 +16,9 @@ use Rattle.fs_model.specs.Values.{IsValue, LoadsFrom}
 use Rattle.fs_answer.specs.Candidates.{Candidate, IsShowing}
 use Rattle.fs_answer.specs.Certificate.{Link}
 use Rattle.fs_answer.specs.Valid.{IsCycle, most_links}
-use Rattle.fs_region.specs.Regions.{Region, same_name, stored_at}
-use Rattle.fs_region.specs.Musts.{must, must_meet, must_pair, is_before, overwrites}
-use Rattle.fs_region.specs.Splits.{by_choice, by_source, by_order, by_cases, by_outcome, ways_of}
+use Rattle.fs_answer.specs.Regions.{Region, same_name, stored_at}
+use Rattle.fs_answer.specs.Musts.{must, must_meet, must_pair, is_before, overwrites}
+use Rattle.fs_answer.specs.Splits.{by_choice, by_source, by_order, by_cases, by_outcome, ways_of}
 
 -- One step of a refutation. The first five split a region, or drop runs from it; the others end it:
 --   Cycle: each link must come before the next one, and the last before the first;

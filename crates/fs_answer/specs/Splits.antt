@@ -11,8 +11,8 @@ use Rattle.fs_model.specs.declared.step.Choice.TheVariants.{Word, Success, Failu
 use Rattle.fs_model.specs.Numbers.{is_same}
 use Rattle.fs_model.specs.Choices.{choice_by}
 use Rattle.fs_model.specs.Execution.{initial_words}
-use Rattle.fs_region.specs.Regions.{Region, Source, Initial, From, same_name, same_source, names, step_at, address_at, loaded_at, stored_at, loads_at}
-use Rattle.fs_region.specs.Musts.{may}
+use Rattle.fs_answer.specs.Regions.{Region, Source, Initial, From, same_name, same_source, names, step_at, address_at, loaded_at, stored_at, loads_at}
+use Rattle.fs_answer.specs.Musts.{may}
 
 -- ---- what regions differ in
 

@@ -15,7 +15,7 @@ use Rattle.fs_model.specs.Execution.{pre_execution, initial_words}
 use Rattle.fs_model.specs.Shows.{final_register}
 use Rattle.fs_model.specs.Witness.{name_of}
 use Rattle.fs_answer.specs.Judged.{Cause, Preserved, ReadsFrom, Coherence, FromReads}
-use Rattle.fs_region.specs.Regions.{Region, Source, Initial, From, same_name, same_source, names, address_at, loaded_at, stored_at}
+use Rattle.fs_answer.specs.Regions.{Region, Source, Initial, From, same_name, same_source, names, address_at, loaded_at, stored_at}
 
 -- the store is before what a load returns from
 abbrev pub is_before : Region → Name → Option Source → Bool

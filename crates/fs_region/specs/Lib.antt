@@ -1,4 +1,0 @@
-pub mod Regions
-pub mod Musts
-pub mod Splits
-pub mod Trees
