@@ -57,30 +57,36 @@ fn atoms_are_there(columns: usize, names: &Names, atoms: &[Atom]) -> bool
     true
 }
 
-// The test of these parts.
+// The names of locations, and what is set before the test begins.
+#[derive(Drop)]
+struct Bindings<'a> {
+    names: &'a Names<'a>,
+    settings: &'a [Setting],
+}
+
+// The test of a form with these codes, bindings and condition.
 fn build(
     alloc: Global,
     title: &str,
-    columns: u32,
-    quantifier: Quantifier,
+    form: &Form,
     codes: Vec<Code>,
-    names: &Names,
-    settings: &[Setting],
+    bindings: &Bindings,
     condition: Outcome,
 ) -> Result<Test, AllocError>
+    requires { form.now.columns ≤ most_harts }
     ensures name { IfOk result (λ t. t.name ≡ title.now) }
     ensures codes { IfOk result (λ t. t.codes ≡ codes.items) }
-    ensures starts { IfOk result (λ t. t.starts ≡ starts_of columns settings.now) }
-    ensures locations { IfOk result (λ t. AreLocations names.now settings.now t.locations) }
-    ensures quantifier { IfOk result (λ t. t.quantifier ≡ quantifier) }
+    ensures starts { IfOk result (λ t. t.starts ≡ starts_of form.now.columns bindings.now.settings.now) }
+    ensures locations { IfOk result (λ t. AreLocations bindings.now.names.now bindings.now.settings.now t.locations) }
+    ensures quantifier { IfOk result (λ t. t.quantifier ≡ quantifier_of form.now.quantifier) }
     ensures condition { IfOk result (λ t. condition_of t.condition ≡ condition_of condition) }
 {
     Ok(Test {
         name: Name::new(String::from_str(alloc, title)?),
         codes: Codes::new(codes),
-        starts: starts_of(alloc, columns, settings)?,
-        locations: locations_of(alloc, names, settings)?,
-        quantifier,
+        starts: starts_of(alloc, form.columns as u32, bindings.settings)?,
+        locations: locations_of(alloc, bindings.names, bindings.settings)?,
+        quantifier: quantifier_of(form.quantifier),
         condition,
     })
 }
@@ -183,18 +189,18 @@ fn within_limits(
     form: &Form,
     condition: &Condition,
     kept: &[HartCode],
-    names: &Names,
-    settings: &[Setting],
+    bindings: &Bindings,
 ) -> Result<Test, Fault>
     requires codes { (codes : List (List Instr))
         × AreCodes form.now.columns (flatten (form_of form.now).rows) codes × AreKept codes kept.now }
     requires only { (codes : List (List Instr))
         → AreCodes form.now.columns (flatten (form_of form.now).rows) codes → AreKept codes kept.now }
     requires sound { (f : Fault) → ¬ IsFault form.now.columns (flatten (form_of form.now).rows) f }
-    requires named { (s : Syntax) → Means condition.now s → names.now ≡ names_in (form_of form.now) s }
-    requires set { settings_after form.now.columns names.now []
-        (entry_bindings (form_of form.now).entries) ≡ Some settings.now }
-    requires there { (s : Syntax) → Means condition.now s → are_there form.now.columns names.now (atoms_of s) ≡ true }
+    requires named { (s : Syntax) → Means condition.now s → bindings.now.names.now ≡ names_in (form_of form.now) s }
+    requires set { settings_after form.now.columns bindings.now.names.now []
+        (entry_bindings (form_of form.now).entries) ≡ Some bindings.now.settings.now }
+    requires there { (s : Syntax) → Means condition.now s
+        → are_there form.now.columns bindings.now.names.now (atoms_of s) ≡ true }
     requires bound { (s : Syntax) → Means condition.now s → (f : Fault) → ¬ IsBindingFault (form_of form.now) s f }
     ensures name { IfOk result (λ t. t.name ≡ title.now) }
     ensures means { IfOk result (λ t. (s : Syntax) → Means condition.now s → MeanTest (form_of form.now) s t) }
@@ -208,17 +214,13 @@ fn within_limits(
         return Err(Fault::TooBig { what: Limit::Harts });
     }
     let codes = read_short_codes(alloc, kept)?;
-    if names.len() > MOST_LOCATIONS {
+    if bindings.names.len() > MOST_LOCATIONS {
         return Err(Fault::TooBig {
             what: Limit::Locations,
         });
     }
-    let outcome = read_outcome(alloc, form.columns, names, condition)?;
-    let quantifier = quantifier_of(form.quantifier);
-    let columns = form.columns as u32;
-    Ok(build(
-        alloc, title, columns, quantifier, codes, names, settings, outcome,
-    )?)
+    let outcome = read_outcome(alloc, form.columns, bindings.names, condition)?;
+    Ok(build(alloc, title, form, codes, bindings, outcome)?)
 }
 
 /// The test that a form and its condition mean.
@@ -241,5 +243,9 @@ pub fn interpret<'a>(
     let kept = read_kept(alloc, form)?;
     let names = read_names(alloc, form, condition)?;
     let settings = read_bindings(alloc, &names, form, condition)?;
-    within_limits(alloc, title, form, condition, &kept, &names, &settings)
+    let bindings = Bindings {
+        names: &names,
+        settings: &settings,
+    };
+    within_limits(alloc, title, form, condition, &kept, &bindings)
 }

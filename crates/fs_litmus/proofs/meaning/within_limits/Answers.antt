@@ -1,12 +1,10 @@
 use Rattle.std.proofs.Common.{◌<◌, ◌≤◌, sym, ap, ◌∙◌, subst, arith, length, Some}
 use Rattle.std.specs.Prelude.{sum_by, count_by}
 use Rattle.fs_instr.specs.Instructions.{is_memory}
-use Rattle.fs_code.specs.Codes.{AreKept}
 use Rattle.fs_kinds.specs.FaultOrder.{IsFirst}
 use Rattle.fs_litmus.specs.Faults.{IsFormFault}
-use Rattle.fs_litmus.proofs.FormFaults.{handed, first_code, first_binding, first_harts, first_code_limit, first_locations, first_depth, none_passed, no_form_fault}
+use Rattle.fs_litmus.proofs.FormFaults.{handed, first_harts, first_code_limit, first_locations, first_depth, none_passed, no_form_fault}
 use Rattle.fs_form.specs.Form.{form_of}
-use Rattle.fs_litmus.specs.Starts.{starts_of, AreLocations}
 use Rattle.fs_condition.specs.Grammar.{Syntax}
 use Rattle.fs_condition.specs.Answer.{Means}
 use Rattle.fs_model.specs.Condition.{SpeaksOf}
@@ -18,8 +16,8 @@ made c s m =
     let kept = c.requires.codes in
     let short = c.in_ok-codes.ensures.codes kept.0 kept.2 in
     record {
-      names = c.args.names.now;
-      settings = c.args.settings.now;
+      names = c.args.bindings.now.names.now;
+      settings = c.args.bindings.now.settings.now;
       kept = c.args.kept.now;
       read = kept.0;
       are_codes = kept.1;
@@ -32,9 +30,9 @@ made c s m =
       are_settings = c.requires.set;
       starts = c.in_ok-build.ensures.starts;
       locations = c.in_ok-build.ensures.locations;
-      quantifier = c.in_ok-build.ensures.quantifier ∙ c.quantifier_of-quantifier.ensures;
+      quantifier = c.in_ok-build.ensures.quantifier;
       condition = let o = c.in_ok-outcome.ensures.value s m in record { depth = o.depth; means = o.means ∙ ap Some (sym c.in_ok-build.ensures.condition) };
-      there = subst (λ x. SpeaksOf c.args.form.now.columns (length c.args.names.now) x) (sym c.in_ok-build.ensures.condition) c.in_ok-outcome.ensures.there;
+      there = subst (λ x. SpeaksOf c.args.form.now.columns (length c.args.bindings.now.names.now) x) (sym c.in_ok-build.ensures.condition) c.in_ok-outcome.ensures.there;
     }
 
 pub returns-clause-means : goal.returns-clause-means
