@@ -3,3 +3,4 @@ pub mod Listed
 pub mod Earlier
 pub mod Counted
 pub mod Sources
+pub mod Registers

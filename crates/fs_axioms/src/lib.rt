@@ -14,4 +14,4 @@ pub use each_once::lists_each_once;
 pub use global_order::GlobalOrder;
 pub use numbered::count_accesses;
 pub use ordered::{Ordered, source_at};
-pub use outcome::{final_word, has_outcome};
+pub use outcome::{final_register, final_word, has_outcome, is_outcome};

@@ -51,8 +51,8 @@ pub fn final_word(operations: &[Operation], order: &GlobalOrder, location: u8) -
         .unwrap_or(0)
 }
 
-// The word that a hart's register ends with; 0 where there is no such hart.
-fn final_register(traces: &[Trace], hart: u8, register: Reg) -> u32
+/// The word that a hart's register ends with; 0 where there is no such hart.
+pub fn final_register(traces: &[Trace], hart: u8, register: Reg) -> u32
     ensures { result ≡ register_in traces.now hart register }
 {
     if usize::from(hart) < traces.len() {
@@ -86,7 +86,8 @@ fn holds(
     }
 }
 
-fn is_outcome(quantifier: Quantifier, condition: bool) -> bool
+/// Is a final state the outcome that the quantifier asks for, where the condition is so in it?
+pub fn is_outcome(quantifier: Quantifier, condition: bool) -> bool
     ensures { result ≡ is_outcome quantifier condition }
 {
     match quantifier {

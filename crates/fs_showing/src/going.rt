@@ -12,7 +12,6 @@ ghost use Rattle.fs_showing.specs.Ways.{products, product_of_lengths, product_by
 ghost use Rattle.fs_showing.specs.RawCandidates.{all_orders};
 ghost use Rattle.fs_showing.specs.inner.Listed.{number_of_orders};
 ghost use Rattle.fs_showing.specs.inner.Places.{place, count_with, numbered_with, showing_from, IsPrepared};
-ghost use Rattle.fs_showing.specs.inner.Tested.{any_pair_among};
 
 use crate::by_number::{push_orders, push_sources};
 use crate::place::Place;
@@ -38,30 +37,39 @@ impl Prepared {
         Ok(orders)
     }
 
-    // Puts the numbers of those raw candidates with these sources that show the outcome behind the others. The sources have the
-    // number `first`.
+    // The sources of this number.
+    fn sources(&self, alloc: Global, number: u32) -> Result<Vec<Option<u8>>, AllocError>
+        requires few { product_of_lengths self.now.choices.sources.items ≤ most_candidates }
+        requires number { number < product_of_lengths self.now.choices.sources.items }
+        ensures { IfOk result (λ sources. sources.items
+            ≡ slice_index_or (products self.now.choices.sources.items) number []) }
+    {
+        let mut sources = Vec::new(alloc);
+        push_sources(&self.choices.sources, number, &mut sources)?;
+        Ok(sources)
+    }
+
+    // Puts the numbers of those raw candidates with the sources of the number `first` that show the outcome behind the
+    // others.
     fn add_with(
         &self,
         alloc: Global,
         test: &Test,
         runs: u32,
-        has_pairs: bool,
         first: u32,
-        sources: &[Option<u8>],
         kept: &mut Vec<Place>,
     ) -> Result<(), AllocError>
         requires prepared { IsPrepared test.now self.now }
-        requires pairs { has_pairs ≡ any_pair_among (steps_in self.now.traces) self.now.operations }
         requires few { count_with test.now self.now.traces ≤ most_candidates }
         requires first { first < product_of_lengths self.now.choices.sources.items }
-        requires sources { sources.now ≡ slice_index_or (products self.now.choices.sources.items) first [] }
         ensures { OnOk result (kept.new.items ≡ kept.old.items ++ map (place runs) (showing_from test.now self.now.traces
             (first * product_by number_of_orders self.now.choices.stores.items) (product_by number_of_orders self.now.choices.stores.items))) }
     {
+        let sources = self.sources(alloc, first)?;
         let count = self.choices.count_orders();
         for second in 0..count {
             let orders = self.orders(alloc, test, second)?;
-            if self.shows(test, has_pairs, sources, &orders) {
+            if self.shows(test, &sources, &orders) {
                 let chosen = first * count + second;
                 kept.push(Place { runs, chosen })?;
             }
@@ -83,12 +91,8 @@ impl Prepared {
         ensures { OnOk result (kept.new.items ≡ kept.old.items
             ++ map (place runs) (showing_from test.now self.now.traces 0 (count_with test.now self.now.traces))) }
     {
-        let has_pairs = self.has_pairs();
-        let mut sources = Vec::new(alloc);
         for first in 0..self.choices.count_sources() {
-            sources.clear();
-            push_sources(&self.choices.sources, first, &mut sources)?;
-            self.add_with(alloc, test, runs, has_pairs, first, &sources, kept)?;
+            self.add_with(alloc, test, runs, first, kept)?;
         }
         Ok(())
     }
@@ -111,8 +115,7 @@ impl Prepared {
         ensures err { IsOkUnless result Memory }
     {
         let count = self.choices.count_orders();
-        let mut sources = Vec::new(alloc);
-        push_sources(&self.choices.sources, chosen / count, &mut sources)?;
+        let sources = self.sources(alloc, chosen / count)?;
         let orders = self.orders(alloc, test, chosen % count)?;
         Candidate::new(
             alloc,

@@ -3,9 +3,9 @@
 ghost use Rattle.std.specs.Prelude.{◌≡◌, false, ℕ, List, Option, None, [], option_and_then, unwrap_or};
 ghost use Rattle.std.specs.List.{last_or, slice_index_or};
 ghost use Rattle.fs_model.specs.Condition.{condition_of};
-ghost use Rattle.fs_model.specs.Operations.{PreExecution, operations as operations_of};
+ghost use Rattle.fs_model.specs.Operations.{operations as operations_of};
 ghost use Rattle.fs_model.specs.Execution.{pre_execution};
-ghost use Rattle.fs_model.specs.Shows.{holds, is_outcome};
+ghost use Rattle.fs_model.specs.Shows.{holds};
 ghost use Rattle.fs_hart.specs.Steps.{steps_in};
 ghost use Rattle.fs_axioms.specs.Final.{register_in, AreFinal};
 ghost use Rattle.fs_showing.specs.RawCandidates.{candidate};
@@ -13,21 +13,10 @@ ghost use Rattle.fs_showing.specs.ShowingTests.{has_outcome};
 ghost use Rattle.fs_showing.specs.inner.Listed.{numbered};
 ghost use Rattle.fs_showing.specs.inner.Tested.{may_be, word_among};
 
+use fs_axioms::{final_register, is_outcome};
 use fs_hart::Trace;
-use fs_instr::Reg;
 use fs_list::List;
-use fs_model::{Operation, Outcome, Quantifier, Test};
-
-// The word that a hart's register ends with; 0 where there is no such hart.
-fn final_register(traces: &[Trace], hart: u8, register: Reg) -> u32
-    ensures { result ≡ register_in traces.now hart register }
-{
-    if usize::from(hart) < traces.len() {
-        traces[usize::from(hart)].final_reg(register)
-    } else {
-        0
-    }
-}
+use fs_model::{Operation, Outcome, Test};
 
 // The order of a location's stores; none where there is no such location.
 fn order_of(orders: &[List<u8>], location: u8) -> &[u8]
@@ -85,15 +74,6 @@ fn holds(
         Outcome::Either(left, right) => {
             holds(traces, operations, orders, left) || holds(traces, operations, orders, right)
         }
-    }
-}
-
-fn is_outcome(quantifier: Quantifier, condition: bool) -> bool
-    ensures { result ≡ is_outcome quantifier condition }
-{
-    match quantifier {
-        Quantifier::Exists | Quantifier::NotExists => condition,
-        Quantifier::Forall => !condition,
     }
 }
 

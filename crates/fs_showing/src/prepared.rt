@@ -25,6 +25,8 @@ pub(crate) struct Prepared {
     pub(crate) traces: List<Trace>,
     pub(crate) operations: Operations,
     pub(crate) choices: Choices,
+    // Is there a pair of an lr.w and an sc.w?
+    pub(crate) has_pairs: bool,
 }
 
 impl Prepared {
@@ -39,18 +41,13 @@ impl Prepared {
         let operations = operations(alloc, test, traces.as_slice())?;
         let locations = test.locations.as_slice().len() as u8;
         let choices = Choices::of(alloc, operations.as_slice(), locations)?;
+        let has_pairs = any_pair(traces.as_slice(), operations.as_slice());
         Ok(Prepared {
             traces,
             operations,
             choices,
+            has_pairs,
         })
-    }
-
-    // Is there a pair of an lr.w and an sc.w?
-    pub(crate) fn has_pairs(&self) -> bool
-        ensures { result ≡ any_pair_among (steps_in self.now.traces) self.now.operations }
-    {
-        any_pair(self.traces.as_slice(), self.operations.as_slice())
     }
 
     // Do the runs with these coherence orders show the outcome?
@@ -67,11 +64,11 @@ impl Prepared {
     }
 
     // Does each pair keep atomicity? Where there is no pair, no two operations are looked at.
-    fn is_atomic(&self, has_pairs: bool, sources: &[Option<u8>], orders: &[List<u8>]) -> bool
-        requires { has_pairs ≡ any_pair_among (steps_in self.now.traces) self.now.operations }
+    fn is_atomic(&self, sources: &[Option<u8>], orders: &[List<u8>]) -> bool
+        requires { self.now.has_pairs ≡ any_pair_among (steps_in self.now.traces) self.now.operations }
         ensures { result ≡ all_atomic_among (steps_in self.now.traces) self.now.operations sources.now orders.now }
     {
-        if !has_pairs {
+        if !self.has_pairs {
             return true;
         }
         are_atomic(
@@ -83,27 +80,19 @@ impl Prepared {
     }
 
     // Are the sources coherent with the coherence orders, and does each pair keep atomicity?
-    fn is_consistent(&self, has_pairs: bool, sources: &[Option<u8>], orders: &[List<u8>]) -> bool
-        requires { has_pairs ≡ any_pair_among (steps_in self.now.traces) self.now.operations }
+    fn is_consistent(&self, sources: &[Option<u8>], orders: &[List<u8>]) -> bool
+        requires { self.now.has_pairs ≡ any_pair_among (steps_in self.now.traces) self.now.operations }
         ensures { result ≡ (all_coherent_among self.now.operations sources.now orders.now
             && all_atomic_among (steps_in self.now.traces) self.now.operations sources.now orders.now) }
     {
-        are_coherent(self.operations.as_slice(), sources, orders)
-            && self.is_atomic(has_pairs, sources, orders)
+        are_coherent(self.operations.as_slice(), sources, orders) && self.is_atomic(sources, orders)
     }
 
     // Does the raw candidate with these sources and coherence orders show the outcome?
-    pub(crate) fn shows(
-        &self,
-        test: &Test,
-        has_pairs: bool,
-        sources: &[Option<u8>],
-        orders: &[List<u8>],
-    ) -> bool
-        requires prepared { IsPrepared test.now self.now }
-        requires pairs { has_pairs ≡ any_pair_among (steps_in self.now.traces) self.now.operations }
+    pub(crate) fn shows(&self, test: &Test, sources: &[Option<u8>], orders: &[List<u8>]) -> bool
+        requires { IsPrepared test.now self.now }
         ensures { result ≡ shows test.now (candidate (steps_in self.now.traces) sources.now orders.now) }
     {
-        self.has_outcome(test, orders) && self.is_consistent(has_pairs, sources, orders)
+        self.has_outcome(test, orders) && self.is_consistent(sources, orders)
     }
 }

@@ -18,6 +18,7 @@ use Rattle.fs_showing.specs.RawCandidates.{AreAllRuns, candidate, candidates_wit
 use Rattle.fs_showing.specs.ShowingTests.{shows}
 use Rattle.fs_showing.specs.Over.{HaveFinal}
 use Rattle.fs_showing.specs.inner.Chosen.{AreChoices}
+use Rattle.fs_showing.specs.inner.Tested.{any_pair_among}
 
 -- the runs of this number, one of each list
 abbrev pub runs_at : List (List Trace) → ℕ → List Trace
@@ -58,7 +59,7 @@ pub record CanBePrepared (t : Test) (traces : List Trace) : Type 0 where
   pub short : All (λ trace. length trace.steps ≤ 32) traces
   pub few : length (operations (pre_execution t (steps_in traces))) ≤ 56
 
--- the runs' operations and choices
+-- the runs' operations and choices, and whether some two operations are a pair
 pub record IsPrepared (t : Test) (p : Prepared) : Type 0 where
   pub operations : p.operations ≡ operations (pre_execution t (steps_in p.traces))
   pub choices : AreChoices (pre_execution t (steps_in p.traces)) (length t.locations) p.choices
@@ -66,6 +67,7 @@ pub record IsPrepared (t : Test) (p : Prepared) : Type 0 where
   pub harts : length p.traces ≤ 8
   pub short : All (λ trace. length trace.steps ≤ 32) p.traces
   pub few : length p.operations ≤ 56
+  pub pairs : p.has_pairs ≡ any_pair_among (steps_in p.traces) p.operations
 
 -- the lists are all runs of each hart over the value sets, with their final registers, and have few lists of runs
 pub record AreListable (t : Test) (lists : List (List Trace)) : Type 0 where

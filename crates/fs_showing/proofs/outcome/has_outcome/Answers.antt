@@ -10,7 +10,7 @@ use Rattle.fs_axioms.specs.Final.{register_in}
 use Rattle.fs_answer.specs.Candidates.{Candidate, last_word, runs_of}
 use Rattle.fs_showing.specs.RawCandidates.{candidate}
 use Rattle.fs_showing.specs.inner.Tested.{word_among}
-use Rattle.fs_showing.proofs.Registers.{holds_same, same_register}
+use Rattle.fs_axioms.proofs.Registers.{holds_same, same_register}
 use Rattle.fs_showing.proofs.outcome.has_outcome.Goals as goal
 
 same_word : (t : Test) (c : Candidate) (os : List Operation) → os ≡ operations (runs_of t c) → (location : ℕ)

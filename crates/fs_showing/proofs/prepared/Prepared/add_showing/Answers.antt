@@ -1,13 +1,6 @@
-use Rattle.std.proofs.Common.{◌≤◌, subst, sym, arith}
-use Rattle.fs_answer.specs.CandidateFaults.{most_candidates}
-use Rattle.fs_showing.specs.Ways.{product_of_lengths}
-use Rattle.fs_showing.proofs.Kept.{few_sources, row_more, rows_whole}
+use Rattle.std.proofs.Common.{arith}
+use Rattle.fs_showing.proofs.Kept.{row_more, rows_whole}
 use Rattle.fs_showing.proofs.prepared.Prepared.add_showing.Goals as goal
-
-pub push_sources-requires-clause-few : goal.push_sources-requires-clause-few
-push_sources-requires-clause-few c =
-    subst (λ ls. product_of_lengths ls ≤ most_candidates) (sym c.deref.ensures.value)
-    (few_sources c.args.test.now c.args.self.now c.requires.prepared c.requires.few)
 
 pub loop-first-preserved : goal.loop-first-preserved
 loop-first-preserved c =

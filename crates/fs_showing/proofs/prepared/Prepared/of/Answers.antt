@@ -1,8 +1,9 @@
-use Rattle.std.proofs.Common.{◌≡◌, ◌∙◌, ◌≤◌, length, sym, ap, subst, All, arith}
+use Rattle.std.proofs.Common.{◌≡◌, ◌∙◌, ◌≤◌, length, sym, ap, ap₂, subst, All, arith}
 use Rattle.fs_model.specs.Operations.{operations}
 use Rattle.fs_model.specs.Execution.{pre_execution}
 use Rattle.fs_hart.specs.Steps.{steps_in}
 use Rattle.fs_showing.specs.inner.Chosen.{AreChoices}
+use Rattle.fs_showing.specs.inner.Tested.{any_pair_among}
 use Rattle.fs_showing.proofs.AllRuns.{count_fits}
 use Rattle.fs_showing.proofs.prepared.Prepared.of.Goals as goal
 
@@ -36,6 +37,7 @@ returns-clause-ok c =
       harts = c.requires.runs.harts;
       short = c.requires.runs.short;
       few = omega (arith, long, few);
+      pairs = c.any_pair-has_pairs.ensures ∙ ap₂ (λ ts. any_pair_among (steps_in ts)) c.as_slice-4.ensures c.as_slice-5.ensures;
     }
 
 pub overflow_cast-locations : goal.overflow_cast-locations

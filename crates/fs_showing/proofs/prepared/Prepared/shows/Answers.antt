@@ -4,11 +4,11 @@ use Rattle.fs_showing.proofs.prepared.Prepared.shows.Goals as goal
 pub returns-then-has_outcome : goal.returns-then-has_outcome
 returns-then-has_outcome c =
     let sources = c.args.sources.now in
-    shows_where c.args.test.now c.args.self.now c.requires.prepared sources c.args.orders.now c.has_outcome.result c.is_consistent.result
+    shows_where c.args.test.now c.args.self.now c.requires sources c.args.orders.now c.has_outcome.result c.is_consistent.result
     (c.has_outcome.ensures sources) c.if-has_outcome.true c.is_consistent.ensures
 
 pub returns-else-has_outcome : goal.returns-else-has_outcome
 returns-else-has_outcome c =
     let sources = c.args.sources.now in
-    shows_not c.args.test.now c.args.self.now c.requires.prepared sources c.args.orders.now c.has_outcome.result
+    shows_not c.args.test.now c.args.self.now c.requires sources c.args.orders.now c.has_outcome.result
     (c.has_outcome.ensures sources) c.if-has_outcome.false
