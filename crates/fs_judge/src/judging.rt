@@ -17,7 +17,7 @@ use fs_kinds::{Fault, Placement, Slot};
 use fs_list::List;
 use fs_model::Test;
 use fs_relation::{Judged, judge};
-use fs_witness::widest_witness;
+use fs_witness::{Hints, widest_witness};
 use std::alloc::Global;
 
 /// What is found of a candidate with placed fences.
@@ -48,10 +48,13 @@ pub(crate) fn judged(
     ensures err { IsOkUnless result Memory }
 {
     let rows = base.under(placement);
-    let sides = base.sides.as_slice();
+    let hints = Hints {
+        sides: base.sides.as_slice(),
+        first,
+    };
     match judge(&rows, candidate.operations.len()) {
         Judged::Order(_) => {
-            let witness = widest_witness(alloc, test, placement, candidate, &rows, sides, first)?;
+            let witness = widest_witness(alloc, test, placement, candidate, &rows, hints)?;
             Ok(Finding::Ordered(witness))
         }
         Judged::Cycle(cycle, len) => {

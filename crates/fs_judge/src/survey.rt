@@ -18,7 +18,7 @@ use fs_list::List;
 use fs_model::Test;
 use fs_relation::has_order;
 use fs_showing::Showing;
-use fs_witness::widest_witness;
+use fs_witness::{Hints, widest_witness};
 use std::alloc::{AllocError, Global};
 
 /// A showing candidate without a cycle, by its number, and its witness.
@@ -201,8 +201,11 @@ fn survivor_with(
         return Ok(None);
     }
     let candidate = showing.get(alloc, number)?;
-    let sides = base.sides.as_slice();
-    let witness = widest_witness(alloc, test, placement, &candidate, &rows, sides, first)?;
+    let hints = Hints {
+        sides: base.sides.as_slice(),
+        first,
+    };
+    let witness = widest_witness(alloc, test, placement, &candidate, &rows, hints)?;
     Ok(Some(Survivor { number, witness }))
 }
 

@@ -11,4 +11,4 @@ mod widest;
 mod widths;
 
 pub use laws::witnesses_give_one_execution;
-pub use widest::widest_witness;
+pub use widest::{Hints, widest_witness};

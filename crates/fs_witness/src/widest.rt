@@ -50,12 +50,19 @@ fn read_off(
     })
 }
 
+/// What may make a witness bear more fences: the sides of the slots, and slots to widen before the others.
+#[derive(Clone, Copy)]
+pub struct Hints<'a> {
+    pub sides: &'a [Sides],
+    pub first: &'a [Slot],
+}
+
 /// The witness of a showing candidate whose judged relation has no cycle under the placement: an execution that shows the outcome
 /// under it. The rows are the judged relation between the candidate's operations.
 ///
 /// To the rows each pair of classes at each of the sides is added where no cycle arises, at the slots in `first` before the others;
-/// then the order is made, and the widths are read off it, which are exact. `sides` and `first` are hints: the witness is true
-/// whatever they are, and how many fences it bears is no promise. For each of the sides four times what it takes to judge a
+/// then the order is made, and the widths are read off it, which are exact. The witness is true whatever the hints are,
+/// and how many fences it bears is no promise. For each of the sides four times what it takes to judge a
 /// relation, and the slots of the test times the steps. The error is F19.
 pub fn widest_witness(
     alloc: Global,
@@ -63,8 +70,7 @@ pub fn widest_witness(
     placement: &Placement,
     candidate: &Candidate,
     rows: &Rows,
-    sides: &[Sides],
-    first: &[Slot],
+    hints: Hints,
 ) -> Result<Witness, Fault>
     requires test { IsBounded test.now }
     requires made { IsMade (initial_words test.now) candidate.now }
@@ -78,7 +84,7 @@ pub fn widest_witness(
     ensures err { IsOkUnless result Memory }
 {
     let n = candidate.operations.len();
-    let wider = widened(rows, n, sides, first);
+    let wider = widened(rows, n, hints.sides, hints.first);
     let order = order_of(&wider, n);
     read_off(alloc, test, candidate, &order[..n])
 }
