@@ -15,7 +15,6 @@ ghost use Rattle.fs_checker.specs.inner.Walks.{IsWalked};
 
 use crate::answer::answered_placement;
 use crate::breaking::all_breaks;
-use crate::candidates::test_of;
 use crate::cycles::first_bad_cycle;
 use crate::tree::Grounds;
 use crate::witness::shown_widths;
@@ -27,6 +26,13 @@ use std::alloc::Global;
 
 /// The answer of a valid certificate, a placement or none; or the first reason against one that isn't.
 pub(crate) type Judgement = Result<Option<Placement>, Reason>;
+
+/// The test of the candidates.
+pub(crate) fn test_of(showing: &Showing) -> &Test
+    ensures { result.now ≡ showing.now.test }
+{
+    showing.test()
+}
 
 // The first reason against the tree of a certificate that answers this placement.
 fn first_bad_item(

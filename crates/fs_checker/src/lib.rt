@@ -5,7 +5,6 @@
 mod answer;
 mod bounds;
 mod breaking;
-mod candidates;
 mod costs;
 mod cycles;
 mod fenced;

@@ -16,13 +16,12 @@ ghost use Rattle.fs_certificate.specs.Kept.{KeepsCertificate};
 ghost use Rattle.fs_checker.specs.Checks.{IsCheckVerdict, IsCheckFault};
 ghost use Rattle.fs_checker.specs.inner.Judgements.{IsJudgement};
 
-use crate::candidates::{showing_of, test_of};
-use crate::fenced::{Judgement, judge_fenced};
+use crate::fenced::{Judgement, judge_fenced, test_of};
 use crate::unforbidden::judge_none;
 use fs_certificate::{Certificate, CertifiedAnswer};
 use fs_kinds::{Fault, Placement, Prices, Reason};
 use fs_model::Test;
-use fs_showing::Showing;
+use fs_showing::{Showing, showing_of};
 use fs_tree::valid_is_right;
 use std::alloc::Global;
 use std::sync::Arc;

@@ -1,13 +1,13 @@
 //! What is made once for a test, before any placement.
 
-ghost use Rattle.std.specs.Prelude.{◌≡◌, ◌≢◌, ◌≤◌, ◌<◌, ◌^◌, Some, All, length, slice_get, IfOk, OnOk, IfErr, IsOkUnless};
+ghost use Rattle.std.specs.Prelude.{◌≡◌, ◌≢◌, ◌≤◌, ◌<◌, Some, All, length, slice_get, IfOk, OnOk, IfErr, IsOkUnless};
 ghost use Rattle.fs_kinds.specs.declared.fault.Fault.{Fault as RunFault};
 ghost use Rattle.fs_kinds.specs.declared.fault.Fault.TheVariants.{Memory};
 ghost use Rattle.fs_model.specs.Test.{IsBounded, IsStart};
 ghost use Rattle.fs_answer.specs.CandidateFaults.{IsCandidateFault};
 ghost use Rattle.fs_answer.specs.Candidates.{Candidate as Defined};
 ghost use Rattle.fs_answer.specs.Listings.{IsListing};
-ghost use Rattle.fs_thin_air.specs.ThinAir.{BeginsWithWords, CanBeListed};
+ghost use Rattle.fs_thin_air.specs.ThinAir.{CanBeListed};
 ghost use Rattle.fs_judge.specs.inner.Bases.{IsPrejudged, ArePrejudged};
 
 use crate::prejudged::Prejudged;
@@ -15,7 +15,6 @@ use fs_evidence::Question;
 use fs_kinds::Fault;
 use fs_model::Test;
 use fs_showing::Showing;
-use fs_values::Values;
 use std::alloc::Global;
 use std::sync::Arc;
 
@@ -24,20 +23,6 @@ const MOST_PREJUDGED: usize = 65_536;
 
 /// How many places for fences these have at most, so that they take no more than some 100 megabytes.
 const MOST_PLACES: usize = 2_097_152;
-
-// A law: a word of 32 bits is one.
-fn is_word(_word: u32)
-    ensures { _word < 2 ^ 32 }
-{}
-
-// A law: the words that the locations of a test begin with are words of 32 bits.
-pub(crate) fn begins_with_words(test: &Test)
-    ensures { BeginsWithWords test.now }
-{
-    for declared in test.locations.as_slice() {
-        is_word(declared.word);
-    }
-}
 
 // The test of the question.
 pub(crate) fn test_of(question: &Question) -> &Test
@@ -57,9 +42,7 @@ pub(crate) fn showing_of(alloc: Global, question: &Question) -> Result<Showing, 
     ensures err { IfErr result (λ f. f ≢ Memory → IsCandidateFault question.now.test f) }
 {
     let test = Arc::try_clone(&question.test)?;
-    let values = Values::of(alloc, &test)?;
-    begins_with_words(&test);
-    Showing::of(alloc, test, &values)
+    fs_showing::showing_of(alloc, test)
 }
 
 // How many candidates are prejudged for a test: no run has more steps than its hart has instructions.

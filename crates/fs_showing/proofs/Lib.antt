@@ -22,3 +22,4 @@ pub mod AllKept
 pub mod Composed
 pub mod Registers
 pub mod Pairs
+pub mod Faults

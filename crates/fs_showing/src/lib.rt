@@ -4,6 +4,7 @@
 
 mod atomicity;
 mod by_number;
+mod candidates;
 mod choices;
 mod coherence;
 mod counting;
@@ -16,4 +17,5 @@ mod runs;
 mod showing;
 mod total;
 
+pub use candidates::showing_of;
 pub use showing::Showing;

@@ -1,6 +1,7 @@
 use Rattle.std.proofs.Common.{inr}
 use Rattle.std.proofs.lemmas.Result.{IfOk-weaker, IfErr-weaker}
-use Rattle.fs_checker.proofs.Faults.{handed, no_certificate}
+use Rattle.fs_showing.proofs.Faults.{handed}
+use Rattle.fs_checker.proofs.Faults.{no_certificate}
 use Rattle.fs_checker.proofs.verdict.check.Goals as goal
 
 pub returns-in_err-certificate-clause-err : goal.returns-in_err-certificate-clause-err

@@ -1,39 +1,28 @@
-use Rattle.std.proofs.Common.{◌≡◌, ◌≢◌, sym, ◌∙◌, ap, subst}
-use Rattle.std.proofs.lemmas.Result.{IfErr-weaker}
+use Rattle.std.proofs.Common.{◌≡◌, ◌≢◌, ◌∙◌, ap, subst, IfOk, OnOk, IfErr}
 use Rattle.fs_kinds.specs.declared.fault.Fault.{Fault}
-use Rattle.fs_kinds.specs.declared.fault.Fault.TheVariants.{Memory, TooManyCandidates}
+use Rattle.fs_kinds.specs.declared.fault.Fault.TheVariants.{Memory}
 use Rattle.fs_model.specs.declared.test.Test.{Test}
-use Rattle.fs_model.specs.TooMany.{IsRunFault}
-use Rattle.fs_answer.specs.CandidateFaults.{HasTooMany, IsCandidateFault}
-use Rattle.fs_thin_air.specs.ThinAir.{BeginsWithWords, CanBeListed}
+use Rattle.fs_answer.specs.CandidateFaults.{IsCandidateFault}
+use Rattle.fs_thin_air.specs.ThinAir.{CanBeListed}
 use Rattle.fs_evidence.specs.Evidence.{Question}
-use Rattle.fs_judge.proofs.Prepared.{on_ok, on_ok_from, no_fault, of_candidates}
 use Rattle.fs_judge.proofs.prepare.showing_of.Goals as goal
+
+pub returns-clause-test : goal.returns-clause-test
+returns-clause-test c =
+    let same = c.in_ok-test.ensures ∙ ap (λ (q : Question). q.test) c.question.view_is in
+    subst (λ (t : Test). IfOk c.showing_of.result (λ showing. showing.test ≡ t)) same c.showing_of.ensures.test
 
 pub returns-clause-listable : goal.returns-clause-listable
 returns-clause-listable c =
-    let t = c.args.question.now.test in
-    let same : c.in_ok-test.test.value ≡ t = c.in_ok-test.ensures ∙ ap (λ (q : Question). q.test) c.question.view_is in
-    on_ok c.of-2.result (CanBeListed t) (record {
-      bounded = c.requires.test;
-      words = subst BeginsWithWords (c.deref-2.ensures ∙ same) c.begins_with_words.ensures;
-      no_fault = subst (λ (u : Test). (f : Fault) → IsRunFault u f → ⊥) (c.deref.ensures ∙ same) c.in_ok-values.ensures.clean;
-    })
+    let same = c.in_ok-test.ensures ∙ ap (λ (q : Question). q.test) c.question.view_is in
+    subst (λ (t : Test). OnOk c.showing_of.result (CanBeListed t)) same c.showing_of.ensures.listable
 
 pub returns-clause-clean : goal.returns-clause-clean
 returns-clause-clean c =
-    let t = c.args.question.now.test in
-    let same : c.in_ok-test.test.value ≡ t = c.in_ok-test.ensures ∙ ap (λ (q : Question). q.test) c.question.view_is in
-    let clean : (f : Fault) → IsRunFault t f → ⊥ =
-    subst (λ (u : Test). (f : Fault) → IsRunFault u f → ⊥) (c.deref.ensures ∙ same) c.in_ok-values.ensures.clean in
-    on_ok_from c.of-2.result (HasTooMany c.in_ok-test.test.value → ⊥) ((f : Fault) → IsCandidateFault t f → ⊥)
-    (λ few. no_fault t clean (λ many. few (subst HasTooMany (sym same) many))) c.of-2.ensures.clean
+    let same = c.in_ok-test.ensures ∙ ap (λ (q : Question). q.test) c.question.view_is in
+    subst (λ (t : Test). OnOk c.showing_of.result ((f : Fault) → IsCandidateFault t f → ⊥)) same c.showing_of.ensures.clean
 
 pub returns-clause-err : goal.returns-clause-err
 returns-clause-err c =
-    let t = c.args.question.now.test in
-    let same : c.in_ok-test.test.value ≡ t = c.in_ok-test.ensures ∙ ap (λ (q : Question). q.test) c.question.view_is in
-    let clean : (f : Fault) → IsRunFault t f → ⊥ =
-    subst (λ (u : Test). (f : Fault) → IsRunFault u f → ⊥) (c.deref.ensures ∙ same) c.in_ok-values.ensures.clean in
-    IfErr-weaker c.of-2.result (λ f. f ≢ Memory → (f ≡ TooManyCandidates) × HasTooMany c.in_ok-test.test.value) (λ f. f ≢ Memory → IsCandidateFault t f)
-    (λ f many other. of_candidates t clean f ((many other).0, subst HasTooMany same (many other).1)) c.of-2.ensures.err
+    let same = c.in_ok-test.ensures ∙ ap (λ (q : Question). q.test) c.question.view_is in
+    subst (λ (t : Test). IfErr c.showing_of.result (λ f. f ≢ Memory → IsCandidateFault t f)) same c.showing_of.ensures.err

@@ -2,7 +2,7 @@ use Rattle.std.proofs.Common.{◌≢◌, subst}
 use Rattle.fs_kinds.specs.declared.fault.Fault.TheVariants.{Memory}
 use Rattle.fs_answer.specs.CandidateFaults.{IsCandidateFault}
 use Rattle.fs_evidence.specs.Evidence.{Question}
-use Rattle.fs_judge.proofs.Prepared.{handed}
+use Rattle.fs_showing.proofs.Faults.{handed}
 use Rattle.fs_judge.proofs.problem.Problem.new.Goals as goal
 
 pub returns-clause-clean : goal.returns-clause-clean

@@ -2,7 +2,7 @@ use Rattle.std.proofs.Common.{◌≡◌, ◌<◌, ◌^◌, All, take, length, ge
 use Rattle.std.proofs.lemmas.List.{take_more, take_all}
 use Rattle.std.proofs.lemmas.List.Elements.{All-push}
 use Rattle.fs_model.specs.declared.test.Location.{Location}
-use Rattle.fs_checker.proofs.candidates.begins_with_words.Goals as goal
+use Rattle.fs_showing.proofs.candidates.begins_with_words.Goals as goal
 
 pub loop-declared-preserved : goal.loop-declared-preserved
 loop-declared-preserved c =

@@ -1,5 +1,5 @@
 use Rattle.std.proofs.Common.{◌<◌, ◌^◌, take, All}
-use Rattle.fs_judge.proofs.prepare.begins_with_words.Given as goal
+use Rattle.fs_showing.proofs.candidates.begins_with_words.Given as goal
 
 -- those so far are words
 abbrev pub invariant-loop-declared : goal.invariant-loop-declared

@@ -6,8 +6,8 @@ use Rattle.fs_model.specs.declared.test.Test.{Test}
 use Rattle.fs_model.specs.TooMany.{IsRunFault}
 use Rattle.fs_answer.specs.CandidateFaults.{HasTooMany, IsCandidateFault}
 use Rattle.fs_thin_air.specs.ThinAir.{BeginsWithWords, CanBeListed}
-use Rattle.fs_checker.proofs.Faults.{on_ok, on_ok_from, no_fault, of_candidates}
-use Rattle.fs_checker.proofs.candidates.showing_of.Goals as goal
+use Rattle.fs_showing.proofs.Faults.{on_ok, on_ok_from, no_fault, of_candidates}
+use Rattle.fs_showing.proofs.candidates.showing_of.Goals as goal
 
 pub returns-clause-listable : goal.returns-clause-listable
 returns-clause-listable c =

@@ -1,4 +1,4 @@
-//! The candidates of a test that show its outcome.
+//! The candidates that show the outcome, of a test alone.
 
 ghost use Rattle.std.specs.Prelude.{◌≡◌, ◌≢◌, ◌<◌, ◌^◌, All, IfOk, OnOk, IfErr};
 ghost use Rattle.std.specs.Arc.{arc_value};
@@ -9,9 +9,9 @@ ghost use Rattle.fs_answer.specs.CandidateFaults.{IsCandidateFault};
 ghost use Rattle.fs_answer.specs.Listings.{IsListing};
 ghost use Rattle.fs_thin_air.specs.ThinAir.{BeginsWithWords, CanBeListed};
 
+use crate::showing::Showing;
 use fs_kinds::Fault;
 use fs_model::Test;
-use fs_showing::Showing;
 use fs_values::Values;
 use std::alloc::Global;
 use std::sync::Arc;
@@ -30,10 +30,10 @@ fn begins_with_words(test: &Test)
     }
 }
 
-/// The candidates of the test that show its outcome. The test is bounded, and its harts start with whole registers. The fault is
-/// `TooManyTraces` or `Astray` where a hart's runs can't be listed, else `TooManyCandidates` where there are too many candidates or
-/// lists of runs; or `Memory`.
-pub(crate) fn showing_of(alloc: Global, test: Arc<Test>) -> Result<Showing, Fault>
+/// The candidates of the test that show its outcome. The fault is the first of its value sets, `TooManyTraces` or
+/// `Astray`, where a hart's runs can't be listed, else `TooManyCandidates` where there are too many candidates or lists
+/// of runs; or `Memory`. The cost is that of `Values::of` and `Showing::of`.
+pub fn showing_of(alloc: Global, test: Arc<Test>) -> Result<Showing, Fault>
     requires test { IsBounded (arc_value test) }
     requires starts { All IsStart (arc_value test).starts }
     ensures test { IfOk result (λ showing. showing.test ≡ arc_value test) }
@@ -45,11 +45,4 @@ pub(crate) fn showing_of(alloc: Global, test: Arc<Test>) -> Result<Showing, Faul
     let values = Values::of(alloc, &test)?;
     begins_with_words(&test);
     Showing::of(alloc, test, &values)
-}
-
-/// The test of the candidates.
-pub(crate) fn test_of(showing: &Showing) -> &Test
-    ensures { result.now ≡ showing.now.test }
-{
-    showing.test()
 }
