@@ -4,8 +4,9 @@ ghost use Rattle.std.specs.Prelude.{◌≡◌, ℕ, ◌≤◌, IfSome, map};
 ghost use Rattle.std.specs.List.{list_any, list_all};
 ghost use Rattle.fs_answer.specs.Parts.{floor};
 ghost use Rattle.fs_answer.specs.Pruning.{is_breakable};
-ghost use Rattle.fs_parts.specs.Breaks.{is_kept, is_break};
-ghost use Rattle.fs_board.specs.inner.Breaks.{everywhere, least_at, least_in, is_breakable_at, breaks_one, break_apart, bound_of, widths_in};
+ghost use Rattle.fs_kinds.specs.PriceTable.{cost};
+ghost use Rattle.fs_parts.specs.Breaks.{is_kept, is_break, breaks_one, break_apart, bound_of};
+ghost use Rattle.fs_board.specs.inner.Breaks.{everywhere, least_at, least_in, is_breakable_at, widths_in};
 
 use fs_evidence::{Pairs, Witness};
 use fs_kinds::{Entry, Kind, Prices};
@@ -70,7 +71,7 @@ fn is_breakable_at(prices: &Prices, k: usize, decision: &Decision, witness: &Wit
 /// Is slot number k breakable for one of the witnesses at most?
 #[tactic(auto, using(crate::proofs::Pruned::count_widths))]
 fn breaks_one(prices: &Prices, k: usize, decision: &Decision, witnesses: &[Arc<Witness>]) -> bool
-    ensures { result ≡ breaks_one prices.now k decision.now (map widths_in witnesses.now) }
+    ensures { result ≡ breaks_one (is_breakable_at prices.now) k decision.now (map widths_in witnesses.now) }
 {
     let mut count: usize = 0;
     for witness in witnesses {
@@ -83,7 +84,7 @@ fn breaks_one(prices: &Prices, k: usize, decision: &Decision, witnesses: &[Arc<W
 
 /// Do no two of the witnesses share a breakable slot of the part? It takes time of slots times kinds times witnesses.
 pub(crate) fn break_apart(prices: &Prices, part: &[Decision], witnesses: &[Arc<Witness>]) -> bool
-    ensures { result ≡ break_apart prices.now 0 part.now (map widths_in witnesses.now) }
+    ensures { result ≡ break_apart (is_breakable_at prices.now) 0 part.now (map widths_in witnesses.now) }
 {
     part.iter()
         .enumerate()
@@ -107,7 +108,8 @@ pub(crate) fn bound_of(
     witnesses: &[Arc<Witness>],
 ) -> Option<u128>
     requires { entries.now ≡ floor part.now }
-    ensures { result ≡ bound_of prices.now part.now (map widths_in witnesses.now) }
+    ensures { result ≡ bound_of (least_in prices.now part.now) (cost prices.now (floor part.now))
+        (map widths_in witnesses.now) }
 {
     let mut total = cost(prices, entries);
     for witness in witnesses {

@@ -5,14 +5,17 @@
 ghost use Rattle.std.specs.Prelude.{◌≡◌, None, Some, List, not, map};
 ghost use Rattle.std.specs.List.{find};
 ghost use Rattle.fs_kinds.specs.declared.kind.Kind.TheVariants.{RwRw};
+ghost use Rattle.fs_kinds.specs.PriceTable.{cost};
 ghost use Rattle.fs_model.specs.declared.test.Test.{Test};
 ghost use Rattle.fs_model.specs.Test.{IsBounded};
 ghost use Rattle.fs_model.specs.Slots.{slots};
 ghost use Rattle.fs_model.specs.Witness.{Witness};
-ghost use Rattle.fs_answer.specs.Parts.{filled};
+ghost use Rattle.fs_answer.specs.Parts.{filled, floor};
 ghost use Rattle.fs_answer.specs.Pruning.{is_no_better};
 ghost use Rattle.fs_answer.specs.Valid.{Refutes};
-ghost use Rattle.fs_checker.specs.inner.Breaks.{is_shown_under, all_breaks, breaks_at, least_in, is_breakable_at, breaks_one, break_apart, bound_of, is_bounded};
+ghost use Rattle.fs_parts.specs.Breaks.{breaks_one, break_apart, bound_of};
+ghost use Rattle.fs_checker.specs.inner.Breaks.{is_shown_under, all_breaks, breaks_at, least_in, is_breakable_at};
+ghost use Rattle.fs_checker.specs.inner.Breaks.{is_bounded};
 ghost use Rattle.fs_checker.specs.inner.Leaves.{Decides, slots_in_part, AreShown, IsBounding};
 
 use fs_evidence::Pairs;
@@ -105,7 +108,7 @@ fn is_breakable_at(k: usize, decision: &Decision, breaks: &[Option<u32>]) -> boo
 /// Is slot number k breakable for one of the witnesses of these numbers at most?
 #[tactic(auto, using(crate::proofs::Pruned::count_breaks))]
 fn breaks_one(k: usize, decision: &Decision, breaks: &[List<Option<u32>>], numbers: &[u64]) -> bool
-    ensures { result ≡ breaks_one k decision.now (map (breaks_at breaks.now) numbers.now) }
+    ensures { result ≡ breaks_one is_breakable_at k decision.now (map (breaks_at breaks.now) numbers.now) }
 {
     let mut count: usize = 0;
     for number in numbers {
@@ -118,7 +121,7 @@ fn breaks_one(k: usize, decision: &Decision, breaks: &[List<Option<u32>>], numbe
 
 /// Do no two of the witnesses of these numbers share a breakable slot of the part? It takes time of slots times numbers.
 fn break_apart(part: &[Decision], breaks: &[List<Option<u32>>], numbers: &[u64]) -> bool
-    ensures { result ≡ break_apart 0 part.now (map (breaks_at breaks.now) numbers.now) }
+    ensures { result ≡ break_apart is_breakable_at 0 part.now (map (breaks_at breaks.now) numbers.now) }
 {
     part.iter()
         .enumerate()
@@ -133,7 +136,8 @@ fn bound_of(
     breaks: &[List<Option<u32>>],
     numbers: &[u64],
 ) -> Option<u128>
-    ensures { result ≡ bound_of prices.now part.now (map (breaks_at breaks.now) numbers.now) }
+    ensures { result ≡ bound_of (least_in part.now) (cost prices.now (floor part.now))
+        (map (breaks_at breaks.now) numbers.now) }
 {
     let mut total = floor_cost(prices, part);
     for number in numbers {

@@ -26,10 +26,10 @@ sum_none (Some m) = refl
 
 -- ---- witnesses
 
-abbrev count_one : Bool → ℕ
+abbrev pub count_one : Bool → ℕ
 count_one b = cond b 1 0
 
-count-cons : {X : Type 0} (p : X → Bool) (x : X) (xs : List X) → count_by p (x ∷ xs) ≡ count_one (p x) + count_by p xs
+pub count-cons : {X : Type 0} (p : X → Bool) (x : X) (xs : List X) → count_by p (x ∷ xs) ≡ count_one (p x) + count_by p xs
 count-cons p x xs = sum_by-cons (λ y. count_one (p y)) x xs
 
 module _ (prices : PriceTable) where

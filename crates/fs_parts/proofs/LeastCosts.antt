@@ -1,6 +1,9 @@
 -- The least of costs, where there are any.
-use Rattle.std.proofs.Common.{◌≡◌, ℕ, zero, suc, ◌+◌, ◌<◌, Option, None, Some, List, [], ◌∷◌, length, take, refl, ap, ◌∙◌, arith}
+use Rattle.std.proofs.Common.{◌≡◌, ℕ, zero, suc, ◌+◌, ◌<◌, Option, None, Some, List, [], ◌∷◌, ◌++◌, map, length, take, refl, ap, ◌∙◌, arith}
 use Rattle.std.specs.Prelude.{min, get_or}
+use Rattle.fs_kinds.specs.declared.placement.Entry.{Entry}
+use Rattle.fs_kinds.specs.PriceTable.{PriceTable, entry_cost}
+use Rattle.fs_answer.specs.Pruning.{least}
 use Rattle.fs_parts.specs.Breaks.{lesser_of, least_of}
 
 pub lesser_none : (m : Option ℕ) → lesser_of m None ≡ m
@@ -23,3 +26,10 @@ least_more f (x ∷ xs) zero d l = lesser_none (f x)
 least_more f (x ∷ xs) (suc i) d l =
     let e : suc i + 1 ≡ suc (i + 1) = omega arith in
     rw e (ap (lesser_of (f x)) (least_more f xs i d (omega arith)) ∙ lesser_assoc (f x) (least_of f (take i xs)) (f (get_or xs i d)))
+
+pub least_append : (prices : PriceTable) (es fs : List Entry)
+    → least (map (entry_cost prices) (es ++ fs)) ≡ lesser_of (least (map (entry_cost prices) es)) (least (map (entry_cost prices) fs))
+least_append prices [] fs = refl
+least_append prices (e ∷ es) fs =
+    ap (lesser_of (Some (entry_cost prices e))) (least_append prices es fs)
+    ∙ lesser_assoc (Some (entry_cost prices e)) (least (map (entry_cost prices) es)) (least (map (entry_cost prices) fs))

@@ -1,2 +1,3 @@
 pub mod LeastCosts
 pub mod Apart
+pub mod Bounding

@@ -1,15 +1,14 @@
 -- What breaks a witness, and what it is within, by the pairs that it keeps at each slot of a part.
-use Rattle.std.specs.Prelude.{ℕ, nat_lt, Bool, false, ◌&&◌, Option, None, Some, List, [], ◌∷◌, map, slice_get}
-use Rattle.std.specs.List.{list_all, count_by, enumerate_from}
+use Rattle.std.specs.Prelude.{ℕ, Bool, false, ◌&&◌, Option, None, Some, List, ◌∷◌, map, slice_get}
 use Rattle.std.specs.declared.sync.Arc.{Arc}
 use Rattle.fs_kinds.specs.declared.placement.Entry.{Entry}
 use Rattle.fs_kinds.specs.PriceTable.{PriceTable, entry_cost, cost}
 use Rattle.fs_answer.specs.Widths.{Width}
 use Rattle.fs_answer.specs.Parts.{Part, Decision, floor}
-use Rattle.fs_answer.specs.Pruning.{breaking_at, is_breakable, least, sum_of, is_no_better}
+use Rattle.fs_answer.specs.Pruning.{breaking_at, is_breakable, least, is_no_better}
 use Rattle.fs_evidence.specs.declared.evidence.Pairs.{Pairs}
 use Rattle.fs_evidence.specs.Evidence.{Shown, keeps}
-use Rattle.fs_parts.specs.Breaks.{lesser_of}
+use Rattle.fs_parts.specs.Breaks.{lesser_of, break_apart, bound_of}
 
 module _ {A : Type 0} where
   abbrev pub widths_in : Arc Shown A → List Pairs
@@ -36,18 +35,8 @@ breaks_at prices d (Some pairs) = is_breakable prices (everywhere pairs) d
 abbrev pub is_breakable_at : PriceTable → ℕ → Decision → List Pairs → Bool
 is_breakable_at prices k d widths = breaks_at prices d (slice_get widths k)
 
--- it is so for one of them at most
-abbrev pub breaks_one : PriceTable → ℕ → Decision → List (List Pairs) → Bool
-breaks_one prices k d ws = nat_lt (count_by (is_breakable_at prices k d) ws) 2
-
--- and so is each slot of the part, whose first has this number
-abbrev pub break_apart : PriceTable → ℕ → Part → List (List Pairs) → Bool
-break_apart prices k part ws = list_all (λ numbered. breaks_one prices numbered.0 numbered.1 ws) (enumerate_from k part)
-
--- the cost of the floor and of breaking each of them
-abbrev pub bound_of : PriceTable → Part → List (List Pairs) → Option ℕ
-bound_of prices part [] = Some (cost prices (floor part))
-bound_of prices part (w ∷ ws) = sum_of (least_in prices part w) (bound_of prices part ws)
-
+-- they bound the part
 abbrev pub is_bounded : PriceTable → (bound : Option (List Entry)) → Part → List (List Pairs) → Bool
-is_bounded prices bound part ws = break_apart prices 0 part ws && is_no_better prices bound part (bound_of prices part ws)
+is_bounded prices bound part ws =
+    break_apart (is_breakable_at prices) 0 part ws
+    && is_no_better prices bound part (bound_of (least_in prices part) (cost prices (floor part)) ws)

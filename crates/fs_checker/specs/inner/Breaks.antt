@@ -1,16 +1,15 @@
 -- What breaks a witness, and what it is within, by the pairs that it keeps at each slot of a part.
-use Rattle.std.specs.Prelude.{ℕ, nat_lt, Bool, false, ◌&&◌, if◌then◌else◌, Option, None, Some, is_none, is_some, unwrap_or, List, [], ◌∷◌, map, slice_get}
-use Rattle.std.specs.List.{list_all, count_by, enumerate_from, zip}
+use Rattle.std.specs.Prelude.{ℕ, Bool, false, ◌&&◌, if◌then◌else◌, Option, None, Some, is_none, is_some, unwrap_or, List, [], ◌∷◌, map, slice_get}
+use Rattle.std.specs.List.{zip}
 use Rattle.fs_kinds.specs.declared.kind.Kind.{Kind}
 use Rattle.fs_kinds.specs.declared.placement.Entry.{Entry}
 use Rattle.fs_kinds.specs.declared.slot.Slot.{Slot}
 use Rattle.fs_kinds.specs.Kind.{all_kinds}
 use Rattle.fs_kinds.specs.PriceTable.{PriceTable, weight_of, cost}
 use Rattle.fs_answer.specs.Parts.{Part, Decision, floor}
-use Rattle.fs_answer.specs.Pruning.{sum_of, is_no_better}
+use Rattle.fs_answer.specs.Pruning.{is_no_better}
 use Rattle.fs_evidence.specs.declared.evidence.Pairs.{Pairs}
-use Rattle.fs_evidence.specs.Evidence.{keeps}
-use Rattle.fs_parts.specs.Breaks.{is_kept, break_cost, lesser_of, least_of}
+use Rattle.fs_parts.specs.Breaks.{is_kept, break_cost, lesser_of, least_of, break_apart, bound_of}
 
 -- a witness of which this is kept shows the outcome, and so it does with what is decided and this kind elsewhere
 abbrev pub is_shown_with : Option Kind → Part → Option (Option (List Pairs)) → Bool
@@ -59,18 +58,8 @@ is_open d (Some cost) = is_some cost && is_none d.decided
 abbrev pub is_breakable_at : ℕ → Decision → List (Option ℕ) → Bool
 is_breakable_at k d breaks = is_open d (slice_get breaks k)
 
--- it is so for one of them at most
-abbrev pub breaks_one : ℕ → Decision → List (List (Option ℕ)) → Bool
-breaks_one k d ws = nat_lt (count_by (is_breakable_at k d) ws) 2
-
--- and so is each slot of the part, whose first has this number
-abbrev pub break_apart : ℕ → Part → List (List (Option ℕ)) → Bool
-break_apart k part ws = list_all (λ numbered. breaks_one numbered.0 numbered.1 ws) (enumerate_from k part)
-
--- the cost of the floor and of breaking each of them
-abbrev pub bound_of : PriceTable → Part → List (List (Option ℕ)) → Option ℕ
-bound_of prices part [] = Some (cost prices (floor part))
-bound_of prices part (w ∷ ws) = sum_of (least_in part w) (bound_of prices part ws)
-
+-- they bound the part
 abbrev pub is_bounded : PriceTable → (bound : Option (List Entry)) → Part → List (List (Option ℕ)) → Bool
-is_bounded prices bound part ws = break_apart 0 part ws && is_no_better prices bound part (bound_of prices part ws)
+is_bounded prices bound part ws =
+    break_apart is_breakable_at 0 part ws
+    && is_no_better prices bound part (bound_of (least_in part) (cost prices (floor part)) ws)

@@ -1,8 +1,10 @@
 use Rattle.std.proofs.Common.{◌≡◌, ◌+◌, ◌<◌, None, Some, get_or, length, ◌∙◌, ap, ap₂, sym, arith}
+use Rattle.fs_kinds.specs.PriceTable.{cost}
+use Rattle.fs_answer.specs.Parts.{floor}
 use Rattle.fs_answer.specs.Pruning.{sum_of}
 use Rattle.fs_evidence.specs.Evidence.{Shown}
 use Rattle.fs_board.specs.inner.Breaks.{least_in, widths_in}
-use Rattle.fs_board.proofs.Pruned.{bound_more, bound_none}
+use Rattle.fs_parts.proofs.Bounding.{bound_more, bound_none}
 use Rattle.fs_board.proofs.bounds.bound_of.Goals as goal
 
 pub returns-in_default : goal.returns-in_default
@@ -17,7 +19,7 @@ returns-in_default c =
     let none : least_in prices part (widths_in (get_or ws i w)) ≡ None =
     ap (λ v. least_in prices part (widths_in v)) (sym c.witness-item.is)
     ∙ (ap (λ (x : Shown). least_in prices part x.widths) (sym c.deref.ensures) ∙ sym c.in_default.ensures.value) in
-    sym (bound_none prices part ws i w within none)
+    sym (bound_none (least_in prices part) (cost prices (floor part)) widths_in ws i w within none)
 
 pub loop-witness-preserved : goal.loop-witness-preserved
 loop-witness-preserved c =
@@ -36,6 +38,6 @@ loop-witness-preserved c =
     let was = c.loop-witness.invariant.most in
     let little = c.in-Some.ensures.most in
     record {
-      so_far = bound_more prices part ws i w within ∙ (ap₂ sum_of some c.loop-witness.invariant.so_far ∙ ap Some sum);
+      so_far = bound_more (least_in prices part) (cost prices (floor part)) widths_in ws i w within ∙ (ap₂ sum_of some c.loop-witness.invariant.so_far ∙ ap Some sum);
       most = omega (arith, from);
     }
