@@ -9,7 +9,7 @@ use fs_examples::{
 };
 use fs_kinds::{Fault, Placement};
 use fs_litmus::read_test;
-use fs_plain::ppo;
+use fs_plain::Executed;
 use fs_showing::Showing;
 use fs_values::Values;
 use std::alloc::{AllocError, Global};
@@ -61,10 +61,13 @@ fn overwrites(candidate: &Candidate, load: usize, store: usize) -> bool {
 
 /// Must the first operation come before the second, by the definition of the judged relation?
 fn is_judged(candidate: &Candidate, placement: &Placement, first: usize, second: usize) -> bool {
-    let traces = candidate.traces.as_slice();
-    let operations = candidate.operations.as_slice();
-    let sources = candidate.source.as_slice();
-    ppo(traces, operations, placement, sources, first, second)
+    let executed = Executed {
+        traces: candidate.traces.as_slice(),
+        operations: candidate.operations.as_slice(),
+        placement,
+        sources: candidate.source.as_slice(),
+    };
+    executed.ppo(first, second)
         || is_read_externally(candidate, first, second)
         || is_coherent(candidate, first, second)
         || overwrites(candidate, first, second)

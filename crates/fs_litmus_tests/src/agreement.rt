@@ -12,7 +12,7 @@ use fs_examples::{
 use fs_hart::{Operation, Trace, operations};
 use fs_kinds::{Fault, Placement};
 use fs_litmus::{Test, read_test};
-use fs_plain::{address_depends, control_depends, data_depends};
+use fs_plain::{Executed, address_depends, control_depends, data_depends};
 use fs_ppo::{fence_rule, rule};
 use std::alloc::{AllocError, Global};
 use std::test::Fail;
@@ -33,17 +33,20 @@ impl Comparison {
         requires first { 1 ≤ n }
         requires last { n < 14 }
     {
-        let operations = candidate.operations.as_slice();
-        for a in 0..=operations.len() {
-            for b in 0..=operations.len() {
+        let executed = Executed {
+            traces: candidate.traces.as_slice(),
+            operations: candidate.operations.as_slice(),
+            placement,
+            sources: candidate.source.as_slice(),
+        };
+        for a in 0..=executed.operations.len() {
+            for b in 0..=executed.operations.len() {
                 let found = if n == 4 {
                     fence_rule(candidate, placement, a, b)
                 } else {
                     rule(n, candidate, a, b)
                 };
-                let traces = candidate.traces.as_slice();
-                let sources = candidate.source.as_slice();
-                let wanted = fs_plain::rule(n, traces, operations, placement, sources, a, b);
+                let wanted = executed.rule(n, a, b);
                 if found != wanted {
                     self.difference = self.difference.or(Some((n, a, b)));
                 }

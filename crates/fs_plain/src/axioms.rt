@@ -13,7 +13,7 @@ ghost use Rattle.fs_model.specs.Tests.{returns_source, goes_forward, keeps_atomi
 ghost use Rattle.fs_plain.specs.Whole.{pre_execution_of};
 ghost use Rattle.fs_plain.specs.Decisions.{Decides};
 
-use crate::rules::ppo;
+use crate::rules::Executed;
 use fs_axioms::{Ordered, lists_each_once};
 use fs_hart::{Trace, operations};
 use fs_kinds::{Fault, Placement};
@@ -49,14 +49,13 @@ fn goes_forward(
     ensures { let x = pre_execution_of test.now traces.now in
         result ≡ goes_forward x placement.now (source_in x ordered.now.listed) (gmo x ordered.now.listed) a b }
 {
-    !ppo(
+    let executed = Executed {
         traces,
-        ordered.operations(),
+        operations: ordered.operations(),
         placement,
-        ordered.sources(),
-        a,
-        b,
-    ) || ordered.stands_before(a, b)
+        sources: ordered.sources(),
+    };
+    !executed.ppo(a, b) || ordered.stands_before(a, b)
 }
 
 // Do r and w, where they are paired, keep atomicity?

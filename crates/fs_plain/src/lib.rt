@@ -16,5 +16,5 @@ pub use allowing::allows_over;
 pub use axioms::obeys_axioms;
 pub use dependencies::{address_depends, control_depends, data_depends};
 pub use executions::shows;
-pub use rules::{ppo, rule};
+pub use rules::Executed;
 pub use runs::is_run;

@@ -126,106 +126,84 @@ fn precedes(operations: &[Operation], a: usize, b: usize) -> bool
     Operation::numbered(operations, a).precedes(&Operation::numbered(operations, b))
 }
 
-// What the rule of this number asks besides program order.
-fn is_case(
-    n: u8,
-    traces: &[Trace],
-    operations: &[Operation],
-    placement: &Placement,
-    sources: &[Option<u8>],
-    a: usize,
-    b: usize,
-) -> bool
-    requires { 1 ≤ n }
-    ensures { result ≡ is_case operations.now (steps_in traces.now) placement.now sources.now a b n }
-{
-    let first = Operation::numbered(operations, a);
-    let second = Operation::numbered(operations, b);
-    let steps = steps_of(traces, first.hart);
-    let i = usize::from(first.place);
-    let j = usize::from(second.place);
-    match n {
-        1 => overlaps(&first, &second),
-        2 => reads_differ(operations, sources, a, b),
-        3 => returns_amo_or_sc(&first, &second, source_at(sources, b), a),
-        4 => is_fenced(placement, steps, &first, &second),
-        5 => first.annotation().acquire,
-        6 => second.annotation().release,
-        7 => is_rcsc(&first) && is_rcsc(&second),
-        8 => are_paired(steps, i, j),
-        9 => address_depends(steps, i, j),
-        10 => data_depends(steps, i, j),
-        11 => second.is_store() && control_depends(steps, i, j),
-        12 => second.is_load() && any_passes_on(operations, steps, source_at(sources, b), a, b),
-        13 => second.is_store() && any_address_between(steps, i, j),
-        _ => false,
+/// What was executed, of which the rules are asked: the runs with their operations, the placed fences, and for each
+/// operation the number of the one that wrote what it loads.
+#[derive(Clone, Copy)]
+pub struct Executed<'a> {
+    pub traces: &'a [Trace],
+    pub operations: &'a [Operation],
+    pub placement: &'a Placement,
+    pub sources: &'a [Option<u8>],
+}
+
+impl Executed<'_> {
+    // What the rule of this number asks besides program order.
+    fn is_case(&self, n: u8, a: usize, b: usize) -> bool
+        requires { 1 ≤ n }
+        ensures { result ≡ is_case self.now.operations.now (steps_in self.now.traces.now) self.now.placement.now
+            self.now.sources.now a b n }
+    {
+        let first = Operation::numbered(self.operations, a);
+        let second = Operation::numbered(self.operations, b);
+        let steps = steps_of(self.traces, first.hart);
+        let source = source_at(self.sources, b);
+        let i = usize::from(first.place);
+        let j = usize::from(second.place);
+        match n {
+            1 => overlaps(&first, &second),
+            2 => reads_differ(self.operations, self.sources, a, b),
+            3 => returns_amo_or_sc(&first, &second, source, a),
+            4 => is_fenced(self.placement, steps, &first, &second),
+            5 => first.annotation().acquire,
+            6 => second.annotation().release,
+            7 => is_rcsc(&first) && is_rcsc(&second),
+            8 => are_paired(steps, i, j),
+            9 => address_depends(steps, i, j),
+            10 => data_depends(steps, i, j),
+            11 => second.is_store() && control_depends(steps, i, j),
+            12 => second.is_load() && any_passes_on(self.operations, steps, source, a, b),
+            13 => second.is_store() && any_address_between(steps, i, j),
+            _ => false,
+        }
     }
-}
 
-// The rule of this number, with program order.
-fn rule_among(
-    n: u8,
-    traces: &[Trace],
-    operations: &[Operation],
-    placement: &Placement,
-    sources: &[Option<u8>],
-    a: usize,
-    b: usize,
-) -> bool
-    requires { 1 ≤ n }
-    ensures { result ≡ rule_among operations.now (steps_in traces.now) placement.now sources.now a b n }
-{
-    precedes(operations, a, b) && is_case(n, traces, operations, placement, sources, a, b)
-}
+    // The rule of this number, with program order.
+    fn rule_among(&self, n: u8, a: usize, b: usize) -> bool
+        requires { 1 ≤ n }
+        ensures { result ≡ rule_among self.now.operations.now (steps_in self.now.traces.now) self.now.placement.now
+            self.now.sources.now a b n }
+    {
+        precedes(self.operations, a, b) && self.is_case(n, a, b)
+    }
 
-/// Is operation a before operation b a case of the manual's rule n, from 1 on? `sources` gives for each operation the number of
-/// the one that wrote what it loads. Numbers of rules and of operations that aren't there give false.
-pub fn rule(
-    n: u8,
-    traces: &[Trace],
-    operations: &[Operation],
-    placement: &Placement,
-    sources: &[Option<u8>],
-    a: usize,
-    b: usize,
-) -> bool
-    requires { 1 ≤ n }
-    ensures { (x : PreExecution)
-        → operations.now ≡ operations_of x
-        → x.traces ≡ steps_in traces.now
-        → result ≡ is_rule x placement.now (source_at sources.now) a b n }
-{
-    rule_among(n, traces, operations, placement, sources, a, b)
-}
+    /// Is operation a before operation b a case of the manual's rule n, from 1 on? Numbers of rules and of operations
+    /// that aren't there give false.
+    pub fn rule(&self, n: u8, a: usize, b: usize) -> bool
+        requires { 1 ≤ n }
+        ensures { (x : PreExecution)
+            → self.now.operations.now ≡ operations_of x
+            → x.traces ≡ steps_in self.now.traces.now
+            → result ≡ is_rule x self.now.placement.now (source_at self.now.sources.now) a b n }
+    {
+        self.rule_among(n, a, b)
+    }
 
-// Does some rule put a before b?
-fn any_rule(
-    traces: &[Trace],
-    operations: &[Operation],
-    placement: &Placement,
-    sources: &[Option<u8>],
-    a: usize,
-    b: usize,
-) -> bool
-    ensures { result ≡ any_rule operations.now (steps_in traces.now) placement.now sources.now a b }
-{
-    (1..14).any(|n| rule_among(n, traces, operations, placement, sources, a, b))
-}
+    // Does some rule put a before b?
+    fn any_rule(&self, a: usize, b: usize) -> bool
+        ensures { result ≡ any_rule self.now.operations.now (steps_in self.now.traces.now) self.now.placement.now
+            self.now.sources.now a b }
+    {
+        (1..14).any(|n| self.rule_among(n, a, b))
+    }
 
-/// Is operation a before operation b in preserved program order? `sources` gives for each operation the number of the one that
-/// wrote what it loads. Numbers of operations that aren't there give false.
-pub fn ppo(
-    traces: &[Trace],
-    operations: &[Operation],
-    placement: &Placement,
-    sources: &[Option<u8>],
-    a: usize,
-    b: usize,
-) -> bool
-    ensures { (x : PreExecution)
-        → operations.now ≡ operations_of x
-        → x.traces ≡ steps_in traces.now
-        → result ≡ ppo x placement.now (source_at sources.now) a b }
-{
-    any_rule(traces, operations, placement, sources, a, b)
+    /// Is operation a before operation b in preserved program order? Numbers of operations that aren't there give
+    /// false.
+    pub fn ppo(&self, a: usize, b: usize) -> bool
+        ensures { (x : PreExecution)
+            → self.now.operations.now ≡ operations_of x
+            → x.traces ≡ steps_in self.now.traces.now
+            → result ≡ ppo x self.now.placement.now (source_at self.now.sources.now) a b }
+    {
+        self.any_rule(a, b)
+    }
 }
