@@ -63,11 +63,11 @@ there s (e ∷ done) after kind = or_right (is_same_slot e.slot s) _ (there s do
 
 -- ---- what fills the slots from one on
 
-heads : {A : Type 0} {a b : A} {xs ys : List A} → a ∷ xs ≡ b ∷ ys → (a ≡ b) × (xs ≡ ys)
+pub heads : {A : Type 0} {a b : A} {xs ys : List A} → a ∷ xs ≡ b ∷ ys → (a ≡ b) × (xs ≡ ys)
 heads e = (cc, cc)
 
 -- no fence of a later slot has the slot's words
-no_later : (s : Slot) (k : Kind) (p : List Entry) (words : List (List ℕ)) → IsSlot s → AllByRecursion IsSlot (slots_of p) → list_all (is_before s) (slots_of p) ≡ true
+pub no_later : (s : Slot) (k : Kind) (p : List Entry) (words : List (List ℕ)) → IsSlot s → AllByRecursion IsSlot (slots_of p) → list_all (is_before s) (slots_of p) ≡ true
     → fence_words p ≡ fence_word s k ∷ words → ⊥
 no_later s k [] words is small all e = (let none : [] ≡ fence_word s k ∷ words = e in cc)
 no_later s k (e ∷ p) words is small all same = by_kind e.kind (no_later s k p words is small.1 parts.1) same

@@ -1,44 +1,20 @@
 -- The words of fences name one placement over a test's slots.
-use Rattle.std.proofs.Common.{◌≡◌, ℕ, ◌+◌, ◌<◌, ◌≤◌, true, Option, None, Some, List, [], ◌∷◌, ◌++◌, refl, sym, ◌∙◌, ap, ap₂, subst, arith}
+use Rattle.std.proofs.Common.{◌≡◌, ℕ, ◌+◌, true, Option, None, Some, List, [], ◌∷◌, ◌++◌, refl, sym, ◌∙◌, ap, ap₂, subst}
 use Rattle.std.specs.List.{AllByRecursion, list_all}
 use Rattle.std.proofs.lemmas.Bool.{and_parts}
-use Rattle.std.proofs.lemmas.Bool.Decides.{nat_tests}
 use Rattle.fs_kinds.specs.declared.kind.Kind.{Kind}
 use Rattle.fs_kinds.specs.declared.placement.Entry.{Entry}
 use Rattle.fs_kinds.specs.declared.slot.Slot.{Slot}
-use Rattle.fs_kinds.specs.Kind.{word}
 use Rattle.fs_kinds.specs.Placement.{slots_of}
 use Rattle.fs_kinds.specs.PriceTable.{PriceTable}
-use Rattle.fs_kinds.specs.Slot.{IsSlot, fence_word, is_before, is_rising}
+use Rattle.fs_kinds.specs.Slot.{IsSlot, is_before, is_rising}
 use Rattle.fs_model.specs.declared.test.Test.{Test}
 use Rattle.fs_model.specs.Slots.{slots}
 use Rattle.fs_model.specs.Test.{IsBounded}
 use Rattle.fs_model.proofs.Rising.{rising-slots_from}
 use Rattle.fs_answer.specs.Certificate.{Answer, Fenced, IsAnswered, fence_words, words_at}
 use Rattle.fs_checker.proofs.Words.{small_slots, same_fence}
-
--- ---- a word is that of one fence
-
-heads : {A : Type 0} {a b : A} {xs ys : List A} → a ∷ xs ≡ b ∷ ys → (a ≡ b) × (xs ≡ ys)
-heads e = (cc, cc)
-
-not_before : (s : Slot) → is_before s s ≡ true → ⊥
-not_before s before = grind (arith, nat_tests)
-
--- no fence of a later slot has the slot's word
-no_later : (s : Slot) (k : Kind) (p : List Entry) (words : List (List ℕ)) → IsSlot s → AllByRecursion IsSlot (slots_of p) → list_all (is_before s) (slots_of p) ≡ true
-    → fence_words p ≡ fence_word s k ∷ words → ⊥
-no_later s k [] words is small all e = (let none : [] ≡ fence_word s k ∷ words = e in cc)
-no_later s k (e ∷ p) words is small all same = by_kind e.kind (no_later s k p words is small.1 parts.1) same
-  where
-    parts : (is_before s e.slot ≡ true) × (list_all (is_before s) (slots_of p) ≡ true)
-    parts = and_parts (is_before s e.slot) _ all
-
-    by_kind : (kind : Option Kind) → (fence_words p ≡ fence_word s k ∷ words → ⊥) → words_at e.slot kind ++ fence_words p ≡ fence_word s k ∷ words → ⊥
-    by_kind None rest same = rest same
-    by_kind (Some l) rest same =
-        let one = same_fence e.slot s l k small.0 is (heads same).0 in
-        not_before s (subst (λ u. is_before s u ≡ true) one.0 parts.0)
+use Rattle.fs_checker.proofs.Filled.{heads, no_later}
 
 -- ---- placements over the same slots
 
