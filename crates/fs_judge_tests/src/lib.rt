@@ -6,9 +6,10 @@
 mod edges;
 #[cfg(test)]
 mod judges;
-#[cfg(test)]
 mod questions;
 #[cfg(test)]
 mod relations;
 #[cfg(test)]
 mod verdicts;
+
+pub use questions::verdict_on;

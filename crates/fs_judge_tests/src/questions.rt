@@ -1,4 +1,4 @@
-//! Verdicts on placements, from texts.
+//! Verdicts on placements, from texts: for the tests of refused memory too.
 ghost use Rattle.std.specs.Prelude.{List, IfOk};
 ghost use Rattle.fs_kinds.specs.declared.placement.Entry.{Entry};
 ghost use Rattle.fs_model.specs.Test.{IsBounded};
@@ -10,7 +10,7 @@ use fs_kinds::Fault;
 use std::alloc::Global;
 
 /// The verdict on the placement that the words name.
-pub(crate) fn verdict_on(alloc: Global, problem: &Problem, words: &str) -> Result<Verdict, Fault>
+pub fn verdict_on(alloc: Global, problem: &Problem, words: &str) -> Result<Verdict, Fault>
     requires { IsBounded problem.now.test }
     ensures ok { IfOk result (λ verdict. (p : List Entry) × IsVerdict problem.now.test p verdict) }
 {

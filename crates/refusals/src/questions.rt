@@ -1,18 +1,16 @@
-//! What workers ask of a board or a desk, and verdicts on placements from texts.
-ghost use Rattle.std.specs.Prelude.{List, IfOk, map};
+//! What workers ask of a board or a desk, and what verdicts on placements hold.
+ghost use Rattle.std.specs.Prelude.{IfOk, map};
 ghost use Rattle.std.specs.Arc.{arc_value};
-ghost use Rattle.fs_kinds.specs.declared.placement.Entry.{Entry};
 ghost use Rattle.fs_model.specs.Test.{IsBounded};
 ghost use Rattle.fs_model.specs.Allows.{Allows};
 ghost use Rattle.fs_model.specs.Execution.{Execution};
 ghost use Rattle.fs_answer.specs.Valid.{HasCycles};
 ghost use Rattle.fs_evidence.specs.Evidence.{IsWitnessFor, placement_in};
 ghost use Rattle.fs_board.specs.Growth.{AreWitnesses};
-ghost use Rattle.fs_judge.specs.Verdicts.{IsVerdict};
 
 use fs_evidence::{Forbidden, Witness};
-use fs_examples::placement_of;
 use fs_judge::{Problem, Verdict};
+use fs_judge_tests::verdict_on;
 use fs_kinds::{Fault, Slot};
 use fs_list::List;
 use std::alloc::Global;
@@ -33,15 +31,6 @@ pub(crate) enum Request {
     /// That the placement that the words name be posted, which forbids the outcome.
     Post(usize, &'static str),
     Peek(usize),
-}
-
-/// The verdict on the placement that the words name.
-pub(crate) fn verdict_on(alloc: Global, problem: &Problem, words: &str) -> Result<Verdict, Fault>
-    requires { IsBounded problem.now.test }
-    ensures { IfOk result (λ verdict. (p : List Entry) × IsVerdict problem.now.test p verdict) }
-{
-    let placement = placement_of(alloc, &problem.question().test, words)?;
-    problem.verdict(alloc, &placement, &[])
 }
 
 /// The witness of the verdict on the placement that the words name. `BadFence` where it forbids the outcome.

@@ -4,10 +4,10 @@ ghost use Rattle.std.specs.Arc.{arc_value};
 ghost use Rattle.fs_model.specs.Test.{IsBounded, IsTest};
 
 use crate::printing::say_refused;
-use crate::questions::verdict_on;
 use fs_evidence::{Question, Witness};
 use fs_examples::{PRICES, SB, placement_of, question_of};
 use fs_judge::{Judge, Problem, Verdict};
+use fs_judge_tests::verdict_on;
 use fs_kinds::Fault;
 use std::alloc::Global;
 use std::sync::Arc;
