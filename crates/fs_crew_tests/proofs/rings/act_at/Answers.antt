@@ -1,6 +1,6 @@
 use Rattle.std.proofs.Common.{arith}
 use Rattle.std.proofs.lemmas.Option.{slice_get_read}
-use Rattle.fs_crew_tests.proofs.Linked.{linked_set}
+use Rattle.fs_hands.proofs.Linked.{linked_set}
 use Rattle.fs_crew_tests.proofs.rings.act_at.Goals as goal
 
 pub returns : goal.returns

@@ -1,5 +1,5 @@
 use Rattle.std.specs.Option.{option_to_list}
-use Rattle.fs_crew_tests.proofs.Linked.{linked_front}
+use Rattle.fs_hands.proofs.Linked.{linked_front}
 use Rattle.fs_crew_tests.proofs.rings.without_last.Goals as goal
 
 pub returns : goal.returns

@@ -1,6 +1,6 @@
 use Rattle.std.proofs.Common.{arith}
 use Rattle.std.proofs.lemmas.Option.{slice_get_read}
-use Rattle.refusals.proofs.Linked.{linked_set}
+use Rattle.fs_hands.proofs.Linked.{linked_set}
 use Rattle.refusals.proofs.rings.act_at.Goals as goal
 
 pub returns : goal.returns

@@ -1,5 +1,5 @@
--- Hands stay linked where one of them makes a move.
-use Rattle.std.proofs.Common.{◌≡◌, ℕ, zero, suc, Some, List, [], ◌∷◌, refl, subst, inl, inr, ◌⊎◌, ⊎_elim}
+-- Hands stay linked where one of them makes a move, and where the last one goes.
+use Rattle.std.proofs.Common.{◌≡◌, ℕ, zero, suc, Some, List, [], ◌∷◌, ◌++◌, refl, sym, subst, inl, inr, ◌⊎◌, ⊎_elim}
 use Rattle.std.specs.Prelude.{slice_get, slice_set}
 use Rattle.fs_hands.specs.Ring.{Hand, AreLinked, IsSameHand}
 use Rattle.fs_hands.proofs.Rings.{linked_same}
@@ -20,3 +20,14 @@ linked_set hs i old new at same linked =
     (λ k h e.
     ⊎_elim (λ (is : new ≡ h). (i, old, at, subst (IsSameHand old) is same)) (λ (was : slice_get hs k ≡ Some h). (k, h, was, same_itself h)) (at_set hs i k new h e))
     linked
+
+get_front : (xs ys : List Hand) (k : ℕ) (h : Hand) → slice_get xs k ≡ Some h → slice_get (xs ++ ys) k ≡ Some h
+get_front [] ys k h e = absurd (cc)
+get_front (x ∷ xs) ys zero h e = e
+get_front (x ∷ xs) ys (suc k) h e = get_front xs ys k h e
+
+pub linked_front : (hs xs ys : List Hand) → hs ≡ xs ++ ys → AreLinked hs → AreLinked xs
+linked_front hs xs ys is linked i k g h at_g at_h = linked i k g h (widen i g at_g) (widen k h at_h)
+  where
+    widen : (j : ℕ) (x : Hand) → slice_get xs j ≡ Some x → slice_get hs j ≡ Some x
+    widen j x at = subst (λ (zs : List Hand). slice_get zs j ≡ Some x) (sym is) (get_front xs ys j x at)
