@@ -9,3 +9,4 @@ pub mod Children
 pub mod Cuts
 pub mod Bests
 pub mod Mapped
+pub mod Telling

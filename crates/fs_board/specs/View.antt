@@ -1,7 +1,5 @@
 -- Events, replies and the board as contracts see them: what is behind an `Arc` is its value.
 use Rattle.std.specs.Prelude.{◌≡◌, ℕ, ◌+◌, ◌≤◌, option_map, List, [], ◌∷◌, ◌++◌, map, length}
-use Rattle.std.specs.Arc.{arc_value}
-use Rattle.fs_model.specs.declared.test.Test.{Test}
 use Rattle.fs_history.specs.Board.{Board, Status, Open, Held, Split, Costly, Witnessed, Bounded, Posted, Event, Take, Claim, Adopt, SplitAt, CutCost, CutWitness, CutBound, Post, Peek, Reply, Given, Idle, Done, Gone, Children, NotYours, Decided, Full, Closed, Cheaper, NotCovered, Other, Seen}
 use Rattle.fs_history.specs.Histories.{LogEntry, Steps, IsHistory}
 use Rattle.fs_board.specs.declared.node.Status.{Status as CodeStatus}
@@ -64,11 +62,6 @@ logged old board entry = record { question = old.question; board = board; log = 
 pub record Answers (old new : Search) (worker : ℕ) (event : Event) (reply : Reply) : Type 0 where
   pub step : Steps old.question.test old.question.prices old.board worker event reply new.board
   pub rest : new ≡ logged old new.board (entry_of worker event reply)
-
--- what a peek shows is the witnesses of executions, and a placement with its cycles; no other reply shows any
-abbrev pub IsSeen : Test → CodeReply → Type 0
-IsSeen t (reply.Seen bound upto witnesses) = IsBacked t (option_map arc_value bound) (map arc_value witnesses)
-IsSeen t reply = Unit {0}
 
 -- the log is a legal history that leads to the board, and no node's number passes the limit
 pub record IsReplay (s : Search) : Type 0 where

@@ -14,7 +14,8 @@ ghost use Rattle.fs_history.specs.Histories.{Steps, IsHistory, with_witnesses};
 ghost use Rattle.fs_board.specs.Counts.{count_of};
 ghost use Rattle.fs_evidence.specs.Evidence.{Shown, IsWitnessFor, witness_in, placement_in};
 ghost use Rattle.fs_board.specs.Growth.{IsBound, AreWitnesses, is_best};
-ghost use Rattle.fs_board.specs.View.{Answers, IsSeen, status_of, event_of, reply_of};
+ghost use Rattle.fs_board.specs.View.{Answers, status_of, event_of, reply_of};
+ghost use Rattle.fs_board.specs.Asking.{IsMade, Tells};
 ghost use Rattle.fs_board.specs.inner.Breaks.{is_bounded, widths_in};
 
 use crate::bounds::{are_kept, bound_of, break_apart};
@@ -483,7 +484,7 @@ impl Board {
     /// Shows the bound with its cycles, how many witnesses there are, and those from this number on with their widths. It takes time of
     /// those that it shows.
     pub fn peek(&mut self, alloc: Global, worker: u8, from: usize) -> Result<Reply, AllocError>
-        ensures backed { IfOk result (IsSeen self.old.question.test) }
+        ensures tells { IfOk result (Tells self.old.question) }
         ensures step { IfOk result (λ r. Answers self.old self.new worker (Peek from) (reply_of r)) }
         ensures err { OnErr result (self.new ≡ self.old) }
     {
@@ -494,13 +495,41 @@ impl Board {
 
     /// What a peek shows.
     fn seen(&self, alloc: Global, from: usize) -> Result<Reply, AllocError>
-        ensures backed { IfOk result (IsSeen self.now.question.test) }
+        ensures tells { IfOk result (Tells self.now.question) }
         ensures value { IfOk result (λ r. reply_of r ≡ Seen self.now.board.bound (length self.now.board.witnesses) (drop from self.now.board.witnesses)) }
     {
         let bound = self.tree.share_bound()?;
         let witnesses = self.tree.witnesses();
         let shown = List::new(share(alloc, from_on(witnesses, from))?);
         Ok(Reply::Seen(bound, witnesses.len(), shown))
+    }
+
+    /// Makes the event, as the call of its name does, and takes its time. What it brings must be made for the question.
+    #[tactic(auto, using(crate::proofs::Telling::unpeeked))]
+    pub fn ask(&mut self, alloc: Global, worker: u8, event: &Event) -> Result<Reply, AllocError>
+        requires { IsMade self.old.question event.now }
+        ensures step { IfOk result (λ r. Answers self.old self.new worker (event_of event.now) (reply_of r)) }
+        ensures tells { IfOk result (Tells self.old.question) }
+        ensures err { OnErr result (self.new ≡ self.old) }
+    {
+        let _legal = self.log();
+        match event {
+            Event::Take => self.take(worker),
+            Event::Claim(node) => self.claim(worker, *node),
+            Event::Adopt(node) => self.adopt(worker, *node),
+            Event::Split(node, slot) => self.split(alloc, worker, *node, *slot),
+            Event::CutCost(node) => self.cut_cost(alloc, worker, *node),
+            Event::CutWitness(node, witness) => {
+                self.cut_witness(alloc, worker, *node, Arc::try_clone(witness)?)
+            }
+            Event::CutBound(node, witnesses) => {
+                self.cut_bound(alloc, worker, *node, witnesses.as_slice())
+            }
+            Event::Post(node, forbidden) => {
+                self.post(alloc, worker, *node, Arc::try_clone(forbidden)?)
+            }
+            Event::Peek(from) => self.peek(alloc, worker, *from),
+        }
     }
 }
 

@@ -5,7 +5,7 @@ use Rattle.fs_evidence.specs.Evidence.{Question}
 use Rattle.fs_board.specs.declared.event.Reply.{Reply}
 use Rattle.fs_board.specs.declared.event.Reply.TheVariants as reply
 use Rattle.fs_board.specs.Growth.{AreWitnesses}
-use Rattle.fs_pool.specs.Asked.{Tells}
+use Rattle.fs_board.specs.Asking.{Tells}
 
 pub told-witnesses : (q p : Question) (r : Reply) (bound : _) (count : ℕ) (ws : _) → p ≡ q → r ≡ reply.Seen bound count ws → Tells q r
     → AreWitnesses p.test (map arc_value ws)

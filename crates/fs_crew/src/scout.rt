@@ -8,7 +8,7 @@ ghost use Rattle.fs_bound.specs.Bounds.{slots_in_part};
 ghost use Rattle.fs_model.specs.Execution.{Execution};
 ghost use Rattle.fs_evidence.specs.Evidence.{IsWitnessFor};
 ghost use Rattle.fs_board.specs.Growth.{AreWitnesses};
-ghost use Rattle.fs_pool.specs.Asked.{IsMade, Tells};
+ghost use Rattle.fs_board.specs.Asking.{IsMade, Tells};
 
 use fs_board::{Decision, Event, Part, Reply};
 use fs_evidence::{Forbidden, Question, Witness};

@@ -4,7 +4,7 @@ ghost use Rattle.std.specs.Prelude.{◌≡◌, IfOk, IfSome};
 ghost use Rattle.std.specs.Arc.{arc_value};
 ghost use Rattle.fs_model.specs.Slots.{slots};
 ghost use Rattle.fs_bound.specs.Bounds.{slots_in_part};
-ghost use Rattle.fs_pool.specs.Asked.{IsMade};
+ghost use Rattle.fs_board.specs.Asking.{IsMade};
 
 use crate::gate::Gate;
 use crate::scout::{Scout, WAYS, Way};

@@ -1,103 +1,13 @@
--- What a reply tells of the question.
-use Rattle.std.proofs.Common.{◌≡◌, ℕ, Bool, true, false, Some, List, refl, sym, ap, subst, ◌∙◌}
-use Rattle.std.specs.Prelude.{Result, IfOk}
-use Rattle.std.proofs.lemmas.Bool.{false≢true}
-use Rattle.std.proofs.lemmas.Result.{IfOk-weaker}
-use Rattle.fs_kinds.specs.PriceTable.{PriceTable}
-use Rattle.fs_model.specs.declared.test.Test.{Test}
-use Rattle.fs_answer.specs.Parts.{Part}
-use Rattle.fs_history.specs.Board.{Board, Status, Event, Reply, Take, Claim, Adopt, SplitAt, CutCost, CutWitness, CutBound, Post, Peek, Given, Seen, is_open, is_held, part_at}
-use Rattle.fs_history.specs.Histories.{LogEntry, Steps, IsHistory}
-use Rattle.fs_tree.specs.Trees.{IsPart}
-use Rattle.fs_tree.proofs.Moves.{node_of, status-at, Move, Stays, Marks, Splits, moves}
-use Rattle.fs_tree.proofs.Leaves.{history-parts}
+-- The question of the board is the one asked.
+use Rattle.std.proofs.Common.{◌≡◌, ℕ, sym, ap, subst, ◌∙◌}
+use Rattle.fs_history.specs.Board.{Event, Reply}
 use Rattle.fs_evidence.specs.Evidence.{Question}
 use Rattle.fs_board.specs.declared.event.Event.{Event as CodeEvent}
 use Rattle.fs_board.specs.declared.event.Reply.{Reply as CodeReply}
-use Rattle.fs_board.specs.declared.event.Reply.TheVariants as reply
-use Rattle.fs_board.specs.View.{Search, Answers, IsSeen, reply_of}
-use Rattle.fs_pool.specs.Asked.{IsAsked, IsMade, Tells}
-
--- the part of a node of the board is one of the test
-there : (t : Test) (prices : PriceTable) (limit : ℕ) (log : List LogEntry) (b : Board) (test : Status → Bool) (k : ℕ) (part : Part)
-    → IsHistory t prices limit log b → part_at test b k ≡ Some part → IsPart t prices part
-there t prices limit log b test k part history found =
-    let has = status-at test b k part found in
-    history-parts t prices limit log b history k (node_of part has.status) has.at
-
-given : (t : Test) (prices : PriceTable) (limit : ℕ) (log : List LogEntry) (old new : Board) (w k : ℕ) (part : Part) (e : Event)
-    → IsHistory t prices limit log old → Steps t prices old w e (Given k part) new → IsPart t prices part
-given t prices limit log old new w k part Take history step = there t prices limit log old is_open k part history step.0
-given t prices limit log old new w k part (Claim j) history step = there t prices limit log old is_open k part history step.1
-given t prices limit log old new w k part (Adopt j) history step = there t prices limit log old is_held k part history step.1
-given t prices limit log old new w k part (SplitAt j slot) history step = absurd step
-given t prices limit log old new w k part (CutCost j) history step = absurd step
-given t prices limit log old new w k part (CutWitness j v) history step = absurd step
-given t prices limit log old new w k part (CutBound j vs) history step = absurd step
-given t prices limit log old new w k part (Post j p) history step = absurd step
-given t prices limit log old new w k part (Peek from) history step = absurd step
-
-abbrev pub is_peek : Event → Bool
-is_peek (Peek from) = true
-is_peek _ = false
-
--- no event but a peek shows anything
-unseen : (A : Type 0) (q : Question) (old new : Board) (w : ℕ) (e : Event) (r : CodeReply) → is_peek e ≡ false
-    → (b : _) (u : ℕ) (ws : _) → reply_of r ≡ Seen b u ws → Steps q.test q.prices old w e (Seen b u ws) new → A
-unseen A q old new w Take r other b u ws is step = absurd step
-unseen A q old new w (Claim j) r other b u ws is step = absurd step
-unseen A q old new w (Adopt j) r other b u ws is step = absurd step
-unseen A q old new w (SplitAt j slot) r other b u ws is step = absurd step
-unseen A q old new w (CutCost j) r other b u ws is step = absurd step
-unseen A q old new w (CutWitness j v) r other b u ws is step = absurd step
-unseen A q old new w (CutBound j vs) r other b u ws is step = absurd step
-unseen A q old new w (Post j p) r other b u ws is step = absurd step
-unseen A q old new w (Peek from) r other b u ws is step = absurd (false≢true (sym other))
-
--- a reply to another event than a peek
-pub unpeeked : (old new : Search) (w : ℕ) (e : Event) (r : CodeReply) → is_peek e ≡ false
-    → IsHistory old.question.test old.question.prices old.board.limit old.log old.board → Answers old new w e (reply_of r) → Tells old.question r
-unpeeked old new w e (reply.Node k part) other history a =
-    given old.question.test old.question.prices old.board.limit old.log old.board new.board w k part.value e history a.step
-unpeeked old new w e reply.Idle other history a = tt
-unpeeked old new w e reply.Done other history a = tt
-unpeeked old new w e reply.Gone other history a = tt
-unpeeked old new w e (reply.Children first count) other history a = tt
-unpeeked old new w e reply.NotYours other history a = tt
-unpeeked old new w e reply.Decided other history a = tt
-unpeeked old new w e reply.Full other history a = tt
-unpeeked old new w e reply.Closed other history a = tt
-unpeeked old new w e reply.Cheaper other history a = tt
-unpeeked old new w e reply.NotCovered other history a = tt
-unpeeked old new w e reply.Other other history a = tt
-unpeeked old new w e (reply.Seen b u ws) other history a =
-    unseen (Tells old.question (reply.Seen b u ws)) old.question old.board new.board w e (reply.Seen b u ws) other _ _ _ refl a.step
-
--- the same of a call that may fail
-pub told : {E : Type 0} (old new : Search) (w : ℕ) (e : Event) → is_peek e ≡ false
-    → IsHistory old.question.test old.question.prices old.board.limit old.log old.board → (res : Result CodeReply E)
-    → IfOk res (λ r. Answers old new w e (reply_of r)) → IfOk res (Tells old.question)
-told {E} old new w e other history res made =
-    IfOk-weaker res (λ r. Answers old new w e (reply_of r)) (Tells old.question) (λ r a. unpeeked old new w e r other history a) made
-
--- and to a peek
-pub peeked : (old new : Search) (w from : ℕ) (r : CodeReply) → IsSeen old.question.test r → Answers old new w (Peek from) (reply_of r)
-    → Tells old.question r
-peeked old new w from (reply.Node k part) seen a = absurd a.step
-peeked old new w from reply.Idle seen a = tt
-peeked old new w from reply.Done seen a = tt
-peeked old new w from reply.Gone seen a = tt
-peeked old new w from (reply.Children first count) seen a = tt
-peeked old new w from reply.NotYours seen a = tt
-peeked old new w from reply.Decided seen a = tt
-peeked old new w from reply.Full seen a = tt
-peeked old new w from reply.Closed seen a = tt
-peeked old new w from reply.Cheaper seen a = tt
-peeked old new w from reply.NotCovered seen a = tt
-peeked old new w from reply.Other seen a = tt
-peeked old new w from (reply.Seen b u ws) seen a = seen
-
--- ---- the question of the board is the one asked
+use Rattle.fs_board.specs.Asking.{IsMade, Tells}
+use Rattle.fs_board.specs.View.{Search, Answers}
+use Rattle.fs_board.proofs.Telling.{limit-kept}
+use Rattle.fs_pool.specs.Asked.{IsAsked}
 
 pub tells_asked : (s : Search) (q : Question) (limit : ℕ) (r : CodeReply) → IsAsked s q limit → Tells s.question r → Tells q r
 tells_asked s q limit r asked tells = subst (λ (p : Question). Tells p r) asked.question tells
@@ -106,15 +16,9 @@ pub made_asked : (s : Search) (q : Question) (limit : ℕ) (e : CodeEvent) → I
 made_asked s q limit e asked made = subst (λ (p : Question). IsMade p e) (sym asked.question) made
 
 -- and it stays so
-limit-kept : (t : Test) (prices : PriceTable) (old new : Board) → Move t prices old new → new.limit ≡ old.limit
-limit-kept t prices old new (Stays is) = ap (λ b. b.limit) is
-limit-kept t prices old new (Marks k part x y at u v nodes limit reason) = limit
-limit-kept t prices old new (Splits k part x slot at u free room is) = ap (λ b. b.limit) is
-
 pub still_asked : (old new : Search) (q : Question) (limit w : ℕ) (e : Event) (r : Reply) → IsAsked old q limit → Answers old new w e r
     → IsAsked new q limit
 still_asked old new q limit w e r asked a = record {
   question = ap (λ (s : Search). s.question) a.rest ∙ asked.question;
-  limit = limit-kept old.question.test old.question.prices old.board new.board
-      (moves old.question.test old.question.prices old.board w e r new.board a.step) ∙ asked.limit;
+  limit = limit-kept old new w e r a ∙ asked.limit;
 }

@@ -11,7 +11,8 @@ ghost use Rattle.fs_history.specs.Board.{Take, Claim, Adopt, SplitAt, CutCost, C
 ghost use Rattle.fs_evidence.specs.Evidence.{Shown, IsWitnessFor, witness_in, placement_in};
 ghost use Rattle.fs_board.specs.Growth.{AreWitnesses};
 ghost use Rattle.fs_board.specs.View.{event_of, reply_of};
-ghost use Rattle.fs_pool.specs.Asked.{IsAsked, IsMade, Tells};
+ghost use Rattle.fs_board.specs.Asking.{IsMade, Tells};
+ghost use Rattle.fs_pool.specs.Asked.{IsAsked};
 ghost use Rattle.fs_pool.specs.Receiving.{IsReceived, first_passes};
 
 use crate::asked::Asked;

@@ -4,7 +4,7 @@ ghost use Rattle.std.specs.Prelude.{◌≡◌, ◌<◌, ◌++◌, ◌∷◌, [],
 ghost use Rattle.std.specs.Vec.{vec_capacity};
 ghost use Rattle.fs_history.specs.Receipts.{Receipt as ReceiptValue};
 ghost use Rattle.fs_board.specs.View.{event_of, reply_of};
-ghost use Rattle.fs_pool.specs.Asked.{Tells};
+ghost use Rattle.fs_board.specs.Asking.{Tells};
 
 use crate::asked::Asked;
 use fs_board::{Event, Reply};
@@ -22,7 +22,7 @@ pub struct Receipt<A: Asked> {
 impl<A: Asked> Model for Receipt<A> {
     ghost use Rattle.fs_history.specs.Receipts.{Receipt as ReceiptValue};
     ghost use Rattle.fs_board.specs.View.{event_of, reply_of};
-    ghost use Rattle.fs_pool.specs.Asked.{Tells};
+    ghost use Rattle.fs_board.specs.Asking.{Tells};
 
     ghost Value = { ReceiptValue };
 

@@ -4,13 +4,13 @@ ghost use Rattle.std.specs.Prelude.{◌≡◌, ◌≢◌, [], IfOk, OnErr, IsTru
 ghost use Rattle.fs_history.specs.Board.{is_open};
 ghost use Rattle.fs_board.specs.Counts.{count_of};
 ghost use Rattle.fs_board.specs.View.{Answers, event_of, reply_of};
-ghost use Rattle.fs_pool.specs.Asked.{IsAsked, IsMade, Tells};
+ghost use Rattle.fs_board.specs.Asking.{IsMade, Tells};
+ghost use Rattle.fs_pool.specs.Asked.{IsAsked};
 
 use crate::asked::Asked;
 use fs_board::{Board, Event, Reply, Status};
 use std::alloc::{AllocError, Global};
 use std::marker::{Model, PhantomData};
-use std::sync::Arc;
 
 /// The most workers.
 const WORKERS: usize = 16;
@@ -82,7 +82,7 @@ impl<A: Asked> Shared<A> {
     {
         let holder = self.holder_before(event);
         let number = self.board.log().len();
-        let reply = answer(&mut self.board, alloc, worker, event)?;
+        let reply = self.board.ask(alloc, worker, event)?;
         self.count(worker, holder, &reply);
         Ok((number, reply))
     }
@@ -151,33 +151,5 @@ fn lower(held: &mut [usize; 16], worker: u8) {
     let worker = usize::from(worker);
     if worker < WORKERS {
         held[worker] = held[worker].saturating_sub(1);
-    }
-}
-
-/// The event on the board.
-#[tactic(auto, using(crate::proofs::Telling::unpeeked, crate::proofs::Telling::peeked))]
-fn answer(board: &mut Board, alloc: Global, worker: u8, event: &Event) -> Result<Reply, AllocError>
-    requires { IsMade board.old.question event.now }
-    ensures step { IfOk result (λ r. Answers board.old board.new worker (event_of event.now) (reply_of r)) }
-    ensures tells { IfOk result (Tells board.old.question) }
-    ensures unchanged { OnErr result (board.new ≡ board.old) }
-{
-    let _legal = board.log();
-    match event {
-        Event::Take => board.take(worker),
-        Event::Claim(node) => board.claim(worker, *node),
-        Event::Adopt(node) => board.adopt(worker, *node),
-        Event::Split(node, slot) => board.split(alloc, worker, *node, *slot),
-        Event::CutCost(node) => board.cut_cost(alloc, worker, *node),
-        Event::CutWitness(node, witness) => {
-            board.cut_witness(alloc, worker, *node, Arc::try_clone(witness)?)
-        }
-        Event::CutBound(node, witnesses) => {
-            board.cut_bound(alloc, worker, *node, witnesses.as_slice())
-        }
-        Event::Post(node, forbidden) => {
-            board.post(alloc, worker, *node, Arc::try_clone(forbidden)?)
-        }
-        Event::Peek(from) => board.peek(alloc, worker, *from),
     }
 }

@@ -2,16 +2,15 @@
 use Rattle.std.proofs.Common.{◌≡◌, ℕ, zero, suc, ◌+◌, ◌<◌, ◌≤◌, Bool, true, false, ◌&&◌, not, Option, Some, None, List, [], ◌∷◌, ◌++◌, length, refl, sym, ap, subst, ◌∙◌, arith, append_assoc, append-nil}
 use Rattle.std.specs.Prelude.{slice_get, slice_set, if◌then◌else◌, option_and_then}
 use Rattle.std.proofs.lemmas.Bool.{false≢true}
-use Rattle.fs_kinds.specs.PriceTable.{PriceTable}
-use Rattle.fs_model.specs.declared.test.Test.{Test}
 use Rattle.fs_answer.specs.Parts.{Part}
 use Rattle.fs_history.specs.Board.{Board, Node, Status, Open, Held, Split, Costly, Witnessed, Bounded, Posted, Event, Reply, is_open, is_held, is_held_by, part_at}
 use Rattle.fs_history.specs.Histories.{IsHistory, HoldsNode}
-use Rattle.fs_tree.proofs.Moves.{node_of, status-at, Move, Stays as Still, Marks, Splits, moves}
+use Rattle.fs_tree.proofs.Moves.{node_of, status-at}
 use Rattle.fs_tree.proofs.Leaves.{history-parts}
 use Rattle.fs_tree.proofs.Growing.{history-within}
 use Rattle.fs_board.specs.Counts.{count_of}
 use Rattle.fs_board.specs.View.{Search, Answers, entry_of}
+use Rattle.fs_board.proofs.Telling.{limit-kept}
 use Rattle.fs_board.proofs.Counts.{one, count_append, count_set, count_le}
 use Rattle.fs_search.specs.Histories.{GoesOn}
 use Rattle.fs_search.specs.inner.Steps.{is_done, done, MovesOn, Stays, IsTried, IsTaken}
@@ -29,15 +28,10 @@ goes-further a b c g h = record {
   log = h.log ∙ (ap (λ l. l ++ h.entries) g.log ∙ append_assoc a.log g.entries h.entries);
 }
 
-limit-kept : (t : Test) (prices : PriceTable) (old new : Board) → Move t prices old new → new.limit ≡ old.limit
-limit-kept t prices old new (Still is) = ap (λ b. b.limit) is
-limit-kept t prices old new (Marks k part x y at u v nodes limit reason) = limit
-limit-kept t prices old new (Splits k part x slot at u free room is) = ap (λ b. b.limit) is
-
 pub goes-on : (old new : Search) (w : ℕ) (e : Event) (r : Reply) → Answers old new w e r → GoesOn old new
 goes-on old new w e r a = record {
   question = ap (λ (s : Search). s.question) a.rest;
-  limit = limit-kept old.question.test old.question.prices old.board new.board (moves old.question.test old.question.prices old.board w e r new.board a.step);
+  limit = limit-kept old new w e r a;
   entries = entry_of w e r ∷ [];
   log = ap (λ (s : Search). s.log) a.rest;
 }
