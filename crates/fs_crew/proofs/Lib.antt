@@ -1,4 +1,3 @@
 pub mod Crosses
 pub mod Faults
 pub mod Outcomes
-pub mod Scouts

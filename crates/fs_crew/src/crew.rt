@@ -18,7 +18,7 @@ use fs_evidence::Question;
 use fs_hands::{Hand, hands};
 use fs_kinds::Fault;
 use fs_pool::{Asked, Desk, Pass, finish};
-use fs_search::{Judge, Problem, Solved, conclude};
+use fs_search::{Problem, Solved, conclude};
 use std::alloc::{AllocError, Global};
 use std::marker::Brand;
 use std::sync::{Arc, Wait};
@@ -213,8 +213,7 @@ fn concluded<G: Gate>(
     ensures err { IfErr result (λ f. f ≢ Fault.Memory → IsSolveFault (arc_value problem) limit f) }
 {
     let board = taken_up(alloc, &problem, left, limit, gate)?;
-    let mut judge = Judge::new(problem);
-    let solved = conclude(alloc, &mut judge, board)?;
+    let solved = conclude(alloc, problem, board)?;
     Ok(solved)
 }
 

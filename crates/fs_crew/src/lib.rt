@@ -4,7 +4,6 @@
 
 mod crew;
 mod gate;
-mod scout;
 mod work;
 
 pub use crew::solve;

@@ -7,32 +7,16 @@ ghost use Rattle.fs_bound.specs.Bounds.{slots_in_part};
 ghost use Rattle.fs_board.specs.Asking.{IsMade};
 
 use crate::gate::Gate;
-use crate::scout::{Scout, WAYS, Way};
 use fs_board::{Event, Part, Reply};
 use fs_hands::Hand;
 use fs_kinds::Slot;
 use fs_pool::{Asked, Desk, Pass};
-use fs_search::Problem;
+use fs_search::{Child, Problem, Scout, TRIES, Taken, Way, push_children};
 use std::alloc::{AllocError, Global};
 use std::sync::{Arc, Wait};
 
 /// So many of a worker's own nodes may turn out to be open no more before it asks for any open node.
 const MOST_CLAIMS: usize = 64;
-
-/// A node that the worker made, and the slot at which its parent was split.
-#[derive(Clone, Copy)]
-pub(crate) struct Child {
-    node: usize,
-    slot: Slot,
-}
-
-/// A node that the worker holds, its part, and the slot at which its parent was split, where this worker split it.
-#[derive(Drop)]
-struct Taken {
-    node: usize,
-    part: Arc<Part>,
-    slot: Option<Slot>,
-}
 
 /// How it goes on with a node.
 #[derive(Clone, Copy, PartialEq, Eq)]
@@ -93,21 +77,12 @@ fn own_or_stolen(hand: &mut Hand, children: &mut Vec<Child>) -> Option<(usize, O
     Some((node, None))
 }
 
-/// Puts the children that the desk made last on the stack, the first one last. False where memory lacks.
-fn push_children<A: Asked>(pass: &Pass<A>, children: &mut Vec<Child>, taken: &Taken) -> bool {
-    let Some(Reply::Children(first, count)) = pass.reply() else {
-        return true;
-    };
-    let Some(slot) = taken.part.first_undecided() else {
-        return true;
-    };
-    for k in (0..*count).rev() {
-        let node = first.saturating_add(k);
-        if children.push(Child { node, slot }).is_err() {
-            return false;
-        }
+/// Puts the children that the desk made last on the stack. False where memory lacks.
+fn keep_children<A: Asked>(pass: &Pass<A>, children: &mut Vec<Child>, taken: &Taken) -> bool {
+    match pass.reply() {
+        Some(reply) => push_children(children, taken, reply).is_ok(),
+        None => true,
     }
-    true
 }
 
 /// What a worker is lent: where it may wait, what it allocates with, the desk, and the gate that is told of its calls.
@@ -172,17 +147,19 @@ impl<A: Asked, R: Wait, G: Gate> Workplace<'_, A, R, G> {
         (pass, found)
     }
 
-    /// Tries one way to be done with a node.
+    /// Tries one way to be done with a node. By cost nothing is closed before a posted placement was seen, so the desk isn't asked.
     fn try_way(&self, pass: Pass<A>, scout: &mut Scout, way: Way, taken: &Taken) -> (Pass<A>, Step)
         requires question { scout.old ≡ A.question }
         requires slots { slots_in_part (arc_value taken.now.part) ≡ slots A.question.test }
         ensures value { scout.new ≡ scout.old }
     {
-        if way.judges(&taken.part, taken.slot) {
+        if matches!(way, Way::Cost) && !scout.has_bound() {
+            return (pass, Step::Next);
+        }
+        if way.judges(taken) {
             self.gate.judging(pass.worker(), taken.node);
         }
-        let proposed = scout.propose(self.alloc, way, taken.node, &taken.part, taken.slot);
-        let Ok(found) = proposed else {
+        let Ok(found) = scout.propose(self.alloc, way, taken) else {
             return (pass, Step::Leave);
         };
         let Some(event) = found else {
@@ -204,14 +181,14 @@ impl<A: Asked, R: Wait, G: Gate> Workplace<'_, A, R, G> {
         ensures value { scout.new ≡ scout.old }
     {
         let mut pass = pass;
-        for way in WAYS {
+        for way in TRIES {
             let (after, step) = self.try_way(pass, scout, way, taken);
             pass = after;
             if step != Step::Next {
                 return (pass, step);
             }
         }
-        (pass, Step::Leave)
+        self.try_way(pass, scout, Way::Last, taken)
     }
 
     /// Sees what the others have found. False where memory lacks.
@@ -262,7 +239,7 @@ impl<A: Asked, R: Wait, G: Gate> Workplace<'_, A, R, G> {
         if step != Step::Moved {
             return (pass, step == Step::Closed);
         }
-        if !push_children(&pass, children, taken) {
+        if !keep_children(&pass, children, taken) {
             return (pass, false);
         }
         self.look_round(pass, scout, &taken.part)

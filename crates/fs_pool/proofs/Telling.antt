@@ -1,5 +1,5 @@
 -- The question of the board is the one asked.
-use Rattle.std.proofs.Common.{◌≡◌, ℕ, sym, ap, subst, ◌∙◌}
+use Rattle.std.proofs.Common.{ℕ, sym, ap, subst, ◌∙◌}
 use Rattle.fs_history.specs.Board.{Event, Reply}
 use Rattle.fs_evidence.specs.Evidence.{Question}
 use Rattle.fs_board.specs.declared.event.Event.{Event as CodeEvent}

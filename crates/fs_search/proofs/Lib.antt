@@ -3,3 +3,4 @@ pub mod Goes
 pub mod Parts
 pub mod Problems
 pub mod Replied
+pub mod Scouts

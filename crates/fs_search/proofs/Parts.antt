@@ -12,12 +12,10 @@ use Rattle.fs_model.specs.declared.test.Test.{Test}
 use Rattle.fs_model.specs.Execution.{Execution}
 use Rattle.fs_model.specs.Allows.{Shows}
 use Rattle.fs_answer.specs.Shown.{IsShownBy}
-use Rattle.fs_history.specs.Histories.{HoldsNode}
-use Rattle.fs_board.specs.View.{Search}
 use Rattle.fs_answer.specs.Parts.{Part, Decision, filled_with, floor, filled}
 use Rattle.fs_bound.specs.Bounds.{slots_in_part}
 use Rattle.fs_tree.proofs.Places.{at-append}
-use Rattle.fs_evidence.specs.Evidence.{Question, Shown, IsWitnessFor}
+use Rattle.fs_evidence.specs.Evidence.{Shown, IsWitnessFor}
 use Rattle.fs_board.specs.Growth.{AreWitnesses}
 
 pub slots-filled : (kind : Option Kind) (part : Part) → slots_of (filled_with kind part) ≡ slots_in_part part
@@ -70,11 +68,8 @@ picked-more t ws vs more w k is at all each = one-more t vs w more is each (all 
 -- ---- verdicts on a node that has no undecided slot
 
 -- a witness of its one placement shows the outcome with the filled part
-pub leaf-shown : (s : Search) (q : Question) (k : ℕ) (part : Part) (p : List Entry) (w v : Shown) → s.question ≡ q → HoldsNode s.board 0 k part
-    → list_any (λ d. is_none d.decided) part ≡ false → p ≡ floor part → v ≡ w → (e : Execution) × IsWitnessFor q.test w e × Shows q.test p e
-    → (x : Part) × HoldsNode s.board 0 k x × IsShownBy s.question.test (filled x) v.witness
-leaf-shown s q k part p w v same holds none is copy shown =
-    let shows : IsShownBy q.test (filled part) w.witness =
-    (shown.0, (shown.1.shows.0, subst (λ (x : List Entry). Shows q.test x shown.0) (is ∙ floor-filled part none) shown.2)) in
-    let there : IsShownBy s.question.test (filled part) w.witness = subst (λ (y : Question). IsShownBy y.test (filled part) w.witness) (sym same) shows in
-    (part, holds, subst (λ (x : Shown). IsShownBy s.question.test (filled part) x.witness) (sym copy) there)
+pub leaf-shown : (t : Test) (part : Part) (p : List Entry) (w v : Shown) → list_any (λ d. is_none d.decided) part ≡ false → p ≡ floor part
+    → v ≡ w → (e : Execution) × IsWitnessFor t w e × Shows t p e → IsShownBy t (filled part) v.witness
+leaf-shown t part p w v none is copy shown =
+    subst (λ (x : Shown). IsShownBy t (filled part) x.witness) (sym copy)
+    (shown.0, (shown.1.shows.0, subst (λ (x : List Entry). Shows t x shown.0) (is ∙ floor-filled part none) shown.2))

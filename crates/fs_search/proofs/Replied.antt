@@ -1,94 +1,97 @@
 -- What the board's replies mean to a search.
-use Rattle.std.proofs.Common.{◌≡◌, ℕ, ◌<◌, true, false, Some, None, List, length, refl, sym, ap, subst, ◌∙◌}
+use Rattle.std.proofs.Common.{◌≡◌, ℕ, ◌<◌, true, false, Some, None, length, refl, sym, ap, subst, ◌∙◌}
 use Rattle.std.proofs.lemmas.Bool.{false≢true}
-use Rattle.fs_kinds.specs.declared.slot.Slot.{Slot}
-use Rattle.fs_kinds.specs.declared.placement.Entry.{Entry}
 use Rattle.fs_model.specs.Slots.{slots}
-use Rattle.fs_model.specs.Witness.{Witness}
 use Rattle.fs_answer.specs.Parts.{Part, floor, filled, is_undecided, child_parts}
 use Rattle.fs_answer.specs.Shown.{IsShownBy}
-use Rattle.fs_history.specs.Board.{Split, Costly, Witnessed, Bounded, Posted, Event, Take, Claim, Adopt, SplitAt, CutCost, CutWitness, CutBound, Post, Reply, Given, Idle, Done, Gone, Children, NotYours, Decided, Full, Closed, Cheaper, NotCovered, Other, is_open, is_held, has_node, part_at, is_finished}
+use Rattle.fs_history.specs.Board.{Split, Costly, Witnessed, Bounded, Posted, Event, Take, Claim, Adopt, SplitAt, CutCost, CutWitness, CutBound, Post, Reply, Given, Idle, Done, Gone, Children, NotYours, Decided, Full, Closed, Cheaper, NotCovered, Other, is_open, is_held, is_held_by, has_node, part_at, is_finished}
 use Rattle.fs_history.specs.Histories.{IsHistory, HoldsNode}
 use Rattle.fs_history.specs.Sizes.{tree_size}
 use Rattle.fs_tree.proofs.Leaves.{opened}
 use Rattle.fs_tree.proofs.Growing.{full-large}
-use Rattle.fs_board.specs.View.{Search, Answers}
-use Rattle.fs_search.specs.inner.Steps.{MovesOn, Stays, IsTried, is_closed, is_given, is_split_so}
+use Rattle.fs_evidence.specs.Evidence.{witness_in}
+use Rattle.fs_board.specs.declared.event.Event.{Event as CodeEvent}
+use Rattle.fs_board.specs.declared.event.Event.TheVariants as event
+use Rattle.fs_board.specs.View.{Search, Answers, event_of}
+use Rattle.fs_search.specs.Tries.{is_try, IsLast}
+use Rattle.fs_search.specs.inner.Steps.{Stays, IsTried, is_end, is_given}
 use Rattle.fs_search.proofs.Goes.{goes-on, done-now, done-more, IsHandedOut, handed-open, handed-held}
 
 module _ (old new : Search) where
-  -- ---- closing
+  -- ---- closing and splitting
 
-  pub cost-tried : (k : ℕ) (r : Reply) → Answers old new 0 (CutCost k) r → IsTried old new (is_closed r)
-  cost-tried k Closed a = done-now old new 0 k a.step.0 Costly (goes-on old new 0 (CutCost k) Closed a) a.step.1 refl (ap (λ b. b.nodes) a.step.3)
-  cost-tried k NotYours a = record { goes = goes-on old new 0 (CutCost k) NotYours a; board = a.step.1 }
-  cost-tried k Cheaper a = record { goes = goes-on old new 0 (CutCost k) Cheaper a; board = a.step.3 }
-  cost-tried k r a = absurd a.step
+  stays : (e : Event) (r : Reply) → Answers old new 0 e r → new.board ≡ old.board → Stays old new
+  stays e r a is = record { goes = goes-on old new 0 e r a; board = is }
 
-  pub witness-tried : (k : ℕ) (w : Witness) (r : Reply) → Answers old new 0 (CutWitness k w) r → IsTried old new (is_closed r)
-  witness-tried k w Closed a =
+  -- a try ends the node, or changes nothing
+  pub tried : (e : Event) (r : Reply) → is_try e ≡ true → Answers old new 0 e r → IsTried old new (is_end r)
+  tried (SplitAt k slot) (Children first count) is a =
+      done-more old new 0 k a.step.0 (Split slot (length old.board.nodes)) (opened (child_parts old.question.prices slot a.step.0))
+      (goes-on old new 0 (SplitAt k slot) (Children first count) a) a.step.1 refl (ap (λ b. b.nodes) a.step.6)
+  tried (SplitAt k slot) NotYours is a = stays (SplitAt k slot) NotYours a a.step.1
+  tried (SplitAt k slot) Decided is a = stays (SplitAt k slot) Decided a a.step.3
+  tried (SplitAt k slot) Full is a = stays (SplitAt k slot) Full a a.step.4
+  tried (CutCost k) Closed is a =
+      done-now old new 0 k a.step.0 Costly (goes-on old new 0 (CutCost k) Closed a) a.step.1 refl (ap (λ b. b.nodes) a.step.3)
+  tried (CutCost k) NotYours is a = stays (CutCost k) NotYours a a.step.1
+  tried (CutCost k) Cheaper is a = stays (CutCost k) Cheaper a a.step.3
+  tried (CutWitness k w) Closed is a =
       done-now old new 0 k a.step.0 (Witnessed (length old.board.witnesses)) (goes-on old new 0 (CutWitness k w) Closed a) a.step.1 refl
       (ap (λ b. b.nodes) a.step.3)
-  witness-tried k w NotYours a = record { goes = goes-on old new 0 (CutWitness k w) NotYours a; board = a.step.1 }
-  witness-tried k w NotCovered a = record { goes = goes-on old new 0 (CutWitness k w) NotCovered a; board = a.step.3 }
-  witness-tried k w r a = absurd a.step
-
-  pub bound-tried : (k : ℕ) (ws : List Witness) (r : Reply) → Answers old new 0 (CutBound k ws) r → IsTried old new (is_closed r)
-  bound-tried k ws Closed a =
+  tried (CutWitness k w) NotYours is a = stays (CutWitness k w) NotYours a a.step.1
+  tried (CutWitness k w) NotCovered is a = stays (CutWitness k w) NotCovered a a.step.3
+  tried (CutBound k ws) Closed is a =
       done-now old new 0 k a.step.0 (Bounded (length old.board.witnesses) (length ws)) (goes-on old new 0 (CutBound k ws) Closed a) a.step.1 refl
       (ap (λ b. b.nodes) a.step.3)
-  bound-tried k ws NotYours a = record { goes = goes-on old new 0 (CutBound k ws) NotYours a; board = a.step.1 }
-  bound-tried k ws NotCovered a = record { goes = goes-on old new 0 (CutBound k ws) NotCovered a; board = a.step.3 }
-  bound-tried k ws Cheaper a = record { goes = goes-on old new 0 (CutBound k ws) Cheaper a; board = a.step.3 }
-  bound-tried k ws r a = absurd a.step
-
-  pub post-tried : (k : ℕ) (p : List Entry) (r : Reply) → Answers old new 0 (Post k p) r → IsTried old new (is_closed r)
-  post-tried k p Closed a =
+  tried (CutBound k ws) NotYours is a = stays (CutBound k ws) NotYours a a.step.1
+  tried (CutBound k ws) NotCovered is a = stays (CutBound k ws) NotCovered a a.step.3
+  tried (CutBound k ws) Cheaper is a = stays (CutBound k ws) Cheaper a a.step.3
+  tried (Post k p) Closed is a =
       done-now old new 0 k a.step.0 Posted (goes-on old new 0 (Post k p) Closed a) a.step.1 refl (ap (λ b. b.nodes) a.step.4)
-  post-tried k p NotYours a = record { goes = goes-on old new 0 (Post k p) NotYours a; board = a.step.1 }
-  post-tried k p Other a = record { goes = goes-on old new 0 (Post k p) Other a; board = a.step.3 }
-  post-tried k p r a = absurd a.step
+  tried (Post k p) NotYours is a = stays (Post k p) NotYours a a.step.1
+  tried (Post k p) Other is a = stays (Post k p) Other a a.step.3
+  tried (SplitAt k slot) r is a = absurd a.step
+  tried (CutCost k) r is a = absurd a.step
+  tried (CutWitness k w) r is a = absurd a.step
+  tried (CutBound k ws) r is a = absurd a.step
+  tried (Post k p) r is a = absurd a.step
+  tried e r is a = absurd (false≢true is)
 
   same-part : (k : ℕ) (part other : Part) → HoldsNode old.board 0 k part → HoldsNode old.board 0 k other → other ≡ part
   same-part k part other held also = let e : Some other ≡ Some part = sym also ∙ held in cc
 
-  -- a witness that shows the outcome with the filled part closes the node
-  pub witness-closes : (k : ℕ) (w : Witness) (part : Part) (r : Reply) → HoldsNode old.board 0 k part → IsShownBy old.question.test (filled part) w
-      → Answers old new 0 (CutWitness k w) r → is_closed r ≡ true
-  witness-closes k w part Closed held shown a = refl
-  witness-closes k w part NotYours held shown a = let e : Some part ≡ None = sym held ∙ a.step.0 in absurd (cc)
-  witness-closes k w part NotCovered held shown a =
-      absurd (a.step.2 (subst (λ (x : Part). IsShownBy old.question.test (filled x) w) (sym (same-part k part a.step.0 held a.step.1)) shown))
-  witness-closes k w part r held shown a = absurd a.step
+  at-node : (j k : ℕ) (part : Part) → j ≡ k → HoldsNode old.board 0 j part → HoldsNode old.board 0 k part
+  at-node j k part same held = subst (λ i. HoldsNode old.board 0 i part) same held
 
-  -- and so does a post of its least placement
-  pub post-closes : (k : ℕ) (p : List Entry) (part : Part) (r : Reply) → HoldsNode old.board 0 k part → p ≡ floor part
-      → Answers old new 0 (Post k p) r → is_closed r ≡ true
-  post-closes k p part Closed held least a = refl
-  post-closes k p part NotYours held least a = let e : Some part ≡ None = sym held ∙ a.step.0 in absurd (cc)
-  post-closes k p part Other held least a = absurd (a.step.2 (least ∙ ap floor (sym (same-part k part a.step.0 held a.step.1))))
-  post-closes k p part r held least a = absurd a.step
-
-  -- ---- splitting
-
-  pub children-made : (k : ℕ) (slot : Slot) (first count : ℕ) → Answers old new 0 (SplitAt k slot) (Children first count) → MovesOn old new
-  children-made k slot first count a =
-      done-more old new 0 k a.step.0 (Split slot (length old.board.nodes)) (opened (child_parts old.question.prices slot a.step.0))
-      (goes-on old new 0 (SplitAt k slot) (Children first count) a) a.step.1 refl (ap (λ b. b.nodes) a.step.6)
-
-  -- a node that is held and undecided at the slot isn't split only where the tree is too large
-  pub too-large : (k : ℕ) (slot : Slot) (part : Part) (r : Reply) → HoldsNode old.board 0 k part → is_undecided slot part ≡ true
+  -- the last try ends it, but for a split where the tree is too large
+  pub last-large : (k : ℕ) (part : Part) (e : CodeEvent) (r : Reply) → HoldsNode old.board 0 k part → IsLast old.question.test k part e
       → IsHistory old.question.test old.question.prices old.board.limit old.log old.board
-      → Answers old new 0 (SplitAt k slot) r → is_split_so r ≡ false
+      → Answers old new 0 (event_of e) r → is_end r ≡ false
       → old.board.limit < tree_size old.question.prices (length (slots old.question.test))
-  too-large k slot part (Children first count) held free history a is = absurd (false≢true (sym is))
-  too-large k slot part NotYours held free history a is = let e : Some part ≡ None = sym held ∙ a.step.0 in absurd (cc)
-  too-large k slot part Decided held free history a is =
-      let same = same-part k part a.step.0 held a.step.1 in
-      absurd (false≢true (sym a.step.2 ∙ (ap (is_undecided slot) same ∙ free)))
-  too-large k slot part Full held free history a is =
-      full-large old.question.prices old.question.test old.board.limit old.log old.board 0 k slot new.board history a.step
-  too-large k slot part r held free history a is = absurd a.step
+  last-large k part (event.Split j slot) NotYours held last history a is =
+      let e : Some part ≡ None = sym held ∙ (ap (part_at (is_held_by 0) old.board) (sym last.0) ∙ a.step.0) in absurd (cc)
+  last-large k part (event.Split j slot) Decided held last history a is =
+      let same = same-part k part a.step.0 held (at-node j k a.step.0 last.0 a.step.1) in
+      absurd (false≢true (sym a.step.2 ∙ (ap (is_undecided slot) same ∙ last.1)))
+  last-large k part (event.Split j slot) Full held last history a is =
+      full-large old.question.prices old.question.test old.board.limit old.log old.board 0 j slot new.board history a.step
+  last-large k part (event.CutWitness j w) NotYours held last history a is =
+      let e : Some part ≡ None = sym held ∙ (ap (part_at (is_held_by 0) old.board) (sym last.0) ∙ a.step.0) in absurd (cc)
+  last-large k part (event.CutWitness j w) NotCovered held last history a is =
+      let same = same-part k part a.step.0 held (at-node j k a.step.0 last.0 a.step.1) in
+      absurd (a.step.2 (subst (λ (x : Part). IsShownBy old.question.test (filled x) (witness_in w)) (sym same) last.1))
+  last-large k part (event.Post j f) NotYours held last history a is =
+      let e : Some part ≡ None = sym held ∙ (ap (part_at (is_held_by 0) old.board) (sym last.0) ∙ a.step.0) in absurd (cc)
+  last-large k part (event.Post j f) Other held last history a is =
+      let same = same-part k part a.step.0 held (at-node j k a.step.0 last.0 a.step.1) in
+      absurd (a.step.2 (last.1 ∙ ap floor (sym same)))
+  last-large k part (event.Split j slot) (Children first count) held last history a is = absurd (false≢true (sym is))
+  last-large k part (event.CutWitness j w) Closed held last history a is = absurd (false≢true (sym is))
+  last-large k part (event.Post j f) Closed held last history a is = absurd (false≢true (sym is))
+  last-large k part (event.Split j slot) r held last history a is = absurd a.step
+  last-large k part (event.CutWitness j w) r held last history a is = absurd a.step
+  last-large k part (event.Post j f) r held last history a is = absurd a.step
+  last-large k part e r held last history a is = absurd last
 
   -- ---- taking
 
@@ -123,14 +126,3 @@ module _ (old new : Search) where
 
 pub finishes : (s : Search) → has_node is_open s.board ≡ false → has_node is_held s.board ≡ false → is_finished s.board ≡ true
 finishes s free kept = rw (free, kept) refl
-
--- ---- closing for certain
-
-module _ (old new : Search) where
-  pub witness-done : (k : ℕ) (w : Witness) (part : Part) (r : Reply) → HoldsNode old.board 0 k part → IsShownBy old.question.test (filled part) w
-      → Answers old new 0 (CutWitness k w) r → MovesOn old new
-  witness-done k w part r held shown a = subst (IsTried old new) (witness-closes old new k w part r held shown a) (witness-tried old new k w r a)
-
-  pub post-done : (k : ℕ) (p : List Entry) (part : Part) (r : Reply) → HoldsNode old.board 0 k part → p ≡ floor part
-      → Answers old new 0 (Post k p) r → MovesOn old new
-  post-done k p part r held least a = subst (IsTried old new) (post-closes old new k p part r held least a) (post-tried old new k p r a)

@@ -1,3 +1,4 @@
 pub mod Answers
 pub mod Histories
+pub mod Tries
 pub mod inner

@@ -29,17 +29,17 @@ fn newest_decision(part: &Part, slot: Option<Slot>) -> Option<Option<Kind>> {
 }
 
 /// Is the least placement worth judging? Where none was decided last, it is the parent's, and allowed: that is known by then.
-pub fn is_floor_new(part: &Part, slot: Option<Slot>) -> bool {
+pub(crate) fn is_floor_new(part: &Part, slot: Option<Slot>) -> bool {
     newest_decision(part, slot) != Some(None)
 }
 
 /// Is the placement with `rw,rw` in each undecided slot worth judging? Where `rw,rw` was decided last, it is the parent's.
-pub fn is_filled_new(part: &Part, slot: Option<Slot>) -> bool {
+pub(crate) fn is_filled_new(part: &Part, slot: Option<Slot>) -> bool {
     newest_decision(part, slot) != Some(Some(Kind::RwRw))
 }
 
 /// The newest stored witness that shows the outcome with `rw,rw` in each undecided slot.
-pub fn stored_over_filled(
+pub(crate) fn stored_over_filled(
     alloc: Global,
     store: &Store,
     part: &Part,
@@ -54,7 +54,7 @@ pub fn stored_over_filled(
 }
 
 /// Looks for a witness that shows the outcome with `rw,rw` in each undecided slot, and stores it.
-pub fn look_at_filled(
+pub(crate) fn look_at_filled(
     alloc: Global,
     judge: &mut Judge,
     store: &mut Store,
@@ -77,7 +77,7 @@ pub fn look_at_filled(
 }
 
 /// Judges the least placement, unless a stored witness shows the outcome with it. Where it allows the outcome a witness is stored.
-pub fn judge_floor(
+pub(crate) fn judge_floor(
     alloc: Global,
     judge: &mut Judge,
     store: &mut Store,

@@ -1,5 +1,5 @@
 //! The search by one worker for the cheapest placement that forbids a test's outcome: which node of the board is next, what closes
-//! it, where it is split, and the answer of the finished board.
+//! it, where it is split, and the answer of the finished board. What is tried at a node several workers ask for too.
 #![tactic(auto)]
 
 mod answer;
@@ -7,16 +7,14 @@ mod closing;
 mod codes;
 mod floor_and_filled;
 mod next_node;
+mod scout;
 mod solving;
 mod store;
 mod sweep;
-mod tries;
 
 pub use answer::{Answer, Solved};
-pub use floor_and_filled::{
-    is_filled_new, is_floor_new, judge_floor, look_at_filled, stored_over_filled,
-};
-pub use fs_judge::{Judge, Problem, Verdict};
+pub use fs_judge::Problem;
+pub use next_node::{Child, Taken, push_children};
+pub use scout::{Scout, TRIES, Way};
 pub use solving::{conclude, solve};
-pub use store::Store;
 pub use sweep::search;

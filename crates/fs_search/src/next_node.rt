@@ -17,19 +17,38 @@ use std::sync::Arc;
 /// The number by which the search works on the board.
 pub(crate) const WORKER: u8 = 0;
 
-/// A node that the search made, and the slot that it decides.
+/// A node that the searcher made, and the slot at which its parent was split.
 #[derive(Clone, Copy)]
-pub(crate) struct Child {
-    pub(crate) node: usize,
-    pub(crate) slot: Slot,
+pub struct Child {
+    pub node: usize,
+    pub slot: Slot,
 }
 
-/// A node that the search holds, its part, and the slot at which its parent was split, where the search split it.
+/// A node that the searcher holds, its part, and the slot at which its parent was split, where this searcher split it.
 #[derive(Drop)]
-pub(crate) struct Taken {
-    pub(crate) node: usize,
-    pub(crate) part: Arc<Part>,
-    pub(crate) slot: Option<Slot>,
+pub struct Taken {
+    pub node: usize,
+    pub part: Arc<Part>,
+    pub slot: Option<Slot>,
+}
+
+/// Puts the children that a reply gives to the node on the stack, the first one last.
+pub fn push_children(
+    children: &mut Vec<Child>,
+    taken: &Taken,
+    reply: &Reply,
+) -> Result<(), AllocError> {
+    let Reply::Children(first, count) = reply else {
+        return Ok(());
+    };
+    let Some(slot) = taken.part.first_undecided() else {
+        return Ok(());
+    };
+    for k in (0..*count).rev() {
+        let node = first.saturating_add(k);
+        children.push(Child { node, slot })?;
+    }
+    Ok(())
 }
 
 /// The node that was handed out, and its part.

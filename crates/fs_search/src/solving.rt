@@ -18,7 +18,7 @@ use crate::answer::{Answer, Solved};
 use crate::sweep::search;
 use fs_board::Board;
 use fs_evidence::Question;
-use fs_judge::{Judge, Problem, Verdict};
+use fs_judge::{Problem, Verdict};
 use fs_kinds::{Fault, Kind, Placement, Prices};
 use fs_model::slots;
 use std::alloc::Global;
@@ -134,25 +134,26 @@ fn answer_by_ends(alloc: Global, problem: &Problem) -> Result<Solved, Fault>
 /// and the tree of all placements has more nodes below its root than the board's limit; or F19. The witness of none depends on the
 /// problem alone, not on what was searched before. What is handed out with the answer, `solve` says, and a board that is handed out is
 /// this one gone on with: its log begins with what was logged before. It takes what `search` takes, and at most two verdicts more.
-pub fn conclude(alloc: Global, judge: &mut Judge, board: Board) -> Result<Solved, Fault>
-    requires bounded { IsBounded judge.old.test }
-    requires prices { IsPriceTable judge.old.prices }
-    requires same { board.question ≡ judge.old }
-    requires clean { (f : Fault) → IsCandidateFault judge.old.test f → ⊥ }
-    ensures ok { IfOk result (λ s. IsAnswer judge.old.test judge.old.prices s.answer) }
-    ensures board { IfOk result (λ s. IfSome s.board (IsBoardOf judge.old board.board.limit s.answer)) }
+pub fn conclude(alloc: Global, problem: Arc<Problem>, board: Board) -> Result<Solved, Fault>
+    requires bounded { IsBounded (arc_value problem).test }
+    requires prices { IsPriceTable (arc_value problem).prices }
+    requires same { board.question ≡ arc_value problem }
+    requires clean { (f : Fault) → IsCandidateFault (arc_value problem).test f → ⊥ }
+    ensures ok { IfOk result (λ s. IsAnswer (arc_value problem).test (arc_value problem).prices s.answer) }
+    ensures board { IfOk result (λ s. IfSome s.board (IsBoardOf (arc_value problem) board.board.limit s.answer)) }
     ensures goes { IfOk result (λ s. IfSome s.board (GoesOn board)) }
     ensures lost { IfOk result (λ s. IfNone s.board
-        (board.board.limit < tree_size judge.old.prices (length (slots judge.old.test)))) }
-    ensures ends { IfOk result (λ s. IfNone s.board (IsAtAnEnd judge.old.test s.answer)) }
-    ensures least { IfOk result (λ s. IfNone s.board (IsShownLeast judge.old.test s.answer s.least)) }
+        (board.board.limit < tree_size (arc_value problem).prices (length (slots (arc_value problem).test)))) }
+    ensures ends { IfOk result (λ s. IfNone s.board (IsAtAnEnd (arc_value problem).test s.answer)) }
+    ensures least { IfOk result (λ s. IfNone s.board (IsShownLeast (arc_value problem).test s.answer s.least)) }
     ensures either { IfOk result (λ s. IfSome s.board (λ _. s.least ≡ None)) }
-    ensures err { IfErr result (λ f. f ≢ Fault.Memory → IsSolveFault judge.old board.board.limit f) }
+    ensures err { IfErr result (λ f. f ≢ Fault.Memory → IsSolveFault (arc_value problem) board.board.limit f) }
 {
     let mut board = board;
-    match search(alloc, judge, &mut board) {
+    let shared = Arc::try_clone(&problem)?;
+    match search(alloc, shared, &mut board) {
         Ok(()) => {
-            let answer = answer_of(alloc, judge.problem(), &board)?;
+            let answer = answer_of(alloc, &problem, &board)?;
             Ok(Solved {
                 answer,
                 board: Some(board),
@@ -160,7 +161,7 @@ pub fn conclude(alloc: Global, judge: &mut Judge, board: Board) -> Result<Solved
             })
         }
         Err(Fault::NodeLimit) => {
-            let solved = answer_by_ends(alloc, judge.problem())?;
+            let solved = answer_by_ends(alloc, &problem)?;
             Ok(solved)
         }
         Err(fault) => Err(fault),
@@ -196,7 +197,6 @@ pub fn solve(alloc: Global, question: Arc<Question>, limit: usize) -> Result<Sol
     let asked = Arc::try_clone(&question)?;
     let problem = Problem::shared(alloc, asked)?;
     let board = Board::new(alloc, question, limit)?;
-    let mut judge = Judge::new(problem);
-    let solved = conclude(alloc, &mut judge, board)?;
+    let solved = conclude(alloc, problem, board)?;
     Ok(solved)
 }

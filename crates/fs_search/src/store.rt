@@ -35,7 +35,7 @@ impl Model for Known {
 
 /// The witnesses that a search has met, the newest last.
 #[derive(Drop)]
-pub struct Store {
+pub(crate) struct Store {
     known: Vec<Known>,
 }
 
@@ -127,7 +127,7 @@ impl Known {
 
 impl Store {
     /// No witness yet.
-    pub fn new(alloc: Global) -> Store
+    pub(crate) fn new(alloc: Global) -> Store
         ensures { result ≡ [] }
     {
         Store {
@@ -136,13 +136,13 @@ impl Store {
     }
 
     /// Has a stored witness these widths?
-    pub fn has_widths(&self, witness: &Witness) -> bool {
+    pub(crate) fn has_widths(&self, witness: &Witness) -> bool {
         let codes = Codes::of_widths(witness.widths.as_slice());
         self.known.iter().any(|known| codes.is_within(&known.kept) && known.kept.is_within(&codes))
     }
 
     /// Stores a witness. The decisions are those of any node. At `Err` nothing is changed.
-    pub fn keep(
+    pub(crate) fn keep(
         &mut self,
         alloc: Global,
         prices: &Prices,
@@ -242,7 +242,7 @@ impl Store {
 
     /// Witnesses that bound the node of this part and cost too much to break together, taken greedily: each that shares no breakable slot
     /// with those taken. None where that doesn't close the node, with this bound.
-    pub fn pick(
+    pub(crate) fn pick(
         &self,
         alloc: Global,
         prices: &Prices,

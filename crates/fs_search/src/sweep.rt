@@ -1,49 +1,45 @@
 //! The search: depth first, none first, at the first undecided slot.
 
-ghost use Rattle.std.specs.Prelude.{◌≡◌, ◌≢◌, ◌<◌, IfOk, IfErr, OnOk, OnErr, IsOkUnless, length, true, false};
+ghost use Rattle.std.specs.Prelude.{◌≡◌, ◌≢◌, ◌<◌, IfErr, OnOk, length, true};
 ghost use Rattle.std.specs.Arc.{arc_value};
 ghost use Rattle.fs_model.specs.Slots.{slots};
 ghost use Rattle.fs_history.specs.Board.{is_finished};
 ghost use Rattle.fs_history.specs.Sizes.{tree_size};
 ghost use Rattle.fs_search.specs.Histories.{GoesOn};
-ghost use Rattle.fs_board.specs.Growth.{AreWitnesses};
 ghost use Rattle.fs_search.specs.inner.Steps.{MovesOn, IsTaken};
 
-use crate::closing::{settle, split_node};
+use crate::closing::{close_or_split, try_way};
 use crate::next_node::{Child, Taken, next_node};
-use crate::store::Store;
-use crate::tries::try_all;
+use crate::scout::{Scout, TRIES};
 use fs_board::Board;
-use fs_judge::Judge;
+use fs_judge::Problem;
 use fs_kinds::Fault;
 use std::alloc::Global;
+use std::sync::Arc;
 
-/// Is done with a node: closes it where something does, else splits it at its first undecided slot.
+/// Is done with a node in the first way that serves.
 fn finish_node(
     alloc: Global,
-    judge: &mut Judge,
     board: &mut Board,
-    store: &mut Store,
+    scout: &mut Scout,
     children: &mut Vec<Child>,
     taken: &Taken,
 ) -> Result<(), Fault>
-    requires same { board.old.question ≡ judge.old }
-    requires known { AreWitnesses judge.old.test store.old }
+    requires same { board.old.question ≡ scout.old }
     requires taken { IsTaken board.old taken.now.node (arc_value taken.now.part) }
-    ensures judge { judge.new ≡ judge.old }
-    ensures known { AreWitnesses judge.old.test store.new }
+    ensures scout { scout.new ≡ scout.old }
     ensures goes { GoesOn board.old board.new }
     ensures ok { OnOk result (MovesOn board.old board.new) }
     ensures err { IfErr result (λ f. f ≢ Fault.Memory → (f ≡ Fault.NodeLimit)
         × (board.old.board.limit < tree_size board.old.question.prices (length (slots board.old.question.test)))) }
 {
-    if try_all(alloc, judge, board, store, taken)? {
-        return Ok(());
+    scout.see_bound(board.bound())?;
+    for way in TRIES {
+        if try_way(alloc, board, scout, way, taken)? {
+            return Ok(());
+        }
     }
-    match taken.part.first_undecided() {
-        Some(slot) => split_node(alloc, board, children, taken.node, slot),
-        None => settle(alloc, judge, board, taken.node, &taken.part),
-    }
+    close_or_split(alloc, board, scout, children, taken)
 }
 
 /// Searches until the board is finished, whatever open and held nodes it has: a child of its own first, then any open node, then any that
@@ -53,18 +49,17 @@ fn finish_node(
 /// There are no more nodes than the board's limit allows. At each one, the stored witnesses are held against it by four bits a slot, and
 /// those that show the outcome under its least placement are sorted. Where they don't close it, the judge is asked for a look, and where
 /// that finds nothing for a verdict, which makes and judges every candidate anew.
-pub fn search(alloc: Global, judge: &mut Judge, board: &mut Board) -> Result<(), Fault>
-    requires { board.old.question ≡ judge.old }
-    ensures judge { judge.new ≡ judge.old }
+pub fn search(alloc: Global, problem: Arc<Problem>, board: &mut Board) -> Result<(), Fault>
+    requires { board.old.question ≡ arc_value problem }
     ensures goes { GoesOn board.old board.new }
     ensures ok { OnOk result (is_finished board.new.board ≡ true) }
     ensures err { IfErr result (λ f. f ≢ Fault.Memory → (f ≡ Fault.NodeLimit)
         × (board.old.board.limit < tree_size board.old.question.prices (length (slots board.old.question.test)))) }
 {
-    let mut store = Store::new(alloc);
+    let mut scout = Scout::new(alloc, problem);
     let mut children = Vec::new(alloc);
     while let Some(taken) = next_node(board, &mut children)? {
-        finish_node(alloc, judge, board, &mut store, &mut children, &taken)?;
+        finish_node(alloc, board, &mut scout, &mut children, &taken)?;
     }
     Ok(())
 }

@@ -16,17 +16,15 @@ is_done status = not (is_open status) && not (is_held status)
 abbrev pub done : Board → ℕ
 done b = count_of is_done b.nodes
 
-abbrev pub is_closed : Reply → Bool
-is_closed Closed = true
-is_closed _ = false
-
 abbrev pub is_given : Reply → Bool
 is_given (Given k part) = true
 is_given _ = false
 
-abbrev pub is_split_so : Reply → Bool
-is_split_so (Children first count) = true
-is_split_so _ = false
+-- the node is closed or split by that
+abbrev pub is_end : Reply → Bool
+is_end Closed = true
+is_end (Children first count) = true
+is_end _ = false
 
 -- one node more is done, or several
 pub record MovesOn (old new : Search) : Type 0 where
@@ -38,8 +36,8 @@ pub record Stays (old new : Search) : Type 0 where
   pub goes : GoesOn old new
   pub board : new.board ≡ old.board
 
--- the node is closed now, or nothing changed
-abbrev pub IsTried : Search → Search → (closed : Bool) → Type 0
+-- the node is closed or split now, or nothing changed
+abbrev pub IsTried : Search → Search → (ended : Bool) → Type 0
 IsTried old new true = MovesOn old new
 IsTried old new false = Stays old new
 

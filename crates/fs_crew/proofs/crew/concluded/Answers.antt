@@ -1,17 +1,10 @@
-use Rattle.std.proofs.Common.{sym, subst}
-use Rattle.fs_kinds.specs.declared.fault.Fault.{Fault}
-use Rattle.fs_answer.specs.CandidateFaults.{IsCandidateFault}
-use Rattle.fs_evidence.specs.Evidence.{Question}
+use Rattle.std.proofs.Common.{refl}
 use Rattle.fs_search.proofs.Ends.{handed}
 use Rattle.fs_crew.proofs.Faults.{same-fault}
 use Rattle.fs_crew.proofs.crew.concluded.Goals as goal
 
-pub conclude-requires-clause-clean : goal.conclude-requires-clause-clean
-conclude-requires-clause-clean g c =
-    subst (λ (x : Question). (f : Fault) → IsCandidateFault x.test f → ⊥) (sym c.new-judge.ensures) c.requires.clean
-
 pub returns-in_err-solved-clause-err : goal.returns-in_err-solved-clause-err
 returns-in_err-solved-clause-err g c =
     handed c.from_residual-in_err-solved.result _ _ c.from_residual-in_err-solved.ensures.1
-    (λ other. same-fault _ _ c.in_ok-board.board.board.limit c.args.limit _ c.new-judge.ensures c.in_ok-board.ensures.asked.limit
+    (λ other. same-fault _ _ c.in_ok-board.board.board.limit c.args.limit _ refl c.in_ok-board.ensures.asked.limit
     (c.in_err-solved.ensures.err other))

@@ -23,13 +23,13 @@ returns-in_err-problem-clause-err c =
 
 pub conclude-requires-clause-clean : goal.conclude-requires-clause-clean
 conclude-requires-clause-clean c =
-    subst (λ (x : Question). (f : Fault) → IsCandidateFault x.test f → ⊥) (sym (c.new-judge.ensures ∙ c.in_ok-problem.ensures.value)) c.in_ok-problem.ensures.clean
+    subst (λ (x : Question). (f : Fault) → IsCandidateFault x.test f → ⊥) (sym c.in_ok-problem.ensures.value) c.in_ok-problem.ensures.clean
 
 pub returns-in_err-solved-clause-err : goal.returns-in_err-solved-clause-err
 returns-in_err-solved-clause-err c =
     handed c.from_residual-in_err-solved.result _ _ c.from_residual-in_err-solved.ensures.1
-    (λ other. same-fault c.new-judge.result c.args.question.value c.in_ok-board.board c.args.limit _
-    (c.new-judge.ensures ∙ c.in_ok-problem.ensures.value ∙ c.in_ok-asked.ensures) (ap (λ (s : Search). s.board.limit) c.in_ok-board.ensures.ok)
+    (λ other. same-fault c.in_ok-problem.problem.value c.args.question.value c.in_ok-board.board c.args.limit _
+    (c.in_ok-problem.ensures.value ∙ c.in_ok-asked.ensures) (ap (λ (s : Search). s.board.limit) c.in_ok-board.ensures.ok)
     (c.in_err-solved.ensures.err other))
 
 pub returns-clause-clean : goal.returns-clause-clean

@@ -1,4 +1,4 @@
-//! What a worker knows, and what it tries at a node. It asks nothing of the desk, so it needs no lock.
+//! What a searcher knows, and what it tries at a node. It asks nothing of the board, so it needs no lock.
 
 ghost use Rattle.std.specs.Prelude.{◌≡◌, IfOk, IfSome, IsOkUnless, map};
 ghost use Rattle.std.specs.Arc.{arc_value};
@@ -8,23 +8,26 @@ ghost use Rattle.fs_bound.specs.Bounds.{slots_in_part};
 ghost use Rattle.fs_model.specs.Execution.{Execution};
 ghost use Rattle.fs_evidence.specs.Evidence.{IsWitnessFor};
 ghost use Rattle.fs_board.specs.Growth.{AreWitnesses};
-ghost use Rattle.fs_board.specs.Asking.{IsMade, Tells};
+ghost use Rattle.fs_board.specs.Asking.{Tells};
+ghost use Rattle.fs_search.specs.Tries.{IsTry, IsLast};
 
-use fs_board::{Decision, Event, Part, Reply};
-use fs_evidence::{Forbidden, Question, Witness};
-use fs_kinds::{Fault, Prices, Slot};
-use fs_list::List;
-use fs_search::{
-    Judge, Problem, Store, Verdict, is_filled_new, is_floor_new, judge_floor, look_at_filled,
-    stored_over_filled,
+use crate::floor_and_filled::{
+    is_filled_new, is_floor_new, judge_floor, look_at_filled, stored_over_filled,
 };
+use crate::next_node::Taken;
+use crate::store::Store;
+use fs_board::{Decision, Event, Reply};
+use fs_evidence::{Forbidden, Question, Witness};
+use fs_judge::{Judge, Problem, Verdict};
+use fs_kinds::{Fault, Prices};
+use fs_list::List;
 use std::alloc::{AllocError, Global};
 use std::marker::Model;
 use std::sync::Arc;
 
 /// The ways to be done with a node.
 #[derive(Clone, Copy)]
-pub(crate) enum Way {
+pub enum Way {
     /// It is closed by cost alone.
     Cost,
     /// Stored witnesses bound it.
@@ -40,31 +43,24 @@ pub(crate) enum Way {
 }
 
 impl Way {
-    /// Does it judge a placement of the node of this part, whose parent was split at the slot?
-    pub(crate) fn judges(self, part: &Part, slot: Option<Slot>) -> bool {
+    /// Does it judge a placement of the node?
+    pub fn judges(self, taken: &Taken) -> bool {
         match self {
             Way::Cost | Way::Bound | Way::Stored => false,
-            Way::Looked => is_filled_new(part, slot),
-            Way::Judged => is_floor_new(part, slot),
-            Way::Last => part.first_undecided().is_none(),
+            Way::Looked => is_filled_new(&taken.part, taken.slot),
+            Way::Judged => is_floor_new(&taken.part, taken.slot),
+            Way::Last => taken.part.first_undecided().is_none(),
         }
     }
 }
 
-/// The ways, in the order in which they are tried: what costs nothing first.
-pub(crate) const WAYS: [Way; 6] = [
-    Way::Cost,
-    Way::Bound,
-    Way::Stored,
-    Way::Looked,
-    Way::Judged,
-    Way::Last,
-];
+/// The ways that are tried before the last one, in this order: what costs nothing first.
+pub const TRIES: [Way; 5] = [Way::Cost, Way::Bound, Way::Stored, Way::Looked, Way::Judged];
 
-/// A judge of the question, the witnesses that were met, and what was seen of the board, once it was looked at: the best placement posted,
-/// and how many witnesses there were. Contracts see the question.
+/// A judge of the question, the witnesses that were met, and what was seen of the board: the best placement posted, and where a peek was
+/// learned, how many witnesses there were. Contracts see the question.
 #[derive(Drop)]
-pub(crate) struct Scout {
+pub struct Scout {
     judge: Judge,
     store: Store,
     bound: Option<Arc<Forbidden>>,
@@ -122,7 +118,7 @@ fn keep_all(
 }
 
 /// The placement posted, shared.
-fn share(bound: &Option<Arc<Forbidden>>) -> Result<Option<Arc<Forbidden>>, AllocError> {
+fn share(bound: Option<&Arc<Forbidden>>) -> Result<Option<Arc<Forbidden>>, AllocError> {
     match bound {
         Some(forbidden) => Ok(Some(Arc::try_clone(forbidden)?)),
         None => Ok(None),
@@ -131,7 +127,7 @@ fn share(bound: &Option<Arc<Forbidden>>) -> Result<Option<Arc<Forbidden>>, Alloc
 
 impl Scout {
     /// A scout that has met no witness yet. Others may share the problem.
-    pub(crate) fn new(alloc: Global, problem: Arc<Problem>) -> Scout
+    pub fn new(alloc: Global, problem: Arc<Problem>) -> Scout
         ensures { result ≡ arc_value problem }
     {
         Scout {
@@ -144,124 +140,127 @@ impl Scout {
     }
 
     /// Was the board looked at?
-    pub(crate) fn has_looked(&self) -> bool {
+    pub fn has_looked(&self) -> bool {
         self.has_looked
     }
 
     /// How many of the board's witnesses were seen.
-    pub(crate) fn seen(&self) -> usize {
+    pub fn seen(&self) -> usize {
         self.seen
     }
 
-    /// Closing by cost, where a posted placement was seen.
-    fn costly(&self, node: usize) -> Option<Event>
-        ensures { IfSome result (IsMade self.now) }
+    /// Was a posted placement seen?
+    pub fn has_bound(&self) -> bool {
+        self.bound.is_some()
+    }
+
+    /// Takes over the best placement posted.
+    pub(crate) fn see_bound(&mut self, bound: Option<&Arc<Forbidden>>) -> Result<(), AllocError>
+        ensures { self.new ≡ self.old }
     {
-        if self.bound.is_none() {
-            return None;
-        }
-        Some(Event::CutCost(node))
+        self.bound = share(bound)?;
+        Ok(())
     }
 
     /// Stored witnesses that bound the node.
-    fn bounding(&self, alloc: Global, node: usize, part: &Part) -> Result<Option<Event>, AllocError>
-        ensures { IfOk result (λ found. IfSome found (IsMade self.now)) }
+    fn bounding(&self, alloc: Global, taken: &Taken) -> Result<Option<Event>, AllocError>
+        ensures { IfOk result (λ found. IfSome found (IsTry self.now)) }
     {
         let prices = &self.judge.question().prices;
-        let picked = self.store.pick(alloc, prices, self.bound.as_ref(), part)?;
+        let picked = self
+            .store
+            .pick(alloc, prices, self.bound.as_ref(), &taken.part)?;
         if picked.is_empty() {
             return Ok(None);
         }
-        Ok(Some(Event::CutBound(node, List::new(picked))))
+        Ok(Some(Event::CutBound(taken.node, List::new(picked))))
     }
 
     /// A stored witness that closes the node.
-    fn stored(&self, alloc: Global, node: usize, part: &Part) -> Result<Option<Event>, AllocError>
-        ensures { IfOk result (λ found. IfSome found (IsMade self.now)) }
+    fn stored(&self, alloc: Global, taken: &Taken) -> Result<Option<Event>, AllocError>
+        ensures { IfOk result (λ found. IfSome found (IsTry self.now)) }
     {
-        let Some(witness) = stored_over_filled(alloc, &self.store, part)? else {
+        let Some(witness) = stored_over_filled(alloc, &self.store, &taken.part)? else {
             return Ok(None);
         };
-        Ok(Some(Event::CutWitness(node, witness)))
+        Ok(Some(Event::CutWitness(taken.node, witness)))
     }
 
     /// A new witness that closes the node.
-    fn looked(&mut self, alloc: Global, node: usize, part: &Part) -> Result<Option<Event>, Fault>
+    fn looked(&mut self, alloc: Global, taken: &Taken) -> Result<Option<Event>, Fault>
         ensures value { self.new ≡ self.old }
-        ensures made { IfOk result (λ found. IfSome found (IsMade self.old)) }
+        ensures made { IfOk result (λ found. IfSome found (IsTry self.old)) }
         ensures err { IsOkUnless result Fault.Memory }
     {
-        let found = look_at_filled(alloc, &mut self.judge, &mut self.store, part)?;
+        let found = look_at_filled(alloc, &mut self.judge, &mut self.store, &taken.part)?;
         let Some(witness) = found else {
             return Ok(None);
         };
-        Ok(Some(Event::CutWitness(node, witness)))
+        Ok(Some(Event::CutWitness(taken.node, witness)))
     }
 
     /// The node's least placement, where it forbids the outcome.
-    fn judged(&mut self, alloc: Global, node: usize, part: &Part) -> Result<Option<Event>, Fault>
-        requires { slots_in_part part.now ≡ slots self.old.test }
+    fn judged(&mut self, alloc: Global, taken: &Taken) -> Result<Option<Event>, Fault>
+        requires { slots_in_part (arc_value taken.now.part) ≡ slots self.old.test }
         ensures value { self.new ≡ self.old }
-        ensures made { IfOk result (λ found. IfSome found (IsMade self.old)) }
+        ensures made { IfOk result (λ found. IfSome found (IsTry self.old)) }
         ensures err { IsOkUnless result Fault.Memory }
     {
-        let found = judge_floor(alloc, &mut self.judge, &mut self.store, part)?;
+        let found = judge_floor(alloc, &mut self.judge, &mut self.store, &taken.part)?;
         let Some(forbidden) = found else {
             return Ok(None);
         };
-        Ok(Some(Event::Post(node, Arc::new(alloc, forbidden)?)))
+        Ok(Some(Event::Post(taken.node, Arc::new(alloc, forbidden)?)))
     }
 
-    /// What is left to try: a split at the first undecided slot, or a verdict on the one placement.
-    fn last(&mut self, alloc: Global, node: usize, part: &Part) -> Result<Option<Event>, Fault>
-        requires { slots_in_part part.now ≡ slots self.old.test }
+    /// What is left to try: a split at the first undecided slot, or a verdict on the one placement. It is done with the node, whoever
+    /// holds it, unless there is no room for the children.
+    pub(crate) fn last(&mut self, alloc: Global, taken: &Taken) -> Result<Event, Fault>
+        requires { slots_in_part (arc_value taken.now.part) ≡ slots self.old.test }
         ensures value { self.new ≡ self.old }
-        ensures made { IfOk result (λ found. IfSome found (IsMade self.old)) }
+        ensures made { IfOk result (IsTry self.old) }
+        ensures last { IfOk result (IsLast self.old.test taken.now.node (arc_value taken.now.part)) }
         ensures err { IsOkUnless result Fault.Memory }
     {
-        if let Some(slot) = part.first_undecided() {
-            return Ok(Some(Event::Split(node, slot)));
+        if let Some(slot) = taken.part.first_undecided() {
+            return Ok(Event::Split(taken.node, slot));
         }
-        let floor = part.floor(alloc)?;
+        let floor = taken.part.floor(alloc)?;
         let verdict = self.judge.verdict(alloc, &floor, &[])?;
         match verdict {
             Verdict::Allowed(witness) => {
-                Ok(Some(Event::CutWitness(node, Arc::new(alloc, witness)?)))
+                let shared = Arc::new(alloc, witness)?;
+                Ok(Event::CutWitness(taken.node, shared))
             }
-            Verdict::Forbids(forbidden) => {
-                Ok(Some(Event::Post(node, Arc::new(alloc, forbidden)?)))
-            }
+            Verdict::Forbids(forbidden) => Ok(Event::Post(taken.node, Arc::new(alloc, forbidden)?)),
         }
     }
 
-    /// What to ask of the desk about a node, in this way: nothing where this way isn't worth a try. The node's parent was split at the
-    /// slot, where that is known.
-    pub(crate) fn propose(
+    /// What to ask of the board about a node, in this way: nothing where this way isn't worth a try.
+    pub fn propose(
         &mut self,
         alloc: Global,
         way: Way,
-        node: usize,
-        part: &Part,
-        slot: Option<Slot>,
+        taken: &Taken,
     ) -> Result<Option<Event>, Fault>
-        requires { slots_in_part part.now ≡ slots self.old.test }
+        requires { slots_in_part (arc_value taken.now.part) ≡ slots self.old.test }
         ensures value { self.new ≡ self.old }
-        ensures made { IfOk result (λ found. IfSome found (IsMade self.old)) }
+        ensures made { IfOk result (λ found. IfSome found (IsTry self.old)) }
         ensures err { IsOkUnless result Fault.Memory }
     {
         match way {
-            Way::Cost => Ok(self.costly(node)),
-            Way::Bound => Ok(self.bounding(alloc, node, part)?),
-            Way::Stored => Ok(self.stored(alloc, node, part)?),
-            Way::Looked if is_filled_new(part, slot) => self.looked(alloc, node, part),
-            Way::Judged if is_floor_new(part, slot) => self.judged(alloc, node, part),
+            Way::Cost => Ok(Some(Event::CutCost(taken.node))),
+            Way::Bound => Ok(self.bounding(alloc, taken)?),
+            Way::Stored => Ok(self.stored(alloc, taken)?),
+            Way::Looked if is_filled_new(&taken.part, taken.slot) => self.looked(alloc, taken),
+            Way::Judged if is_floor_new(&taken.part, taken.slot) => self.judged(alloc, taken),
             Way::Looked | Way::Judged => Ok(None),
-            Way::Last => self.last(alloc, node, part),
+            Way::Last => Ok(Some(self.last(alloc, taken)?)),
         }
     }
 
     /// Takes over what a peek shows. The decisions are those of any node.
-    pub(crate) fn learn(
+    pub fn learn(
         &mut self,
         alloc: Global,
         decisions: &[Decision],
@@ -273,7 +272,7 @@ impl Scout {
         let Reply::Seen(bound, count, witnesses) = reply else {
             return Ok(());
         };
-        let shared = share(bound)?;
+        let shared = share(bound.as_ref())?;
         let prices = &self.judge.question().prices;
         keep_all(
             alloc,

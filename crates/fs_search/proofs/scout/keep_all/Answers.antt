@@ -1,7 +1,7 @@
 use Rattle.std.proofs.Common.{Some, option_map, sym, ap, ◌∙◌, arith}
 use Rattle.std.specs.Arc.{arc_value}
 use Rattle.std.proofs.lemmas.Option.{slice_get-map, slice_get-get_or}
-use Rattle.fs_crew.proofs.scout.keep_all.Goals as goal
+use Rattle.fs_search.proofs.scout.keep_all.Goals as goal
 
 pub returns-in_err-keep_new : goal.returns-in_err-keep_new
 returns-in_err-keep_new c = λ t all each.

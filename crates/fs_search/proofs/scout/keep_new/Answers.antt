@@ -3,7 +3,7 @@ use Rattle.fs_model.specs.Execution.{Execution}
 use Rattle.fs_evidence.specs.Evidence.{Shown, IsWitnessFor}
 use Rattle.fs_board.specs.Growth.{AreWitnesses}
 use Rattle.fs_search.proofs.Parts.{one-more}
-use Rattle.fs_crew.proofs.scout.keep_new.Goals as goal
+use Rattle.fs_search.proofs.scout.keep_new.Goals as goal
 
 pub returns-in_err-keep : goal.returns-in_err-keep
 returns-in_err-keep c = λ t new each. subst (AreWitnesses t) (sym c.in_err-keep.ensures.err) each

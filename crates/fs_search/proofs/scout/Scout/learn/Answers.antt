@@ -1,8 +1,8 @@
 use Rattle.std.proofs.Common.{map, sym, subst}
 use Rattle.std.specs.Arc.{arc_value}
 use Rattle.fs_board.specs.Growth.{AreWitnesses}
-use Rattle.fs_crew.proofs.Scouts.{told-witnesses}
-use Rattle.fs_crew.proofs.scout.Scout.learn.Goals as goal
+use Rattle.fs_search.proofs.Scouts.{told-witnesses}
+use Rattle.fs_search.proofs.scout.Scout.learn.Goals as goal
 
 pub invariant_of-self : goal.invariant_of-self
 invariant_of-self c =
