@@ -1,7 +1,7 @@
 -- Refutations: a tree of inferences over regions, in preorder. An inference splits a region, or shows that its
 -- showing candidates have a cycle in common, or that it has none. Whoever checks a tree looks at each inference once,
 -- and searches for nothing.
-use Rattle.std.specs.Prelude.{◌≡◌, ◌↔◌, ℕ, ◌<◌, ◌==◌, nat_le, nat_lt, Bool, true, false, ◌&&◌, not, None, List, [], ◌∷◌, ◌++◌, filter, length, take, drop, slice_get}
+use Rattle.std.specs.Prelude.{◌≡◌, ℕ, ◌==◌, nat_le, nat_lt, Bool, true, false, ◌&&◌, not, None, List, [], ◌∷◌, ◌++◌, filter, length, take, drop, slice_get}
 use Rattle.std.specs.List.{Contains, flat_map, list_all, zip}
 use Rattle.fs_kinds.specs.declared.placement.Entry.{Entry}
 use Rattle.fs_kinds.specs.declared.reason.OperationName.{OperationName as Name}
@@ -10,15 +10,15 @@ use Rattle.fs_model.specs.Condition.{condition_of}
 use Rattle.fs_model.specs.Slots.{is_memory_at}
 use Rattle.fs_model.specs.declared.step.Step.{Step}
 use Rattle.fs_model.specs.Numbers.{numbers_below}
-use Rattle.fs_model.specs.Execution.{IsTrace, code_of}
+use Rattle.fs_model.specs.Execution.{code_of}
 use Rattle.fs_model.specs.Shows.{is_outcome}
-use Rattle.fs_model.specs.Values.{IsValue, LoadsFrom}
 use Rattle.fs_answer.specs.Candidates.{Candidate, IsShowing}
 use Rattle.fs_answer.specs.Certificate.{Link}
 use Rattle.fs_answer.specs.Valid.{IsCycle, most_links}
-use Rattle.fs_answer.specs.Regions.{Region, same_name, stored_at}
-use Rattle.fs_answer.specs.Musts.{must, must_meet, must_pair, is_before, overwrites}
-use Rattle.fs_answer.specs.Splits.{by_choice, by_source, by_order, by_cases, by_outcome, ways_of}
+pub use Rattle.fs_values.specs.AllRuns.{HasAllRuns}
+use Rattle.fs_region.specs.Regions.{Region, same_name, stored_at}
+use Rattle.fs_region.specs.Musts.{must, must_meet, must_pair, is_before, overwrites}
+use Rattle.fs_region.specs.Splits.{by_choice, by_source, by_order, by_cases, by_outcome, ways_of}
 
 -- One step of a refutation. The first five split a region, or drop runs from it; the others end it:
 --   Cycle: each link must come before the next one, and the last before the first;
@@ -107,12 +107,6 @@ root t runs = record {
 abbrev pub refutes_test : Test → List Entry → (ℕ → List (List Step)) → List Inference → Bool
 refutes_test t p runs inferences = refutes t p (filter (is_open t) (root t runs ∷ [])) inferences
 
--- all runs of each hart over the value sets, in any order
-abbrev pub HasAllRuns : Test → (ℕ → List (List Step)) → Type 0
-HasAllRuns t runs =
-    (hart : ℕ) → hart < length t.codes → (steps : List Step)
-    → Contains (runs hart) steps ↔ IsTrace t hart steps × LoadsFrom (IsValue t) steps
-
 -- the inferences refute the whole test under the placement
 pub record IsRefuted (t : Test) (p : List Entry) (inferences : List Inference) : Type 0 where
   pub runs : ℕ → List (List Step)
@@ -131,6 +125,13 @@ cycles_in = flat_map cycle_in
 -- one of these is a cycle of the candidate's judged relation under the placement
 abbrev pub HasCycleOf : Test → List Entry → List (List Link) → Candidate → Type 0
 HasCycleOf t p cycles c = (links : List Link) × Contains cycles links × IsCycle t p c links
+
+-- Whatever refutes under p refutes under q: regions, and so the whole test.
+pub record RefutesNoLess (t : Test) (p q : List Entry) : Type 0 where
+  pub regions :
+      (regions : List Region) (inferences : List Inference)
+      → refutes t p regions inferences ≡ true → refutes t q regions inferences ≡ true
+  pub refuted : (inferences : List Inference) → IsRefuted t p inferences → IsRefuted t q inferences
 
 -- each showing candidate has one of these cycles
 abbrev pub Covers : Test → List Entry → List (List Link) → Type 0

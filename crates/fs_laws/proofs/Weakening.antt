@@ -149,15 +149,18 @@ case-larger x p q rf a b weaker Rule11 holds = holds
 case-larger x p q rf a b weaker Rule12 holds = holds
 case-larger x p q rf a b weaker Rule13 holds = holds
 
+-- what a rule orders with weaker fences it orders with stronger ones
+pub rule-larger : (x : PreExecution) (p q : List Entry) (rf : ℕ → Option ℕ) (a b : ℕ) → KeepsNoMore p q → (r : Rule)
+    → rule x p rf a b r ≡ true → rule x q rf a b r ≡ true
+rule-larger x p q rf a b weaker r holds =
+    let parts = and_parts (po x a b) (case_of x p rf a b r) holds in
+    and_from _ _ parts.0 (case-larger x p q rf a b weaker r parts.1)
+
 -- what is preserved with weaker fences is preserved with stronger ones
 pub ppo-larger : (x : PreExecution) (p q : List Entry) (rf : ℕ → Option ℕ) (a b : ℕ) → KeepsNoMore p q
     → ppo x p rf a b ≡ true → ppo x q rf a b ≡ true
-ppo-larger x p q rf a b weaker holds = any-larger (rule x p rf a b) (rule x q rf a b) all_rules each holds
-  where
-    each : (r : Rule) → rule x p rf a b r ≡ true → rule x q rf a b r ≡ true
-    each r found =
-        let parts = and_parts (po x a b) (case_of x p rf a b r) found in
-        and_from _ _ parts.0 (case-larger x p q rf a b weaker r parts.1)
+ppo-larger x p q rf a b weaker holds =
+    any-larger (rule x p rf a b) (rule x q rf a b) all_rules (rule-larger x p q rf a b weaker) holds
 
 -- ---- executions
 

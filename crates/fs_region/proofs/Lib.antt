@@ -8,3 +8,4 @@ pub mod Outcomes
 pub mod Splits
 pub mod Walk
 pub mod Covering
+pub mod Stronger

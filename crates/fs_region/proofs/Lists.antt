@@ -1,22 +1,16 @@
 -- What lists contain.
-use Rattle.std.proofs.Common.{◌≡◌, ℕ, zero, suc, ◌+◌, ◌<◌, ◌⊎◌, Bool, true, false, Some, List, [], ◌∷◌, length, map, filter, inl, inr, refl, sym, ◌∙◌, ap, subst, arith}
+use Rattle.std.proofs.Common.{◌≡◌, ℕ, zero, suc, ◌+◌, ◌<◌, ◌⊎◌, Bool, true, false, Some, List, [], ◌∷◌, length, filter, inl, inr, refl, sym, ◌∙◌, ap, subst, arith}
 use Rattle.std.specs.Prelude.{nat_lt, slice_get, take, drop, if◌then◌else◌}
-use Rattle.std.specs.List.{Contains, enumerate_from, find, flat_map, list_all, list_any, position, position_or_len, slice_index_or}
+use Rattle.std.specs.List.{Contains, enumerate_from, find, list_all, list_any, position, position_or_len, slice_index_or}
 use Rattle.std.proofs.lemmas.Bool.{false≢true, and_from, and_parts, or_cases, or_left, or_right, lt-ltb}
-use Rattle.std.proofs.lemmas.List.Elements.{Contains-append_left, Contains-append_right}
 use Rattle.std.proofs.lemmas.List.Folds.{find_at}
 use Rattle.std.proofs.lemmas.List.Quantifiers.{position-Some}
 use Rattle.std.proofs.lemmas.Option.{slice_get_within, get_or_from_slice_get}
 use Rattle.fs_kinds.proofs.Entries.{find-some}
-
-pub none_in : {X : Type 0} (x : X) → Contains [] x → ⊥
-none_in x has = let low = has.1 in absurd (omega (arith, low))
+use Rattle.fs_values.proofs.Contained.{none_in, later_in}
 
 pub first_in : {X : Type 0} (x y : X) (xs : List X) → y ≡ x → Contains (y ∷ xs) x
 first_in x y xs same = (0, omega arith, same)
-
-pub later_in : {X : Type 0} (y : X) (xs : List X) (x : X) → Contains xs x → Contains (y ∷ xs) x
-later_in y xs x has = let low = has.1 in (suc has.0, omega (arith, low), has.2)
 
 pub in_cases : {X : Type 0} (y : X) (xs : List X) (x : X) → Contains (y ∷ xs) x → (y ≡ x) ⊎ Contains xs x
 in_cases y xs x (zero, low, same) = inl same
@@ -64,20 +58,6 @@ module _ {X : Type 0} (f : X → Bool) where
     | inl here ↦ (y, first_in y y ys refl, here)
     | inr later ↦ (let rest = any_from ys later in (rest.0, later_in y ys rest.0 rest.1, rest.2))
   ]
-
-pub in_map : {X Y : Type 0} (f : X → Y) (xs : List X) (x : X) → Contains xs x → Contains (map f xs) (f x)
-in_map f [] x has = absurd (none_in x has)
-in_map f (y ∷ ys) x has = elim (in_cases y ys x has) [
-  | inl same ↦ first_in (f x) (f y) (map f ys) (ap f same)
-  | inr later ↦ later_in (f y) (map f ys) (f x) (in_map f ys x later)
-]
-
-pub in_flat_map : {X Y : Type 0} (f : X → List Y) (xs : List X) (x : X) (y : Y) → Contains xs x → Contains (f x) y → Contains (flat_map f xs) y
-in_flat_map f [] x y has here = absurd (none_in x has)
-in_flat_map f (z ∷ xs) x y has here = elim (in_cases z xs x has) [
-  | inl same ↦ Contains-append_left (f z) (flat_map f xs) y (subst (λ u. Contains (f u) y) (sym same) here)
-  | inr later ↦ Contains-append_right (f z) (flat_map f xs) y (in_flat_map f xs x y later here)
-]
 
 pub in_numbered : {X : Type 0} (n : ℕ) (xs : List X) (k : ℕ) (d : X) → k < length xs → Contains (enumerate_from n xs) (n + k, slice_index_or xs k d)
 in_numbered n [] k d low = absurd (omega (arith, low))

@@ -26,8 +26,9 @@ use Rattle.fs_answer.specs.Candidates.{Candidate, IsRaw, runs_of}
 use Rattle.fs_decide.proofs.Sourced.{are_runs}
 use Rattle.fs_cand.proofs.Distinct.{one_named, named}
 use Rattle.fs_cand.proofs.Distinct as distinct
-use Rattle.fs_answer.specs.Regions.{same_name, names_in, names}
-use Rattle.fs_region.proofs.Lists.{in_filter, in_map, in_flat_map, in_numbered}
+use Rattle.fs_values.proofs.Contained.{in_map, in_parts}
+use Rattle.fs_region.specs.Regions.{same_name, names_in, names}
+use Rattle.fs_region.proofs.Lists.{in_filter, in_numbered}
 
 -- ---- names that are the same
 
@@ -162,7 +163,7 @@ module _ (t : Test) (c : Candidate) (raw : IsRaw t c) where
       let memory : is_memory_at (code_of t name.hart) name.at ≡ true = subst (λ (k : ℕ). is_memory_at (code_of t name.hart) k ≡ true) (sym at)
       (memory_at (code_of t name.hart) made.0.at of.step.instr made.1.1 (only_memory (length t.locations) made.0 of.step of.step.instr made.1.2 of.accessing)) in
       let small : name.at < length (code_of t name.hart) = (let less = slice_get_within (code_of t name.hart) made.0.at of.step.instr made.1.1 in omega (arith, less, at)) in
-      in_flat_map names_in (enumerate_from 0 t.codes) (name.hart, code_of t name.hart) name
+      in_parts names_in (enumerate_from 0 t.codes) (name.hart, code_of t name.hart) name
       (subst (λ (k : ℕ). Contains (enumerate_from 0 t.codes) (k, code_of t name.hart)) (omega arith) (in_numbered 0 t.codes name.hart [] low))
       (in_map (λ at. record { hart = name.hart; at = at }) (filter (is_memory_at (code_of t name.hart)) (numbers_below (length (code_of t name.hart)))) name.at
       (in_filter (is_memory_at (code_of t name.hart)) (numbers_below (length (code_of t name.hart))) name.at (number_in (length (code_of t name.hart)) name.at small) memory))

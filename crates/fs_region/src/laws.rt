@@ -1,7 +1,8 @@
 //! What a refutation shows.
 
-ghost use Rattle.std.specs.Prelude.{◌≡◌, List, All, true};
+ghost use Rattle.std.specs.Prelude.{◌≡◌, List, [], All, true};
 ghost use Rattle.fs_kinds.specs.declared.placement.Entry.{Entry};
+ghost use Rattle.fs_kinds.specs.Placement.{slots_of, is_weaker};
 ghost use Rattle.fs_kinds.specs.declared.reason.OperationName.{OperationName as Name};
 ghost use Rattle.fs_model.specs.declared.test.Test.{Test};
 ghost use Rattle.fs_model.specs.Test.{GoesForward, IsBounded};
@@ -11,11 +12,12 @@ ghost use Rattle.fs_answer.specs.Candidates.{Candidate, IsRaw};
 ghost use Rattle.fs_answer.specs.Certificate.{Link};
 ghost use Rattle.fs_answer.specs.Judged.{Cause};
 ghost use Rattle.fs_answer.specs.Valid.{HasCycles};
+ghost use Rattle.fs_laws.specs.Strength.{KeepsNoMore};
 ghost use Rattle.fs_thin_air.specs.ThinAir.{CanBeListed};
 ghost use Rattle.fs_local.specs.Local.{HasLink};
-ghost use Rattle.fs_answer.specs.Regions.{Region, In};
-ghost use Rattle.fs_answer.specs.Musts.{must};
-ghost use Rattle.fs_answer.specs.Trees.{Inference, IsRefuted, Covers, cycles_in};
+ghost use Rattle.fs_region.specs.Regions.{Region, In};
+ghost use Rattle.fs_region.specs.Musts.{must};
+ghost use Rattle.fs_region.specs.Trees.{Inference, IsRefuted, RefutesNoLess, Covers, cycles_in};
 
 /// A law: what must hold in a region is so in each raw candidate that is in it: the operations of both names are
 /// there, and the first must come before the second, for the cause that is given.
@@ -38,4 +40,14 @@ pub fn covers_forbid()
         → IsRefuted t p inferences → Allows t p → ⊥ }
     ensures fenced { (t : Test) → CanBeListed t → (p : List Entry) (inferences : List Inference)
         → IsRefuted t p inferences → Allows (fenced t p) (no_fences (fenced t p)) → ⊥ }
+{}
+
+/// A law: what refutes under weaker fences refutes under stronger ones, by the same tree. So it is for two placements
+/// with the same slots, and for any two lists of fences, where a slot that isn't listed has no fence. A tree that
+/// needs no fence serves every placement.
+pub fn stronger_fences_refute_more()
+    ensures placements { (t : Test) (p q : List Entry) → slots_of p ≡ slots_of q → is_weaker p q ≡ true
+        → RefutesNoLess t p q }
+    ensures lists { (t : Test) (p q : List Entry) → KeepsNoMore p q → RefutesNoLess t p q }
+    ensures unfenced { (t : Test) (q : List Entry) → RefutesNoLess t [] q }
 {}

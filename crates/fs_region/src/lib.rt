@@ -5,4 +5,4 @@
 
 mod laws;
 
-pub use laws::{covers_forbid, musts_hold};
+pub use laws::{covers_forbid, musts_hold, stronger_fences_refute_more};

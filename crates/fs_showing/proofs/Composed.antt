@@ -13,12 +13,12 @@ use Rattle.fs_cand.specs.declared.candidate.Candidate.{Candidate}
 use Rattle.fs_cand.specs.Candidates.{candidate_of}
 use Rattle.fs_values.specs.Sets.{AreValues}
 use Rattle.fs_showing.specs.declared.place.Place.{Place}
-use Rattle.fs_showing.specs.Over.{AreListed, HaveFinal}
+use Rattle.fs_values.specs.AllRuns.{AreListed, HaveFinal}
 use Rattle.fs_showing.specs.Ways.{product_of_lengths}
 use Rattle.fs_showing.specs.RawCandidates.{AreAllRuns}
 use Rattle.fs_showing.specs.inner.Places.{runs_at, numbered_with, candidate_at, places_below, AreListable}
 use Rattle.fs_showing.proofs.AllRuns.{are_all_runs}
-use Rattle.fs_showing.proofs.Finals.{listed_final}
+use Rattle.fs_values.proofs.Listed.{have_final}
 use Rattle.fs_showing.proofs.Totals.{too_many_runs}
 
 pub all_of : (t u : Test) (sets values : List (List ℕ)) (lists : List (List Trace)) → t ≡ u → sets ≡ values → AreValues u values
@@ -28,7 +28,7 @@ all_of t u sets values lists same is are long listed =
     (subst (λ ss. AreListed u ss lists) is (subst (λ v. AreListed v sets lists) same listed))
 
 pub final_of : (t u : Test) (sets : List (List ℕ)) (lists : List (List Trace)) → t ≡ u → AreListed t sets lists → HaveFinal u lists
-final_of t u sets lists same listed = subst (λ v. HaveFinal v lists) same (listed_final t sets lists listed)
+final_of t u sets lists same listed = subst (λ v. HaveFinal v lists) same (have_final t sets lists listed)
 
 pub listable : (t : Test) (lists : List (List Trace)) → IsBounded t → AreAllRuns t (map steps_in lists) → HaveFinal t lists → (HasTooMany t → ⊥)
     → AreListable t lists

@@ -1,29 +1,19 @@
 -- The final registers of listed runs.
-use Rattle.std.proofs.Common.{◌≡◌, ◌∙◌, ℕ, ◌<◌, List, [], map, length, get_or, refl, sym, ap, subst, arith, All}
+use Rattle.std.proofs.Common.{◌≡◌, ◌∙◌, ℕ, ◌<◌, List, [], map, length, get_or, sym, ap, arith}
 use Rattle.std.proofs.lemmas.List.{get_or-map}
 use Rattle.fs_model.specs.declared.test.Test.{Test}
 use Rattle.fs_model.specs.Test.{IsBounded}
-use Rattle.fs_model.proofs.Pigeonhole.{IsAmong, all_among, each_among}
+use Rattle.fs_model.proofs.Pigeonhole.{IsAmong, each_among}
 use Rattle.fs_hart.specs.declared.trace.Trace.{Trace}
-use Rattle.fs_hart.specs.Listing.{trace_at}
 use Rattle.fs_hart.specs.Runs.{registers_after}
 use Rattle.fs_hart.specs.Steps.{steps_in}
 use Rattle.fs_axioms.specs.Final.{AreFinal}
-use Rattle.fs_showing.specs.Over.{AreListed, HaveFinal}
+use Rattle.fs_values.specs.AllRuns.{HaveFinal}
 use Rattle.fs_showing.specs.Ways.{products, product_of_lengths}
 use Rattle.fs_showing.specs.RawCandidates.{AreAllRuns}
-use Rattle.fs_showing.proofs.Among.{map-among}
 use Rattle.fs_showing.proofs.Choosing.{length-products, listed_taken, index_taken}
 use Rattle.fs_showing.proofs.Stepwise.{among_at}
 use Rattle.fs_showing.proofs.Totals.{harts_are}
-
-pub listed_final : (t : Test) (sets : List (List ℕ)) (lists : List (List Trace)) → AreListed t sets lists → HaveFinal t lists
-listed_final t sets lists listed hart low =
-    let traces = listed hart low in
-    subst (All (λ trace. trace.registers ≡ registers_after t hart trace.steps)) (sym traces.runs)
-    (all_among (λ trace. trace.registers ≡ registers_after t hart trace.steps) (map (trace_at t hart) traces.ends) (λ trace there.
-    let from = map-among (trace_at t hart) traces.ends trace there in
-    subst (λ (z : Trace). z.registers ≡ registers_after t hart z.steps) (sym from.2) refl))
 
 module _ (t : Test) (lists : List (List Trace)) (bounded : IsBounded t) (all : AreAllRuns t (map steps_in lists)) (finals : HaveFinal t lists)
     (n : ℕ) (low : n < product_of_lengths lists) where

@@ -6,7 +6,7 @@ use Rattle.fs_model.specs.Operations.{operations}
 use Rattle.fs_model.specs.Execution.{pre_execution}
 use Rattle.fs_hart.specs.declared.trace.Trace.{Trace}
 use Rattle.fs_hart.specs.Steps.{steps_in}
-use Rattle.fs_showing.specs.Over.{HaveFinal}
+use Rattle.fs_values.specs.AllRuns.{HaveFinal}
 use Rattle.fs_showing.specs.Ways.{product_of_lengths}
 use Rattle.fs_showing.specs.RawCandidates.{AreAllRuns}
 use Rattle.fs_showing.specs.inner.Places.{runs_at, CanBePrepared}

@@ -3,4 +3,3 @@ pub mod RawCandidates
 pub mod ShowingTests
 pub mod Showing
 pub mod inner
-pub mod Over

@@ -1,22 +1,14 @@
-//! The runs of all harts over the value sets, and one of each by number.
+//! One run of each hart by number.
 
-ghost use Rattle.std.specs.Prelude.{◌≡◌, ◌≤◌, ◌<◌, ◌++◌, [], All, length, IfOk, OnOk, IsOkUnless};
+ghost use Rattle.std.specs.Prelude.{◌≡◌, ◌≤◌, ◌<◌, ◌++◌, [], IfOk, OnOk};
 ghost use Rattle.std.specs.List.{slice_index_or};
-ghost use Rattle.std.specs.List.Sorted.{IsStrictlyIncreasing};
-ghost use Rattle.fs_kinds.specs.declared.fault.Fault.TheVariants.{Memory};
-ghost use Rattle.fs_model.specs.Test.{IsBounded, IsStart};
 ghost use Rattle.fs_answer.specs.CandidateFaults.{most_candidates};
-ghost use Rattle.fs_hart.specs.Listing.{IsOffered};
-ghost use Rattle.fs_values.specs.Rounds.{HasNoFault};
-ghost use Rattle.fs_showing.specs.Over.{AreListed};
 ghost use Rattle.fs_showing.specs.Ways.{products, product_of_lengths};
 ghost use Rattle.fs_showing.specs.inner.Places.{runs_at};
 
 use crate::counting::count_choices;
-use fs_hart::{Steps, Trace, Words, traces_over};
-use fs_kinds::Fault;
+use fs_hart::{Steps, Trace};
 use fs_list::List;
-use fs_model::Test;
 use std::alloc::{AllocError, Global};
 
 fn copy(alloc: Global, trace: &Trace) -> Result<Trace, AllocError>
@@ -25,28 +17,6 @@ fn copy(alloc: Global, trace: &Trace) -> Result<Trace, AllocError>
     let steps = Steps::new(Vec::from_slice(alloc, trace.steps())?);
     let registers = trace.registers;
     Ok(Trace { steps, registers })
-}
-
-// All runs of each hart over the sets.
-pub(crate) fn runs_over(
-    alloc: Global,
-    test: &Test,
-    sets: &[Words],
-) -> Result<Vec<List<Trace>>, Fault>
-    requires test { IsBounded test.now }
-    requires starts { All IsStart test.now.starts }
-    requires sets { All IsStrictlyIncreasing sets.now }
-    requires clean { HasNoFault test.now (IsOffered sets.now) }
-    ensures harts { IfOk result (λ lists. length lists.items ≡ length test.now.codes) }
-    ensures ok { IfOk result (λ lists. AreListed test.now sets.now lists.items) }
-    ensures err { IsOkUnless result Memory }
-{
-    let mut lists = Vec::new(alloc);
-    for hart in 0..test.codes.as_slice().len() {
-        let traces = traces_over(alloc, test, hart as u8, sets)?;
-        lists.push(List::new(traces))?;
-    }
-    Ok(lists)
 }
 
 // Puts the runs of this number behind the others, one of each list. The last list's runs change first.

@@ -5,7 +5,7 @@ ghost use Rattle.fs_kinds.specs.declared.fault.Fault.TheVariants.{Memory, TooMan
 ghost use Rattle.fs_model.specs.Test.{IsBounded};
 ghost use Rattle.fs_answer.specs.CandidateFaults.{most_candidates, HasTooMany};
 ghost use Rattle.fs_hart.specs.Steps.{steps_in};
-ghost use Rattle.fs_showing.specs.Over.{HaveFinal};
+ghost use Rattle.fs_values.specs.AllRuns.{HaveFinal};
 ghost use Rattle.fs_showing.specs.RawCandidates.{AreAllRuns};
 ghost use Rattle.fs_showing.specs.Ways.{product_of_lengths};
 ghost use Rattle.fs_showing.specs.inner.Totals.{capped_with};

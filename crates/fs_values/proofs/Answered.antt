@@ -11,3 +11,7 @@ handed (Err f) fault P h p = subst P (sym h) p
 pub if_ok : {T E : Type 0} (P Q : T → Type 0) (r : Result T E) → IfOk r P → ((x : T) → P x → Q x) → IfOk r Q
 if_ok P Q (Ok x) p f = f x p
 if_ok P Q (Err e) p f = tt
+
+pub both_ok : {T E : Type 0} (P Q R : T → Type 0) (r : Result T E) → IfOk r P → IfOk r Q → ((x : T) → P x → Q x → R x) → IfOk r R
+both_ok P Q R (Ok x) p q f = f x p q
+both_ok P Q R (Err e) p q f = tt

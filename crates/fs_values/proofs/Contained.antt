@@ -1,5 +1,5 @@
 -- What lists contain.
-use Rattle.std.proofs.Common.{◌≡◌, zero, suc, List, [], ◌∷◌, flat_map, refl, subst, sym, inl, inr, arith}
+use Rattle.std.proofs.Common.{◌≡◌, zero, suc, List, [], ◌∷◌, map, flat_map, refl, ap, subst, sym, inl, inr, arith}
 use Rattle.std.specs.List.{Contains}
 use Rattle.std.proofs.lemmas.List.Elements.{Contains-append_left, Contains-append_right, Contains-append_cases}
 
@@ -30,3 +30,17 @@ in_parts f (z ∷ xs) x y (zero, low, same) here =
     Contains-append_left (f z) (flat_map f xs) y (subst (λ u. Contains (f u) y) (sym same) here)
 in_parts f (z ∷ xs) x y (suc k, low, same) here =
     Contains-append_right (f z) (flat_map f xs) y (in_parts f xs x y (k, omega (arith, low), same) here)
+
+-- ---- mapped
+
+pub in_map : {X Y : Type 0} (f : X → Y) (xs : List X) (x : X) → Contains xs x → Contains (map f xs) (f x)
+in_map f [] x has = absurd (none_in x has)
+in_map f (y ∷ ys) x (zero, low, same) = (0, omega arith, ap f same)
+in_map f (y ∷ ys) x (suc k, low, same) = later_in (f y) (map f ys) (f x) (in_map f ys x (k, omega (arith, low), same))
+
+pub from_map : {X Y : Type 0} (f : X → Y) (xs : List X) (y : Y) → Contains (map f xs) y → (x : X) × Contains xs x × (f x ≡ y)
+from_map f [] y has = absurd (none_in y has)
+from_map f (x ∷ xs) y (zero, low, same) = (x, first_in x xs, same)
+from_map f (x ∷ xs) y (suc k, low, same) =
+    let rest = from_map f xs y (k, omega (arith, low), same) in
+    (rest.0, later_in x xs rest.0 rest.1, rest.2)

@@ -9,7 +9,7 @@ use Rattle.fs_model.specs.Test.{IsBounded}
 use Rattle.fs_model.specs.Values.{IsValueAfter, rounds}
 use Rattle.fs_model.specs.TooMany.{IsHartFault, IsRunFault}
 use Rattle.fs_hart.specs.Listing.{IsOffered}
-use Rattle.fs_thin_air.specs.ThinAir.{BeginsWithWords, IsAlwaysGrounded}
+use Rattle.fs_thin_air.specs.ThinAir.{BeginsWithWords, CanBeListed, IsAlwaysGrounded}
 use Rattle.fs_thin_air.proofs.Faults.{never_astray}
 use Rattle.fs_thin_air.proofs.Grounded.{always_grounded}
 use Rattle.fs_values.specs.Sets.{AreSets, AreValues}
@@ -44,6 +44,9 @@ none_before t m low = absurd (omega (arith, low))
 -- all rounds are clean
 pub no_run_fault : (t : Test) → AreCleanBefore t (rounds t + 1) → (f : Fault) → IsRunFault t f → ⊥
 no_run_fault t clean f run = let low = run.round_of_test in clean run.round (omega (arith, low)) run.hart f run.hart_of_test run.met
+
+pub listable : (t : Test) → IsBounded t → BeginsWithWords t → AreCleanBefore t (rounds t + 1) → CanBeListed t
+listable t bounded words clean = record { bounded = bounded; words = words; no_fault = no_run_fault t clean }
 
 pub grounded : (t : Test) → IsBounded t → BeginsWithWords t → AreCleanBefore t (rounds t + 1) → IsAlwaysGrounded t
 grounded t bounded words clean = always_grounded t bounded words (never_astray t (no_run_fault t clean))

@@ -32,7 +32,7 @@ module _ (t : Test) (sets : List (List ℕ)) (hart : ℕ) where
   V = IsOffered sets
 
   -- a run over the sets
-  abbrev IsRun : List Step → Type 0
+  abbrev pub IsRun : List Step → Type 0
   IsRun steps = IsTrace t hart steps × LoadsFrom V steps
 
   module _ (traces : List Trace) (listed : AreTraces t hart sets traces) where
@@ -41,7 +41,7 @@ module _ (t : Test) (sets : List (List ℕ)) (hart : ℕ) where
         let so : EndsSo t hart _ e.steps None = subst (EndsSo t hart _ e.steps) none is.ends in
         (so.0, is.offered)
 
-    is_run : (x : Trace) → Contains traces x → IsRun x.steps
+    pub is_run : (x : Trace) → Contains traces x → IsRun x.steps
     is_run x has =
         let k = has.0 in
         let none : End = record { steps = []; astray = None } in
@@ -51,7 +51,7 @@ module _ (t : Test) (sets : List (List ℕ)) (hart : ℕ) where
         sym (get_or-map (trace_at t hart) listed.ends k none x inside) ∙ ap (λ xs. slice_index_or xs k x) (sym listed.runs) ∙ has.2 in
         subst IsRun (ap (λ (trace : Trace). trace.steps) same) (end_run e (listed.listing.different.each k none inside) (listed.whole k none inside))
 
-    is_listed : (steps : List Step) → IsRun steps → (x : Trace) × Contains traces x × (x.steps ≡ steps)
+    pub is_listed : (steps : List Step) → IsRun steps → (x : Trace) × Contains traces x × (x.steps ≡ steps)
     is_listed steps run =
         let e : End = record { steps = steps; astray = None } in
         let has = listed.listing.all e (record { ends = (run.0, refl); offered = run.1 }) in

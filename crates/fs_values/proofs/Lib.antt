@@ -6,3 +6,4 @@ pub mod Hart
 pub mod Made
 pub mod Answered
 pub mod Finished
+pub mod Listed

@@ -1,3 +1,4 @@
 pub mod Sets
 pub mod Rounds
+pub mod AllRuns
 pub mod inner

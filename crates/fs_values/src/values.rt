@@ -9,7 +9,7 @@ ghost use Rattle.fs_model.specs.Test.{IsBounded, IsStart};
 ghost use Rattle.fs_model.specs.TooMany.{IsRunFault};
 ghost use Rattle.fs_model.specs.Values.{IsValueAfter};
 ghost use Rattle.fs_hart.specs.Listing.{IsOffered};
-ghost use Rattle.fs_thin_air.specs.ThinAir.{BeginsWithWords, IsAlwaysGrounded};
+ghost use Rattle.fs_thin_air.specs.ThinAir.{BeginsWithWords, CanBeListed, IsAlwaysGrounded};
 ghost use Rattle.fs_values.specs.Sets.{AreSets, AreValues};
 ghost use Rattle.fs_values.specs.Rounds.{IsInNext, HasNoFault, IsFirstHartFault};
 
@@ -78,6 +78,7 @@ impl Values {
         ensures ok { IfOk result (AreValues test.now) }
         ensures clean { OnOk result ((f : Fault) → IsRunFault test.now f → ⊥) }
         ensures err { IfErr result (λ f. f ≢ Memory → IsRunFault test.now f) }
+        ensures listable { OnOk result (CanBeListed test.now) }
         ensures grounded { OnOk result (IsAlwaysGrounded test.now) }
         ensures no_fault { IfOk result (λ values. HasNoFault test.now (IsOffered values)) }
     {

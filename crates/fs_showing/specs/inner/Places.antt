@@ -16,7 +16,7 @@ use Rattle.fs_showing.specs.declared.prepared.Prepared.{Prepared}
 use Rattle.fs_showing.specs.Ways.{products, product_of_lengths}
 use Rattle.fs_showing.specs.RawCandidates.{AreAllRuns, candidate, candidates_with}
 use Rattle.fs_showing.specs.ShowingTests.{shows}
-use Rattle.fs_showing.specs.Over.{HaveFinal}
+use Rattle.fs_values.specs.AllRuns.{HaveFinal}
 use Rattle.fs_showing.specs.inner.Chosen.{AreChoices}
 use Rattle.fs_showing.specs.inner.Tested.{any_pair_among}
 

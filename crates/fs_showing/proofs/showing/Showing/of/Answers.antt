@@ -3,7 +3,7 @@ use Rattle.std.specs.Arc.{arc_value}
 use Rattle.fs_model.specs.declared.test.Test.{Test}
 use Rattle.fs_answer.specs.CandidateFaults.{HasTooMany}
 use Rattle.fs_hart.specs.Steps.{steps_in}
-use Rattle.fs_showing.specs.Over.{HaveFinal}
+use Rattle.fs_values.specs.AllRuns.{HaveFinal}
 use Rattle.fs_showing.specs.RawCandidates.{AreAllRuns}
 use Rattle.fs_showing.specs.inner.Places.{AreListable}
 use Rattle.fs_showing.proofs.Composed.{all_of, final_of, listable_of, same_places}

@@ -6,7 +6,7 @@ use Rattle.fs_hart.specs.Listing.{IsOffered}
 use Rattle.fs_values.specs.Sets.{AreSets}
 use Rattle.fs_values.specs.Rounds.{IsInNext, HasNoFault, IsFirstHartFault}
 use Rattle.fs_values.proofs.Answered.{handed}
-use Rattle.fs_values.proofs.Finished.{AreCleanBefore, same_sets, grounded, no_run_fault, clean_more, next_round, run_fault, values_at_end, clean_to_end}
+use Rattle.fs_values.proofs.Finished.{AreCleanBefore, same_sets, listable, grounded, no_run_fault, clean_more, next_round, run_fault, values_at_end, clean_to_end}
 use Rattle.fs_values.proofs.values.Values.of.Goals as goal
 
 pub loop-preserved : goal.loop-preserved
@@ -42,6 +42,9 @@ returns-then-eq-clause-ok c =
 pub returns-then-eq-clause-clean : goal.returns-then-eq-clause-clean
 returns-then-eq-clause-clean c = no_run_fault c.args.test.now (clean c)
 
+pub returns-then-eq-clause-listable : goal.returns-then-eq-clause-listable
+returns-then-eq-clause-listable c = listable c.args.test.now c.requires.test c.in_ok-values.ensures.words (clean c)
+
 pub returns-then-eq-clause-grounded : goal.returns-then-eq-clause-grounded
 returns-then-eq-clause-grounded c = grounded c.args.test.now c.requires.test c.in_ok-values.ensures.words (clean c)
 
@@ -72,6 +75,9 @@ clean_last c =
 
 pub returns-clause-clean : goal.returns-clause-clean
 returns-clause-clean c = no_run_fault c.args.test.now (clean_last c)
+
+pub returns-clause-listable : goal.returns-clause-listable
+returns-clause-listable c = listable c.args.test.now c.requires.test c.in_ok-values.ensures.words (clean_last c)
 
 pub returns-clause-grounded : goal.returns-clause-grounded
 returns-clause-grounded c = grounded c.args.test.now c.requires.test c.in_ok-values.ensures.words (clean_last c)

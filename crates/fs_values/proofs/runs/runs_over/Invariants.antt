@@ -1,6 +1,6 @@
 use Rattle.std.proofs.Common.{◌≡◌, length}
-use Rattle.fs_showing.specs.Over.{AreListed}
-use Rattle.fs_showing.proofs.runs.runs_over.Given as goal
+use Rattle.fs_values.specs.AllRuns.{AreListed}
+use Rattle.fs_values.proofs.runs.runs_over.Given as goal
 
 -- the lists of the harts so far
 abbrev pub invariant-loop-hart : goal.invariant-loop-hart

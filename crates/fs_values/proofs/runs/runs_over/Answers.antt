@@ -1,6 +1,6 @@
 use Rattle.std.proofs.Common.{length, ap, arith}
-use Rattle.fs_showing.proofs.AllRuns.{no_fault_but_memory, hart_fits, below_same, nearer}
-use Rattle.fs_showing.proofs.runs.runs_over.Goals as goal
+use Rattle.fs_values.proofs.Listed.{no_fault_but_memory, hart_fits, below_same, nearer}
+use Rattle.fs_values.proofs.runs.runs_over.Goals as goal
 
 pub returns-in_err-traces-clause-err : goal.returns-in_err-traces-clause-err
 returns-in_err-traces-clause-err c =
