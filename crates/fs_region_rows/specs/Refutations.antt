@@ -2,6 +2,7 @@
 use Rattle.std.specs.Prelude.{ℕ, ◌-◌, Option, Some, List, [], ◌∷◌, ◌++◌, map, length, take}
 use Rattle.std.specs.List.{slice_index_or}
 use Rattle.fs_kinds.specs.declared.kind.Kind.{Kind}
+use Rattle.fs_kinds.specs.declared.kind.Kind.TheVariants.{RRw, RwW}
 use Rattle.fs_kinds.specs.declared.placement.Entry.{Entry}
 use Rattle.fs_kinds.specs.declared.reason.OperationName.{OperationName as Name}
 use Rattle.fs_model.specs.declared.test.Test.{Test}
@@ -124,6 +125,49 @@ carried_cycle = preserved (P0 0) Rule10 ∷ link (P0 1) ReadsFrom ∷ preserved 
 -- initial word, and once the outcome is asked for no run agrees any more; or what hart 1 stores.
 abbrev pub carried_tree : (again : List Inference) → List Inference
 carried_tree again = BySource (P1 0) ∷ Filter 1 ∷ BySource (P0 0) ∷ Filter 1 ∷ again ++ Cycle carried_cycle ∷ []
+
+-- ---- a spinlock
+
+abbrev fence_at : (hart at : ℕ) → Kind → Entry
+fence_at hart at kind = record { slot = slot_at hart at; kind = Some kind }
+
+-- in both harts `r,rw` behind the swap that takes the lock, and `rw,w` before the one that leaves it
+abbrev pub lock_fences : List Entry
+lock_fences = fence_at 0 3 RRw ∷ fence_at 0 7 RwW ∷ fence_at 1 3 RRw ∷ fence_at 1 7 RwW ∷ []
+
+-- both harts find the lock as it is at first
+abbrev both_first : List Link
+both_first = link (P0 1) FromReads ∷ link (P1 1) FromReads ∷ []
+
+-- hart 1 takes the lock after hart 0, and its load misses what hart 0 stores
+abbrev misses : List Link
+misses = preserved (P0 5) Rule4 ∷ link (P0 7) ReadsFrom ∷ preserved (P1 1) Rule4 ∷ link (P1 3) FromReads ∷ []
+
+-- it returns that, and its own store comes before it in coherence order
+abbrev turned_stores : List Link
+turned_stores = link (P0 5) ReadsFrom ∷ preserved (P1 3) Rule1 ∷ link (P1 5) Coherence ∷ []
+
+-- hart 0 loads what hart 1 stores later
+abbrev foresees : List Link
+foresees = preserved (P0 3) Rule4 ∷ link (P0 7) ReadsFrom ∷ preserved (P1 1) Rule4 ∷ link (P1 5) ReadsFrom ∷ []
+
+-- the same with hart 1 first
+abbrev misses_first : List Link
+misses_first = preserved (P0 1) Rule4 ∷ link (P0 3) FromReads ∷ preserved (P1 5) Rule4 ∷ link (P1 7) ReadsFrom ∷ []
+
+abbrev turned_first : List Link
+turned_first = preserved (P0 3) Rule1 ∷ link (P0 5) Coherence ∷ link (P1 5) ReadsFrom ∷ []
+
+-- Hart 0 is first, or hart 1. Where no addition is lost, the counter doesn't end as the outcome asks.
+abbrev pub spinlock_tree : List Inference
+spinlock_tree =
+    Filter 0 ∷ Filter 1 ∷ BySource (P0 1)
+    ∷ BySource (P1 1) ∷ Cycle both_first
+    ∷ BySource (P0 3) ∷ BySource (P1 3) ∷ Cycle misses
+    ∷ ByOrder (P0 5) (P1 5) ∷ Filter 0 ∷ Cycle turned_stores
+    ∷ Cycle foresees
+    ∷ BySource (P0 3) ∷ Cycle misses_first
+    ∷ ByOrder (P0 5) (P1 5) ∷ Cycle turned_first ∷ Filter 0 ∷ []
 
 -- ---- what refutes nothing, and regions on the way
 

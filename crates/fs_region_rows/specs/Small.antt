@@ -1,14 +1,16 @@
 -- Small tests, each with the runs of its harts over the value sets. In all of them x5 is 1, x10 is 2, x6 is the
 -- address of x and x8 that of y, and x and y hold 0 at first.
-use Rattle.std.specs.Prelude.{ℕ, false, Option, None, Some, List, [], ◌∷◌, pos, codes}
-use Rattle.std.specs.List.{slice_index_or}
+use Rattle.std.specs.Prelude.{ℕ, ◌+◌, false, Option, None, Some, List, [], ◌∷◌, ◌++◌, pos, codes}
+use Rattle.std.specs.List.{flat_map, slice_index_or}
+use Rattle.fs_model.specs.Numbers.{numbers_below}
 use Rattle.std.proofs.Common.{Box}
 use Rattle.std.specs.declared.alloc.Global.{Global}
 use Rattle.fs_instr.specs.declared.names.Ann.{Ann}
 use Rattle.fs_instr.specs.declared.names.AmoOp.TheVariants.{Swap}
-use Rattle.fs_instr.specs.declared.names.BranchOp.TheVariants.{Beq}
+use Rattle.fs_instr.specs.declared.names.BranchOp.TheVariants.{Beq, Bne}
+use Rattle.fs_instr.specs.declared.names.ImmOp.TheVariants.{Addi, Ori}
 use Rattle.fs_instr.specs.declared.instr.Instr.{Instr}
-use Rattle.fs_instr.specs.declared.instr.Instr.TheVariants.{Lw, Sw, Lr, Sc, Amo, Branch}
+use Rattle.fs_instr.specs.declared.instr.Instr.TheVariants.{Immediate, Lw, Sw, Lr, Sc, Amo, Branch}
 use Rattle.fs_model.specs.declared.outcome.Outcome.{Outcome}
 use Rattle.fs_model.specs.declared.outcome.Outcome.TheVariants as outcome
 use Rattle.fs_model.specs.declared.test.Test.{Test}
@@ -42,10 +44,10 @@ runs first second hart = slice_index_or (first ∷ second ∷ []) hart []
 
 -- ---- instructions and their steps
 
-abbrev x : ℕ
+abbrev pub x : ℕ
 x = 6
 
-abbrev y : ℕ
+abbrev pub y : ℕ
 y = 8
 
 abbrev address : (base : ℕ) → ℕ
@@ -57,16 +59,16 @@ load rd base = Lw rd base (pos 0)
 abbrev store : (value base : ℕ) → Instr
 store value base = Sw value base (pos 0)
 
-abbrev plain : Ann
+abbrev pub plain : Ann
 plain = record { acquire = false; release = false }
 
 abbrev step : ℕ → Instr → (address loaded stored : Option ℕ) → Step
 step at i address loaded stored = record { at = at; instr = i; address = address; loaded = loaded; stored = stored }
 
-abbrev lw : ℕ → (rd base word : ℕ) → Step
+abbrev pub lw : ℕ → (rd base word : ℕ) → Step
 lw at rd base word = step at (load rd base) (Some (address base)) (Some word) None
 
-abbrev sw : ℕ → (value base : ℕ) → Step
+abbrev pub sw : ℕ → (value base : ℕ) → Step
 sw at value base = step at (store value base) (Some (address base)) None (Some (slice_index_or start value 0))
 
 -- ---- store buffering: sw x5,x / lw x7,y | sw x5,y / lw x7,x
@@ -143,14 +145,20 @@ parted = paired 0 1
 abbrev pub reversed : Place → Test
 reversed = paired 2 2
 
-abbrev reserve : (word : ℕ) → Step
+abbrev pub reserve : (word : ℕ) → Step
 reserve word = step 0 (Lr plain 7 x) (Some (address x)) (Some word) None
 
-abbrev succeeds : (word : ℕ) → List Step
-succeeds word = reserve word ∷ step 1 (Sc plain 9 5 x) (Some (address x)) None (Some 1) ∷ []
+abbrev pub success : Step
+success = step 1 (Sc plain 9 5 x) (Some (address x)) None (Some 1)
 
-abbrev fails : (word : ℕ) → List Step
-fails word = reserve word ∷ step 1 (Sc plain 9 5 x) None None None ∷ []
+abbrev pub failure : Step
+failure = step 1 (Sc plain 9 5 x) None None None
+
+abbrev pub succeeds : (word : ℕ) → List Step
+succeeds word = reserve word ∷ success ∷ []
+
+abbrev pub fails : (word : ℕ) → List Step
+fails word = reserve word ∷ failure ∷ []
 
 abbrev pub pair_runs : ℕ → List (List Step)
 pair_runs =
@@ -313,3 +321,40 @@ behind_runs =
     ∷ (lw 0 7 x 1 ∷ branch ∷ lw 2 9 y 0 ∷ [])
     ∷ (lw 0 7 x 1 ∷ branch ∷ lw 2 9 y 1 ∷ []) ∷ [])
     ((sw 0 5 x ∷ sw 1 5 y ∷ []) ∷ [])
+
+-- ---- a spinlock, in both harts: ori x5,x0,1 / amoswap.w x7,x5,x / bne x7,x0,8 / lw x9,y / addi x9,x9,1 / sw x9,y /
+-- ori x14,x0,1 / amoswap.w x0,x0,x
+
+abbrev adding : List Instr
+adding =
+    Immediate Ori 5 0 (pos 1) ∷ Amo Swap plain 7 5 x ∷ Branch Bne 7 0 8 ∷ load 9 y ∷ Immediate Addi 9 9 (pos 1)
+    ∷ store 9 y ∷ Immediate Ori 14 0 (pos 1) ∷ Amo Swap plain 0 0 x ∷ []
+
+-- exists (0:x14=1 /\ (1:x14=1 /\ y=1)): both harts have been in, and one addition is lost
+abbrev pub spinlock : Place → Test
+spinlock p =
+    test adding adding Exists
+    (outcome.Both' p (outcome.RegisterIs 0 14 1)
+    p (outcome.Both' p (outcome.RegisterIs 1 14 1) p (outcome.LocationIs 1 1)))
+
+abbrev computes : (at : ℕ) → Instr → Step
+computes at i = step at i None None None
+
+abbrev tries : (old : ℕ) → List Step
+tries old =
+    computes 0 (Immediate Ori 5 0 (pos 1)) ∷ step 1 (Amo Swap plain 7 5 x) (Some (address x)) (Some old) (Some 1)
+    ∷ computes 2 (Branch Bne 7 0 8) ∷ []
+
+-- what a hart does in the lock, and as it leaves
+abbrev adds : (word old : ℕ) → List Step
+adds word old =
+    lw 3 9 y word ∷ computes 4 (Immediate Addi 9 9 (pos 1)) ∷ step 5 (store 9 y) (Some (address y)) None (Some (word + 1))
+    ∷ computes 6 (Immediate Ori 14 0 (pos 1)) ∷ step 7 (Amo Swap plain 0 0 x) (Some (address x)) (Some old) (Some 0) ∷ []
+
+-- there are six stores, so the counter is found to come to 6 at most
+abbrev adding_runs : List (List Step)
+adding_runs =
+    flat_map (λ word. (tries 0 ++ adds word 0) ∷ (tries 0 ++ adds word 1) ∷ []) (numbers_below 7) ++ tries 1 ∷ []
+
+abbrev pub spinlock_runs : ℕ → List (List Step)
+spinlock_runs = runs adding_runs adding_runs

@@ -4,4 +4,4 @@
 
 mod rows;
 
-pub use rows::{not_sure, right_trees, splits, wrong_inferences, wrong_trees};
+pub use rows::{locks, not_sure, right_trees, splits, whole_tests, wrong_inferences, wrong_trees};

@@ -1,14 +1,15 @@
 //! Rows of refutations.
 
 ghost use Rattle.std.specs.Prelude.{◌≡◌, true, false, None, Some, List, [], ◌∷◌, ◌++◌, map, take, drop};
-ghost use Rattle.fs_kinds.specs.declared.kind.Kind.TheVariants.{RR, RW, WR, WW};
+ghost use Rattle.fs_kinds.specs.declared.placement.Entry.{Entry};
+ghost use Rattle.fs_kinds.specs.declared.kind.Kind.TheVariants.{RR, RW, WR, WW, RwRw};
 ghost use Rattle.fs_model.specs.Preserved.{Rule2, Rule3, Rule4, Rule5, Rule8, Rule11, Rule12};
 ghost use Rattle.fs_answer.specs.Judged.{Preserved, ReadsFrom, Coherence, FromReads};
-ghost use Rattle.fs_answer.specs.Regions.{Initial, From};
-ghost use Rattle.fs_answer.specs.Musts.{must};
-ghost use Rattle.fs_answer.specs.Trees.{ByChoice, BySource, ByOrder, ByCases, Filter, Stale, Reversed, Parted, follows, left_after, refutes_test, root};
-ghost use Rattle.fs_region_rows.specs.Small.{Place, sb, sb_or, sb_runs, mp, mp_forall, mp_runs, corr, corr_runs, parted, reversed, pair_runs, inner, inner_runs, guarded, guarded_end, guarded_runs, swaps, swap_runs, own, last, own_runs, returned, returned_runs, carried, carried_runs, through, through_runs, swapped, swapped_runs, denied, either, not_both, seen_runs, behind, behind_runs};
-ghost use Rattle.fs_region_rows.specs.Refutations.{P0, P1, fences, fence_in, link, but_last, ending_in, left_by, child, sources_left, sb_tree, sb_or_tree, mp_tree, mp_forall_tree, corr_tree, parted_tree, reversed_tree, guarded_rest, guarded_tree, guarded_by_store, swap_cycle, swap_tree, own_tree, last_tree, carried_tree, turned_cycle, far_cycle};
+ghost use Rattle.fs_region.specs.Regions.{Initial, From};
+ghost use Rattle.fs_region.specs.Musts.{must};
+ghost use Rattle.fs_region.specs.Trees.{ByChoice, BySource, ByOrder, ByCases, Filter, Stale, Reversed, Parted, IsRefuted, follows, left_after, refutes_test, root};
+ghost use Rattle.fs_region_rows.specs.Small.{Place, sb, sb_or, sb_runs, mp, mp_forall, mp_runs, corr, corr_runs, parted, reversed, pair_runs, inner, inner_runs, guarded, guarded_end, guarded_runs, swaps, swap_runs, own, last, own_runs, returned, returned_runs, carried, carried_runs, through, through_runs, swapped, swapped_runs, denied, either, not_both, seen_runs, behind, behind_runs, spinlock, spinlock_runs};
+ghost use Rattle.fs_region_rows.specs.Refutations.{P0, P1, fences, fence_in, link, but_last, ending_in, left_by, child, sources_left, sb_tree, sb_or_tree, mp_tree, mp_forall_tree, corr_tree, parted_tree, reversed_tree, guarded_rest, guarded_tree, guarded_by_store, swap_cycle, swap_tree, own_tree, last_tree, carried_tree, turned_cycle, far_cycle, lock_fences, spinlock_tree};
 
 /// A law: trees that refute small tests. Store buffering, with fences `w,r`, and by cases of a disjunction; message
 /// passing with `w,w` and `r,r`, also as `forall`; coherent reads, without a fence; an lr.w and sc.w with a store
@@ -30,6 +31,24 @@ pub fn right_trees()
     ensures last_word { (b : Place) → refutes_test (last b) [] own_runs last_tree ≡ true }
     ensures again { (b : Place)
         → refutes_test (carried b) (fence_in 1 RW) carried_runs (carried_tree (BySource (P1 0) ∷ [])) ≡ true }
+{}
+
+/// A law: the runs given of store buffering, and of a pair with a store between, are all that there are over the value
+/// sets. So the trees refute both tests; and stronger fences too, as `rw,rw` in the place of `w,r`, or any fences where
+/// none is needed.
+pub fn whole_tests()
+    ensures store_buffering { (b : Place) → IsRefuted (sb b) (fences WR WR) sb_tree }
+    ensures full_fences { (b : Place) → IsRefuted (sb b) (fences RwRw RwRw) sb_tree }
+    ensures between { (b : Place) → IsRefuted (parted b) [] parted_tree }
+    ensures any_fences { (b : Place) (p : List Entry) → IsRefuted (parted b) p parted_tree }
+{}
+
+/// A law: a tree of seventeen inferences refutes a spinlock, with fences behind the swap that takes the lock and before
+/// the one that leaves it. It doesn't where the first hart lacks the fence behind.
+pub fn locks()
+    ensures spinlock { (b : Place) → refutes_test (spinlock b) lock_fences spinlock_runs spinlock_tree ≡ true }
+    ensures one_missing { (b : Place)
+        → refutes_test (spinlock b) (drop 1 lock_fences) spinlock_runs spinlock_tree ≡ false }
 {}
 
 /// A law: trees that refute nothing. A fence isn't placed, or doesn't order what it should; an item is missing, or is
@@ -62,7 +81,8 @@ pub fn wrong_trees()
 /// there; sources of no load; an order of stores to two locations, of a store with itself, of one that some run
 /// doesn't make, and of a pair that is decided, either way round; the cases of an atom, and of a condition that isn't
 /// there; a filter of a hart that isn't there; a store behind the load that would miss it, and one of another hart; a
-/// store between a pair whose order isn't decided, and one of the pair's own hart; a pair in order as a reversed one.
+/// store between a pair whose order isn't decided, one while the source of the pair's load isn't known, one that is this
+/// source, and one of the pair's own hart; a pair in order as a reversed one.
 pub fn wrong_inferences()
     ensures no_access { (b : Place)
         → follows (guarded b) [] (root (guarded b) guarded_runs) (ByChoice (P0 1)) ≡ false }
@@ -91,6 +111,12 @@ pub fn wrong_inferences()
     ensures undecided { (b : Place)
         → follows (parted b) [] (left_by (parted b) pair_runs (Filter 0 ∷ BySource (P0 0) ∷ [])) (Parted (P0 0)
         (P0 1) (P1 0)) ≡ false }
+    ensures unknown { (b : Place)
+        → follows (parted b) [] (left_by (parted b) pair_runs (Filter 0 ∷ ByOrder (P1 0) (P0 1) ∷ [])) (Parted (P0
+        0) (P0 1) (P1 0)) ≡ false }
+    ensures returned { (b : Place)
+        → follows (reversed b) [] (left_by (reversed b) pair_runs (Filter 0 ∷ BySource (P0 0) ∷ ByOrder (P1 0) (P0
+        1) ∷ [])) (Parted (P0 0) (P0 1) (P1 0)) ≡ false }
     ensures own_hart { (b : Place)
         → follows (inner b) [] (left_by (inner b) inner_runs (Filter 0 ∷ BySource (P0 0) ∷ ByOrder (P0 1) (P0 2) ∷
         [])) (Parted (P0 0) (P0 2) (P0 1)) ≡ false }

@@ -1,5 +1,5 @@
 -- Which steps a run can have: what its next instruction is decides its next step, but for the word that a load returns.
-use Rattle.std.proofs.Common.{◌≡◌, ℕ, ℤ, ◌≤◌, ◌==◌, ◌&&◌, ◌||◌, true, false, inl, inr, Option, None, Some, List, [], ◌∷◌, length, refl, sym, ◌∙◌, ap, subst, arith}
+use Rattle.std.proofs.Common.{◌≡◌, ℕ, ℤ, ◌≤◌, ◌==◌, ◌&&◌, ◌||◌, ◌⊎◌, true, false, inl, inr, Option, None, Some, List, [], ◌∷◌, length, refl, sym, ◌∙◌, ap, subst, arith}
 use Rattle.std.specs.Prelude.{slice_get}
 use Rattle.std.specs.List.{list_all}
 use Rattle.std.proofs.lemmas.Bool.{and_parts, or_cases, eqb-true, false≢true}
@@ -8,7 +8,7 @@ use Rattle.fs_instr.specs.declared.names.Ann.{Ann}
 use Rattle.fs_instr.specs.declared.names.AmoOp.{AmoOp}
 use Rattle.fs_instr.specs.declared.names.ImmOp.{ImmOp}
 use Rattle.fs_instr.specs.declared.instr.Instr.{Instr}
-use Rattle.fs_instr.specs.declared.instr.Instr.TheVariants.{Immediate, Lw, Sw, Amo}
+use Rattle.fs_instr.specs.declared.instr.Instr.TheVariants.{Immediate, Lw, Sw, Lr, Sc, Amo}
 use Rattle.fs_model.specs.declared.hart.Hart.{Hart}
 use Rattle.fs_model.specs.declared.step.Step.{Step}
 use Rattle.fs_model.specs.Execute.{address_in, stored_in}
@@ -26,6 +26,10 @@ step_of h i loaded =
 -- steps from here to the end of the code
 abbrev pub Ends : ℕ → List Instr → Hart → List Step → Type 0
 Ends n code h ss = AreSteps n code h ss × (length code ≤ (hart_after h ss).at)
+
+-- the step of the instruction here, where it accesses nothing
+abbrev pub idle_step : Hart → Instr → Step
+idle_step h i = record { at = h.at; instr = i; address = None; loaded = None; stored = None }
 
 -- the first of them is this one, and the others go on
 pub record Begins (n : ℕ) (code : List Instr) (h : Hart) (ss : List Step) (s : Step) : Type 0 where
@@ -93,6 +97,28 @@ module _ (n : ℕ) (code : List Instr) (h : Hart) (ss : List Step) where
         l.0,
         exactly n code h ss b.first _ (same_step _ _ m.at m.instr (addressed h b.first _ m.instr m.access.0.0) l.1 m.access.2) b.begins,
       )
+
+  pub reserves_next : (ann : Ann) (rd base : ℕ) → slice_get code h.at ≡ Some (Lr ann rd base) → Ends n code h ss
+      → (l : ℕ) × Begins n code h ss (step_of h (Lr ann rd base) (Some l))
+  reserves_next ann rd base here ends =
+      let b = begin n code h (Lr ann rd base) ss here ends in
+      let m = made n code h (Lr ann rd base) b.first here b.step in
+      let l = some_word b.first.loaded m.access.1 in (
+        l.0,
+        exactly n code h ss b.first _ (same_step _ _ m.at m.instr (addressed h b.first _ m.instr m.access.0.0) l.1 m.access.2) b.begins,
+      )
+
+  -- an sc.w succeeds, or does nothing
+  pub succeeds_or_fails : (ann : Ann) (rd value base : ℕ) → slice_get code h.at ≡ Some (Sc ann rd value base) → Ends n code h ss
+      → Begins n code h ss (step_of h (Sc ann rd value base) None) ⊎ Begins n code h ss (idle_step h (Sc ann rd value base))
+  succeeds_or_fails ann rd value base here ends =
+      let b = begin n code h (Sc ann rd value base) ss here ends in
+      let m = made n code h (Sc ann rd value base) b.first here b.step in
+      elim m.access [
+        | inl done ↦ inl (exactly n code h ss b.first _
+            (same_step _ _ m.at m.instr (addressed h b.first _ m.instr done.0) done.2 (stores h b.first _ None m.instr done.2 done.3)) b.begins)
+        | inr failed ↦ inr (exactly n code h ss b.first _ (same_step _ _ m.at m.instr failed.0 failed.1 failed.2) b.begins)
+      ]
 
   pub exchanges_next : (op : AmoOp) (ann : Ann) (rd value base : ℕ) → slice_get code h.at ≡ Some (Amo op ann rd value base) → Ends n code h ss
       → (l : ℕ) × Begins n code h ss (step_of h (Amo op ann rd value base) (Some l))

@@ -43,6 +43,12 @@ returns-clause-foreign c = λ b. refl
 pub returns-clause-undecided : goal.returns-clause-undecided
 returns-clause-undecided c = λ b. refl
 
+pub returns-clause-unknown : goal.returns-clause-unknown
+returns-clause-unknown c = λ b. refl
+
+pub returns-clause-returned : goal.returns-clause-returned
+returns-clause-returned c = λ b. refl
+
 pub returns-clause-own_hart : goal.returns-clause-own_hart
 returns-clause-own_hart c = λ b. refl
 
