@@ -1,0 +1,146 @@
+//! One run of one hart.
+
+ghost use Rattle.std.specs.Prelude.{◌≡◌, [], IfOk, IsOkUnless, true};
+ghost use Rattle.std.specs.Arc.{arc_value};
+ghost use Rattle.fs_kinds.specs.declared.fault.Fault.TheVariants.{Memory};
+ghost use Rattle.fs_model.specs.Test.{IsBounded};
+ghost use Rattle.fs_model.specs.Preserved.{Rule, Rule8};
+ghost use Rattle.fs_model.specs.Shows.{final_register};
+ghost use Rattle.fs_ppo.specs.Rules.{number_of as number_of_rule};
+ghost use Rattle.fs_region.specs.Regions.{Region, address_at, loaded_at, stored_at, loads_at};
+ghost use Rattle.fs_region.specs.Musts.{traces_of, is_rule};
+ghost use Rattle.fs_region.specs.Splits.{chosen_at};
+ghost use Rattle.fs_alone.specs.Alone.{IsRun, Knows, execution_of};
+
+use crate::source::Sourced;
+use fs_cand::Candidate;
+use fs_hart::{Step, Trace};
+use fs_instr::Reg;
+use fs_kinds::{Fault, OperationName, Placement};
+use fs_model::Test;
+use std::alloc::Global;
+use std::marker::Model;
+use std::sync::Arc;
+
+/// One run of one hart of a test, made ready to be asked what it does at each position of the code, and which rules of
+/// preserved program order hold in it. Contracts see the test, the hart and the steps.
+#[derive(Drop)]
+pub struct Lone {
+    test: Arc<Test>,
+    hart: u8,
+    // The run, and empty runs of the other harts. No load has a source.
+    candidate: Candidate,
+    // By positions of the code: the place of the step that executes the instruction there.
+    places: Vec<Option<u8>>,
+    // And the number of the operation that this is.
+    numbers: Vec<Option<u8>>,
+}
+
+impl Model for Lone {
+    ghost use Rattle.std.specs.Arc.{arc_value};
+    ghost use Rattle.std.specs.Coded.{codes};
+    ghost use Rattle.fs_model.specs.contracts.outcome.Outcome as outcome;
+    ghost use Rattle.fs_model.specs.Operations.{steps_of};
+    ghost use Rattle.fs_hart.specs.Steps.{steps_in};
+    ghost use Rattle.fs_alone.specs.Alone.{RunOf};
+    ghost use Rattle.fs_alone.specs.inner.Places.{AreTables, IsAlone};
+
+    ghost Value = { RunOf };
+
+    ghost view = { λ l. record { test = arc_value l.test; hart = l.hart; steps = steps_of (steps_in l.candidate.traces) l.hart } };
+
+    ghost coded = { Prim.hlevel (codes, outcome.the_row.coded) };
+
+    ghost invariant = { λ l. IsAlone (arc_value l.test) l.hart (steps_of (steps_in l.candidate.traces) l.hart) l.candidate
+        × AreTables (arc_value l.test) l.hart (steps_of (steps_in l.candidate.traces) l.hart) l.places.items l.numbers.items };
+}
+
+impl Lone {
+    /// The hart's run, whose registers are those at its end. The test is bounded. The cost: the square of the run's steps,
+    /// and what `Candidate::new` takes. The error is F19.
+    pub fn new(alloc: Global, test: &Arc<Test>, hart: u8, trace: Trace) -> Result<Lone, Fault>
+        requires test { IsBounded (arc_value test.now) }
+        requires run { IsRun (arc_value test.now) hart trace }
+        ensures ok { IfOk result (λ lone. lone ≡ record { test = arc_value test.now; hart = hart; steps = trace.steps }) }
+        ensures err { IsOkUnless result Memory }
+    {
+        Err(Fault::Memory)
+    }
+
+    /// The number of the hart.
+    pub fn hart(&self) -> u8
+        ensures { result ≡ self.now.hart }
+    {
+        self.hart
+    }
+
+    /// The steps of the run, in program order.
+    pub fn steps(&self) -> &[Step]
+        ensures { result.now ≡ self.now.steps }
+    {
+        &[]
+    }
+
+    /// The address that the run accesses at this position of the code. In constant time.
+    pub fn address_at(&self, at: u8) -> Option<u32>
+        ensures { result ≡ address_at self.now.steps at }
+    {
+        None
+    }
+
+    /// The word that it loads there. In constant time.
+    pub fn loaded_at(&self, at: u8) -> Option<u32>
+        ensures { result ≡ loaded_at self.now.steps at }
+    {
+        None
+    }
+
+    /// The word that it stores there. In constant time.
+    pub fn stored_at(&self, at: u8) -> Option<u32>
+        ensures { result ≡ stored_at self.now.steps at }
+    {
+        None
+    }
+
+    /// Does it load there? In constant time.
+    pub fn loads_at(&self, at: u8) -> bool
+        ensures { result ≡ loads_at self.now.steps at }
+    {
+        false
+    }
+
+    /// A number for what it chooses there, in choice order: 0 where it doesn't execute the instruction, 1 where this takes no
+    /// choice or an sc.w succeeds, 2 where it fails, and of a load one more than the word. In constant time.
+    pub fn chosen_at(&self, at: u8) -> u64
+        ensures { result ≡ chosen_at at self.now.steps }
+    {
+        0
+    }
+
+    /// The word of the register at the end of the run. In constant time.
+    pub fn final_register(&self, register: Reg) -> u32
+        ensures { result ≡ final_register self.now.test (traces_of self.now.test self.now.hart self.now.steps) self.now.hart register }
+    {
+        0
+    }
+
+    /// Does the rule of this number, 1 to 13, order the first operation before the second, with the placement's fences, where
+    /// this is known of what they return from? Not where the run doesn't execute both, nor of another hart's. Sources count
+    /// for rules 2, 3 and 12 alone (`sources_serve_three`), and the placement for rule 4; of rule 2 sources that aren't known
+    /// count as different. At most linear in the operations and in the steps of the run, for rule 4 times the slots of the
+    /// placement.
+    pub fn is_rule(&self, placement: &Placement, rule: u8, first: Sourced, second: Sourced) -> bool
+        ensures { (region : Region) → Knows region first → Knows region second → (r : Rule) → number_of_rule r ≡ rule
+            → result ≡ is_rule self.now.test region placement.now r first.name second.name (execution_of self.now) }
+    {
+        false
+    }
+
+    /// Are the two an lr.w and its sc.w, which succeeds? Not where the run doesn't execute both. Linear in the steps of the
+    /// run.
+    pub fn is_pair(&self, load: OperationName, store: OperationName) -> bool
+        ensures { (region : Region) → result ≡ is_rule self.now.test region [] Rule8 load store (execution_of self.now) }
+    {
+        false
+    }
+}
