@@ -1,23 +1,32 @@
 //! One run of one hart.
 
-ghost use Rattle.std.specs.Prelude.{◌≡◌, [], IfOk, IsOkUnless, true};
+ghost use Rattle.std.specs.Prelude.{◌≡◌, [], IfOk, IsOkUnless};
 ghost use Rattle.std.specs.Arc.{arc_value};
+ghost use Rattle.std.specs.Option.{option_copied};
 ghost use Rattle.fs_kinds.specs.declared.fault.Fault.TheVariants.{Memory};
+ghost use Rattle.fs_model.specs.Numbers.{is_same};
 ghost use Rattle.fs_model.specs.Test.{IsBounded};
 ghost use Rattle.fs_model.specs.Preserved.{Rule, Rule8};
 ghost use Rattle.fs_model.specs.Shows.{final_register};
 ghost use Rattle.fs_ppo.specs.Rules.{number_of as number_of_rule};
-ghost use Rattle.fs_region.specs.Regions.{Region, address_at, loaded_at, stored_at, loads_at};
-ghost use Rattle.fs_region.specs.Musts.{traces_of, is_rule};
+ghost use Rattle.fs_region.specs.Regions.{Region, step_at, address_at, loaded_at, stored_at, loads_at};
+ghost use Rattle.fs_region.specs.Musts.{traces_of, number_of, is_rule};
 ghost use Rattle.fs_region.specs.Splits.{chosen_at};
 ghost use Rattle.fs_alone.specs.Alone.{IsRun, Knows, execution_of};
+ghost use Rattle.fs_alone.specs.inner.Ordered.{IsOwn, number_from, is_unnamed};
 
-use crate::source::Sourced;
+use crate::choice::choice_number;
+use crate::idle::{candidate_of, code_of};
+use crate::naming::is_name;
+use crate::rules::{Returned, is_ordered};
+use crate::source::{Source, Sourced};
+use crate::tables::{Table, listed_at, numbers, places};
 use fs_cand::Candidate;
-use fs_hart::{Step, Trace};
+use fs_hart::{Step, Trace, steps_of};
 use fs_instr::Reg;
 use fs_kinds::{Fault, OperationName, Placement};
 use fs_model::Test;
+use fs_ppo::rule;
 use std::alloc::Global;
 use std::marker::Model;
 use std::sync::Arc;
@@ -31,9 +40,9 @@ pub struct Lone {
     // The run, and empty runs of the other harts. No load has a source.
     candidate: Candidate,
     // By positions of the code: the place of the step that executes the instruction there.
-    places: Vec<Option<u8>>,
+    places: Table,
     // And the number of the operation that this is.
-    numbers: Vec<Option<u8>>,
+    numbers: Table,
 }
 
 impl Model for Lone {
@@ -43,7 +52,7 @@ impl Model for Lone {
     ghost use Rattle.fs_model.specs.Operations.{steps_of};
     ghost use Rattle.fs_hart.specs.Steps.{steps_in};
     ghost use Rattle.fs_alone.specs.Alone.{RunOf};
-    ghost use Rattle.fs_alone.specs.inner.Places.{AreTables, IsAlone};
+    ghost use Rattle.fs_alone.specs.inner.Tables.{IsReady};
 
     ghost Value = { RunOf };
 
@@ -51,8 +60,7 @@ impl Model for Lone {
 
     ghost coded = { Prim.hlevel (codes, outcome.the_row.coded) };
 
-    ghost invariant = { λ l. IsAlone (arc_value l.test) l.hart (steps_of (steps_in l.candidate.traces) l.hart) l.candidate
-        × AreTables (arc_value l.test) l.hart (steps_of (steps_in l.candidate.traces) l.hart) l.places.items l.numbers.items };
+    ghost invariant = { λ l. IsReady (arc_value l.test) l.hart l.candidate l.places.items l.numbers.items };
 }
 
 impl Lone {
@@ -64,7 +72,19 @@ impl Lone {
         ensures ok { IfOk result (λ lone. lone ≡ record { test = arc_value test.now; hart = hart; steps = trace.steps }) }
         ensures err { IsOkUnless result Memory }
     {
-        Err(Fault::Memory)
+        let candidate = candidate_of(alloc, test, hart, trace)?;
+        let positions = code_of(test, hart).len();
+        let steps = steps_of(candidate.traces.as_slice(), Some(hart));
+        let operations = candidate.operations.as_slice();
+        let places = places(alloc, positions, steps)?;
+        let numbers = numbers(alloc, positions, hart, steps, operations)?;
+        Ok(Lone {
+            test: test.clone()?,
+            hart,
+            candidate,
+            places,
+            numbers,
+        })
     }
 
     /// The number of the hart.
@@ -78,35 +98,43 @@ impl Lone {
     pub fn steps(&self) -> &[Step]
         ensures { result.now ≡ self.now.steps }
     {
-        &[]
+        steps_of(self.candidate.traces.as_slice(), Some(self.hart))
+    }
+
+    // The step that executes the instruction at this position of the code.
+    fn step_at(&self, at: u8) -> Option<&Step>
+        ensures { option_copied result ≡ step_at self.now.steps at }
+    {
+        let place = listed_at(&self.places, at)?;
+        self.steps().get(usize::from(place))
     }
 
     /// The address that the run accesses at this position of the code. In constant time.
     pub fn address_at(&self, at: u8) -> Option<u32>
         ensures { result ≡ address_at self.now.steps at }
     {
-        None
+        self.step_at(at)?.address
     }
 
     /// The word that it loads there. In constant time.
     pub fn loaded_at(&self, at: u8) -> Option<u32>
         ensures { result ≡ loaded_at self.now.steps at }
     {
-        None
+        self.step_at(at)?.loaded
     }
 
     /// The word that it stores there. In constant time.
     pub fn stored_at(&self, at: u8) -> Option<u32>
         ensures { result ≡ stored_at self.now.steps at }
     {
-        None
+        self.step_at(at)?.stored
     }
 
     /// Does it load there? In constant time.
     pub fn loads_at(&self, at: u8) -> bool
         ensures { result ≡ loads_at self.now.steps at }
     {
-        false
+        self.loaded_at(at).is_some()
     }
 
     /// A number for what it chooses there, in choice order: 0 where it doesn't execute the instruction, 1 where this takes no
@@ -114,14 +142,63 @@ impl Lone {
     pub fn chosen_at(&self, at: u8) -> u64
         ensures { result ≡ chosen_at at self.now.steps }
     {
-        0
+        match self.step_at(at) {
+            Some(step) => choice_number(step),
+            None => 0,
+        }
     }
 
     /// The word of the register at the end of the run. In constant time.
     pub fn final_register(&self, register: Reg) -> u32
         ensures { result ≡ final_register self.now.test (traces_of self.now.test self.now.hart self.now.steps) self.now.hart register }
     {
-        0
+        match self.candidate.traces.get(usize::from(self.hart)) {
+            Some(trace) => trace.final_reg(register),
+            None => 0,
+        }
+    }
+
+    // The number of the operation of this name, where the run executes it.
+    fn number_of(&self, name: OperationName) -> Option<u8>
+        ensures { result ≡ number_of (execution_of self.now) name }
+    {
+        if name.hart == self.hart {
+            listed_at(&self.numbers, name.at)
+        } else {
+            None
+        }
+    }
+
+    // Is the source a name that neither the run nor the test has?
+    fn is_unnamed(&self, source: Source) -> bool
+        ensures { result ≡ is_unnamed self.now source }
+    {
+        match source {
+            Source::Initial => false,
+            Source::From(name) => self.number_of(name).is_none() && !is_name(&self.test, name),
+        }
+    }
+
+    // Are both sources known, and the same? Those that are no names of the test count as one.
+    fn are_same(&self, first: Option<Source>, second: Option<Source>) -> bool
+        ensures { (region : Region) → result ≡ is_same (number_from self.now region first) (number_from self.now region second) }
+    {
+        match (first, second) {
+            (Some(first), Some(second)) => {
+                first == second || self.is_unnamed(first) && self.is_unnamed(second)
+            }
+            _ => false,
+        }
+    }
+
+    // The number of the source, where it is known and is an operation of the run.
+    fn own_store(&self, source: Option<Source>) -> Option<u8>
+        ensures { (region : Region) → IsOwn (execution_of self.now) (number_from self.now region source) result }
+    {
+        match source {
+            Some(Source::From(store)) => self.number_of(store),
+            _ => None,
+        }
     }
 
     /// Does the rule of this number, 1 to 13, order the first operation before the second, with the placement's fences, where
@@ -133,7 +210,17 @@ impl Lone {
         ensures { (region : Region) → Knows region first → Knows region second → (r : Rule) → number_of_rule r ≡ rule
             → result ≡ is_rule self.now.test region placement.now r first.name second.name (execution_of self.now) }
     {
-        false
+        match (self.number_of(first.name), self.number_of(second.name)) {
+            (Some(a), Some(b)) => {
+                let returned = Returned {
+                    are_same: self.are_same(first.source, second.source),
+                    store: self.own_store(second.source),
+                };
+                let (a, b) = (usize::from(a), usize::from(b));
+                is_ordered(&self.candidate, placement, rule, a, b, returned)
+            }
+            _ => false,
+        }
     }
 
     /// Are the two an lr.w and its sc.w, which succeeds? Not where the run doesn't execute both. Linear in the steps of the
@@ -141,6 +228,9 @@ impl Lone {
     pub fn is_pair(&self, load: OperationName, store: OperationName) -> bool
         ensures { (region : Region) → result ≡ is_rule self.now.test region [] Rule8 load store (execution_of self.now) }
     {
-        false
+        match (self.number_of(load), self.number_of(store)) {
+            (Some(a), Some(b)) => rule(8, &self.candidate, usize::from(a), usize::from(b)),
+            _ => false,
+        }
     }
 }

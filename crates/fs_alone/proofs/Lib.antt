@@ -1,0 +1,6 @@
+mod Accesses
+mod Asked
+mod Found
+mod Named
+mod Positions
+mod Sources
