@@ -54,23 +54,19 @@ few_from hart run m a zero = omega arith
 few_from hart run m a (suc n) =
     let parts = ap (λ os. length os) (flat_map-cons accesses_of (m, ran hart run a) (enumerate_from (m + 1) (made_from hart run (a + 1) n))) in
     let both = length-append (accesses_of (m, ran hart run a)) (flat_map accesses_of (enumerate_from (m + 1) (made_from hart run (a + 1) n))) in
-    let all = by_case (a == hart) refl in
+    let all = by_case (few_from hart run (m + 1) (a + 1) n) (a == hart) refl in
     omega (arith, parts, both, all)
   where
-    rest : ℕ
-    rest = length (flat_map accesses_of (enumerate_from (m + 1) (made_from hart run (a + 1) n)))
-
-    by_case : (b : Bool) → (a == hart) ≡ b → length (accesses_of (m, ran hart run a)) + rest ≤ length run
-    unfolding rest
-    by_case true e =
+    by_case : length (flat_map accesses_of (enumerate_from (m + 1) (made_from hart run (a + 1) n))) ≤ length run → (b : Bool) → (a == hart) ≡ b
+        → length (accesses_of (m, ran hart run a)) + length (flat_map accesses_of (enumerate_from (m + 1) (made_from hart run (a + 1) n))) ≤ length run
+    by_case later true e =
         let here = of_one m (ran hart run a) in
         let is : length (ran hart run a) ≡ length run = rw e refl in
-        let later = none_later hart run (m + 1) (a + 1) n (let same = eqb-true a hart e in omega (arith, same)) in
-        omega (arith, here, is, later)
-    by_case false e =
+        let none = none_later hart run (m + 1) (a + 1) n (let same = eqb-true a hart e in omega (arith, same)) in
+        omega (arith, here, is, none)
+    by_case later false e =
         let here = of_one m (ran hart run a) in
         let is : length (ran hart run a) ≡ 0 = rw e refl in
-        let later = few_from hart run (m + 1) (a + 1) n in
         omega (arith, here, is, later)
 
 pub few_alone : (t : Test) (hart : ℕ) (run : List Step) → length run ≤ 32 → length t.locations ≤ 8 → length (operations (alone t hart run)) ≤ 40

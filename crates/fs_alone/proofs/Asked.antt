@@ -21,6 +21,44 @@ is_plain Rule4 = false
 is_plain Rule12 = false
 is_plain _ = true
 
+-- ---- rules by their numbers
+
+numbered : (r : Rule) → rule_of (number_of r) ≡ Some r
+unfolding rule_of
+numbered Rule1 = refl
+numbered Rule2 = refl
+numbered Rule3 = refl
+numbered Rule4 = refl
+numbered Rule5 = refl
+numbered Rule6 = refl
+numbered Rule7 = refl
+numbered Rule8 = refl
+numbered Rule9 = refl
+numbered Rule10 = refl
+numbered Rule11 = refl
+numbered Rule12 = refl
+numbered Rule13 = refl
+
+pub one_rule : (r s : Rule) → number_of r ≡ number_of s → r ≡ s
+one_rule r s e = let both : Some r ≡ Some s = sym (numbered r) ∙ ap rule_of e ∙ numbered s in cc
+
+pub others_plain : (r : Rule) (n : ℕ) → number_of r ≡ n → (n ≡ 2 → ⊥) → (n ≡ 3 → ⊥) → (n ≡ 4 → ⊥) → (n ≡ 12 → ⊥) → is_plain r ≡ true
+others_plain Rule1 n e two three four twelve = refl
+others_plain Rule2 n e two three four twelve = absurd (two (sym e))
+others_plain Rule3 n e two three four twelve = absurd (three (sym e))
+others_plain Rule4 n e two three four twelve = absurd (four (sym e))
+others_plain Rule5 n e two three four twelve = refl
+others_plain Rule6 n e two three four twelve = refl
+others_plain Rule7 n e two three four twelve = refl
+others_plain Rule8 n e two three four twelve = refl
+others_plain Rule9 n e two three four twelve = refl
+others_plain Rule10 n e two three four twelve = refl
+others_plain Rule11 n e two three four twelve = refl
+others_plain Rule12 n e two three four twelve = absurd (twelve (sym e))
+others_plain Rule13 n e two three four twelve = refl
+
+-- ---- each by itself
+
 module _ (x : PreExecution) (p : List Entry) (rf src : ℕ → Option ℕ) (a b : ℕ) where
   pub plain : (r : Rule) → is_plain r ≡ true → numbered_rule (number_of r) x src a b ≡ rule x p rf a b r
   unfolding rule_of
@@ -106,3 +144,21 @@ module _ (x : PreExecution) (p : List Entry) (rf src : ℕ → Option ℕ) (a b 
         where
           outside : (m : ℕ) → po x a m ≡ false → false ≡ (po x a b && (is_load x b && (po x a m && po x m b && stores_on m)))
           outside m e = rw e (off (po x a b) (is_load x b))
+
+  -- ---- by number
+
+  module _ (r : Rule) where
+    pub case_two : (found : Bool) → found ≡ numbered_rule 2 x src a b → src a ≡ None → (same : Bool) → is_same (rf a) (rf b) ≡ same → number_of r ≡ 2
+        → (found && not same) ≡ rule x p rf a b r
+    case_two found is none same e n =
+        ap (λ (o : Bool). o && not same) is ∙ two none same e ∙ ap (λ (s : Rule). rule x p rf a b s) (sym (one_rule r Rule2 n))
+
+    pub case_twelve : (m : ℕ) → rf b ≡ Some m → number_of r ≡ 12 → passes_through x src a m b ≡ rule x p rf a b r
+    case_twelve m e n = twelve m e ∙ ap (λ (s : Rule). rule x p rf a b s) (sym (one_rule r Rule12 n))
+
+    pub case_twelve_none : IsOwn x (rf b) None → number_of r ≡ 12 → false ≡ rule x p rf a b r
+    case_twelve_none away n = twelve_none away ∙ ap (λ (s : Rule). rule x p rf a b s) (sym (one_rule r Rule12 n))
+
+    pub case_other : (n : ℕ) → number_of r ≡ n → (n ≡ 2 → ⊥) → (n ≡ 3 → ⊥) → (n ≡ 4 → ⊥) → (n ≡ 12 → ⊥) → numbered_rule n x src a b ≡ rule x p rf a b r
+    case_other n e two three four twelve =
+        ap (λ (k : ℕ). numbered_rule k x src a b) (sym e) ∙ plain r (others_plain r n e two three four twelve)

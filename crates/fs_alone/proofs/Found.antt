@@ -23,40 +23,36 @@ module _ {X : Type 0} (f : X → Bool) (xs : List X) (d : X) where
       rw (last, le-ltb (length xs) (length xs) (omega arith)) refl
 
 -- a test of the numbers below n that fails past them is one of the items of the list, where it is the same for each
-pub found_below : {X : Type 0} (f : X → Bool) (xs : List X) (d : X) (g : ℕ → Bool) (n : ℕ) → n ≤ length xs
-    → ((k : ℕ) → k < length xs → f (get_or xs k d) ≡ g k) → ((k : ℕ) → n ≤ k → g k ≡ false)
-    → position f xs ≡ find g (numbers_below n)
-found_below f xs d g n few same past = elim (cases_lt (position_or_len g (numbers_below n)) n) [
-  | inl low ↦ here low
-  | inr high ↦ nowhere high
-]
-  where
-    long : length (numbers_below n) ≡ n
-    long = length-range_with_len 0 n
+module _ {X : Type 0} (f : X → Bool) (xs : List X) (d : X) (g : ℕ → Bool) (n : ℕ) (few : n ≤ length xs)
+    (same : (k : ℕ) → k < length xs → f (get_or xs k d) ≡ g k) (past : (k : ℕ) → n ≤ k → g k ≡ false) where
+  abbrev at : ℕ
+  at = position_or_len g (numbers_below n)
 
-    at : ℕ
-    at = position_or_len g (numbers_below n)
+  fails : (j : ℕ) → j < at → j < n → g j ≡ false
+  fails j low small =
+      ap g (sym (get_or-range_with_len 0 n j 0 small ∙ omega arith)) ∙ fails_before_first g (numbers_below n) j 0 low
 
-    fails : (j : ℕ) → j < at → j < n → g j ≡ false
-    unfolding at
-    fails j low small =
-        ap g (sym (get_or-range_with_len 0 n j 0 small ∙ omega arith)) ∙ fails_before_first g (numbers_below n) j 0 low
+  here : at < n → position f xs ≡ find g (numbers_below n)
+  here low =
+      let long = length-range_with_len 0 n in
+      let number : get_or (numbers_below n) at 0 ≡ at = get_or-range_with_len 0 n at 0 low ∙ omega arith in
+      let passes : g at ≡ true = ap g (sym number) ∙ passes_at_first g (numbers_below n) 0 (omega (arith, low, long)) in
+      first_at f xs d at (omega (arith, low, few))
+      (λ j less. same j (omega (arith, less, low, few)) ∙ fails j less (omega (arith, less, low)))
+      (same at (omega (arith, low, few)) ∙ passes)
+      ∙ sym (find_at g (numbers_below n) ∙ slice_get-get_or (numbers_below n) at 0 (omega (arith, low, long)) ∙ ap Some number)
 
-    here : at < n → position f xs ≡ find g (numbers_below n)
-    unfolding at
-    here low =
-        let number : get_or (numbers_below n) at 0 ≡ at = get_or-range_with_len 0 n at 0 low ∙ omega arith in
-        let passes : g at ≡ true = ap g (sym number) ∙ passes_at_first g (numbers_below n) 0 (omega (arith, low, long)) in
-        first_at f xs d at (omega (arith, low, few))
-        (λ j less. same j (omega (arith, less, low, few)) ∙ fails j less (omega (arith, less, low)))
-        (same at (omega (arith, low, few)) ∙ passes)
-        ∙ sym (find_at g (numbers_below n) ∙ slice_get-get_or (numbers_below n) at 0 (omega (arith, low, long)) ∙ ap Some number)
+  nowhere : n ≤ at → position f xs ≡ find g (numbers_below n)
+  nowhere high =
+      let long = length-range_with_len 0 n in
+      none_at f xs d (λ j small. same j small ∙ (elim (cases_lt j n) [
+        | inl less ↦ fails j (omega (arith, less, high)) less
+        | inr far ↦ past j far
+      ]))
+      ∙ sym (find_at g (numbers_below n) ∙ slice_get_past (numbers_below n) at (omega (arith, high, long)))
 
-    nowhere : n ≤ at → position f xs ≡ find g (numbers_below n)
-    unfolding at
-    nowhere high =
-        none_at f xs d (λ j small. same j small ∙ (elim (cases_lt j n) [
-          | inl less ↦ fails j (omega (arith, less, high)) less
-          | inr far ↦ past j far
-        ]))
-        ∙ sym (find_at g (numbers_below n) ∙ slice_get_past (numbers_below n) at (omega (arith, high, long)))
+  pub found_below : position f xs ≡ find g (numbers_below n)
+  found_below = elim (cases_lt at n) [
+    | inl low ↦ here low
+    | inr high ↦ nowhere high
+  ]

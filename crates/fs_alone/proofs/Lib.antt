@@ -2,5 +2,6 @@ mod Accesses
 mod Asked
 mod Found
 mod Named
+mod Others
 mod Positions
 mod Sources

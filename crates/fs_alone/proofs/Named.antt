@@ -6,6 +6,7 @@ use Rattle.std.proofs.lemmas.Bool.{false≢true, cases_lt}
 use Rattle.std.proofs.lemmas.List.{get_or_past, get_or-map, length-map}
 use Rattle.std.proofs.lemmas.List.Elements.{Contains-append_cases, filter_passes}
 use Rattle.std.proofs.lemmas.List.FromFn.{length-enumerate_from, get_or-enumerate_from}
+use Rattle.std.proofs.lemmas.Option.{slice_get-get_or}
 use Rattle.fs_instr.specs.declared.instr.Instr.{Instr}
 use Rattle.fs_kinds.specs.declared.reason.OperationName.{OperationName as Name}
 use Rattle.fs_model.specs.declared.test.Test.{Test}
@@ -62,13 +63,17 @@ record IsOf (hart : ℕ) (code : List Instr) (n : Name) : Type 0 where
 from_code : (hart : ℕ) (code : List Instr) (n : Name) → Contains (names_in (hart, code)) n → IsOf hart code n
 from_code hart code n has =
     let ats = filter (is_memory_at code) (numbers_below (length code)) in
-    let low : has.0 < length ats = (let few = has.1 in let long = length-map ats (λ at. record { hart = hart; at = at }) in omega (arith, few, long)) in
-    let is : record { hart = hart; at = get_or ats has.0 0 } ≡ n = sym (get_or-map (λ at. record { hart = hart; at = at }) ats has.0 0 n low) ∙ has.2 in
+    let low : has.0 < length ats = (let few = has.1 in let long = length-map {B = Name} ats (λ at. record { hart = hart; at = at }) in omega (arith, few, long)) in
+    let is : record { hart = hart; at = get_or ats has.0 0 } ≡ n = sym (get_or-map {Y = Name} (λ at. record { hart = hart; at = at }) ats has.0 0 n low) ∙ has.2 in
     record {
       hart_is = sym (ap (λ (m : Name). m.hart) is);
       memory = subst (λ (k : ℕ). is_memory_at code k ≡ true) (ap (λ (m : Name). m.at) is)
           (filter_passes (is_memory_at code) (numbers_below (length code)) has.0 0 low);
     }
+
+-- what stands in a list, whatever stands past it
+any_default : {X : Type 0} (xs : List X) (k : ℕ) (d e : X) → k < length xs → get_or xs k d ≡ get_or xs k e
+any_default xs k d e low = let both : Some (get_or xs k d) ≡ Some (get_or xs k e) = sym (slice_get-get_or xs k d low) ∙ slice_get-get_or xs k e low in cc
 
 pub from_names : (t : Test) (n : Name) → Contains (names t) n → is_name t n ≡ true
 from_names t n has =

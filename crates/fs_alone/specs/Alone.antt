@@ -27,7 +27,7 @@ execution_of run = alone run.test run.hart run.steps
 
 -- a whole run of the hart, with the registers at its end
 pub record IsRun (t : Test) (hart : ℕ) (trace : Trace) : Type 0 where
-  pub hart : hart < length t.codes
+  pub low : hart < length t.codes
   pub steps : IsTrace t hart trace.steps
   pub registers : trace.registers ≡ registers_after t hart trace.steps
 

@@ -1,13 +1,16 @@
 //! What a step chooses, as a number.
 
-ghost use Rattle.std.specs.Prelude.{◌≡◌, Some};
-ghost use Rattle.fs_region.specs.Splits.{step_number};
+ghost use Rattle.std.specs.Prelude.{◌≡◌, Some, option_map};
+ghost use Rattle.fs_model.specs.declared.step.Choice.TheVariants.{Word};
+ghost use Rattle.fs_region.specs.Splits.{choice_number, step_number};
 
 use fs_hart::Step;
 use fs_instr::Instr;
 
 // One more than the word; 1 where there is none.
-fn word_number(word: Option<u32>) -> u64 {
+fn word_number(word: Option<u32>) -> u64
+    ensures { result ≡ choice_number (option_map Word word) }
+{
     match word {
         Some(word) => u64::from(word) + 1,
         None => 1,

@@ -65,7 +65,10 @@ pub(crate) fn is_ordered(
 {
     match number {
         2 => rule(2, candidate, a, b) && !returned.are_same,
-        3 => loads_after_amo_or_sc(candidate, a, b) && returned.store.map(usize::from) == Some(a),
+        3 => match returned.store {
+            Some(m) => usize::from(m) == a && loads_after_amo_or_sc(candidate, a, b),
+            None => false,
+        },
         4 => fence_rule(candidate, placement, a, b),
         12 => match returned.store {
             Some(m) => passes_through(candidate, a, usize::from(m), b),

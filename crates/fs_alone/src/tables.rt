@@ -21,12 +21,18 @@ pub(crate) fn listed_at(table: &[Option<u8>], at: u8) -> Option<u8>
     table.get(usize::from(at)).copied().flatten()
 }
 
-// The place of the step that executes the instruction there.
+// The place of the first step that executes the instruction there.
+fn first_at(steps: &[Step], at: usize) -> Option<usize>
+    ensures { result ≡ place_of steps.now at }
+{
+    steps.iter().position(|step| usize::from(step.at) == at)
+}
+
 fn place_of(steps: &[Step], at: usize) -> Option<u8>
     requires { length steps.now ≤ most_instructions }
     ensures { result ≡ place_of steps.now at }
 {
-    let place = steps.iter().position(|step| usize::from(step.at) == at)?;
+    let place = first_at(steps, at)?;
     Some(place as u8)
 }
 
@@ -48,14 +54,20 @@ fn is_at(hart: u8, steps: &[Step], at: usize, operation: &Operation) -> bool
             .is_some_and(|step| usize::from(step.at) == at)
 }
 
-// The number of the operation of the hart that executes the instruction there.
+// The number of the first operation of the hart that executes the instruction there.
+fn index_of(hart: u8, steps: &[Step], at: usize, operations: &[Operation]) -> Option<usize>
+    ensures { result ≡ position (is_at hart steps.now at) operations.now }
+{
+    operations
+        .iter()
+        .position(|operation| is_at(hart, steps, at, operation))
+}
+
 fn number_of(hart: u8, steps: &[Step], at: usize, operations: &[Operation]) -> Option<u8>
     requires { length operations.now ≤ most_numbered }
     ensures { result ≡ position (is_at hart steps.now at) operations.now }
 {
-    let number = operations
-        .iter()
-        .position(|operation| is_at(hart, steps, at, operation))?;
+    let number = index_of(hart, steps, at, operations)?;
     Some(number as u8)
 }
 

@@ -31,8 +31,8 @@ is_at hart steps at o =
 
 -- at each position the place of the step that executes its instruction, and the number of the operation that this is
 pub record AreTables (t : Test) (hart : ℕ) (run : List Step) (places numbers : List (Option ℕ)) : Type 0 where
-  pub places : (at : ℕ) → listed_at places at ≡ place_of run at
-  pub numbers : (at : ℕ) → listed_at numbers at ≡ number_of (alone t hart run) (name_at hart at)
+  pub placed : (at : ℕ) → listed_at places at ≡ place_of run at
+  pub numbered : (at : ℕ) → listed_at numbers at ≡ number_of (alone t hart run) (name_at hart at)
 
 -- ---- candidates
 

@@ -1,0 +1,20 @@
+use Rattle.std.proofs.Common.{◌≡◌, ◌<◌, length, set, sym, ◌∙◌, ap, arith}
+use Rattle.std.specs.Prelude.{slice_get}
+use Rattle.fs_hart.specs.Steps.{steps_in}
+use Rattle.fs_alone.proofs.Others.{idle_long, runs_set, own_set}
+use Rattle.fs_alone.proofs.idle.traces.Goals as goal
+
+pub index_mut-requires : goal.index_mut-requires
+index_mut-requires c =
+    let long = idle_long c.in_ok-traces.traces.items c.len.result c.in_ok-traces.ensures in
+    omega (arith, long, c.len.ensures, c.from.ensures, c.requires, c.in_ok-traces.traces.ok)
+
+pub returns-clause-steps : goal.returns-clause-steps
+returns-clause-steps c =
+    ap steps_in c.new.ensures
+    ∙ runs_set c.in_ok-traces.traces.items c.args.trace (length c.args.test.now.codes) c.from.result (omega (arith, c.from.ensures, c.requires)) (cc (c.in_ok-traces.ensures, c.len.ensures))
+    ∙ cc c.from.ensures
+
+pub returns-clause-own : goal.returns-clause-own
+returns-clause-own c =
+    cc (ap (λ traces. slice_get traces c.args.hart) c.new.ensures, c.from.ensures, own_set c.in_ok-traces.traces.items c.args.trace (length c.args.test.now.codes) c.from.result (omega (arith, c.from.ensures, c.requires)) (cc (c.in_ok-traces.ensures, c.len.ensures)))
