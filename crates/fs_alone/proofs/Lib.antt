@@ -4,4 +4,5 @@ mod Found
 mod Named
 mod Others
 mod Positions
+mod Ready
 mod Sources

@@ -72,7 +72,7 @@ from_code hart code n has =
     }
 
 -- what stands in a list, whatever stands past it
-any_default : {X : Type 0} (xs : List X) (k : ℕ) (d e : X) → k < length xs → get_or xs k d ≡ get_or xs k e
+pub any_default : {X : Type 0} (xs : List X) (k : ℕ) (d e : X) → k < length xs → get_or xs k d ≡ get_or xs k e
 any_default xs k d e low = let both : Some (get_or xs k d) ≡ Some (get_or xs k e) = sym (slice_get-get_or xs k d low) ∙ slice_get-get_or xs k e low in cc
 
 pub from_names : (t : Test) (n : Name) → Contains (names t) n → is_name t n ≡ true

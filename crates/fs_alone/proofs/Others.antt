@@ -19,7 +19,7 @@ use Rattle.fs_cand.proofs.Distinct.{named}
 use Rattle.fs_region.specs.Musts.{alone, number_of, traces_of}
 use Rattle.fs_region.proofs.Alone.{number_named}
 
-abbrev nothing_run : ℕ → List Step
+abbrev pub nothing_run : ℕ → List Step
 nothing_run h = []
 
 -- ---- how they are made

@@ -1,9 +1,10 @@
 -- Tables by positions: what they have, and that past the code there is nothing.
 use Rattle.std.proofs.Common.{◌≡◌, ℕ, zero, suc, ◌+◌, ◌<◌, ◌≤◌, ◌==◌, inl, inr, Bool, true, false, ◌&&◌, Option, None, Some, option_map, option_and_then, unwrap_or, List, [], ◌∷◌, map, length, get_or, refl, sym, ◌∙◌, ap, subst, arith}
-use Rattle.std.specs.Prelude.{slice_get}
-use Rattle.std.specs.List.{position, slice_index_or}
-use Rattle.std.proofs.lemmas.Bool.{false≢true, cases_lt, eqb-true, ne_eqb, eq-eqb}
+use Rattle.std.specs.Prelude.{slice_get, if◌then◌else◌}
+use Rattle.std.specs.List.{position, position_or_len, slice_index_or}
+use Rattle.std.proofs.lemmas.Bool.{cases_lt, eqb-true, ne_eqb, lt-ltb, le-ltb}
 use Rattle.std.proofs.lemmas.List.{get_or_past}
+use Rattle.std.proofs.lemmas.List.Folds.{find_at}
 use Rattle.std.proofs.lemmas.List.FromFn.{length-map-range_with_len, get_or-map-range_with_len}
 use Rattle.std.proofs.lemmas.Option.{slice_get_within, slice_get-get_or, slice_get_past}
 use Rattle.fs_instr.specs.declared.instr.Instr.{Instr}
@@ -19,7 +20,8 @@ use Rattle.fs_model.specs.Trace.{AreSteps, after_step, start_with}
 use Rattle.fs_model.specs.Witness.{name_of, step_name}
 use Rattle.fs_model.proofs.WhichOperation.{length_operations, no_hart_past}
 use Rattle.fs_local.specs.Local.{place_of}
-use Rattle.fs_region.specs.Musts.{alone, has_name, number_of}
+use Rattle.fs_region.specs.Musts.{has_name, number_of}
+use Rattle.fs_region.specs.Regions.{step_at}
 use Rattle.fs_alone.specs.inner.Tables.{listed_at, name_at, is_at}
 use Rattle.fs_alone.proofs.Found.{none_at, found_below}
 
@@ -65,6 +67,19 @@ number_is x hart at =
     (omega (arith, long))
     (λ k low. named_at x.traces (place x k) (operation x k).hart hart at)
     (λ k past. ap (λ o. has_name (option_and_then (λ h. option_map (step_name h) (slice_get (unwrap_or (option_map (steps_of x.traces) o) []) (place x k))) o) (name_at hart at)) (no_hart_past x k past))
+
+-- ---- the step that executes an instruction
+
+pub step_is : (run : List Step) (at : ℕ) → option_and_then (slice_get run) (place_of run at) ≡ step_at run at
+step_is run at =
+    elim (cases_lt (position_or_len (λ (s : Step). s.at == at) run) (length run)) [
+      | inl low ↦ (
+          ap (λ (b : Bool). option_and_then (slice_get run) (if b then Some (position_or_len (λ (s : Step). s.at == at) run) else None)) (lt-ltb (position_or_len (λ (s : Step). s.at == at) run) (length run) low)
+          ∙ sym (find_at (λ (s : Step). s.at == at) run))
+      | inr past ↦ (
+          ap (λ (b : Bool). option_and_then (slice_get run) (if b then Some (position_or_len (λ (s : Step). s.at == at) run) else None)) (le-ltb (position_or_len (λ (s : Step). s.at == at) run) (length run) past)
+          ∙ sym (find_at (λ (s : Step). s.at == at) run ∙ slice_get_past run (position_or_len (λ (s : Step). s.at == at) run) past))
+    ]
 
 -- ---- past the code
 

@@ -13,21 +13,21 @@ ghost use Rattle.fs_region.specs.Regions.{Region, step_at, address_at, loaded_at
 ghost use Rattle.fs_region.specs.Musts.{traces_of, number_of, is_rule};
 ghost use Rattle.fs_region.specs.Splits.{chosen_at};
 ghost use Rattle.fs_alone.specs.Alone.{IsRun, Knows, execution_of};
-ghost use Rattle.fs_alone.specs.inner.Ordered.{IsOwn, number_from, is_unnamed};
+ghost use Rattle.fs_alone.specs.inner.Ordered.{IsOwn, number_from, is_unnamed, count_as_one};
 
 use crate::choice::choice_number;
 use crate::idle::{candidate_of, code_of};
 use crate::naming::is_name;
 use crate::rules::{Returned, is_ordered};
-use crate::source::{Source, Sourced};
-use crate::tables::{Table, listed_at, numbers, places};
+use crate::source::{Source, Sourced, is_same_source};
+use crate::tables::{Table, listed_at, numbers, places, step_of};
 use fs_cand::Candidate;
 use fs_hart::{Step, Trace, steps_of};
 use fs_instr::Reg;
 use fs_kinds::{Fault, OperationName, Placement};
 use fs_model::Test;
 use fs_ppo::rule;
-use std::alloc::Global;
+use std::alloc::{AllocError, Global};
 use std::marker::Model;
 use std::sync::Arc;
 
@@ -43,6 +43,13 @@ pub struct Lone {
     places: Table,
     // And the number of the operation that this is.
     numbers: Table,
+}
+
+// The same test.
+fn shared(test: &Arc<Test>) -> Result<Arc<Test>, AllocError>
+    ensures { IfOk result (λ same. arc_value same ≡ arc_value test.now) }
+{
+    test.clone()
 }
 
 impl Model for Lone {
@@ -79,7 +86,7 @@ impl Lone {
         let places = places(alloc, positions, steps)?;
         let numbers = numbers(alloc, positions, hart, steps, operations)?;
         Ok(Lone {
-            test: test.clone()?,
+            test: shared(test)?,
             hart,
             candidate,
             places,
@@ -105,8 +112,7 @@ impl Lone {
     fn step_at(&self, at: u8) -> Option<&Step>
         ensures { option_copied result ≡ step_at self.now.steps at }
     {
-        let place = listed_at(&self.places, at)?;
-        self.steps().get(usize::from(place))
+        step_of(self.steps(), listed_at(&self.places, at))
     }
 
     /// The address that the run accesses at this position of the code. In constant time.
@@ -179,14 +185,19 @@ impl Lone {
         }
     }
 
-    // Are both sources known, and the same? Those that are no names of the test count as one.
+    // Are they the same? Names that neither the run nor the test has count as one.
+    fn count_as_one(&self, first: Source, second: Source) -> bool
+        ensures { result ≡ count_as_one self.now first second }
+    {
+        is_same_source(first, second) || self.is_unnamed(first) && self.is_unnamed(second)
+    }
+
+    // Are both sources known, and do they count as one?
     fn are_same(&self, first: Option<Source>, second: Option<Source>) -> bool
         ensures { (region : Region) → result ≡ is_same (number_from self.now region first) (number_from self.now region second) }
     {
         match (first, second) {
-            (Some(first), Some(second)) => {
-                first == second || self.is_unnamed(first) && self.is_unnamed(second)
-            }
+            (Some(first), Some(second)) => self.count_as_one(first, second),
             _ => false,
         }
     }

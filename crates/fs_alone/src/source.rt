@@ -1,5 +1,9 @@
 //! What a load returns from, by name.
 
+ghost use Rattle.std.specs.Prelude.{◌≡◌};
+ghost use Rattle.fs_region.specs.Regions.{same_source};
+ghost use Rattle.fs_alone.specs.Alone.{source_of};
+
 use fs_kinds::OperationName;
 
 /// What a load returns from: the initial store of its location, or the operation of this name.
@@ -14,4 +18,17 @@ pub enum Source {
 pub struct Sourced {
     pub name: OperationName,
     pub source: Option<Source>,
+}
+
+// Are both the initial store, or both the operation of one name?
+pub(crate) fn is_same_source(first: Source, second: Source) -> bool
+    ensures { result ≡ same_source (source_of first) (source_of second) }
+{
+    match (first, second) {
+        (Source::Initial, Source::Initial) => true,
+        (Source::From(first), Source::From(second)) => {
+            first.hart == second.hart && first.at == second.at
+        }
+        _ => false,
+    }
 }

@@ -1,6 +1,7 @@
 //! What stands where in a run: by positions of the code.
 
-ghost use Rattle.std.specs.Prelude.{◌≡◌, ◌≤◌, map, length, IfOk};
+ghost use Rattle.std.specs.Prelude.{◌≡◌, ◌≤◌, map, length, option_and_then, slice_get, IfOk};
+ghost use Rattle.std.specs.Option.{option_copied};
 ghost use Rattle.std.specs.List.{position};
 ghost use Rattle.fs_kinds.specs.Limits.{most_instructions, most_numbered};
 ghost use Rattle.fs_model.specs.Numbers.{numbers_below};
@@ -19,6 +20,13 @@ pub(crate) fn listed_at(table: &[Option<u8>], at: u8) -> Option<u8>
     ensures { result ≡ listed_at table.now at }
 {
     table.get(usize::from(at)).copied().flatten()
+}
+
+// The step at this place.
+pub(crate) fn step_of(steps: &[Step], place: Option<u8>) -> Option<&Step>
+    ensures { option_copied result ≡ option_and_then (slice_get steps.now) place }
+{
+    steps.get(usize::from(place?))
 }
 
 // The place of the first step that executes the instruction there.

@@ -3,7 +3,7 @@ use Rattle.std.specs.Prelude.{◌≡◌, ℕ, Bool, false, ◌&&◌, ◌||◌, n
 use Rattle.fs_model.specs.Numbers.{is_same}
 use Rattle.fs_model.specs.Operations.{PreExecution, operation, po, is_load, is_store, is_amo_or_sc}
 use Rattle.fs_ppo.specs.Rules.{numbered_rule}
-use Rattle.fs_region.specs.Regions.{Region}
+use Rattle.fs_region.specs.Regions.{Region, same_source}
 use Rattle.fs_region.specs.Musts.{number_of, source_number}
 use Rattle.fs_region.specs.Trees.{is_name}
 use Rattle.fs_alone.specs.declared.source.Source.{Source}
@@ -20,6 +20,11 @@ number_from run region source =
 abbrev pub is_unnamed : RunOf → Source → Bool
 is_unnamed run Initial = false
 is_unnamed run (From name) = not (is_some (number_of (execution_of run) name)) && not (is_name run.test name)
+
+-- the numbers of both are the same
+abbrev pub count_as_one : RunOf → Source → Source → Bool
+count_as_one run first second =
+    same_source (source_of first) (source_of second) || is_unnamed run first && is_unnamed run second
 
 -- the source is an operation of this number; or it isn't known, or is none of a hart
 abbrev pub IsOwn : PreExecution → Option ℕ → Option ℕ → Type 0

@@ -1,7 +1,10 @@
-use Rattle.std.proofs.Common.{◌≡◌, ◌<◌, length, set, sym, ◌∙◌, ap, arith}
+use Rattle.std.proofs.Common.{◌≡◌, ℕ, ◌<◌, List, length, map, set, sym, ◌∙◌, ap, subst, arith}
 use Rattle.std.specs.Prelude.{slice_get}
+use Rattle.fs_model.specs.Numbers.{numbers_below}
+use Rattle.fs_hart.specs.declared.trace.Trace.{Trace}
 use Rattle.fs_hart.specs.Steps.{steps_in}
-use Rattle.fs_alone.proofs.Others.{idle_long, runs_set, own_set}
+use Rattle.fs_region.specs.Musts.{traces_of}
+use Rattle.fs_alone.proofs.Others.{nothing_run, idle_long, runs_set, own_set}
 use Rattle.fs_alone.proofs.idle.traces.Goals as goal
 
 pub index_mut-requires : goal.index_mut-requires
@@ -12,9 +15,13 @@ index_mut-requires c =
 pub returns-clause-steps : goal.returns-clause-steps
 returns-clause-steps c =
     ap steps_in c.new.ensures
-    ∙ runs_set c.in_ok-traces.traces.items c.args.trace (length c.args.test.now.codes) c.from.result (omega (arith, c.from.ensures, c.requires)) (cc (c.in_ok-traces.ensures, c.len.ensures))
-    ∙ cc c.from.ensures
+    ∙ runs_set c.in_ok-traces.traces.items c.args.trace (length c.args.test.now.codes) c.from.result (omega (arith, c.from.ensures, c.requires))
+    (c.in_ok-traces.ensures ∙ ap (λ (n : ℕ). map nothing_run (numbers_below n)) c.len.ensures)
+    ∙ ap (λ (h : ℕ). traces_of c.args.test.now h c.args.trace.steps) c.from.ensures
 
 pub returns-clause-own : goal.returns-clause-own
 returns-clause-own c =
-    cc (ap (λ traces. slice_get traces c.args.hart) c.new.ensures, c.from.ensures, own_set c.in_ok-traces.traces.items c.args.trace (length c.args.test.now.codes) c.from.result (omega (arith, c.from.ensures, c.requires)) (cc (c.in_ok-traces.ensures, c.len.ensures)))
+    ap (λ (traces : List Trace). slice_get traces c.args.hart) c.new.ensures
+    ∙ ap (λ (h : ℕ). slice_get (set c.in_ok-traces.traces.items c.from.result c.args.trace) h) (sym c.from.ensures)
+    ∙ own_set c.in_ok-traces.traces.items c.args.trace (length c.args.test.now.codes) c.from.result (omega (arith, c.from.ensures, c.requires))
+    (c.in_ok-traces.ensures ∙ ap (λ (n : ℕ). map nothing_run (numbers_below n)) c.len.ensures)
