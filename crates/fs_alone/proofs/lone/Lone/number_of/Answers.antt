@@ -1,6 +1,5 @@
-use Rattle.std.proofs.Common.{◌≡◌, None, sym, ◌∙◌, subst}
+use Rattle.std.proofs.Common.{◌≡◌, None, sym, subst}
 use Rattle.std.specs.Arc.{arc_value}
-use Rattle.std.proofs.lemmas.Bool.{false≢true, eq-eqb}
 use Rattle.fs_model.specs.Operations.{steps_of}
 use Rattle.fs_hart.specs.Steps.{steps_in}
 use Rattle.fs_region.specs.Musts.{number_of}
@@ -10,7 +9,6 @@ use Rattle.fs_alone.proofs.lone.Lone.number_of.Goals as goal
 
 pub returns-else-name-self : goal.returns-else-name-self
 returns-else-name-self c =
-    let inside = c.self.inside in
     subst (λ (run : RunOf). None ≡ number_of (execution_of run) c.args.name) c.self.view_is
     (sym (other_hart (arc_value c.self.inside.test) c.self.inside.hart (steps_of (steps_in c.self.inside.candidate.traces) c.self.inside.hart) c.args.name
-    (λ same. false≢true (sym c.if-name-self.false ∙ eq-eqb c.args.name.hart c.self.inside.hart same))))
+    c.if-name-self.false))
