@@ -20,7 +20,7 @@ use Rattle.fs_region_rows.specs.Refutations.{fences, sb_tree, parted_tree}
 -- ---- what locations hold
 
 -- the word that a location holds at first, or one that a run stores there
-first_or_stored : (t : Test) (n k word : ℕ) → IsValueAfter t n k word
+pub first_or_stored : (t : Test) (n k word : ℕ) → IsValueAfter t n k word
     → (slice_get (initial_words t) k ≡ Some word)
     ⊎ ((hart : ℕ) × (steps : List Step) × (hart < length t.codes) × IsTrace t hart steps × StoresWord steps k word)
 first_or_stored t zero k word first = inl first
@@ -34,7 +34,7 @@ none_some : {A : Type 0} (w : ℕ) → None ≡ Some w → A
 none_some w e = absurd cc
 
 -- two locations that begin with 0
-first_word : (k word : ℕ) → slice_get (0 ∷ 0 ∷ []) k ≡ Some word → word ≡ 0
+pub first_word : (k word : ℕ) → slice_get (0 ∷ 0 ∷ []) k ≡ Some word → word ≡ 0
 first_word zero word e = sym (same_word e)
 first_word (suc zero) word e = sym (same_word e)
 first_word (suc (suc k)) word e = none_some word e
@@ -64,13 +64,13 @@ module _ (b : Place) where
   abbrev t : Test
   t = sb b
 
-  abbrev first : ℕ → List Step
+  abbrev pub first : ℕ → List Step
   first l = sw 0 5 x ∷ lw 1 7 y l ∷ []
 
-  abbrev second : ℕ → List Step
+  abbrev pub second : ℕ → List Step
   second l = sw 0 5 y ∷ lw 1 7 x l ∷ []
 
-  first_is : (ss : List Step) → IsTrace t 0 ss → (l : ℕ) × (ss ≡ first l)
+  pub first_is : (ss : List Step) → IsTrace t 0 ss → (l : ℕ) × (ss ≡ first l)
   first_is ss run =
       let h = start_with (registers_of t 0) in
       let a = stores_next 2 (code_of t 0) h ss 5 6 (pos 0) refl run in
@@ -79,7 +79,7 @@ module _ (b : Place) where
       let done = at_end 2 (code_of t 0) (after_step k (step_of k (Lw 7 8 (pos 0)) (Some c.0))) c.1.rest (lit≤ tt) c.1.ends in
       (c.0, followed a _ (followed c.1 _ done))
 
-  second_is : (ss : List Step) → IsTrace t 1 ss → (l : ℕ) × (ss ≡ second l)
+  pub second_is : (ss : List Step) → IsTrace t 1 ss → (l : ℕ) × (ss ≡ second l)
   second_is ss run =
       let h = start_with (registers_of t 1) in
       let a = stores_next 2 (code_of t 1) h ss 5 8 (pos 0) refl run in
@@ -112,7 +112,7 @@ module _ (b : Place) where
   stores_one s u k word one none (inr (inl there)) = none_some word (sym none ∙ there.1)
   stores_one s u k word one none (inr (inr nothing)) = absurd nothing
 
-  stored_one : (hart : ℕ) (ss : List Step) (k word : ℕ) → hart < 2 → IsTrace t hart ss → StoresWord ss k word → word ≡ 1
+  pub stored_one : (hart : ℕ) (ss : List Step) (k word : ℕ) → hart < 2 → IsTrace t hart ss → StoresWord ss k word → word ≡ 1
   stored_one zero ss k word low run stores =
       let is = first_is ss run in
       stores_one (sw 0 5 x) (lw 1 7 y is.0) k word refl refl (subst (λ us. StoresWord us k word) is.1 stores)
@@ -121,8 +121,8 @@ module _ (b : Place) where
       stores_one (sw 0 5 y) (lw 1 7 x is.0) k word refl refl (subst (λ us. StoresWord us k word) is.1 stores)
   stored_one (suc (suc hart)) ss k word low run stores = absurd (omega (arith, low))
 
-  value_is : (k word : ℕ) → IsValue t k word → (word ≡ 0) ⊎ (word ≡ 1)
-  value_is k word v = elim (first_or_stored t (rounds t) k word v) [
+  pub value_is : (n k word : ℕ) → IsValueAfter t n k word → (word ≡ 0) ⊎ (word ≡ 1)
+  value_is n k word v = elim (first_or_stored t n k word v) [
     | inl at_first ↦ inl (first_word k word at_first)
     | inr stored ↦ inr (stored_one stored.0 stored.1 k word stored.2 stored.3 stored.4)
   ]
@@ -193,13 +193,13 @@ module _ (b : Place) where
   first_in_list ss run =
       let is = first_is ss run.0 in
       let loads = subst (LoadsFrom (IsValue t)) is.1 run.1 in
-      in_two first ss is.0 (value_is 1 is.0 (loads 1 (lw 1 7 y is.0) (lit< tt) 1 is.0 refl refl)) is.1
+      in_two first ss is.0 (value_is (rounds t) 1 is.0 (loads 1 (lw 1 7 y is.0) (lit< tt) 1 is.0 refl refl)) is.1
 
   second_in_list : (ss : List Step) → Is_run 1 ss → Contains (sb_runs 1) ss
   second_in_list ss run =
       let is = second_is ss run.0 in
       let loads = subst (LoadsFrom (IsValue t)) is.1 run.1 in
-      in_two second ss is.0 (value_is 0 is.0 (loads 1 (lw 1 7 x is.0) (lit< tt) 0 is.0 refl refl)) is.1
+      in_two second ss is.0 (value_is (rounds t) 0 is.0 (loads 1 (lw 1 7 x is.0) (lit< tt) 0 is.0 refl refl)) is.1
 
   sb_all : HasAllRuns t sb_runs
   sb_all zero low ss = (first_there ss, first_in_list ss)
@@ -218,10 +218,10 @@ module _ (b : Place) where
   abbrev behind : List Step
   behind = sw 0 10 x ∷ []
 
-  abbrev Is_pair : ℕ → List Step → Type 0
+  abbrev pub Is_pair : ℕ → List Step → Type 0
   Is_pair l ss = (ss ≡ succeeds l) ⊎ (ss ≡ fails l)
 
-  pair_is : (ss : List Step) → IsTrace pair 0 ss → (l : ℕ) × Is_pair l ss
+  pub pair_is : (ss : List Step) → IsTrace pair 0 ss → (l : ℕ) × Is_pair l ss
   pair_is ss run =
       let h = start_with (registers_of pair 0) in
       let a = reserves_next 2 (code_of pair 0) h ss plain 7 6 refl run in
@@ -235,7 +235,7 @@ module _ (b : Place) where
             (a.0, inr (followed a.1 _ (followed failed _ end))))
       ]
 
-  behind_is : (ss : List Step) → IsTrace pair 1 ss → ss ≡ behind
+  pub behind_is : (ss : List Step) → IsTrace pair 1 ss → ss ≡ behind
   behind_is ss run =
       let h = start_with (registers_of pair 1) in
       let a = stores_next 2 (code_of pair 1) h ss 10 6 (pos 0) refl run in
@@ -258,7 +258,7 @@ module _ (b : Place) where
   behind_run = (((refl, refl, ((refl, (0, lit< tt, refl)), refl, refl)), tt), lit≤ tt)
 
   -- the values are 0, 1 and 2
-  abbrev Is_small : ℕ → Type 0
+  abbrev pub Is_small : ℕ → Type 0
   Is_small word = (word ≡ 0) ⊎ (word ≡ 1) ⊎ (word ≡ 2)
 
   pair_stores : (l k word : ℕ) → StoresWord (succeeds l) k word → word ≡ 1
@@ -275,7 +275,7 @@ module _ (b : Place) where
   behind_stores k word (inl here) = sym (same_word here.1)
   behind_stores k word (inr nothing) = absurd nothing
 
-  stored_small : (hart : ℕ) (ss : List Step) (k word : ℕ) → hart < 2 → IsTrace pair hart ss → StoresWord ss k word → Is_small word
+  pub stored_small : (hart : ℕ) (ss : List Step) (k word : ℕ) → hart < 2 → IsTrace pair hart ss → StoresWord ss k word → Is_small word
   stored_small zero ss k word low run stores =
       let is = pair_is ss run in
       elim is.1 [
@@ -286,8 +286,8 @@ module _ (b : Place) where
       inr (inr (behind_stores k word (subst (λ us. StoresWord us k word) (behind_is ss run) stores)))
   stored_small (suc (suc hart)) ss k word low run stores = absurd (omega (arith, low))
 
-  small_is : (k word : ℕ) → IsValue pair k word → Is_small word
-  small_is k word v = elim (first_or_stored pair (rounds pair) k word v) [
+  pub small_is : (n k word : ℕ) → IsValueAfter pair n k word → Is_small word
+  small_is n k word v = elim (first_or_stored pair n k word v) [
     | inl at_first ↦ inl (first_word k word at_first)
     | inr stored ↦ stored_small stored.0 stored.1 k word stored.2 stored.3 stored.4
   ]
@@ -346,14 +346,14 @@ module _ (b : Place) where
   in_six ss l (inr (inr e)) (inr is) = (5, lit< tt, sym (is ∙ ap fails e))
 
   -- what the pair loads, whether it succeeds or fails
-  loaded_small : (ss : List Step) (l : ℕ) → Is_pair l ss → LoadsFrom (IsValue pair) ss → Is_small l
-  loaded_small ss l (inl is) loads =
-      small_is 0 l (subst (LoadsFrom (IsValue pair)) is loads 0 (sw 0 10 x) (lit< tt) 0 l refl refl)
-  loaded_small ss l (inr is) loads =
-      small_is 0 l (subst (LoadsFrom (IsValue pair)) is loads 0 (sw 0 10 x) (lit< tt) 0 l refl refl)
+  pub loaded_small : (n : ℕ) (ss : List Step) (l : ℕ) → Is_pair l ss → LoadsFrom (IsValueAfter pair n) ss → Is_small l
+  loaded_small n ss l (inl is) loads =
+      small_is n 0 l (subst (LoadsFrom (IsValueAfter pair n)) is loads 0 (sw 0 10 x) (lit< tt) 0 l refl refl)
+  loaded_small n ss l (inr is) loads =
+      small_is n 0 l (subst (LoadsFrom (IsValueAfter pair n)) is loads 0 (sw 0 10 x) (lit< tt) 0 l refl refl)
 
   pair_in_list : (ss : List Step) → Runs_so 0 ss → Contains (pair_runs 0) ss
-  pair_in_list ss run = let is = pair_is ss run.0 in in_six ss is.0 (loaded_small ss is.0 is.1 run.1) is.1
+  pair_in_list ss run = let is = pair_is ss run.0 in in_six ss is.0 (loaded_small (rounds pair) ss is.0 is.1 run.1) is.1
 
   behind_there : (ss : List Step) → Contains (pair_runs 1) ss → Runs_so 1 ss
   behind_there ss (zero, low, same) =

@@ -3,6 +3,7 @@
 ghost use Rattle.std.specs.Prelude.{◌≡◌, true, false, None, Some, List, [], ◌∷◌, ◌++◌, map, take, drop};
 ghost use Rattle.fs_kinds.specs.declared.placement.Entry.{Entry};
 ghost use Rattle.fs_kinds.specs.declared.kind.Kind.TheVariants.{RR, RW, WR, WW, RwRw};
+ghost use Rattle.fs_model.specs.Allows.{Allows};
 ghost use Rattle.fs_model.specs.Preserved.{Rule2, Rule3, Rule4, Rule5, Rule8, Rule11, Rule12};
 ghost use Rattle.fs_answer.specs.Judged.{Preserved, ReadsFrom, Coherence, FromReads};
 ghost use Rattle.fs_region.specs.Regions.{Initial, From};
@@ -34,13 +35,15 @@ pub fn right_trees()
 {}
 
 /// A law: the runs given of store buffering, and of a pair with a store between, are all that there are over the value
-/// sets. So the trees refute both tests; and stronger fences too, as `rw,rw` in the place of `w,r`, or any fences where
-/// none is needed.
+/// sets. So the trees refute both tests, under stronger fences too, as `rw,rw` in the place of `w,r`, or any fences where
+/// none is needed. And as the runs can be listed, the outcomes are forbidden.
 pub fn whole_tests()
     ensures store_buffering { (b : Place) → IsRefuted (sb b) (fences WR WR) sb_tree }
     ensures full_fences { (b : Place) → IsRefuted (sb b) (fences RwRw RwRw) sb_tree }
     ensures between { (b : Place) → IsRefuted (parted b) [] parted_tree }
     ensures any_fences { (b : Place) (p : List Entry) → IsRefuted (parted b) p parted_tree }
+    ensures forbidden { (b : Place) → Allows (sb b) (fences WR WR) → ⊥ }
+    ensures never_between { (b : Place) (p : List Entry) → Allows (parted b) p → ⊥ }
 {}
 
 /// A law: a tree of seventeen inferences refutes a spinlock, with fences behind the swap that takes the lock and before

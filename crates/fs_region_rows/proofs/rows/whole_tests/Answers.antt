@@ -4,6 +4,7 @@ use Rattle.fs_region.proofs.Stronger.{placed_refutes, unfenced_refutes}
 use Rattle.fs_region_rows.specs.Small.{sb, parted}
 use Rattle.fs_region_rows.specs.Refutations.{fences, sb_tree, parted_tree}
 use Rattle.fs_region_rows.proofs.AllRuns.{sb_refuted, parted_refuted}
+use Rattle.fs_region_rows.proofs.Listable.{sb_forbidden, parted_forbidden}
 use Rattle.fs_region_rows.proofs.rows.whole_tests.Goals as goal
 
 pub returns-clause-store_buffering : goal.returns-clause-store_buffering
@@ -18,3 +19,9 @@ returns-clause-between c = parted_refuted
 
 pub returns-clause-any_fences : goal.returns-clause-any_fences
 returns-clause-any_fences c b p = (unfenced_refutes (parted b) p).refuted parted_tree (parted_refuted b)
+
+pub returns-clause-forbidden : goal.returns-clause-forbidden
+returns-clause-forbidden c = sb_forbidden
+
+pub returns-clause-never_between : goal.returns-clause-never_between
+returns-clause-never_between c = parted_forbidden
