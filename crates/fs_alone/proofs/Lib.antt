@@ -1,6 +1,7 @@
 mod Accesses
 mod Asked
 mod Found
+mod Listed
 mod Named
 mod Others
 mod Positions

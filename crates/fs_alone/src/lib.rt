@@ -10,7 +10,7 @@ mod rules;
 mod source;
 mod tables;
 
-pub use laws::sources_serve_three;
+pub use laws::{listed_are_runs, sources_serve_three};
 pub use lone::Lone;
 pub use naming::{is_name, names};
 pub use source::{Source, Sourced};
