@@ -1,5 +1,5 @@
 -- The listed runs of a hart are runs of it.
-use Rattle.std.proofs.Common.{◌≡◌, ℕ, ◌<◌, Option, None, List, map, length, get_or, refl, sym, ◌∙◌, ap, subst, arith}
+use Rattle.std.proofs.Common.{◌≡◌, ℕ, ◌<◌, Option, None, List, map, length, get_or, refl, subst}
 use Rattle.std.specs.Prelude.{All}
 use Rattle.std.proofs.lemmas.List.Elements.{All-map, All-same}
 use Rattle.fs_model.specs.declared.step.Step.{Step}
@@ -7,7 +7,7 @@ use Rattle.fs_model.specs.declared.test.Test.{Test}
 use Rattle.fs_model.specs.Choices.{choices_of}
 use Rattle.fs_model.specs.Execution.{IsTrace}
 use Rattle.fs_hart.specs.declared.trace.Trace.{Trace}
-use Rattle.fs_hart.specs.Listing.{End, EndsSo, AreTraces, trace_at}
+use Rattle.fs_hart.specs.Listing.{EndsSo, AreTraces, trace_at}
 use Rattle.fs_alone.specs.Alone.{IsRun}
 
 whole : (t : Test) (hart : ℕ) (steps : List Step) (astray : Option ℕ) → astray ≡ None → EndsSo t hart (choices_of steps) steps astray → IsTrace t hart steps

@@ -1,20 +1,17 @@
 -- The runs of a candidate in which one hart runs.
-use Rattle.std.proofs.Common.{◌≡◌, ℕ, ◌+◌, ◌<◌, ◌≤◌, ◌==◌, inl, inr, Bool, true, false, None, Some, option_and_then, option_map, unwrap_or, List, [], ◌∷◌, ◌++◌, map, set, length, get_or, refl, sym, ◌∙◌, ap, subst, arith}
+use Rattle.std.proofs.Common.{◌≡◌, ℕ, ◌+◌, ◌<◌, ◌≤◌, ◌==◌, inl, inr, Bool, true, false, None, Some, List, [], ◌∷◌, ◌++◌, map, set, length, get_or, refl, sym, ◌∙◌, ap, subst, arith}
 use Rattle.std.specs.Prelude.{All, if◌then◌else◌, slice_get}
 use Rattle.std.proofs.lemmas.Bool.{cases_eq, cases_lt, eq-eqb, ne_eqb}
 use Rattle.std.proofs.lemmas.List.{get_or-map, get_or-set_same, get_or-set_other, get_or_past, length-map, length-set, map-set, map_push}
 use Rattle.std.proofs.lemmas.List.FromFn.{fill_by_all, get_or-map-range_with_len, length-map-range_with_len, map-range_with_len_more}
 use Rattle.std.proofs.lemmas.Option.{slice_get-get_or}
 use Rattle.fs_kinds.specs.declared.reason.OperationName.{OperationName as Name}
-use Rattle.fs_model.specs.Test.{IsBounded}
 use Rattle.fs_model.specs.declared.step.Step.{Step}
 use Rattle.fs_model.specs.declared.test.Test.{Test}
-use Rattle.fs_model.specs.Execution.{IsTrace}
 use Rattle.fs_model.specs.Numbers.{numbers_below}
-use Rattle.fs_model.specs.Operations.{PreExecution, operation, steps_of}
+use Rattle.fs_model.specs.Operations.{operation, steps_of}
 use Rattle.fs_hart.specs.declared.trace.Trace.{Trace}
 use Rattle.fs_hart.specs.Steps.{steps_in}
-use Rattle.fs_hart.proofs.Forward.{traces_short}
 use Rattle.fs_cand.proofs.Distinct.{named}
 use Rattle.fs_region.specs.Musts.{alone, number_of, traces_of}
 use Rattle.fs_region.proofs.Alone.{number_named}

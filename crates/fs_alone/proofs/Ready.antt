@@ -1,5 +1,5 @@
 -- A run made ready, and what rules find in it.
-use Rattle.std.proofs.Common.{◌≡◌, ℕ, ◌≤◌, ◌==◌, Bool, Option, None, Some, option_and_then, option_map, List, [], map, length, refl, sym, ◌∙◌, ap, subst, arith}
+use Rattle.std.proofs.Common.{◌≡◌, ℕ, ◌≤◌, Bool, Option, Some, option_and_then, option_map, List, [], map, length, refl, sym, ◌∙◌, ap, subst, arith}
 use Rattle.std.specs.List.{position}
 use Rattle.fs_kinds.specs.declared.placement.Entry.{Entry}
 use Rattle.fs_kinds.specs.declared.reason.OperationName.{OperationName as Name}
@@ -12,7 +12,6 @@ use Rattle.fs_model.specs.Execution.{IsTrace, code_of, initial_words}
 use Rattle.fs_model.specs.Numbers.{is_same, numbers_below}
 use Rattle.fs_model.specs.Operations.{PreExecution, operations, steps_of}
 use Rattle.fs_model.specs.Preserved.{Rule, Rule8, rule}
-use Rattle.fs_model.specs.Witness.{name_of}
 use Rattle.fs_hart.specs.Steps.{steps_in}
 use Rattle.fs_hart.proofs.Forward.{traces_short}
 use Rattle.fs_cand.specs.declared.candidate.Candidate.{Candidate}
@@ -24,7 +23,7 @@ use Rattle.fs_region.specs.Musts.{alone, holds_of, is_rule, known_source, number
 use Rattle.fs_region.proofs.Alone.{own_steps, number_named}
 use Rattle.fs_alone.specs.declared.rules.Returned.{Returned}
 use Rattle.fs_alone.specs.declared.source.Sourced.{Sourced}
-use Rattle.fs_alone.specs.Alone.{RunOf, Knows, execution_of, source_of}
+use Rattle.fs_alone.specs.Alone.{RunOf, Knows, execution_of}
 use Rattle.fs_alone.specs.inner.Ordered.{IsOwn, Returns, number_from}
 use Rattle.fs_alone.specs.inner.Tables.{IsAlone, IsReady, is_at, listed_at, name_at}
 use Rattle.fs_alone.proofs.Accesses.{few_alone}

@@ -1,15 +1,12 @@
 -- Sources by the numbers that rules see.
-use Rattle.std.proofs.Common.{◌≡◌, ℕ, ◌+◌, ◌<◌, ◌≤◌, ◌⊎◌, ◌==◌, inl, inr, Bool, true, false, ◌&&◌, ◌||◌, not, Option, None, Some, is_some, option_map, option_and_then, unwrap_or, List, [], length, get_or, map, filter, refl, sym, ◌∙◌, ap, subst, arith}
-use Rattle.std.specs.Prelude.{slice_get}
-use Rattle.std.specs.List.{Contains, enumerate_from, find, flat_map, position_or_len, slice_index_or}
+use Rattle.std.proofs.Common.{◌≡◌, ℕ, ◌+◌, ◌<◌, ◌≤◌, ◌==◌, inl, inr, Bool, true, false, ◌&&◌, not, Option, None, Some, is_some, unwrap_or, List, length, get_or, refl, sym, ◌∙◌, ap, subst, arith}
+use Rattle.std.specs.List.{position_or_len}
 use Rattle.std.proofs.lemmas.Bool.{false≢true, cases_lt, and_parts, and_from, or_cases, or_left, or_right, eqb-true, eq-eqb}
-use Rattle.std.proofs.lemmas.List.Elements.{All-get_or}
 use Rattle.std.proofs.lemmas.List.Sums.{fails_before_first, passes_at_first, prefix_len-le-length}
 use Rattle.fs_kinds.specs.declared.reason.OperationName.{OperationName as Name}
 use Rattle.fs_model.specs.declared.test.Test.{Test}
 use Rattle.fs_model.specs.Numbers.{is_same}
 use Rattle.fs_model.specs.Operations.{PreExecution, accesses, operation, operations}
-use Rattle.fs_model.specs.Witness.{name_of}
 use Rattle.fs_model.proofs.WhichOperation.{hart_access, length_operations, no_hart_past}
 use Rattle.fs_cand.proofs.Distinct.{named}
 use Rattle.fs_ppo.proofs.Tests.{same_tests}

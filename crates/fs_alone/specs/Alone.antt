@@ -1,6 +1,5 @@
 -- One run of one hart of a test, and what is known of sources, as code has it.
-use Rattle.std.specs.Prelude.{◌≡◌, ℕ, ◌<◌, Option, option_map, List, length}
-use Rattle.fs_kinds.specs.declared.reason.OperationName.{OperationName as Name}
+use Rattle.std.specs.Prelude.{◌≡◌, ℕ, ◌<◌, option_map, List, length}
 use Rattle.fs_model.specs.declared.test.Test.{Test}
 use Rattle.fs_model.specs.declared.step.Step.{Step}
 use Rattle.fs_model.specs.Execution.{IsTrace}

@@ -32,7 +32,8 @@ use std::marker::Model;
 use std::sync::Arc;
 
 /// One run of one hart of a test, made ready to be asked what it does at each position of the code, and which rules of
-/// preserved program order hold in it. Contracts see the test, the hart and the steps.
+/// preserved program order hold in it. It keeps the run, its operations and dependencies, and registers for each hart.
+/// Contracts see the test, the hart and the steps.
 #[derive(Drop)]
 pub struct Lone {
     test: Arc<Test>,
@@ -71,8 +72,8 @@ impl Model for Lone {
 }
 
 impl Lone {
-    /// The hart's run, whose registers are those at its end. The test is bounded. The cost: the square of the run's steps,
-    /// and what `Candidate::new` takes. The error is F19.
+    /// The hart's run, whose registers are those at its end. The test is bounded. The cost: for each position of the code the
+    /// steps of the run and its operations, and what `Candidate::new` takes. The error is F19.
     pub fn new(alloc: Global, test: &Arc<Test>, hart: u8, trace: Trace) -> Result<Lone, Fault>
         requires test { IsBounded (arc_value test.now) }
         requires run { IsRun (arc_value test.now) hart trace }

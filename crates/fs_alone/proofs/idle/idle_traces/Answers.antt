@@ -1,4 +1,4 @@
-use Rattle.std.proofs.Common.{◌∙◌, ap, arith}
+use Rattle.std.proofs.Common.{◌∙◌, ap}
 use Rattle.fs_hart.specs.Steps.{steps_in}
 use Rattle.fs_alone.proofs.Others.{idle_more}
 use Rattle.fs_alone.proofs.idle.idle_traces.Goals as goal

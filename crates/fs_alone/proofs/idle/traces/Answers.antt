@@ -1,4 +1,4 @@
-use Rattle.std.proofs.Common.{◌≡◌, ℕ, ◌<◌, List, length, map, set, sym, ◌∙◌, ap, subst, arith}
+use Rattle.std.proofs.Common.{ℕ, List, length, map, set, sym, ◌∙◌, ap, arith}
 use Rattle.std.specs.Prelude.{slice_get}
 use Rattle.fs_model.specs.Numbers.{numbers_below}
 use Rattle.fs_hart.specs.declared.trace.Trace.{Trace}

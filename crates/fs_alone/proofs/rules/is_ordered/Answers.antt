@@ -1,4 +1,4 @@
-use Rattle.std.proofs.Common.{◌≡◌, ℕ, ◌&&◌, Bool, not, None, Some, sym, ◌∙◌, ap, subst, arith}
+use Rattle.std.proofs.Common.{ℕ, ◌&&◌, Bool, not, None, Some, sym, ◌∙◌, ap, subst, arith}
 use Rattle.std.specs.List.{slice_index_or}
 use Rattle.fs_cand.specs.Candidates.{runs_of, rf as listed}
 use Rattle.fs_alone.specs.inner.Ordered.{IsOwn, passes_through}

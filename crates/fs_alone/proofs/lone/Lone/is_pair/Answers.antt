@@ -1,7 +1,6 @@
-use Rattle.std.proofs.Common.{◌≡◌, ℕ, Some, sym, ◌∙◌, ap, subst}
+use Rattle.std.proofs.Common.{Some, sym, ◌∙◌, ap, subst}
 use Rattle.fs_model.specs.Execution.{initial_words}
-use Rattle.fs_cand.specs.Candidates.{runs_of, rf}
-use Rattle.fs_ppo.specs.Rules.{numbered_rule}
+use Rattle.fs_cand.specs.Candidates.{rf}
 use Rattle.fs_alone.specs.Alone.{RunOf}
 use Rattle.fs_alone.specs.inner.Tables.{IsAlone}
 use Rattle.fs_alone.proofs.Ready.{is_pair}

@@ -1,4 +1,4 @@
-use Rattle.std.proofs.Common.{◌≡◌, ℕ, Some, sym, ◌∙◌, ap, subst}
+use Rattle.std.proofs.Common.{Some, sym, ◌∙◌, ap, subst}
 use Rattle.fs_model.specs.Execution.{initial_words}
 use Rattle.fs_region.specs.Musts.{known_source}
 use Rattle.fs_alone.specs.Alone.{RunOf, execution_of}
