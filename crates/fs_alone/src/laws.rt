@@ -13,11 +13,11 @@ ghost use Rattle.fs_region.specs.Regions.{Region};
 ghost use Rattle.fs_region.specs.Musts.{is_rule};
 ghost use Rattle.fs_alone.specs.Alone.{IsRun};
 
-/// A law: what a region knows of sources counts for rules 2, 3 and 12 alone. Of the others a run has the same pairs in all
-/// regions.
+/// A law: what a region knows of sources counts for rules 2, 3 and 12 alone. Of the others a run has the same pairs in
+/// all regions.
 pub fn sources_serve_three()
-    ensures { (t : Test) (region other : Region) (p : List Entry) (r : Rule) → is_local r ≡ true → (a b : Name) (x : PreExecution)
-        → is_rule t region p r a b x ≡ is_rule t other p r a b x }
+    ensures { (t : Test) (region other : Region) (p : List Entry) (r : Rule) → is_local r ≡ true
+        → (a b : Name) (x : PreExecution) → is_rule t region p r a b x ≡ is_rule t other p r a b x }
 {}
 
 /// A law: what lists the runs of a hart gives runs of it, with the registers at their ends.

@@ -64,7 +64,11 @@ impl Model for Lone {
 
     ghost Value = { RunOf };
 
-    ghost view = { λ l. record { test = arc_value l.test; hart = l.hart; steps = steps_of (steps_in l.candidate.traces) l.hart } };
+    ghost view = { λ l. record {
+      test = arc_value l.test;
+      hart = l.hart;
+      steps = steps_of (steps_in l.candidate.traces) l.hart;
+    } };
 
     ghost coded = { Prim.hlevel (codes, outcome.the_row.coded) };
 
@@ -72,12 +76,13 @@ impl Model for Lone {
 }
 
 impl Lone {
-    /// The hart's run, whose registers are those at its end. The test is bounded. The cost: for each position of the code the
-    /// steps of the run and its operations, and what `Candidate::new` takes. The error is F19.
+    /// The hart's run, whose registers are those at its end. The test is bounded. The cost: for each position of the
+    /// code the steps of the run and its operations, and what `Candidate::new` takes. The error is F19.
     pub fn new(alloc: Global, test: &Arc<Test>, hart: u8, trace: Trace) -> Result<Lone, Fault>
         requires test { IsBounded (arc_value test.now) }
         requires run { IsRun (arc_value test.now) hart trace }
-        ensures ok { IfOk result (λ lone. lone ≡ record { test = arc_value test.now; hart = hart; steps = trace.steps }) }
+        ensures ok { IfOk result (λ lone.
+            lone ≡ record { test = arc_value test.now; hart = hart; steps = trace.steps }) }
         ensures err { IsOkUnless result Memory }
     {
         let candidate = candidate_of(alloc, test, hart, trace)?;
@@ -144,8 +149,8 @@ impl Lone {
         self.loaded_at(at).is_some()
     }
 
-    /// A number for what it chooses there, in choice order: 0 where it doesn't execute the instruction, 1 where this takes no
-    /// choice or an sc.w succeeds, 2 where it fails, and of a load one more than the word. In constant time.
+    /// A number for what it chooses there, in choice order: 0 where it doesn't execute the instruction, 1 where this
+    /// takes no choice or an sc.w succeeds, 2 where it fails, and of a load one more than the word. In constant time.
     pub fn chosen_at(&self, at: u8) -> u64
         ensures { result ≡ chosen_at at self.now.steps }
     {
@@ -157,7 +162,8 @@ impl Lone {
 
     /// The word of the register at the end of the run. In constant time.
     pub fn final_register(&self, register: Reg) -> u32
-        ensures { result ≡ final_register self.now.test (traces_of self.now.test self.now.hart self.now.steps) self.now.hart register }
+        ensures { result ≡ final_register self.now.test (traces_of self.now.test self.now.hart self.now.steps)
+            self.now.hart register }
     {
         match self.candidate.traces.get(usize::from(self.hart)) {
             Some(trace) => trace.final_reg(register),
@@ -195,7 +201,8 @@ impl Lone {
 
     // Are both sources known, and do they count as one?
     fn are_same(&self, first: Option<Source>, second: Option<Source>) -> bool
-        ensures { (region : Region) → result ≡ is_same (number_from self.now region first) (number_from self.now region second) }
+        ensures { (region : Region) → result
+            ≡ is_same (number_from self.now region first) (number_from self.now region second) }
     {
         match (first, second) {
             (Some(first), Some(second)) => self.count_as_one(first, second),
@@ -213,11 +220,11 @@ impl Lone {
         }
     }
 
-    /// Does the rule of this number, 1 to 13, order the first operation before the second, with the placement's fences, where
-    /// this is known of what they return from? Not where the run doesn't execute both, nor of another hart's. Sources count
-    /// for rules 2, 3 and 12 alone (`sources_serve_three`), and the placement for rule 4; of rule 2 sources that aren't known
-    /// count as different. At most linear in the operations and in the steps of the run, for rule 4 times the slots of the
-    /// placement.
+    /// Does the rule of this number, 1 to 13, order the first operation before the second, with the placement's fences,
+    /// where this is known of what they return from? Not where the run doesn't execute both, nor of another hart's.
+    /// Sources count for rules 2, 3 and 12 alone (`sources_serve_three`), and the placement for rule 4; for rule 2
+    /// sources that aren't known count as different. At most linear in the operations and in the steps of the run, for
+    /// rule 4 times the slots of the placement.
     pub fn is_rule(&self, placement: &Placement, rule: u8, first: Sourced, second: Sourced) -> bool
         ensures { (region : Region) → Knows region first → Knows region second → (r : Rule) → number_of_rule r ≡ rule
             → result ≡ is_rule self.now.test region placement.now r first.name second.name (execution_of self.now) }
@@ -235,10 +242,11 @@ impl Lone {
         }
     }
 
-    /// Are the two an lr.w and its sc.w, which succeeds? Not where the run doesn't execute both. Linear in the steps of the
-    /// run.
+    /// Are the two an lr.w and its sc.w, which succeeds? Not where the run doesn't execute both. Linear in the steps of
+    /// the run.
     pub fn is_pair(&self, load: OperationName, store: OperationName) -> bool
-        ensures { (region : Region) → result ≡ is_rule self.now.test region [] Rule8 load store (execution_of self.now) }
+        ensures { (region : Region) → result
+            ≡ is_rule self.now.test region [] Rule8 load store (execution_of self.now) }
     {
         match (self.number_of(load), self.number_of(store)) {
             (Some(a), Some(b)) => rule(8, &self.candidate, usize::from(a), usize::from(b)),

@@ -13,8 +13,8 @@ use fs_kinds::{Fault, OperationName};
 use fs_model::Test;
 use std::alloc::{AllocError, Global};
 
-/// The names of the test's memory instructions, hart by hart, in the order of the code. Linear in the code. The error is
-/// F19.
+/// The names of the test's memory instructions, hart by hart, in the order of the code. Linear in the code. The error
+/// is F19.
 pub fn names(alloc: Global, test: &Test) -> Result<Vec<OperationName>, Fault>
     requires { IsBounded test.now }
     ensures ok { IfOk result (λ found. found.items ≡ names test.now) }

@@ -138,8 +138,8 @@ fn runs_do_what_their_steps_do(rt: HostRuntime) -> Result<(), Fail> {
     Ok(())
 }
 
-/// The manual's rules by hand. Both loads of CO_RR are of one word; of ANNOTATED an AMO stands before a load of its word; of
-/// FORWARDED a load returns from a store whose word depends on an earlier load.
+/// The manual's rules by hand. Both loads of CO_RR are of one word; in ANNOTATED an AMO stands before a load of its
+/// word; in FORWARDED a load returns from a store whose word depends on an earlier load.
 #[test]
 fn rules_are_those_of_the_manual(rt: HostRuntime) -> Result<(), Fail> {
     let plain: (&str, u8, &[Choice]) = (SB, 0, &[ZERO]);
