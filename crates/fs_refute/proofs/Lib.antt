@@ -1,0 +1,7 @@
+pub mod Alike
+pub mod Chains
+pub mod Lists
+pub mod Regions
+pub mod Rises
+pub mod Roots
+pub mod Walked

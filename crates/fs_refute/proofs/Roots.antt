@@ -1,0 +1,82 @@
+-- The region of all candidates, and stacks of regions.
+use Rattle.std.proofs.Common.{◌≡◌, ℕ, zero, suc, ◌<◌, Bool, true, Option, None, List, [], ◌∷◌, ◌++◌, map, reverse, length, refl, sym, ◌∙◌, ap, subst, arith}
+use Rattle.std.specs.Prelude.{All}
+use Rattle.std.specs.Arc.{arc_value}
+use Rattle.std.specs.Borrow.{Bor}
+use Rattle.std.specs.List.{slice_index_or}
+use Rattle.std.proofs.lemmas.List.{append_assoc, map-append, reverse-append}
+use Rattle.std.proofs.lemmas.List.Elements.{All-nil, All-cons, All-head, All-tail}
+use Rattle.fs_model.specs.declared.test.Test.{Test}
+use Rattle.fs_model.specs.declared.step.Step.{Step}
+use Rattle.fs_model.specs.Condition.{Condition, condition_of}
+use Rattle.fs_model.specs.Shows.{is_outcome}
+use Rattle.fs_region.specs.Regions.{Region}
+use Rattle.fs_region.specs.Trees.{root}
+use Rattle.fs_alone.specs.Alone.{RunOf}
+use Rattle.fs_refute.specs.declared.region.Region.{Region as CodeRegion}
+use Rattle.fs_refute.specs.Views.{region_of, regions_of, runs_of, at_hart, lists_in, source_in, is_in_order, all_wanted, runs_over, AreRunsOf, IsOf}
+use Rattle.fs_refute.specs.Verdict.{stacked}
+use Rattle.fs_refute.specs.inner.Asked.{values_in}
+use Rattle.fs_refute.proofs.Regions.{same_region}
+
+-- ---- all runs
+
+steps_behind : (runs : List (Bor RunOf)) → runs_of runs ≡ map (λ run. run.steps) (values_in runs)
+steps_behind [] = refl
+steps_behind (run ∷ runs) = ap (λ all. run.now.steps ∷ all) (steps_behind runs)
+
+values_at : (lists : List (List (Bor RunOf))) (hart : ℕ) → values_in (at_hart lists hart) ≡ slice_index_or (map values_in lists) hart []
+values_at [] hart = refl
+values_at (runs ∷ lists) zero = refl
+values_at (runs ∷ lists) (suc hart) = values_at lists hart
+
+pub all_over : (lists : List (List (Bor RunOf))) (listed : List (List RunOf)) → map values_in lists ≡ listed → (hart : ℕ)
+    → runs_of (at_hart lists hart) ≡ runs_over listed hart
+all_over lists listed is hart =
+    steps_behind (at_hart lists hart)
+    ∙ ap (map (λ (run : RunOf). run.steps)) (values_at lists hart ∙ ap (λ (ls : List (List RunOf)). slice_index_or ls hart []) is)
+
+behind : (t : Test) (hart : ℕ) (runs : List (Bor RunOf)) → All (λ run. (run.test ≡ t) × (run.hart ≡ hart)) (values_in runs) → AreRunsOf t hart runs
+behind t hart [] all = All-nil (λ run. (run.now.test ≡ t) × (run.now.hart ≡ hart))
+behind t hart (run ∷ runs) all =
+    All-cons (λ run. (run.now.test ≡ t) × (run.now.hart ≡ hart)) run runs
+    (All-head (λ run. (run.test ≡ t) × (run.hart ≡ hart)) run.now (values_in runs) all)
+    (behind t hart runs (All-tail (λ run. (run.test ≡ t) × (run.hart ≡ hart)) run.now (values_in runs) all))
+
+pub all_of_test : (t : Test) (lists : List (List (Bor RunOf))) (listed : List (List RunOf)) → map values_in lists ≡ listed
+    → ((hart : ℕ) → All (λ run. (run.test ≡ t) × (run.hart ≡ hart)) (slice_index_or listed hart [])) → (hart : ℕ) → AreRunsOf t hart (at_hart lists hart)
+all_of_test t lists listed is ground hart =
+    behind t hart (at_hart lists hart)
+    (subst (All (λ run. (run.test ≡ t) × (run.hart ≡ hart))) (sym (values_at lists hart ∙ ap (λ (ls : List (List RunOf)). slice_index_or ls hart []) is)) (ground hart))
+
+pub root_is : (t : Test) (listed : List (List RunOf)) (region : CodeRegion) → map values_in (lists_in region.runs.items) ≡ listed
+    → arc_value region.sources ≡ [] → arc_value region.orders ≡ []
+    → all_wanted (arc_value region.wanted) ≡ (condition_of t.condition, is_outcome t.quantifier true) ∷ []
+    → region_of region ≡ root t (runs_over listed)
+root_is t listed region runs sources orders wanted =
+    same_region (region_of region) (root t (runs_over listed))
+    (all_over (lists_in region.runs.items) listed runs)
+    (λ n. ap (λ known. source_in known n) sources)
+    (λ a b. ap (λ known. is_in_order known a b) orders)
+    wanted
+
+-- ---- stacks
+
+pub stacked_push : (stack : List CodeRegion) (region : CodeRegion) → stacked (stack ++ region ∷ []) ≡ region_of region ∷ stacked stack
+stacked_push stack region = ap regions_of (reverse-append stack (region ∷ []))
+
+pub moved : (left rest stack more : List CodeRegion) (region : CodeRegion) → left ≡ rest ++ region ∷ [] → more ≡ stack ++ region ∷ []
+    → regions_of rest ++ stacked more ≡ regions_of left ++ stacked stack
+moved left rest stack more region from to =
+    ap (λ all. regions_of rest ++ all) (ap stacked to ∙ stacked_push stack region)
+    ∙ sym (append_assoc (regions_of rest) (region_of region ∷ []) (stacked stack))
+    ∙ ap (λ all. all ++ stacked stack) (sym (ap regions_of from ∙ map-append region_of rest (region ∷ [])))
+
+pub record IsFirst (regions : List Region) : Type 0 where
+  pub region : Region
+  pub others : List Region
+  pub is : regions ≡ region ∷ others
+
+pub first_of : (regions : List Region) → 0 < length regions → IsFirst regions
+first_of [] low = absurd (omega (arith, low))
+first_of (region ∷ others) low = record { region = region; others = others; is = refl }

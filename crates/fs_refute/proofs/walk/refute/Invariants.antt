@@ -1,0 +1,10 @@
+use Rattle.std.proofs.Common.{map}
+use Rattle.fs_refute.specs.Views.{inference_of, runs_over, AreOf}
+use Rattle.fs_refute.specs.Verdict.{roots, stacked}
+use Rattle.fs_refute.proofs.Walked.{IsWalked}
+use Rattle.fs_refute.proofs.walk.refute.Given as goal
+
+abbrev pub invariant-loop-number : goal.invariant-loop-number
+invariant-loop-number l =
+    IsWalked l.ground.test.now l.placement (roots l.ground.test.now (runs_over l.ground.runs.now)) (map inference_of l.inferences) l.number (stacked l.stack.items)
+    × AreOf l.ground.test.now l.stack.items

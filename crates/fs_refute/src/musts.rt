@@ -1,0 +1,265 @@
+//! What must hold in all candidates of a region.
+
+ghost use Rattle.std.specs.Prelude.{◌≡◌, [], length, nat_lt};
+ghost use Rattle.std.specs.List.{list_all};
+ghost use Rattle.fs_model.specs.declared.test.Test.{Test};
+ghost use Rattle.fs_model.specs.Test.{IsBounded};
+ghost use Rattle.fs_model.specs.Preserved.{Rule};
+ghost use Rattle.fs_ppo.specs.Rules.{number_of as number_of_rule};
+ghost use Rattle.fs_answer.specs.Judged.{Preserved};
+ghost use Rattle.fs_evidence.specs.Evidence.{cause_of};
+ghost use Rattle.fs_region.specs.Regions.{Region as SpecRegion, From, same_name};
+ghost use Rattle.fs_region.specs.Musts.{is_before, must_be, must_meet, is_later_than, overwrites, knows_enough, has_source, must, must_pair};
+ghost use Rattle.fs_alone.specs.Alone.{Knows};
+ghost use Rattle.fs_refute.specs.Views.{region_of, known_source, runs_of, access_of, accesses_at, IsOf};
+ghost use Rattle.fs_refute.specs.inner.Asked.{OrdersAll, PairsAll};
+
+use crate::region::Region;
+use fs_alone::{Lone, Source, Sourced};
+use fs_evidence::Cause;
+use fs_kinds::{OperationName, Placement};
+use fs_model::{Location, Test};
+
+// How an operation accesses memory.
+#[derive(Clone, Copy)]
+pub(crate) enum Access {
+    Load,
+    Store,
+}
+
+// The word that the run loads or stores at the position.
+fn accessed(run: &Lone, access: Access, at: u8) -> Option<u32>
+    ensures { result ≡ access_of access run.now.steps at }
+{
+    match access {
+        Access::Load => run.loaded_at(at),
+        Access::Store => run.stored_at(at),
+    }
+}
+
+// Does the run access the location there?
+fn accesses(run: &Lone, access: Access, at: u8, location: u8) -> bool
+    ensures { result ≡ accesses_at (access_of access) at location run.now.steps }
+{
+    accessed(run, access, at).is_some()
+        && run
+            .address_at(at)
+            .is_some_and(|address| address == Location::address(location))
+}
+
+// Does each of the runs?
+fn all_access(runs: &[&Lone], access: Access, at: u8, location: u8) -> bool
+    ensures { result ≡ list_all (accesses_at (access_of access) at location) (runs_of runs.now) }
+{
+    runs.iter().all(|run| accesses(run, access, at, location))
+}
+
+// Must the operation be executed, and access the location? At most linear in the runs of its hart.
+pub(crate) fn must_be(
+    test: &Test,
+    region: &Region<'_>,
+    access: Access,
+    name: OperationName,
+    location: u8,
+) -> bool
+    ensures { result ≡ must_be test.now (region_of region.now) (access_of access) name location }
+{
+    is_hart(test, name.hart) && all_access(region.runs(name.hart), access, name.at, location)
+}
+
+// Is it the number of a hart?
+fn is_hart(test: &Test, hart: u8) -> bool
+    ensures { result ≡ nat_lt hart (length test.now.codes) }
+{
+    usize::from(hart) < test.codes.len()
+}
+
+// Must the two accesses be to one location?
+pub(crate) fn must_meet(
+    test: &Test,
+    region: &Region<'_>,
+    first: (Access, OperationName),
+    second: (Access, OperationName),
+) -> bool
+    requires { IsBounded test.now }
+    ensures { result ≡ must_meet test.now (region_of region.now) (access_of first.0) (access_of second.0) first.1 second.1 }
+{
+    (0..test.locations.len() as u8).any(|location| {
+        must_be(test, region, first.0, first.1, location)
+            && must_be(test, region, second.0, second.1, location)
+    })
+}
+
+// Is the store before this source?
+pub(crate) fn is_before_source(region: &Region<'_>, store: OperationName, source: Option<Source>) -> bool
+    ensures { result ≡ is_before (region_of region.now) store (known_source source) }
+{
+    match source {
+        Some(Source::From(other)) => region.is_before(store, other),
+        _ => false,
+    }
+}
+
+// Must the store be later in coherence order than this source of the load?
+fn is_later_than(
+    test: &Test,
+    region: &Region<'_>,
+    store: OperationName,
+    load: OperationName,
+    source: Option<Source>,
+) -> bool
+    requires { IsBounded test.now }
+    ensures { result ≡ is_later_than test.now (region_of region.now) store load (known_source source) }
+{
+    match source {
+        None => false,
+        Some(Source::Initial) => must_meet(test, region, (Access::Load, load), (Access::Store, store)),
+        Some(Source::From(other)) => region.is_before(other, store),
+    }
+}
+
+// Must the store be later than what the load returns from?
+pub(crate) fn overwrites(
+    test: &Test,
+    region: &Region<'_>,
+    store: OperationName,
+    load: OperationName,
+) -> bool
+    requires { IsBounded test.now }
+    ensures { result ≡ overwrites test.now (region_of region.now) store load }
+{
+    is_later_than(test, region, store, load, region.source(load))
+}
+
+// What is known of the source of the operation.
+fn sourced(region: &Region<'_>, name: OperationName) -> Sourced
+    ensures name { result.name ≡ name }
+    ensures knows { Knows (region_of region.now) result }
+{
+    Sourced {
+        name,
+        source: region.source(name),
+    }
+}
+
+// Does the rule of this number order the two in each of the runs, which are of the hart of the first one?
+fn all_order(
+    placement: &Placement,
+    rule: u8,
+    first: Sourced,
+    second: Sourced,
+    runs: &[&Lone],
+) -> bool
+    ensures { OrdersAll placement.now rule first second runs.now result }
+{
+    for run in runs {
+        if !run.is_rule(placement, rule, first, second) {
+            return false;
+        }
+    }
+    true
+}
+
+// Are they one name?
+pub(crate) fn is_same_name(name: OperationName, other: OperationName) -> bool
+    ensures { result ≡ same_name name other }
+{
+    name.hart == other.hart && name.at == other.at
+}
+
+// Does the rule of this number need sources that are known?
+fn knows_enough(rule: u8, first: Sourced, second: Sourced) -> bool
+    ensures { (t : Test) (region : SpecRegion) (r : Rule) → Knows region first → Knows region second
+        → number_of_rule r ≡ rule → result ≡ knows_enough t region r first.name second.name }
+{
+    rule != 2 || (first.source.is_some() && second.source.is_some())
+}
+
+// Must the rule of this number order the first operation before the second?
+fn must_by_rule(
+    test: &Test,
+    placement: &Placement,
+    region: &Region<'_>,
+    rule: u8,
+    a: OperationName,
+    b: OperationName,
+) -> bool
+    requires { IsOf test.now region.now }
+    ensures { (r : Rule) → number_of_rule r ≡ rule
+        → result ≡ must test.now (region_of region.now) placement.now (Preserved r) a b }
+{
+    let first = sourced(region, a);
+    let second = sourced(region, b);
+    a.hart == b.hart
+        && (knows_enough(rule, first, second)
+            && (is_hart(test, a.hart)
+                && all_order(placement, rule, first, second, region.runs(a.hart))))
+}
+
+fn has_source(source: Option<Source>, store: OperationName) -> bool
+    ensures { result ≡ has_source (known_source source) (From store) }
+{
+    match source {
+        Some(Source::From(other)) => is_same_name(other, store),
+        _ => false,
+    }
+}
+
+// Must the first operation come before the second for this cause? At most linear in the runs of a hart.
+pub(crate) fn must(
+    test: &Test,
+    placement: &Placement,
+    region: &Region<'_>,
+    cause: Cause,
+    a: OperationName,
+    b: OperationName,
+) -> bool
+    requires test { IsBounded test.now }
+    requires region { IsOf test.now region.now }
+    ensures { result ≡ must test.now (region_of region.now) placement.now (cause_of cause) a b }
+{
+    match cause {
+        Cause::Rule1 => must_by_rule(test, placement, region, 1, a, b),
+        Cause::Rule2 => must_by_rule(test, placement, region, 2, a, b),
+        Cause::Rule3 => must_by_rule(test, placement, region, 3, a, b),
+        Cause::Rule4 => must_by_rule(test, placement, region, 4, a, b),
+        Cause::Rule5 => must_by_rule(test, placement, region, 5, a, b),
+        Cause::Rule6 => must_by_rule(test, placement, region, 6, a, b),
+        Cause::Rule7 => must_by_rule(test, placement, region, 7, a, b),
+        Cause::Rule8 => must_by_rule(test, placement, region, 8, a, b),
+        Cause::Rule9 => must_by_rule(test, placement, region, 9, a, b),
+        Cause::Rule10 => must_by_rule(test, placement, region, 10, a, b),
+        Cause::Rule11 => must_by_rule(test, placement, region, 11, a, b),
+        Cause::Rule12 => must_by_rule(test, placement, region, 12, a, b),
+        Cause::Rule13 => must_by_rule(test, placement, region, 13, a, b),
+        Cause::ReadsFrom => a.hart != b.hart && has_source(region.source(b), a),
+        Cause::Coherence => region.is_before(a, b),
+        Cause::FromReads => !is_same_name(a, b) && overwrites(test, region, b, a),
+    }
+}
+
+// Is each of the runs one in which the two are a pair?
+fn all_pair(load: OperationName, store: OperationName, runs: &[&Lone]) -> bool
+    ensures { PairsAll load store runs.now result }
+{
+    for run in runs {
+        if !run.is_pair(load, store) {
+            return false;
+        }
+    }
+    true
+}
+
+// Must the two be an lr.w and its sc.w, which succeeds?
+pub(crate) fn must_pair(
+    test: &Test,
+    region: &Region<'_>,
+    load: OperationName,
+    store: OperationName,
+) -> bool
+    requires { IsOf test.now region.now }
+    ensures { result ≡ must_pair test.now (region_of region.now) load store }
+{
+    load.hart == store.hart
+        && (is_hart(test, load.hart) && all_pair(load, store, region.runs(load.hart)))
+}

@@ -1,0 +1,191 @@
+//! What the members of a region may end with.
+
+ghost use Rattle.std.specs.Prelude.{◌≡◌, ◌==◌, ◌&&◌, not, slice_get, unwrap_or, length};
+ghost use Rattle.std.specs.List.{list_any, list_all};
+ghost use Rattle.fs_model.specs.Test.{IsBounded};
+ghost use Rattle.fs_model.specs.Condition.{condition_of};
+ghost use Rattle.fs_model.specs.Execution.{initial_words};
+ghost use Rattle.fs_model.specs.Shows.{final_register};
+ghost use Rattle.fs_region.specs.Regions.{names, stored_at};
+ghost use Rattle.fs_region.specs.Musts.{has_truth, passes, stores_such, must_be, may_end, may, traces_of};
+ghost use Rattle.fs_refute.specs.Views.{region_of, runs_of, all_wanted, IsOf, HasNames};
+ghost use Rattle.fs_refute.specs.inner.Asked.{EndsSome};
+
+use crate::ground::Ground;
+use crate::musts::{Access, must_be};
+use crate::region::{Region, Wanted};
+use fs_alone::Lone;
+use fs_instr::Reg;
+use fs_kinds::OperationName;
+use fs_model::{Location, Outcome, Test};
+
+// A word, and whether something is to end with it.
+#[derive(Clone, Copy)]
+struct Ending {
+    word: u32,
+    truth: bool,
+}
+
+// Is what a test gives this truth value?
+fn has_truth(truth: bool, given: bool) -> bool
+    ensures { result ≡ has_truth truth given }
+{
+    if truth { given } else { !given }
+}
+
+// Is the word as wanted?
+fn is_ending(ending: Ending, word: u32) -> bool
+    ensures { result ≡ has_truth ending.truth (word == ending.word) }
+{
+    has_truth(ending.truth, word == ending.word)
+}
+
+fn passes(ending: Ending, word: Option<u32>) -> bool
+    ensures { result ≡ passes (λ w. has_truth ending.truth (w == ending.word)) word }
+{
+    match word {
+        Some(word) => is_ending(ending, word),
+        None => false,
+    }
+}
+
+// Does the run store such a word at the location?
+fn stores_such(run: &Lone, name: OperationName, location: u8, ending: Ending) -> bool
+    ensures { result ≡ stores_such location (λ w. has_truth ending.truth (w == ending.word)) name run.now.steps }
+{
+    run.address_at(name.at)
+        .is_some_and(|address| address == Location::address(location))
+        && passes(ending, run.stored_at(name.at))
+}
+
+// Does one of the runs?
+fn any_stores_such(runs: &[&Lone], name: OperationName, location: u8, ending: Ending) -> bool
+    ensures { result ≡ list_any (stores_such location (λ w. has_truth ending.truth (w == ending.word)) name) (runs_of runs.now) }
+{
+    runs.iter()
+        .any(|run| stores_such(run, name, location, ending))
+}
+
+// The word that the location begins with.
+fn initial_word(test: &Test, location: u8) -> u32
+    ensures { result ≡ unwrap_or (slice_get (initial_words test.now) location) 0 }
+{
+    match test.locations.get(usize::from(location)) {
+        Some(location) => location.word,
+        None => 0,
+    }
+}
+
+// Must something be stored at the location?
+fn must_be_stored(ground: &Ground<'_>, region: &Region<'_>, location: u8) -> bool
+    requires { HasNames ground.now }
+    ensures { result ≡ list_any (λ a. must_be ground.now.test.now (region_of region.now) stored_at a location)
+        (names ground.now.test.now) }
+{
+    ground
+        .names
+        .iter()
+        .any(|name| must_be(ground.test, region, Access::Store, *name, location))
+}
+
+// Does the store come before another?
+fn is_overtaken(ground: &Ground<'_>, region: &Region<'_>, name: OperationName) -> bool
+    requires { HasNames ground.now }
+    ensures { result ≡ list_any ((region_of region.now).before name) (names ground.now.test.now) }
+{
+    ground
+        .names
+        .iter()
+        .any(|other| region.is_before(name, *other))
+}
+
+// May the store be the last one of the location, and of such a word?
+fn may_be_last(
+    ground: &Ground<'_>,
+    region: &Region<'_>,
+    name: OperationName,
+    location: u8,
+    ending: Ending,
+) -> bool
+    requires { HasNames ground.now }
+    ensures { result ≡ (not (list_any ((region_of region.now).before name) (names ground.now.test.now))
+        && list_any (stores_such location (λ w. has_truth ending.truth (w == ending.word)) name) ((region_of region.now).runs name.hart)) }
+{
+    !is_overtaken(ground, region, name)
+        && any_stores_such(region.runs(name.hart), name, location, ending)
+}
+
+// May the location end with such a word that is stored there?
+fn may_end_stored(ground: &Ground<'_>, region: &Region<'_>, location: u8, ending: Ending) -> bool
+    requires { HasNames ground.now }
+    ensures { result ≡ list_any (λ a. not (list_any ((region_of region.now).before a) (names ground.now.test.now))
+        && list_any (stores_such location (λ w. has_truth ending.truth (w == ending.word)) a) ((region_of region.now).runs a.hart))
+        (names ground.now.test.now) }
+{
+    ground
+        .names
+        .iter()
+        .any(|name| may_be_last(ground, region, *name, location, ending))
+}
+
+// May the location end with such a word?
+fn may_end(ground: &Ground<'_>, region: &Region<'_>, location: u8, ending: Ending) -> bool
+    requires { HasNames ground.now }
+    ensures { result ≡ may_end ground.now.test.now (region_of region.now) location
+        (λ w. has_truth ending.truth (w == ending.word)) }
+{
+    (is_ending(ending, initial_word(ground.test, location)) && !must_be_stored(ground, region, location))
+        || may_end_stored(ground, region, location, ending)
+}
+
+// May the register end with such a word in one of the runs, which are of the hart?
+fn may_end_register(runs: &[&Lone], register: Reg, ending: Ending) -> bool
+    ensures { EndsSome register ending runs.now result }
+{
+    runs.iter()
+        .any(|run| is_ending(ending, run.final_register(register)))
+}
+
+// May the condition have this truth value? Its depth is bounded by that of the test's condition.
+pub(crate) fn may(ground: &Ground<'_>, region: &Region<'_>, condition: &Outcome, truth: bool) -> bool
+    requires names { HasNames ground.now }
+    requires region { IsOf ground.now.test.now region.now }
+    ensures { result ≡ may ground.now.test.now (region_of region.now) (condition_of condition.now) truth }
+{
+    match condition {
+        Outcome::Always => truth,
+        Outcome::Never => !truth,
+        Outcome::RegisterIs { hart, reg, word } => {
+            may_end_register(region.runs(*hart), *reg, Ending { word: *word, truth })
+        }
+        Outcome::LocationIs { location, word } => {
+            may_end(ground, region, *location, Ending { word: *word, truth })
+        }
+        Outcome::Deny(denied) => may(ground, region, denied, !truth),
+        Outcome::Both(left, right) => {
+            if truth {
+                may(ground, region, left, true) && may(ground, region, right, true)
+            } else {
+                may(ground, region, left, false) || may(ground, region, right, false)
+            }
+        }
+        Outcome::Either(left, right) => {
+            if truth {
+                may(ground, region, left, true) || may(ground, region, right, true)
+            } else {
+                may(ground, region, left, false) && may(ground, region, right, false)
+            }
+        }
+    }
+}
+
+// May each wanted condition have its truth value?
+pub(crate) fn may_all(ground: &Ground<'_>, region: &Region<'_>, wanted: &[Wanted<'_>]) -> bool
+    requires names { HasNames ground.now }
+    requires region { IsOf ground.now.test.now region.now }
+    ensures { result ≡ list_all (λ w. may ground.now.test.now (region_of region.now) w.0 w.1) (all_wanted wanted.now) }
+{
+    wanted
+        .iter()
+        .all(|wanted| may(ground, region, wanted.condition, wanted.truth))
+}

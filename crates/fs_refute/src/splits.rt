@@ -1,0 +1,517 @@
+//! How a region is split into smaller ones.
+
+ghost use Rattle.std.specs.Prelude.{◌≡◌, ◌≢◌, ℕ, ◌++◌, ◌+◌, ◌∷◌, ◌<◌, [], List, Bool, map, filter, length, nat_lt, take, drop, if◌then◌else◌, IfOk, OnOk};
+ghost use Rattle.std.specs.List.{list_all, list_any};
+ghost use Rattle.fs_model.specs.declared.test.Test.{Test};
+ghost use Rattle.fs_model.specs.declared.step.Step.{Step};
+ghost use Rattle.fs_model.specs.Test.{IsBounded};
+ghost use Rattle.fs_model.specs.Condition.{condition_of};
+ghost use Rattle.fs_region.specs.Regions.{From, same_source};
+ghost use Rattle.fs_region.specs.Musts.{may};
+ghost use Rattle.fs_region.specs.Splits.{keep, agree, chosen_at, rising, by_choice, from_store, from_initial, from_nothing, from_source, is_left, can_be_source, sources_for, by_source, by_order, ways, by_cases, by_outcome, with_run, with_source};
+ghost use Rattle.fs_region.specs.Trees.{is_open};
+ghost use Rattle.fs_alone.specs.Alone.{source_of};
+ghost use Rattle.fs_refute.specs.Views.{region_of, regions_of, all_wanted, list_at, runs_of, known_source, HasNames, IsOf, AreOf};
+
+use crate::filters::{agreeing_alone, agreeing_loads, agreeing_stores, choosing, loading_initial, not_loading};
+use crate::ground::Ground;
+use crate::musts::is_same_name;
+use crate::outcome::may_all;
+use crate::region::{Region, Runs, Wanted};
+use fs_alone::{Lone, Source};
+use fs_kinds::OperationName;
+use fs_list::List;
+use fs_model::{Outcome, Test};
+use std::alloc::{AllocError, Global};
+
+// The region with these of the hart's runs.
+fn keep<'a>(
+    alloc: Global,
+    region: &Region<'a>,
+    hart: u8,
+    kept: Runs<'a>,
+) -> Result<Region<'a>, AllocError>
+    ensures kept { (test : List Step → Bool) → kept.entry ≡ filter (λ run. test run.now.steps) (list_at region.now hart)
+        → IfOk result (λ smaller. region_of smaller ≡ keep hart test (region_of region.now)) }
+    ensures of { (test : List Step → Bool) → kept.entry ≡ filter (λ run. test run.now.steps) (list_at region.now hart)
+        → (t : Test) → IsOf t region.now → IfOk result (IsOf t) }
+    ensures others { (h : ℕ) → h ≢ hart → IfOk result (λ smaller. list_at smaller h ≡ list_at region.now h) }
+{
+    let smaller = region.with_runs(alloc, hart, kept)?;
+    Ok(smaller)
+}
+
+// Does each hart have a run left?
+pub(crate) fn is_open(test: &Test, region: &Region<'_>) -> bool
+    requires { IsBounded test.now }
+    ensures { result ≡ is_open test.now (region_of region.now) }
+{
+    (0..test.codes.len() as u8).all(|hart| has_run(region, hart))
+}
+
+fn has_run(region: &Region<'_>, hart: u8) -> bool
+    ensures { result ≡ nat_lt 0 (length ((region_of region.now).runs hart)) }
+{
+    !region.runs(hart).is_empty()
+}
+
+// Puts the region behind those that are there, if it is open.
+pub(crate) fn add_open<'a>(test: &Test, regions: &mut Vec<Region<'a>>, region: Region<'a>) -> Result<(), AllocError>
+    requires { IsBounded test.now }
+    ensures regions { OnOk result (regions_of regions.new.items
+        ≡ regions_of regions.old.items ++ filter (is_open test.now) (region_of region.entry ∷ [])) }
+    ensures of { OnOk result (AreOf test.now regions.old.items → IsOf test.now region.entry → AreOf test.now regions.new.items) }
+{
+    if is_open(test, &region) {
+        regions.push(region)?;
+    }
+    Ok(())
+}
+
+// The number of what each run chooses at the position.
+fn chosen(alloc: Global, runs: &[&Lone], at: u8) -> Result<Vec<u64>, AllocError>
+    ensures { IfOk result (λ numbers. numbers.items ≡ map (λ run. chosen_at at run.now.steps) runs.now) }
+{
+    runs.iter().map(|run| run.chosen_at(at)).collect(alloc)
+}
+
+// The numbers of what the runs choose at the position, each once and rising.
+fn choices(alloc: Global, runs: &[&Lone], at: u8) -> Result<Vec<u64>, AllocError>
+    ensures { IfOk result (λ numbers. numbers.items ≡ rising (map (chosen_at at) (runs_of runs.now))) }
+{
+    let mut numbers = chosen(alloc, runs, at)?;
+    numbers.sort()?;
+    numbers.dedup();
+    Ok(numbers)
+}
+
+// A region for each choice that some run makes at the name.
+pub(crate) fn by_choice<'a>(
+    alloc: Global,
+    test: &Test,
+    name: OperationName,
+    region: &Region<'a>,
+) -> Result<Vec<Region<'a>>, AllocError>
+    requires test { IsBounded test.now }
+    requires region { IsOf test.now region.now }
+    ensures regions { IfOk result (λ left. regions_of left.items ≡ filter (is_open test.now) (by_choice name (region_of region.now))) }
+    ensures of { IfOk result (λ left. AreOf test.now left.items) }
+{
+    let runs = region.runs(name.hart);
+    let numbers = choices(alloc, runs, name.at)?;
+    let mut left = Vec::new(alloc);
+    for number in &numbers {
+        let kept = choosing(alloc, runs, name.at, *number)?;
+        add_open(test, &mut left, keep(alloc, region, name.hart, kept)?)?;
+    }
+    Ok(left)
+}
+
+// The runs in which the load agrees with a store of its own hart.
+fn keep_within<'a>(
+    alloc: Global,
+    load: OperationName,
+    region: &Region<'a>,
+    store: OperationName,
+) -> Result<Region<'a>, AllocError>
+    ensures region { IfOk result (λ smaller. region_of smaller
+        ≡ keep load.hart (λ run. agree run load run store) (region_of region.now)) }
+    ensures of { (t : Test) → IsOf t region.now → IfOk result (IsOf t) }
+{
+    let kept = agreeing_alone(alloc, region.runs(load.hart), load, store)?;
+    let smaller = keep(alloc, region, load.hart, kept)?;
+    Ok(smaller)
+}
+
+// The runs of both harts in which the load agrees with the store in some run of the other.
+fn keep_between<'a>(
+    alloc: Global,
+    load: OperationName,
+    region: &Region<'a>,
+    store: OperationName,
+) -> Result<Region<'a>, AllocError>
+    requires { store.hart ≢ load.hart }
+    ensures region { IfOk result (λ smaller. region_of smaller ≡
+        keep load.hart (λ run. list_any (λ other. agree run load other store) ((region_of region.now).runs store.hart))
+        (keep store.hart (λ other. list_any (λ run. agree run load other store) ((region_of region.now).runs load.hart))
+        (region_of region.now))) }
+    ensures of { (t : Test) → IsOf t region.now → IfOk result (IsOf t) }
+{
+    let loading = region.runs(load.hart);
+    let storing = region.runs(store.hart);
+    let stores = agreeing_stores(alloc, storing, store, loading, load)?;
+    let loads = agreeing_loads(alloc, loading, load, storing, store)?;
+    let smaller = keep(alloc, region, store.hart, stores)?;
+    let smallest = keep(alloc, &smaller, load.hart, loads)?;
+    Ok(smallest)
+}
+
+// The runs in which the load agrees with the store.
+fn keep_agreeing<'a>(
+    alloc: Global,
+    load: OperationName,
+    region: &Region<'a>,
+    store: OperationName,
+) -> Result<Region<'a>, AllocError>
+    ensures region { IfOk result (λ smaller. with_source load (From store) (region_of smaller)
+        ≡ from_store load (region_of region.now) store) }
+    ensures of { (t : Test) → IsOf t region.now → IfOk result (IsOf t) }
+{
+    if store.hart == load.hart {
+        let smaller = keep_within(alloc, load, region, store)?;
+        Ok(smaller)
+    } else {
+        let smaller = keep_between(alloc, load, region, store)?;
+        Ok(smaller)
+    }
+}
+
+// The load returns from this store.
+fn from_store<'a>(
+    alloc: Global,
+    load: OperationName,
+    region: &Region<'a>,
+    store: OperationName,
+) -> Result<Region<'a>, AllocError>
+    ensures region { IfOk result (λ smaller. region_of smaller ≡ from_store load (region_of region.now) store) }
+    ensures of { (t : Test) → IsOf t region.now → IfOk result (IsOf t) }
+{
+    let smaller = keep_agreeing(alloc, load, region, store)?;
+    let sourced = smaller.with_source(alloc, load, Source::From(store))?;
+    Ok(sourced)
+}
+
+// The load returns from the initial store of its location.
+fn from_initial<'a>(
+    alloc: Global,
+    test: &Test,
+    load: OperationName,
+    region: &Region<'a>,
+) -> Result<Region<'a>, AllocError>
+    requires { IsBounded test.now }
+    ensures region { IfOk result (λ smaller. region_of smaller ≡ from_initial test.now load (region_of region.now)) }
+    ensures of { (t : Test) → IsOf t region.now → IfOk result (IsOf t) }
+{
+    let kept = loading_initial(alloc, test, region.runs(load.hart), load)?;
+    let smaller = keep(alloc, region, load.hart, kept)?;
+    let sourced = smaller.with_source(alloc, load, Source::Initial)?;
+    Ok(sourced)
+}
+
+// The load isn't executed.
+fn from_nothing<'a>(alloc: Global, load: OperationName, region: &Region<'a>) -> Result<Region<'a>, AllocError>
+    ensures region { IfOk result (λ smaller. region_of smaller ≡ from_nothing load (region_of region.now)) }
+    ensures of { (t : Test) → IsOf t region.now → IfOk result (IsOf t) }
+{
+    let kept = not_loading(alloc, region.runs(load.hart), load.at)?;
+    let smaller = keep(alloc, region, load.hart, kept)?;
+    Ok(smaller)
+}
+
+fn from_source<'a>(
+    alloc: Global,
+    test: &Test,
+    load: OperationName,
+    region: &Region<'a>,
+    source: &Source,
+) -> Result<Region<'a>, AllocError>
+    requires { IsBounded test.now }
+    ensures region { IfOk result (λ smaller. region_of smaller ≡ from_source test.now load (region_of region.now) (source_of source.now)) }
+    ensures of { (t : Test) → IsOf t region.now → IfOk result (IsOf t) }
+{
+    match source {
+        Source::Initial => from_initial(alloc, test, load, region),
+        Source::From(store) => from_store(alloc, load, region, *store),
+    }
+}
+
+fn is_same_source(source: Source, other: Source) -> bool
+    ensures { result ≡ same_source (source_of source) (source_of other) }
+{
+    match (source, other) {
+        (Source::Initial, Source::Initial) => true,
+        (Source::From(store), Source::From(other)) => is_same_name(store, other),
+        _ => false,
+    }
+}
+
+// Is the source the one that is known, if one is?
+fn is_left(known: Option<Source>, source: Source) -> bool
+    ensures { result ≡ is_left (known_source known) (source_of source) }
+{
+    match known {
+        Some(known) => is_same_source(known, source),
+        None => true,
+    }
+}
+
+// Is the store of another hart, or before the load?
+fn can_be_source(load: OperationName, store: OperationName) -> bool
+    ensures { result ≡ can_be_source load store }
+{
+    store.hart != load.hart || store.at < load.at
+}
+
+// Puts the source behind those that are there, if it may be the load's.
+fn add_left(sources: &mut Vec<Source>, known: Option<Source>, source: Source) -> Result<(), AllocError>
+    ensures { OnOk result (map source_of sources.new.items
+        ≡ map source_of sources.old.items ++ filter (is_left (known_source known)) (source_of source ∷ [])) }
+{
+    if is_left(known, source) {
+        sources.push(source)?;
+    }
+    Ok(())
+}
+
+// Puts the store behind those that are there, if it may be the load's source.
+fn add_store(
+    sources: &mut Vec<Source>,
+    load: OperationName,
+    known: Option<Source>,
+    store: &OperationName,
+) -> Result<(), AllocError>
+    ensures { OnOk result (map source_of sources.new.items ≡ map source_of sources.old.items
+        ++ filter (is_left (known_source known)) (map From (filter (can_be_source load) (store.now ∷ [])))) }
+{
+    if can_be_source(load, *store) {
+        add_left(sources, known, Source::From(*store))?;
+    }
+    Ok(())
+}
+
+// The sources from which the load may return.
+fn sources_for(
+    alloc: Global,
+    ground: &Ground<'_>,
+    load: OperationName,
+    region: &Region<'_>,
+) -> Result<Vec<Source>, AllocError>
+    requires { HasNames ground.now }
+    ensures { IfOk result (λ sources. map source_of sources.items ≡ sources_for ground.now.test.now load (region_of region.now)) }
+{
+    let known = region.source(load);
+    let mut sources = Vec::new(alloc);
+    add_left(&mut sources, known, Source::Initial)?;
+    for store in ground.names.as_slice() {
+        add_store(&mut sources, load, known, store)?;
+    }
+    Ok(sources)
+}
+
+// A region for each source of the load, and one where it isn't executed.
+pub(crate) fn by_source<'a>(
+    alloc: Global,
+    ground: &Ground<'_>,
+    load: OperationName,
+    region: &Region<'a>,
+) -> Result<Vec<Region<'a>>, AllocError>
+    requires test { IsBounded ground.now.test.now }
+    requires region { IsOf ground.now.test.now region.now }
+    requires names { HasNames ground.now }
+    ensures regions { IfOk result (λ left. regions_of left.items
+        ≡ filter (is_open ground.now.test.now) (by_source ground.now.test.now load (region_of region.now))) }
+    ensures of { IfOk result (λ left. AreOf ground.now.test.now left.items) }
+{
+    let sources = sources_for(alloc, ground, load, region)?;
+    let mut left = Vec::new(alloc);
+    add_open(ground.test, &mut left, from_nothing(alloc, load, region)?)?;
+    for source in &sources {
+        let smaller = from_source(alloc, ground.test, load, region, source)?;
+        add_open(ground.test, &mut left, smaller)?;
+    }
+    Ok(left)
+}
+
+// The first store is the earlier one, or the second is.
+pub(crate) fn by_order<'a>(
+    alloc: Global,
+    test: &Test,
+    first: OperationName,
+    second: OperationName,
+    region: &Region<'a>,
+) -> Result<Vec<Region<'a>>, AllocError>
+    requires test { IsBounded test.now }
+    requires region { IsOf test.now region.now }
+    ensures regions { IfOk result (λ left. regions_of left.items ≡ filter (is_open test.now) (by_order first second (region_of region.now))) }
+    ensures of { IfOk result (λ left. AreOf test.now left.items) }
+{
+    let mut left = Vec::new(alloc);
+    add_open(test, &mut left, region.with_order(alloc, first, second)?)?;
+    add_open(test, &mut left, region.with_order(alloc, second, first)?)?;
+    Ok(left)
+}
+
+// Has the condition parts?
+pub(crate) fn has_parts(condition: &Outcome, truth: bool) -> bool
+    ensures { result ≡ nat_lt 0 (length (ways (condition_of condition.now) truth)) }
+{
+    match condition {
+        Outcome::Deny(_) | Outcome::Both(_, _) | Outcome::Either(_, _) => {
+            let _truth = truth;
+            true
+        }
+        _ => false,
+    }
+}
+
+// Wanted conditions, one or two.
+fn one<'a>(alloc: Global, condition: &'a Outcome, truth: bool) -> Result<List<Wanted<'a>>, AllocError>
+    ensures { IfOk result (λ way. all_wanted way ≡ (condition_of condition.now, truth) ∷ []) }
+{
+    let mut way = Vec::new(alloc);
+    way.push(Wanted { condition, truth })?;
+    Ok(List::new(way))
+}
+
+fn two<'a>(
+    alloc: Global,
+    left: &'a Outcome,
+    right: &'a Outcome,
+    truth: bool,
+) -> Result<List<Wanted<'a>>, AllocError>
+    ensures { IfOk result (λ way. all_wanted way ≡ (condition_of left.now, truth) ∷ (condition_of right.now, truth) ∷ []) }
+{
+    let mut way = Vec::new(alloc);
+    way.push(Wanted { condition: left, truth })?;
+    way.push(Wanted { condition: right, truth })?;
+    Ok(List::new(way))
+}
+
+// The ways of two parts: both at once, or one or the other.
+fn ways_of_two<'a>(
+    alloc: Global,
+    left: &'a Outcome,
+    right: &'a Outcome,
+    truth: bool,
+    at_once: bool,
+) -> Result<Vec<List<Wanted<'a>>>, AllocError>
+    ensures { IfOk result (λ found. map all_wanted found.items ≡ (if at_once
+        then ((condition_of left.now, truth) ∷ (condition_of right.now, truth) ∷ []) ∷ []
+        else ((condition_of left.now, truth) ∷ []) ∷ ((condition_of right.now, truth) ∷ []) ∷ [])) }
+{
+    let mut found = Vec::new(alloc);
+    if at_once {
+        found.push(two(alloc, left, right, truth)?)?;
+    } else {
+        found.push(one(alloc, left, truth)?)?;
+        found.push(one(alloc, right, truth)?)?;
+    }
+    Ok(found)
+}
+
+// The ways in which its parts give the condition this truth value.
+fn ways<'a>(alloc: Global, condition: &'a Outcome, truth: bool) -> Result<Vec<List<Wanted<'a>>>, AllocError>
+    ensures { IfOk result (λ found. map all_wanted found.items ≡ ways (condition_of condition.now) truth) }
+{
+    match condition {
+        Outcome::Deny(denied) => ways_of_one(alloc, denied, !truth),
+        Outcome::Both(left, right) => ways_of_two(alloc, left, right, truth, truth),
+        Outcome::Either(left, right) => ways_of_two(alloc, left, right, truth, !truth),
+        _ => Ok(Vec::new(alloc)),
+    }
+}
+
+fn ways_of_one<'a>(alloc: Global, part: &'a Outcome, truth: bool) -> Result<Vec<List<Wanted<'a>>>, AllocError>
+    ensures { IfOk result (λ found. map all_wanted found.items ≡ ((condition_of part.now, truth) ∷ []) ∷ []) }
+{
+    let mut found = Vec::new(alloc);
+    found.push(one(alloc, part, truth)?)?;
+    Ok(found)
+}
+
+// The wanted conditions with these in the place of the one of this number.
+fn replace<'a>(
+    alloc: Global,
+    wanted: &[Wanted<'a>],
+    number: usize,
+    way: &[Wanted<'a>],
+) -> Result<List<Wanted<'a>>, AllocError>
+    requires { number < length wanted.now }
+    ensures { IfOk result (λ others. others ≡ take number wanted.now ++ way.now ++ drop (number + 1) wanted.now) }
+{
+    let mut others = Vec::new(alloc);
+    others.extend_from_slice(&wanted[..number])?;
+    others.extend_from_slice(way)?;
+    others.extend_from_slice(&wanted[number + 1..])?;
+    Ok(List::new(others))
+}
+
+// The cases of the wanted condition of this number.
+pub(crate) fn by_cases<'a>(
+    alloc: Global,
+    test: &Test,
+    number: usize,
+    region: &Region<'a>,
+) -> Result<Vec<Region<'a>>, AllocError>
+    requires test { IsBounded test.now }
+    requires region { IsOf test.now region.now }
+    ensures regions { IfOk result (λ left. regions_of left.items ≡ filter (is_open test.now) (by_cases number (region_of region.now))) }
+    ensures of { IfOk result (λ left. AreOf test.now left.items) }
+{
+    let mut left = Vec::new(alloc);
+    let wanted = region.wanted.as_slice();
+    let Some(parted) = wanted.get(number) else {
+        return Ok(left);
+    };
+    for way in &ways(alloc, parted.condition, parted.truth)? {
+        let others = replace(alloc, wanted, number, way.as_slice())?;
+        add_open(test, &mut left, region.with_wanted(alloc, others)?)?;
+    }
+    Ok(left)
+}
+
+// May each wanted condition have its truth value, with this run of the hart?
+fn may_with<'a>(
+    alloc: Global,
+    ground: &Ground<'_>,
+    hart: u8,
+    region: &Region<'a>,
+    run: &'a Lone,
+) -> Result<bool, AllocError>
+    requires names { HasNames ground.now }
+    requires region { IsOf ground.now.test.now region.now }
+    requires hart { hart < length region.now.runs.items }
+    requires test { run.now.test ≡ ground.now.test.now }
+    requires of { run.now.hart ≡ hart }
+    ensures { IfOk result (λ may_all. may_all ≡ list_all (λ wanted.
+        may ground.now.test.now (with_run hart run.now.steps (region_of region.now)) wanted.0 wanted.1) (region_of region.now).wanted) }
+{
+    let mut runs = Vec::new(alloc);
+    runs.push(run)?;
+    let smaller = region.with_runs(alloc, hart, List::new(runs))?;
+    Ok(may_all(ground, &smaller, smaller.wanted.as_slice()))
+}
+
+// Puts the run behind those that are there, if it passes.
+fn push_if<'a>(runs: &mut Vec<&'a Lone>, run: &&'a Lone, passes: bool) -> Result<(), AllocError>
+    ensures { OnOk result (runs.new.items ≡ runs.old.items ++ (if passes then run.now ∷ [] else [])) }
+{
+    if passes {
+        runs.push(*run)?;
+    }
+    Ok(())
+}
+
+// The hart's runs with each of which every wanted condition may have its truth value.
+pub(crate) fn by_outcome<'a>(
+    alloc: Global,
+    ground: &Ground<'_>,
+    hart: u8,
+    region: &Region<'a>,
+) -> Result<Vec<Region<'a>>, AllocError>
+    requires test { IsBounded ground.now.test.now }
+    requires names { HasNames ground.now }
+    requires region { IsOf ground.now.test.now region.now }
+    ensures regions { IfOk result (λ left. regions_of left.items
+        ≡ filter (is_open ground.now.test.now) (by_outcome ground.now.test.now hart (region_of region.now))) }
+    ensures of { IfOk result (λ left. AreOf ground.now.test.now left.items) }
+{
+    let mut kept = Vec::new(alloc);
+    for run in region.runs(hart) {
+        let passes = may_with(alloc, ground, hart, region, run)?;
+        push_if(&mut kept, run, passes)?;
+    }
+    let mut left = Vec::new(alloc);
+    add_open(ground.test, &mut left, keep(alloc, region, hart, List::new(kept))?)?;
+    Ok(left)
+}
