@@ -1,6 +1,6 @@
 -- Runs of one hart of a test: what is asked of each by its own hart and test, and by that hart and test.
 use Rattle.std.proofs.Common.{◌≡◌, ℕ, ◌+◌, ◌<◌, ◌≤◌, Bool, true, false, length, get_or, take, ◌&&◌, ◌||◌, List, [], ◌∷◌, refl, sym, ◌∙◌, ap}
-use Rattle.std.specs.Prelude.{All, ◌==◌}
+use Rattle.std.specs.Prelude.{◌==◌}
 use Rattle.std.specs.Borrow.{Bor}
 use Rattle.std.specs.List.{list_all, list_any}
 use Rattle.std.proofs.lemmas.Bool.{and_from}
@@ -15,7 +15,7 @@ use Rattle.fs_model.specs.Preserved.{Rule}
 use Rattle.fs_model.specs.Shows.{final_register}
 use Rattle.fs_region.specs.Regions.{Region}
 use Rattle.fs_region.specs.Musts.{alone, traces_of, is_rule, has_truth}
-use Rattle.fs_alone.specs.Alone.{RunOf, execution_of}
+use Rattle.fs_alone.specs.Alone.{RunOf}
 use Rattle.fs_refute.specs.declared.outcome.Ending.{Ending}
 use Rattle.fs_refute.specs.Views.{runs_of, AreRunsOf}
 use Rattle.fs_refute.specs.inner.Asked.{is_ordered_in, ends_so}
@@ -53,7 +53,7 @@ module _ (f : Bor RunOf → Bool) (runs : List (Bor RunOf)) (i : ℕ) where
 
 pub ends_alike : (t : Test) (hart register : ℕ) (ending : Ending) (runs : List (Bor RunOf)) → AreRunsOf t hart runs
     → list_any (ends_so register ending) runs
-      ≡ list_any (λ run. has_truth ending.truth (final_register t (traces_of t hart run) hart register == ending.word)) (runs_of runs)
+    ≡ list_any (λ run. has_truth ending.truth (final_register t (traces_of t hart run) hart register == ending.word)) (runs_of runs)
 ends_alike t hart register ending runs are =
     any_alike t hart (ends_so register ending)
     (λ run. has_truth ending.truth (final_register t (traces_of t hart run) hart register == ending.word))

@@ -1,7 +1,7 @@
 -- Lists of numbers that rise: two with the same numbers are the same.
-use Rattle.std.proofs.Common.{◌≡◌, ℕ, zero, suc, ◌+◌, ◌<◌, ◌≤◌, ◌⊎◌, Bool, true, false, ◌||◌, List, [], ◌∷◌, length, inl, inr, refl, sym, ◌∙◌, ap, subst, arith, ltb, eqb}
+use Rattle.std.proofs.Common.{◌≡◌, ℕ, zero, suc, ◌+◌, ◌<◌, ◌≤◌, Bool, true, false, ◌||◌, List, [], ◌∷◌, length, inl, inr, refl, sym, ◌∙◌, ap, subst, arith, ltb, eqb}
 use Rattle.std.specs.Prelude.{if◌then◌else◌, slice_index}
-use Rattle.std.specs.List.{Contains, dedup, list_any}
+use Rattle.std.specs.List.{dedup, list_any}
 use Rattle.std.specs.List.Sorted.{IsPermutation, IsSorted, IsStrictlyIncreasing}
 use Rattle.std.specs.Ordering.{nat_cmp}
 use Rattle.std.proofs.lemmas.Bool.{false≢true, cases_Bool, cases_lt, or_cases, eqb-true, eqb-false, eq-eqb, ltb-true, ltb-false}
@@ -35,7 +35,6 @@ not_below n xs k from below = elim (cases_Bool (has xs k)) [
   | inl e ↦ (let least = low n xs k from e in absurd (omega (arith, least, below)))
   | inr e ↦ e
 ]
-
 
 heads : (x y : ℕ) (xs ys : List ℕ) → IsFrom (x + 1) xs → IsFrom (y + 1) ys → ((k : ℕ) → has (x ∷ xs) k ≡ has (y ∷ ys) k) → x ≡ y
 heads x y xs ys up vp same =
@@ -140,9 +139,9 @@ same_tests false false f g = refl
 has_dedup : (xs : List ℕ) (k : ℕ) → has (dedup eqb xs) k ≡ has xs k
 has_dedup xs k = same_tests (has (dedup eqb xs) k) (has xs k)
     (λ e. let found = any_from (λ n. eqb n k) (dedup eqb xs) e in
-      any_in (λ n. eqb n k) xs found.0 (Contains-from_dedup eqb xs found.0 found.1) found.2)
+    any_in (λ n. eqb n k) xs found.0 (Contains-from_dedup eqb xs found.0 found.1) found.2)
     (λ e. let found = any_from (λ n. eqb n k) xs e in
-      any_in (λ n. eqb n k) (dedup eqb xs) found.0 (Contains-dedup_nat xs found.0 found.1) found.2)
+    any_in (λ n. eqb n k) (dedup eqb xs) found.0 (Contains-dedup_nat xs found.0 found.1) found.2)
 
 -- sorted, and each once
 pub rising_is : (ns sorted : List ℕ) → IsPermutation ns sorted → IsSorted nat_cmp sorted → dedup eqb sorted ≡ rising ns

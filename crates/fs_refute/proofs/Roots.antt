@@ -1,5 +1,5 @@
 -- The region of all candidates, and stacks of regions.
-use Rattle.std.proofs.Common.{◌≡◌, ℕ, zero, suc, ◌<◌, Bool, true, Option, None, List, [], ◌∷◌, ◌++◌, map, reverse, length, refl, sym, ◌∙◌, ap, subst, arith}
+use Rattle.std.proofs.Common.{◌≡◌, ℕ, zero, suc, ◌<◌, true, List, [], ◌∷◌, ◌++◌, map, length, refl, sym, ◌∙◌, ap, subst, arith}
 use Rattle.std.specs.Prelude.{All}
 use Rattle.std.specs.Arc.{arc_value}
 use Rattle.std.specs.Borrow.{Bor}
@@ -7,14 +7,13 @@ use Rattle.std.specs.List.{slice_index_or}
 use Rattle.std.proofs.lemmas.List.{append_assoc, map-append, reverse-append}
 use Rattle.std.proofs.lemmas.List.Elements.{All-nil, All-cons, All-head, All-tail}
 use Rattle.fs_model.specs.declared.test.Test.{Test}
-use Rattle.fs_model.specs.declared.step.Step.{Step}
-use Rattle.fs_model.specs.Condition.{Condition, condition_of}
+use Rattle.fs_model.specs.Condition.{condition_of}
 use Rattle.fs_model.specs.Shows.{is_outcome}
 use Rattle.fs_region.specs.Regions.{Region}
 use Rattle.fs_region.specs.Trees.{root}
 use Rattle.fs_alone.specs.Alone.{RunOf}
 use Rattle.fs_refute.specs.declared.region.Region.{Region as CodeRegion}
-use Rattle.fs_refute.specs.Views.{region_of, regions_of, runs_of, at_hart, lists_in, source_in, is_in_order, all_wanted, runs_over, AreRunsOf, IsOf}
+use Rattle.fs_refute.specs.Views.{region_of, regions_of, runs_of, at_hart, lists_in, source_in, is_in_order, all_wanted, runs_over, AreRunsOf}
 use Rattle.fs_refute.specs.Verdict.{stacked}
 use Rattle.fs_refute.specs.inner.Asked.{values_in}
 use Rattle.fs_refute.proofs.Regions.{same_region}

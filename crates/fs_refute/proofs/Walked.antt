@@ -1,15 +1,15 @@
 -- A walk over inferences: what it has found when it comes to one.
-use Rattle.std.proofs.Common.{◌≡◌, ℕ, zero, suc, ◌+◌, ◌-◌, ◌<◌, ◌≤◌, ◌⊎◌, Bool, true, false, ◌&&◌, Option, Some, None, Ok, Err, List, [], ◌∷◌, ◌++◌, length, get_or, inl, inr, refl, sym, ◌∙◌, ap, subst, arith}
-use Rattle.std.specs.Prelude.{slice_get, take, drop}
+use Rattle.std.proofs.Common.{◌≡◌, ℕ, zero, suc, ◌+◌, ◌-◌, ◌<◌, ◌≤◌, Bool, true, false, ◌&&◌, Some, Err, List, [], ◌∷◌, ◌++◌, length, get_or, inl, inr, refl, sym, ◌∙◌, ap, subst, arith}
+use Rattle.std.specs.Prelude.{take, drop}
 use Rattle.std.proofs.lemmas.Bool.{false≢true, and_parts, cases_lt}
-use Rattle.std.proofs.lemmas.List.{take_more, drop_more, take_all, drop_all}
+use Rattle.std.proofs.lemmas.List.{take_more, drop_more, drop_all}
 use Rattle.std.proofs.lemmas.Option.{slice_get_within, slice_get-get_or}
 use Rattle.fs_kinds.specs.declared.placement.Entry.{Entry}
 use Rattle.fs_model.specs.declared.test.Test.{Test}
 use Rattle.fs_region.specs.Regions.{Region}
 use Rattle.fs_region.specs.Trees.{Inference, follows, left_after, refutes}
 use Rattle.fs_refute.specs.declared.wrong.Wrong.TheVariants as wrong
-use Rattle.fs_refute.specs.Verdict.{after_one, open_after, open_before, IsJudged, IsWholeTree, IsWhy, Answers}
+use Rattle.fs_refute.specs.Verdict.{after_one, open_after, open_before, IsJudged, IsWholeTree, Answers}
 
 module _ (t : Test) where
   -- where no region is open, none is later

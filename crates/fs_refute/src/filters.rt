@@ -107,7 +107,12 @@ fn agree(run: &Lone, load: OperationName, other: &Lone, store: OperationName) ->
 }
 
 // Does the load of the run agree with the store of some of the others?
-fn agrees_with_store(run: &Lone, load: OperationName, others: &[&Lone], store: OperationName) -> bool
+fn agrees_with_store(
+    run: &Lone,
+    load: OperationName,
+    others: &[&Lone],
+    store: OperationName,
+) -> bool
     ensures { result ≡ list_any (λ other. agree run.now.steps load other store) (runs_of others.now) }
 {
     others.iter().any(|other| agree(run, load, other, store))

@@ -7,7 +7,8 @@ use fs_kinds::OperationName;
 use fs_list::List;
 use fs_model::Test;
 
-/// A test with the runs of each hart, and the names of its memory instructions: what all refutations of the test are over.
+/// A test with the runs of each hart, and the names of its memory instructions: what all refutations of the test are
+/// over.
 #[derive(Drop)]
 pub struct Ground<'a> {
     pub test: &'a Test,

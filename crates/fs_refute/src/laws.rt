@@ -7,7 +7,8 @@ ghost use Rattle.fs_region.specs.Regions.{Region};
 ghost use Rattle.fs_region.specs.Trees.{Inference, refutes};
 ghost use Rattle.fs_refute.specs.Verdict.{IsWholeTree};
 
-/// A law: inferences refute regions where each of them is reached and follows from the region that it speaks of, the first
+/// A law: inferences refute regions where each of them is reached and follows from the region that it speaks of, the
+/// first
 /// that is open then, and no region is left open after the last.
 pub fn refutations_are_whole_trees()
     ensures { (t : Test) (p : List Entry) (regions : List Region) (inferences : List Inference)

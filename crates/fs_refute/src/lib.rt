@@ -1,4 +1,5 @@
-//! Checks a refutation: a tree of inferences over regions, one inference after the other. Each is looked at once, and nothing
+//! Checks a refutation: a tree of inferences over regions, one inference after the other. Each is looked at once, and
+//! nothing
 //! is searched for.
 #![tactic(auto)]
 

@@ -82,7 +82,8 @@ pub(crate) fn must_meet(
     second: (Access, OperationName),
 ) -> bool
     requires { IsBounded test.now }
-    ensures { result ≡ must_meet test.now (region_of region.now) (access_of first.0) (access_of second.0) first.1 second.1 }
+    ensures { result ≡ must_meet test.now (region_of region.now) (access_of first.0)
+        (access_of second.0) first.1 second.1 }
 {
     (0..test.locations.len() as u8).any(|location| {
         must_be(test, region, first.0, first.1, location)
@@ -91,7 +92,11 @@ pub(crate) fn must_meet(
 }
 
 // Is the store before this source?
-pub(crate) fn is_before_source(region: &Region<'_>, store: OperationName, source: Option<Source>) -> bool
+pub(crate) fn is_before_source(
+    region: &Region<'_>,
+    store: OperationName,
+    source: Option<Source>,
+) -> bool
     ensures { result ≡ is_before (region_of region.now) store (known_source source) }
 {
     match source {
@@ -113,7 +118,12 @@ fn is_later_than(
 {
     match source {
         None => false,
-        Some(Source::Initial) => must_meet(test, region, (Access::Load, load), (Access::Store, store)),
+        Some(Source::Initial) => must_meet(
+            test,
+            region,
+            (Access::Load, load),
+            (Access::Store, store),
+        ),
         Some(Source::From(other)) => region.is_before(other, store),
     }
 }

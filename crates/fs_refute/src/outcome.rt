@@ -60,7 +60,8 @@ fn stores_such(run: &Lone, name: OperationName, location: u8, ending: Ending) ->
 
 // Does one of the runs?
 fn any_stores_such(runs: &[&Lone], name: OperationName, location: u8, ending: Ending) -> bool
-    ensures { result ≡ list_any (stores_such location (λ w. has_truth ending.truth (w == ending.word)) name) (runs_of runs.now) }
+    ensures { result ≡ list_any (stores_such location (λ w. has_truth ending.truth (w == ending.word)) name)
+        (runs_of runs.now) }
 {
     runs.iter()
         .any(|run| stores_such(run, name, location, ending))
@@ -82,10 +83,7 @@ fn must_be_stored(ground: &Ground<'_>, region: &Region<'_>, location: u8) -> boo
     ensures { result ≡ list_any (λ a. must_be ground.now.test.now (region_of region.now) stored_at a location)
         (names ground.now.test.now) }
 {
-    ground
-        .names
-        .iter()
-        .any(|name| must_be(ground.test, region, Access::Store, *name, location))
+    ground.names.iter().any(|name| must_be(ground.test, region, Access::Store, *name, location))
 }
 
 // Does the store come before another?
@@ -109,7 +107,8 @@ fn may_be_last(
 ) -> bool
     requires { HasNames ground.now }
     ensures { result ≡ (not (list_any ((region_of region.now).before name) (names ground.now.test.now))
-        && list_any (stores_such location (λ w. has_truth ending.truth (w == ending.word)) name) ((region_of region.now).runs name.hart)) }
+        && list_any (stores_such location (λ w. has_truth ending.truth (w == ending.word)) name)
+        ((region_of region.now).runs name.hart)) }
 {
     !is_overtaken(ground, region, name)
         && any_stores_such(region.runs(name.hart), name, location, ending)
@@ -119,13 +118,11 @@ fn may_be_last(
 fn may_end_stored(ground: &Ground<'_>, region: &Region<'_>, location: u8, ending: Ending) -> bool
     requires { HasNames ground.now }
     ensures { result ≡ list_any (λ a. not (list_any ((region_of region.now).before a) (names ground.now.test.now))
-        && list_any (stores_such location (λ w. has_truth ending.truth (w == ending.word)) a) ((region_of region.now).runs a.hart))
+        && list_any (stores_such location (λ w. has_truth ending.truth (w == ending.word)) a)
+        ((region_of region.now).runs a.hart))
         (names ground.now.test.now) }
 {
-    ground
-        .names
-        .iter()
-        .any(|name| may_be_last(ground, region, *name, location, ending))
+    ground.names.iter().any(|name| may_be_last(ground, region, *name, location, ending))
 }
 
 // May the location end with such a word?
@@ -134,7 +131,8 @@ fn may_end(ground: &Ground<'_>, region: &Region<'_>, location: u8, ending: Endin
     ensures { result ≡ may_end ground.now.test.now (region_of region.now) location
         (λ w. has_truth ending.truth (w == ending.word)) }
 {
-    (is_ending(ending, initial_word(ground.test, location)) && !must_be_stored(ground, region, location))
+    (is_ending(ending, initial_word(ground.test, location))
+        && !must_be_stored(ground, region, location))
         || may_end_stored(ground, region, location, ending)
 }
 
@@ -147,7 +145,12 @@ fn may_end_register(runs: &[&Lone], register: Reg, ending: Ending) -> bool
 }
 
 // May the condition have this truth value? Its depth is bounded by that of the test's condition.
-pub(crate) fn may(ground: &Ground<'_>, region: &Region<'_>, condition: &Outcome, truth: bool) -> bool
+pub(crate) fn may(
+    ground: &Ground<'_>,
+    region: &Region<'_>,
+    condition: &Outcome,
+    truth: bool,
+) -> bool
     requires names { HasNames ground.now }
     requires region { IsOf ground.now.test.now region.now }
     ensures { result ≡ may ground.now.test.now (region_of region.now) (condition_of condition.now) truth }
@@ -185,7 +188,5 @@ pub(crate) fn may_all(ground: &Ground<'_>, region: &Region<'_>, wanted: &[Wanted
     requires region { IsOf ground.now.test.now region.now }
     ensures { result ≡ list_all (λ w. may ground.now.test.now (region_of region.now) w.0 w.1) (all_wanted wanted.now) }
 {
-    wanted
-        .iter()
-        .all(|wanted| may(ground, region, wanted.condition, wanted.truth))
+    wanted.iter().all(|wanted| may(ground, region, wanted.condition, wanted.truth))
 }

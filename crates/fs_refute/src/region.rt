@@ -39,7 +39,8 @@ pub(crate) struct Wanted<'a> {
 // Runs of one hart.
 pub(crate) type Runs<'a> = List<&'a Lone>;
 
-// The candidates with these runs, sources, orders and truth values. Regions share their lists, so that one which is made of
+// The candidates with these runs, sources, orders and truth values. Regions share their lists, so that one which is
+// made of
 // another takes the memory of what it changes.
 #[derive(Drop)]
 pub(crate) struct Region<'a> {
@@ -78,9 +79,8 @@ impl<'a> Region<'a> {
     pub(crate) fn is_before(&self, first: OperationName, second: OperationName) -> bool
         ensures { result ≡ (region_of self.now).before first second }
     {
-        self.orders
-            .iter()
-            .any(|known| is_same_name(first, known.first) && is_same_name(second, known.second))
+        self.orders.iter().any(|known| is_same_name(first, known.first)
+            && is_same_name(second, known.second))
     }
 
     // The region with these runs of the hart, where it is one.
@@ -115,13 +115,24 @@ impl<'a> Region<'a> {
         load: OperationName,
         source: Source,
     ) -> Result<Region<'a>, AllocError>
-        ensures region { IfOk result (λ region. region_of region ≡ with_source load (source_of source) (region_of self.entry)) }
+        ensures region { IfOk result (λ region. region_of region
+            ≡ with_source load (source_of source) (region_of self.entry)) }
         ensures of { (t : Test) → IsOf t self.entry → IfOk result (IsOf t) }
     {
         let sources = put(alloc, &self.sources, load, source)?;
         let sources = Arc::new(alloc, sources)?;
-        let Region { runs, sources: _, orders, wanted } = self;
-        Ok(Region { runs, sources, orders, wanted })
+        let Region {
+            runs,
+            sources: _,
+            orders,
+            wanted,
+        } = self;
+        Ok(Region {
+            runs,
+            sources,
+            orders,
+            wanted,
+        })
     }
 
     // The region where the first store is the earlier one.
@@ -152,7 +163,8 @@ impl<'a> Region<'a> {
         alloc: Global,
         wanted: List<Wanted<'a>>,
     ) -> Result<Region<'a>, AllocError>
-        ensures region { IfOk result (λ region. region_of region ≡ with_wanted (all_wanted wanted.entry) (region_of self.now)) }
+        ensures region { IfOk result (λ region. region_of region
+            ≡ with_wanted (all_wanted wanted.entry) (region_of self.now)) }
         ensures of { (t : Test) → IsOf t self.now → IfOk result (IsOf t) }
     {
         let wanted = Arc::new(alloc, wanted)?;
@@ -192,7 +204,8 @@ fn put(
     load: OperationName,
     source: Source,
 ) -> Result<List<Sourced>, AllocError>
-    ensures { IfOk result (λ all. (name : Name) → source_in all name ≡ source_after load (source_of source) sources.now name) }
+    ensures { IfOk result (λ all. (name : Name) → source_in all name
+        ≡ source_after load (source_of source) sources.now name) }
 {
     let others: Vec<Sourced> = sources
         .iter()

@@ -13,7 +13,9 @@ ghost use Rattle.fs_region.specs.Trees.{is_open};
 ghost use Rattle.fs_alone.specs.Alone.{source_of};
 ghost use Rattle.fs_refute.specs.Views.{region_of, regions_of, all_wanted, list_at, runs_of, known_source, HasNames, IsOf, AreOf};
 
-use crate::filters::{agreeing_alone, agreeing_loads, agreeing_stores, choosing, loading_initial, not_loading};
+use crate::filters::{
+    agreeing_alone, agreeing_loads, agreeing_stores, choosing, loading_initial, not_loading,
+};
 use crate::ground::Ground;
 use crate::musts::is_same_name;
 use crate::outcome::may_all;
@@ -56,11 +58,16 @@ fn has_run(region: &Region<'_>, hart: u8) -> bool
 }
 
 // Puts the region behind those that are there, if it is open.
-pub(crate) fn add_open<'a>(test: &Test, regions: &mut Vec<Region<'a>>, region: Region<'a>) -> Result<(), AllocError>
+pub(crate) fn add_open<'a>(
+    test: &Test,
+    regions: &mut Vec<Region<'a>>,
+    region: Region<'a>,
+) -> Result<(), AllocError>
     requires { IsBounded test.now }
     ensures regions { OnOk result (regions_of regions.new.items
         ≡ regions_of regions.old.items ++ filter (is_open test.now) (region_of region.entry ∷ [])) }
-    ensures of { OnOk result (AreOf test.now regions.old.items → IsOf test.now region.entry → AreOf test.now regions.new.items) }
+    ensures of { OnOk result (AreOf test.now regions.old.items → IsOf test.now region.entry
+        → AreOf test.now regions.new.items) }
 {
     if is_open(test, &region) {
         regions.push(region)?;
@@ -94,7 +101,8 @@ pub(crate) fn by_choice<'a>(
 ) -> Result<Vec<Region<'a>>, AllocError>
     requires test { IsBounded test.now }
     requires region { IsOf test.now region.now }
-    ensures regions { IfOk result (λ left. regions_of left.items ≡ filter (is_open test.now) (by_choice name (region_of region.now))) }
+    ensures regions { IfOk result (λ left. regions_of left.items
+        ≡ filter (is_open test.now) (by_choice name (region_of region.now))) }
     ensures of { IfOk result (λ left. AreOf test.now left.items) }
 {
     let runs = region.runs(name.hart);
@@ -199,7 +207,11 @@ fn from_initial<'a>(
 }
 
 // The load isn't executed.
-fn from_nothing<'a>(alloc: Global, load: OperationName, region: &Region<'a>) -> Result<Region<'a>, AllocError>
+fn from_nothing<'a>(
+    alloc: Global,
+    load: OperationName,
+    region: &Region<'a>,
+) -> Result<Region<'a>, AllocError>
     ensures region { IfOk result (λ smaller. region_of smaller ≡ from_nothing load (region_of region.now)) }
     ensures of { (t : Test) → IsOf t region.now → IfOk result (IsOf t) }
 {
@@ -216,7 +228,8 @@ fn from_source<'a>(
     source: &Source,
 ) -> Result<Region<'a>, AllocError>
     requires { IsBounded test.now }
-    ensures region { IfOk result (λ smaller. region_of smaller ≡ from_source test.now load (region_of region.now) (source_of source.now)) }
+    ensures region { IfOk result (λ smaller. region_of smaller
+        ≡ from_source test.now load (region_of region.now) (source_of source.now)) }
     ensures of { (t : Test) → IsOf t region.now → IfOk result (IsOf t) }
 {
     match source {
@@ -253,7 +266,11 @@ fn can_be_source(load: OperationName, store: OperationName) -> bool
 }
 
 // Puts the source behind those that are there, if it may be the load's.
-fn add_left(sources: &mut Vec<Source>, known: Option<Source>, source: Source) -> Result<(), AllocError>
+fn add_left(
+    sources: &mut Vec<Source>,
+    known: Option<Source>,
+    source: Source,
+) -> Result<(), AllocError>
     ensures { OnOk result (map source_of sources.new.items
         ≡ map source_of sources.old.items ++ filter (is_left (known_source known)) (source_of source ∷ [])) }
 {
@@ -287,7 +304,8 @@ fn sources_for(
     region: &Region<'_>,
 ) -> Result<Vec<Source>, AllocError>
     requires { HasNames ground.now }
-    ensures { IfOk result (λ sources. map source_of sources.items ≡ sources_for ground.now.test.now load (region_of region.now)) }
+    ensures { IfOk result (λ sources. map source_of sources.items
+        ≡ sources_for ground.now.test.now load (region_of region.now)) }
 {
     let known = region.source(load);
     let mut sources = Vec::new(alloc);
@@ -332,7 +350,8 @@ pub(crate) fn by_order<'a>(
 ) -> Result<Vec<Region<'a>>, AllocError>
     requires test { IsBounded test.now }
     requires region { IsOf test.now region.now }
-    ensures regions { IfOk result (λ left. regions_of left.items ≡ filter (is_open test.now) (by_order first second (region_of region.now))) }
+    ensures regions { IfOk result (λ left. regions_of left.items
+        ≡ filter (is_open test.now) (by_order first second (region_of region.now))) }
     ensures of { IfOk result (λ left. AreOf test.now left.items) }
 {
     let mut left = Vec::new(alloc);
@@ -355,7 +374,11 @@ pub(crate) fn has_parts(condition: &Outcome, truth: bool) -> bool
 }
 
 // Wanted conditions, one or two.
-fn one<'a>(alloc: Global, condition: &'a Outcome, truth: bool) -> Result<List<Wanted<'a>>, AllocError>
+fn one<'a>(
+    alloc: Global,
+    condition: &'a Outcome,
+    truth: bool,
+) -> Result<List<Wanted<'a>>, AllocError>
     ensures { IfOk result (λ way. all_wanted way ≡ (condition_of condition.now, truth) ∷ []) }
 {
     let mut way = Vec::new(alloc);
@@ -369,11 +392,18 @@ fn two<'a>(
     right: &'a Outcome,
     truth: bool,
 ) -> Result<List<Wanted<'a>>, AllocError>
-    ensures { IfOk result (λ way. all_wanted way ≡ (condition_of left.now, truth) ∷ (condition_of right.now, truth) ∷ []) }
+    ensures { IfOk result (λ way. all_wanted way
+        ≡ (condition_of left.now, truth) ∷ (condition_of right.now, truth) ∷ []) }
 {
     let mut way = Vec::new(alloc);
-    way.push(Wanted { condition: left, truth })?;
-    way.push(Wanted { condition: right, truth })?;
+    way.push(Wanted {
+        condition: left,
+        truth,
+    })?;
+    way.push(Wanted {
+        condition: right,
+        truth,
+    })?;
     Ok(List::new(way))
 }
 
@@ -400,7 +430,11 @@ fn ways_of_two<'a>(
 }
 
 // The ways in which its parts give the condition this truth value.
-fn ways<'a>(alloc: Global, condition: &'a Outcome, truth: bool) -> Result<Vec<List<Wanted<'a>>>, AllocError>
+fn ways<'a>(
+    alloc: Global,
+    condition: &'a Outcome,
+    truth: bool,
+) -> Result<Vec<List<Wanted<'a>>>, AllocError>
     ensures { IfOk result (λ found. map all_wanted found.items ≡ ways (condition_of condition.now) truth) }
 {
     match condition {
@@ -411,7 +445,11 @@ fn ways<'a>(alloc: Global, condition: &'a Outcome, truth: bool) -> Result<Vec<Li
     }
 }
 
-fn ways_of_one<'a>(alloc: Global, part: &'a Outcome, truth: bool) -> Result<Vec<List<Wanted<'a>>>, AllocError>
+fn ways_of_one<'a>(
+    alloc: Global,
+    part: &'a Outcome,
+    truth: bool,
+) -> Result<Vec<List<Wanted<'a>>>, AllocError>
     ensures { IfOk result (λ found. map all_wanted found.items ≡ ((condition_of part.now, truth) ∷ []) ∷ []) }
 {
     let mut found = Vec::new(alloc);
@@ -445,7 +483,8 @@ pub(crate) fn by_cases<'a>(
 ) -> Result<Vec<Region<'a>>, AllocError>
     requires test { IsBounded test.now }
     requires region { IsOf test.now region.now }
-    ensures regions { IfOk result (λ left. regions_of left.items ≡ filter (is_open test.now) (by_cases number (region_of region.now))) }
+    ensures regions { IfOk result (λ left. regions_of left.items
+        ≡ filter (is_open test.now) (by_cases number (region_of region.now))) }
     ensures of { IfOk result (λ left. AreOf test.now left.items) }
 {
     let mut left = Vec::new(alloc);
@@ -474,7 +513,8 @@ fn may_with<'a>(
     requires test { run.now.test ≡ ground.now.test.now }
     requires of { run.now.hart ≡ hart }
     ensures { IfOk result (λ may_all. may_all ≡ list_all (λ wanted.
-        may ground.now.test.now (with_run hart run.now.steps (region_of region.now)) wanted.0 wanted.1) (region_of region.now).wanted) }
+        may ground.now.test.now (with_run hart run.now.steps (region_of region.now)) wanted.0 wanted.1)
+        (region_of region.now).wanted) }
 {
     let mut runs = Vec::new(alloc);
     runs.push(run)?;
@@ -512,6 +552,10 @@ pub(crate) fn by_outcome<'a>(
         push_if(&mut kept, run, passes)?;
     }
     let mut left = Vec::new(alloc);
-    add_open(ground.test, &mut left, keep(alloc, region, hart, List::new(kept))?)?;
+    add_open(
+        ground.test,
+        &mut left,
+        keep(alloc, region, hart, List::new(kept))?,
+    )?;
     Ok(left)
 }

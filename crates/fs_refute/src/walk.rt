@@ -17,9 +17,11 @@ ghost use Rattle.fs_refute.specs.Verdict.{Answers, roots, stacked};
 
 use crate::ground::Ground;
 use crate::inference::Inference;
-use crate::musts::{Access, is_before_source, is_same_name, must, must_meet, must_pair, overwrites};
+use crate::musts::{
+    Access, is_before_source, is_same_name, must, must_meet, must_pair, overwrites,
+};
 use crate::region::{Region, Runs, Wanted};
-use crate::splits::{by_cases, by_choice, by_order, by_outcome, by_source, has_parts, add_open};
+use crate::splits::{add_open, by_cases, by_choice, by_order, by_outcome, by_source, has_parts};
 use crate::wrong::Wrong;
 use fs_alone::{Lone, is_name};
 use fs_evidence::Link;
@@ -42,9 +44,17 @@ fn is_linked(
 ) -> bool
     requires test { IsBounded test.now }
     requires region { IsOf test.now region.now }
-    ensures { result ≡ must test.now (region_of region.now) placement.now link.now.cause link.now.operation next.now.operation }
+    ensures { result ≡ must test.now
+        (region_of region.now) placement.now link.now.cause link.now.operation next.now.operation }
 {
-    must(test, placement, region, link.cause, link.operation, next.operation)
+    must(
+        test,
+        placement,
+        region,
+        link.cause,
+        link.operation,
+        next.operation,
+    )
 }
 
 // Must each link come before the next one, and the last before this one?
@@ -57,7 +67,8 @@ fn is_chain(
 ) -> bool
     requires test { IsBounded test.now }
     requires region { IsOf test.now region.now }
-    ensures { result ≡ list_all (λ pair. must test.now (region_of region.now) placement.now pair.0.cause pair.0.operation pair.1.operation)
+    ensures { result ≡ list_all (λ pair. must test.now
+        (region_of region.now) placement.now pair.0.cause pair.0.operation pair.1.operation)
         (zip links.now (drop 1 links.now ++ last.now ∷ [])) }
 {
     for (number, link) in links.iter().enumerate() {
@@ -70,12 +81,7 @@ fn is_chain(
 }
 
 // Must each link come before the next one, and the last before the first?
-fn must_be_cycle(
-    test: &Test,
-    placement: &Placement,
-    region: &Region<'_>,
-    links: &[Link],
-) -> bool
+fn must_be_cycle(test: &Test, placement: &Placement, region: &Region<'_>, links: &[Link]) -> bool
     requires test { IsBounded test.now }
     requires region { IsOf test.now region.now }
     ensures { result ≡ must_be_cycle test.now placement.now (region_of region.now) links.now }
@@ -97,18 +103,17 @@ fn has_cases(region: &Region<'_>, number: usize) -> bool
 }
 
 // May the two stores be put in an order?
-fn may_order(
-    test: &Test,
-    region: &Region<'_>,
-    first: OperationName,
-    second: OperationName,
-) -> bool
+fn may_order(test: &Test, region: &Region<'_>, first: OperationName, second: OperationName) -> bool
     requires { IsBounded test.now }
     ensures { (p : List Entry) → result ≡ follows test.now p (region_of region.now) (ByOrder first second) }
 {
-    must_meet(test, region, (Access::Store, first), (Access::Store, second))
-        && (!is_same_name(first, second)
-            && (!region.is_before(first, second) && !region.is_before(second, first)))
+    must_meet(
+        test,
+        region,
+        (Access::Store, first),
+        (Access::Store, second),
+    ) && (!is_same_name(first, second)
+        && (!region.is_before(first, second) && !region.is_before(second, first)))
 }
 
 // Can the inference be drawn from the region?
@@ -163,7 +168,13 @@ fn left_after<'a>(
     match inference {
         Inference::ByChoice(name) => by_choice(alloc, ground.test, *name, region),
         Inference::BySource(load) => by_source(alloc, ground, *load, region),
-        Inference::ByOrder { first, second } => by_order(alloc, ground.test, *first, *second, region),
+        Inference::ByOrder { first, second } => by_order(
+            alloc,
+            ground.test,
+            *first,
+            *second,
+            region,
+        ),
         Inference::ByCases(number) => by_cases(alloc, ground.test, *number, region),
         Inference::Filter(hart) => by_outcome(alloc, ground, *hart, region),
         _ => Ok(Vec::new(alloc)),
@@ -173,7 +184,8 @@ fn left_after<'a>(
 // Puts the regions on the stack, the first one on top.
 fn push_all<'a>(stack: &mut Vec<Region<'a>>, mut left: Vec<Region<'a>>) -> Result<(), AllocError>
     ensures regions { OnOk result (stacked stack.new.items ≡ regions_of left.entry.items ++ stacked stack.old.items) }
-    ensures of { (t : Test) → OnOk result (AreOf t left.entry.items → AreOf t stack.old.items → AreOf t stack.new.items) }
+    ensures of { (t : Test) → OnOk result (AreOf t left.entry.items → AreOf t stack.old.items
+        → AreOf t stack.new.items) }
 {
     while let Some(region) = left.pop() {
         stack.push(region)?;
@@ -194,7 +206,8 @@ fn all_runs<'a>(alloc: Global, listed: &'a [List<Lone>]) -> Result<Vec<Arc<Runs<
 
 // The condition with the truth value that the outcome has.
 fn outcome<'a>(alloc: Global, test: &'a Test) -> Result<List<Wanted<'a>>, AllocError>
-    ensures { IfOk result (λ wanted. all_wanted wanted ≡ (condition_of test.now.condition, is_outcome test.now.quantifier true) ∷ []) }
+    ensures { IfOk result (λ wanted. all_wanted wanted
+        ≡ (condition_of test.now.condition, is_outcome test.now.quantifier true) ∷ []) }
 {
     let truth = is_outcome(test.quantifier);
     let mut wanted = Vec::new(alloc);
@@ -208,7 +221,8 @@ fn outcome<'a>(alloc: Global, test: &'a Test) -> Result<List<Wanted<'a>>, AllocE
 // All candidates with the outcome that is to be ruled out.
 fn root<'a>(alloc: Global, ground: &Ground<'a>) -> Result<Region<'a>, AllocError>
     requires { IsGround ground.now }
-    ensures region { IfOk result (λ region. region_of region ≡ root ground.now.test.now (runs_over ground.now.runs.now)) }
+    ensures region { IfOk result (λ region. region_of region
+        ≡ root ground.now.test.now (runs_over ground.now.runs.now)) }
     ensures of { IfOk result (IsOf ground.now.test.now) }
 {
     let runs = all_runs(alloc, ground.runs)?;
@@ -245,7 +259,8 @@ fn all_of<'a>(alloc: Global, runs: &'a [Lone]) -> Result<Runs<'a>, AllocError>
 fn roots<'a>(alloc: Global, ground: &Ground<'a>) -> Result<Vec<Region<'a>>, AllocError>
     requires test { IsBounded ground.now.test.now }
     requires ground { IsGround ground.now }
-    ensures regions { IfOk result (λ left. regions_of left.items ≡ roots ground.now.test.now (runs_over ground.now.runs.now)) }
+    ensures regions { IfOk result (λ left. regions_of left.items
+        ≡ roots ground.now.test.now (runs_over ground.now.runs.now)) }
     ensures of { IfOk result (λ left. AreOf ground.now.test.now left.items) }
 {
     let all = root(alloc, ground)?;
@@ -254,12 +269,16 @@ fn roots<'a>(alloc: Global, ground: &Ground<'a>) -> Result<Vec<Region<'a>>, Allo
     Ok(left)
 }
 
-/// Do the inferences refute the test under the placement, over these runs? If not, why: which inference is the first that
+/// Do the inferences refute the test under the placement, over these runs? If not, why: which inference is the first
+/// that
 /// doesn't follow from its region; or, where each that is reached follows, that there is one too few or too many.
 ///
-/// Each inference is looked at once. The cost: of a split, the tests that it makes of the runs of its harts, for each region
-/// that it gives; of a source in another hart, a test for each two runs; of an end, the runs of the harts that it speaks of.
-/// The memory is that of the regions that are open at once. A region shares the lists of the one that it is split from, and
+/// Each inference is looked at once. The cost: of a split, the tests that it makes of the runs of its harts, for each
+/// region
+/// that it gives; of a source in another hart, a test for each two runs; of an end, the runs of the harts that it
+/// speaks of.
+/// The memory is that of the regions that are open at once. A region shares the lists of the one that it is split
+/// from, and
 /// takes besides the runs of the harts whose runs it drops. The error is F19.
 pub fn refute(
     alloc: Global,
@@ -270,7 +289,8 @@ pub fn refute(
     requires test { IsBounded ground.now.test.now }
     requires names { HasNames ground.now }
     requires ground { IsGround ground.now }
-    ensures exact { IfOk result (Answers ground.now.test.now placement.now (roots ground.now.test.now (runs_over ground.now.runs.now))
+    ensures exact { IfOk result (Answers ground.now.test.now placement.now (roots ground.now.test.now
+        (runs_over ground.now.runs.now))
         (map inference_of inferences.now)) }
     ensures err { IsOkUnless result Memory }
 {
@@ -278,7 +298,7 @@ pub fn refute(
     push_all(&mut stack, roots(alloc, ground)?)?;
     for (number, inference) in inferences.iter().enumerate() {
         let Some(region) = stack.pop() else {
-            return Ok(Err(Wrong::Tree));
+            return Ok(Err(Wrong::Tree)); // one too many
         };
         if !follows(ground, placement, &region, inference) {
             return Ok(Err(Wrong::Inference(number)));

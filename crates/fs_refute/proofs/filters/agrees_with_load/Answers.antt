@@ -13,5 +13,5 @@ pub returns : goal.returns
 returns c =
     let test : List Step → Bool = (λ other. agree other c.args.load c.args.run.now.steps c.args.store) in
     let chain : c.any.result ≡ list_any (λ other. test other.now.steps) c.args.others.now =
-        any_from_yields_List (λ (run : Bor RunOf). test run.now.steps) _ _ c.any.result c.any.ensures.ran (YieldsList-from_slice c.args.others.now cc) (λ x b q k. search (rules, tests)) in
+    any_from_yields_List (λ (run : Bor RunOf). test run.now.steps) _ _ c.any.result c.any.ensures.ran (YieldsList-from_slice c.args.others.now cc) (λ x b q k. search (rules, tests)) in
     chain ∙ sym (any_seen (λ (run : Bor RunOf). run.now.steps) test c.args.others.now)

@@ -12,5 +12,5 @@ pub returns : goal.returns
 returns c =
     let test = accesses_at (access_of c.args.access) c.args.at c.args.location in
     let chain : c.all.result ≡ list_all (λ run. test run.now.steps) c.args.runs.now =
-        all_from_yields_List (λ (run : Bor RunOf). test run.now.steps) _ _ c.all.result c.all.ensures.ran (YieldsList-from_slice c.args.runs.now cc) (λ x b q k. search (rules, tests)) in
+    all_from_yields_List (λ (run : Bor RunOf). test run.now.steps) _ _ c.all.result c.all.ensures.ran (YieldsList-from_slice c.args.runs.now cc) (λ x b q k. search (rules, tests)) in
     chain ∙ sym (list_all-map test (λ (run : Bor RunOf). run.now.steps) c.args.runs.now)

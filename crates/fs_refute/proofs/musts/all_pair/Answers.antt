@@ -1,4 +1,4 @@
-use Rattle.std.proofs.Common.{◌≡◌, ◌∙◌, [], sym}
+use Rattle.std.proofs.Common.{◌∙◌, [], sym}
 use Rattle.fs_model.specs.Preserved.{Rule8}
 use Rattle.fs_refute.specs.inner.Asked.{is_ordered_in}
 use Rattle.fs_refute.proofs.Alike.{all_stop, all_go, all_end, rules_alike}

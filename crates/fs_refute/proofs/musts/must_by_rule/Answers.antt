@@ -1,11 +1,11 @@
-use Rattle.std.proofs.Common.{◌≡◌, ◌∙◌, Bool, List, ap, sym, subst}
+use Rattle.std.proofs.Common.{◌∙◌, Bool, List, ap, sym, subst}
 use Rattle.std.specs.List.{list_all}
 use Rattle.std.specs.Borrow.{Bor}
 use Rattle.std.proofs.lemmas.Bool.{eq-eqb}
 use Rattle.fs_kinds.specs.declared.reason.OperationName.{OperationName as Name}
 use Rattle.fs_region.specs.Musts.{alone, is_rule, knows_enough}
 use Rattle.fs_alone.specs.Alone.{RunOf}
-use Rattle.fs_refute.specs.Views.{region_of, runs_of, list_at, AreRunsOf}
+use Rattle.fs_refute.specs.Views.{region_of, runs_of, AreRunsOf}
 use Rattle.fs_refute.proofs.Lists.{last_of_four, second_of_two}
 use Rattle.fs_refute.proofs.musts.must_by_rule.Goals as goal
 
@@ -18,10 +18,10 @@ returns-then-is_hart c = λ r n.
     let one = c.sourced-first.ensures.name in
     let two = c.sourced-second.ensures.name in
     let are : AreRunsOf t first.name.hart c.runs.result.now =
-        subst (λ (m : Name). AreRunsOf t m.hart c.runs.result.now) (sym one)
-        (subst (AreRunsOf t c.args.a.hart) (sym c.runs.ensures) (c.requires c.args.a.hart)) in
+    subst (λ (m : Name). AreRunsOf t m.hart c.runs.result.now) (sym one)
+    (subst (AreRunsOf t c.args.a.hart) (sym c.runs.ensures) (c.requires c.args.a.hart)) in
     let all : Name → Name → List (Bor RunOf) → Bool =
-        λ m k runs. list_all (λ run. is_rule t region c.args.placement.now r m k (alone t m.hart run)) (runs_of runs) in
+    λ m k runs. list_all (λ run. is_rule t region c.args.placement.now r m k (alone t m.hart run)) (runs_of runs) in
     last_of_four _ _ _ _ _ (eq-eqb c.args.a.hart c.args.b.hart c.if-a-b.true)
     (sym (c.knows_enough.ensures t region r c.sourced-first.ensures.knows c.sourced-second.ensures.knows n
     ∙ ap (λ (m : Name). knows_enough t region r m second.name) one ∙ ap (knows_enough t region r c.args.a) two)

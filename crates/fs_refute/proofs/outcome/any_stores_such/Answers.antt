@@ -14,5 +14,5 @@ pub returns : goal.returns
 returns c =
     let test : List Step → Bool = stores_such c.args.location (λ w. has_truth c.args.ending.truth (w == c.args.ending.word)) c.args.name in
     let chain : c.any.result ≡ list_any (λ run. test run.now.steps) c.args.runs.now =
-        any_from_yields_List (λ (run : Bor RunOf). test run.now.steps) _ _ c.any.result c.any.ensures.ran (YieldsList-from_slice c.args.runs.now cc) (λ x b q k. search (rules, tests)) in
+    any_from_yields_List (λ (run : Bor RunOf). test run.now.steps) _ _ c.any.result c.any.ensures.ran (YieldsList-from_slice c.args.runs.now cc) (λ x b q k. search (rules, tests)) in
     chain ∙ sym (any_seen (λ (run : Bor RunOf). run.now.steps) test c.args.runs.now)

@@ -15,6 +15,6 @@ returns c =
     let region = region_of c.args.region.now in
     let test : Condition × Bool → Bool = λ w. may t region w.0 w.1 in
     let chain : c.all.result ≡ list_all (λ w. test (wanted_of w)) c.args.wanted.now =
-        all_from_yields_List (λ (w : Wanted). may t region (condition_of w.condition.now) w.truth) _ _ c.all.result c.all.ensures.ran
-        (YieldsList-from_slice c.args.wanted.now cc) (λ x b q k. search (rules, tests)) in
+    all_from_yields_List (λ (w : Wanted). may t region (condition_of w.condition.now) w.truth) _ _ c.all.result c.all.ensures.ran
+    (YieldsList-from_slice c.args.wanted.now cc) (λ x b q k. search (rules, tests)) in
     chain ∙ sym (list_all-map test wanted_of c.args.wanted.now)

@@ -1,4 +1,4 @@
-use Rattle.std.proofs.Common.{◌≡◌, ◌∙◌, ap, refl, filter, List, [], ◌∷◌, ◌++◌, rules}
+use Rattle.std.proofs.Common.{◌≡◌, ◌∙◌, ap, refl, filter, [], ◌∷◌, ◌++◌, rules}
 use Rattle.std.specs.Prelude.{not}
 use Rattle.fs_region.specs.Regions.{same_name}
 use Rattle.fs_refute.specs.declared.region.Sourced.{Sourced}

@@ -20,10 +20,9 @@ loop-number-preserved c =
     let n = get_or items c.loop-number.number-index 0 in
     let chosen : ℕ → List Step → Bool = λ k run. chosen_at at run == k in
     let is : c.in_ok-kept.kept ≡ filter (λ run. chosen n run.now.steps) (list_at old hart) =
-        c.in_ok-kept.ensures ∙ ap (filter (λ (run : Bor RunOf). chosen n run.now.steps)) c.runs-runs.ensures in
-    (
+    c.in_ok-kept.ensures ∙ ap (filter (λ (run : Bor RunOf). chosen n run.now.steps)) c.runs-runs.ensures in (
       made_more (is_open t) (λ k. keep hart (chosen k) (region_of old)) [] items c.loop-number.number-index 0 _ _ (region_of c.in_ok-keep.field-0)
-      c.loop-number-test.true c.loop-number.invariant.0 c.in_ok-add_open.ensures.regions (c.in_ok-keep.ensures.kept (chosen n) is),
+          c.loop-number-test.true c.loop-number.invariant.0 c.in_ok-add_open.ensures.regions (c.in_ok-keep.ensures.kept (chosen n) is),
       c.in_ok-add_open.ensures.of c.loop-number.invariant.1 (c.in_ok-keep.ensures.of (chosen n) is t c.requires.region),
     )
 

@@ -1,9 +1,9 @@
-use Rattle.std.proofs.Common.{◌≡◌, ◌∙◌, Bool, List, [], ◌∷◌, ◌++◌, filter, length, ◌<◌, take, get_or, ap, subst, sym, arith}
+use Rattle.std.proofs.Common.{◌≡◌, ◌∙◌, Bool, List, [], ◌∷◌, ◌++◌, filter, take, ap, subst, sym}
 use Rattle.std.specs.Prelude.{if◌then◌else◌}
 use Rattle.std.specs.List.{list_all}
 use Rattle.std.specs.Borrow.{Bor}
 use Rattle.std.proofs.lemmas.List.{take_all}
-use Rattle.std.proofs.lemmas.List.Elements.{All-nil, All-get_or, filter_more}
+use Rattle.std.proofs.lemmas.List.Elements.{All-nil, filter_more}
 use Rattle.fs_model.specs.declared.step.Step.{Step}
 use Rattle.fs_region.specs.Musts.{may}
 use Rattle.fs_region.specs.Splits.{keep, with_run}
@@ -11,7 +11,6 @@ use Rattle.fs_region.specs.Trees.{is_open}
 use Rattle.fs_alone.specs.Alone.{RunOf}
 use Rattle.fs_refute.specs.Views.{region_of, regions_of, list_at, AreOf, IsOf}
 use Rattle.fs_refute.proofs.Lists.{one_added}
-use Rattle.fs_refute.proofs.Regions.{hart_low}
 use Rattle.fs_refute.proofs.splits.by_outcome.Goals as goal
 
 pub loop-run-preserved : goal.loop-run-preserved
@@ -36,8 +35,8 @@ returns c =
     let test : List Step → Bool = λ run. list_all (λ wanted. may t (with_run c.args.hart run region) wanted.0 wanted.1) region.wanted in
     let runs = c.runs-run-items.result.now in
     let is : c.new.result ≡ filter (λ run. test run.now.steps) (list_at old c.args.hart) =
-        c.new.ensures ∙ c.loop-run.invariant
-        ∙ ap (filter (λ (run : Bor RunOf). test run.now.steps)) (take_all c.loop-run.run-index runs c.loop-run-test.false ∙ c.runs-run-items.ensures) in
+    c.new.ensures ∙ c.loop-run.invariant
+    ∙ ap (filter (λ (run : Bor RunOf). test run.now.steps)) (take_all c.loop-run.run-index runs c.loop-run-test.false ∙ c.runs-run-items.ensures) in
     record {
       regions = one_added (is_open t) _ _ (region_of c.in_ok-keep.field-0) (keep c.args.hart test region)
           (ap regions_of c.new-left.ensures.items) c.in_ok-add_open.ensures.regions (c.in_ok-keep.ensures.kept test is);

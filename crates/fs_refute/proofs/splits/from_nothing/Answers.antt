@@ -9,5 +9,5 @@ pub returns : goal.returns
 returns c =
     let test : List Step → Bool = λ run. not (loads_at run c.args.load.at) in
     let is : c.in_ok-kept.kept ≡ filter (λ run. test run.now.steps) (list_at c.args.region.now c.args.load.hart) =
-        c.in_ok-kept.ensures ∙ ap (filter (λ run. test run.now.steps)) c.runs.ensures in
+    c.in_ok-kept.ensures ∙ ap (filter (λ run. test run.now.steps)) c.runs.ensures in
     record { region = c.in_ok-smaller.ensures.kept test is; of = c.in_ok-smaller.ensures.of test is }

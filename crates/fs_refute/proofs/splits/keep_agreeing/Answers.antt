@@ -1,10 +1,8 @@
 use Rattle.std.proofs.Common.{◌∙◌, ap}
 use Rattle.std.specs.Prelude.{◌==◌}
-use Rattle.std.specs.List.{list_any}
 use Rattle.std.proofs.lemmas.Bool.{eq-eqb, ne_eqb}
-use Rattle.fs_region.specs.Regions.{Region, From}
-use Rattle.fs_region.specs.Splits.{agree, keep, with_source}
-use Rattle.fs_refute.specs.Views.{region_of}
+use Rattle.fs_region.specs.Regions.{From}
+use Rattle.fs_region.specs.Splits.{with_source}
 use Rattle.fs_refute.proofs.Lists.{first_if, second_if}
 use Rattle.fs_refute.proofs.splits.keep_agreeing.Goals as goal
 

@@ -13,8 +13,8 @@ may_all-requires-clause-region c =
     let t = c.args.ground.now.test.now in
     let only : c.new.result ≡ c.args.run ∷ [] = c.new.ensures ∙ c.in_ok-push.ensures.items ∙ ap (λ (runs : List (Bor RunOf)). runs ++ c.args.run ∷ []) c.new-runs.ensures.items in
     let are : AreRunsOf t c.args.hart (c.args.run ∷ []) =
-        All-cons (λ run. (run.now.test ≡ t) × (run.now.hart ≡ c.args.hart)) c.args.run [] (c.requires.test, c.requires.of)
-        (All-nil (λ run. (run.now.test ≡ t) × (run.now.hart ≡ c.args.hart))) in
+    All-cons (λ run. (run.now.test ≡ t) × (run.now.hart ≡ c.args.hart)) c.args.run [] (c.requires.test, c.requires.of)
+    (All-nil (λ run. (run.now.test ≡ t) × (run.now.hart ≡ c.args.hart))) in
     c.in_ok-smaller.ensures.of t c.requires.region (subst (AreRunsOf t c.args.hart) (sym only) are)
 
 pub returns : goal.returns

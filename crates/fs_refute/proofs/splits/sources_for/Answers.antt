@@ -1,8 +1,7 @@
-use Rattle.std.proofs.Common.{◌≡◌, ◌∙◌, List, [], ◌∷◌, ◌++◌, filter, map, ap, sym}
+use Rattle.std.proofs.Common.{◌∙◌, [], ◌∷◌, ◌++◌, filter, map, ap, sym}
 use Rattle.std.proofs.lemmas.List.{take_all}
 use Rattle.std.proofs.lemmas.List.Elements.{filter-append}
-use Rattle.fs_kinds.specs.declared.reason.OperationName.{OperationName as Name}
-use Rattle.fs_region.specs.Regions.{Source, Initial, From, names}
+use Rattle.fs_region.specs.Regions.{Initial, From, names}
 use Rattle.fs_region.specs.Splits.{is_left, can_be_source}
 use Rattle.fs_alone.specs.Alone.{source_of}
 use Rattle.fs_refute.specs.Views.{known_source}

@@ -1,10 +1,8 @@
-use Rattle.std.proofs.Common.{◌≡◌, ◌∙◌, ◌++◌, ◌∷◌, [], Some, List, map, reverse, length, get_or, ap, subst, sym, ◌+◌, arith}
+use Rattle.std.proofs.Common.{◌≡◌, ◌∙◌, ◌++◌, ◌∷◌, [], Some, List, map, reverse, get_or, ap, subst, sym, ◌+◌, arith}
 use Rattle.std.proofs.lemmas.Bool.{eqb-false, eqb-true}
 use Rattle.std.proofs.lemmas.List.{append-nil, get_or-map, length-map, length-reverse, nil_from_length}
 use Rattle.std.proofs.lemmas.List.Elements.{All-nil, All-pop}
-use Rattle.fs_region.specs.Regions.{Region}
-use Rattle.fs_region.specs.Trees.{Inference, follows, left_after}
-use Rattle.fs_refute.specs.declared.inference.Inference.{Inference as CodeInference}
+use Rattle.fs_region.specs.Trees.{follows, left_after}
 use Rattle.fs_refute.specs.declared.region.Region.{Region as CodeRegion}
 use Rattle.fs_refute.specs.Views.{region_of, regions_of, inference_of, runs_over, AreOf, IsOf}
 use Rattle.fs_refute.specs.Verdict.{roots, stacked}
@@ -18,10 +16,9 @@ loop-number-init c =
     let rs = roots t (runs_over c.args.ground.now.runs.now) in
     let is = map inference_of c.args.inferences.now in
     let all : stacked c.push_all.new.stack.items ≡ rs =
-        c.in_ok-push_all.ensures.regions
-        ∙ ap (λ (stack : List CodeRegion). regions_of c.in_ok-roots.field-0.items ++ stacked stack) c.new-stack.ensures.items
-        ∙ append-nil (regions_of c.in_ok-roots.field-0.items) ∙ c.in_ok-roots.ensures.regions in
-    (
+    c.in_ok-push_all.ensures.regions
+    ∙ ap (λ (stack : List CodeRegion). regions_of c.in_ok-roots.field-0.items ++ stacked stack) c.new-stack.ensures.items
+    ∙ append-nil (regions_of c.in_ok-roots.field-0.items) ∙ c.in_ok-roots.ensures.regions in (
       subst (IsWalked t c.args.placement.now rs is 0) (sym all) (walk_none t c.args.placement.now rs is),
       c.in_ok-push_all.ensures.of t c.in_ok-roots.ensures.of (subst (AreOf t) (sym c.new-stack.ensures.items) (All-nil (IsOf t))),
     )
@@ -57,9 +54,9 @@ returns-then-not-follows-clause-exact c =
     let long = length-map c.args.inferences.now inference_of in
     let low = c.loop-number-test.true in
     let same : get_or is k (inference_of item) ≡ inference_of item =
-        get_or-map inference_of c.args.inferences.now k item (inference_of item) low ∙ ap inference_of (sym c.index-inferences-number.is) in
+    get_or-map inference_of c.args.inferences.now k item (inference_of item) low ∙ ap inference_of (sym c.index-inferences-number.is) in
     let opened : stacked c.loop-number.stack.items ≡ region ∷ stacked c.pop.new.self.items =
-        ap stacked c.in-Some.ensures.items ∙ stacked_push c.pop.new.self.items c.in-Some.region in
+    ap stacked c.in-Some.ensures.items ∙ stacked_push c.pop.new.self.items c.in-Some.region in
     walk_wrong t p rs is k region (stacked c.pop.new.self.items) (subst (IsWalked t p rs is k) opened c.loop-number.invariant.0)
     (inference_of item) (omega (arith, low, long)) (ap (follows t p region) same ∙ sym c.follows.ensures ∙ c.if-not-follows.true)
 
@@ -80,16 +77,15 @@ loop-number-preserved c =
     let long = length-map c.args.inferences.now inference_of in
     let low = c.loop-number-test.true in
     let same : get_or is k (inference_of item) ≡ inference_of item =
-        get_or-map inference_of c.args.inferences.now k item (inference_of item) low ∙ ap inference_of (sym c.index-inferences-number.is) in
+    get_or-map inference_of c.args.inferences.now k item (inference_of item) low ∙ ap inference_of (sym c.index-inferences-number.is) in
     let opened : stacked c.loop-number.stack.items ≡ region ∷ stacked c.pop.new.self.items =
-        ap stacked c.in-Some.ensures.items ∙ stacked_push c.pop.new.self.items c.in-Some.region in
+    ap stacked c.in-Some.ensures.items ∙ stacked_push c.pop.new.self.items c.in-Some.region in
     let more = walk_more t p rs is k region (stacked c.pop.new.self.items) (subst (IsWalked t p rs is k) opened c.loop-number.invariant.0)
-        (inference_of item) (omega (arith, low, long)) (ap (follows t p region) same ∙ sym c.follows.ensures ∙ c.if-not-follows.false) in
+    (inference_of item) (omega (arith, low, long)) (ap (follows t p region) same ∙ sym c.follows.ensures ∙ c.if-not-follows.false) in
     let left : stacked c.push_all-in-loop-number.new.stack.items ≡ left_after t region (get_or is k (inference_of item)) ++ stacked c.pop.new.self.items =
-        c.in_ok-push_all-2.ensures.regions
-        ∙ ap (λ regions. regions ++ stacked c.pop.new.self.items) (c.in_ok-left_after.ensures.regions ∙ ap (left_after t region) (sym same)) in
-    let parts = All-pop (IsOf t) c.loop-number.stack.items c.pop.new.self.items (Some c.in-Some.region) c.in-Some.ensures.items c.loop-number.invariant.1 in
-    (
+    c.in_ok-push_all-2.ensures.regions
+    ∙ ap (λ regions. regions ++ stacked c.pop.new.self.items) (c.in_ok-left_after.ensures.regions ∙ ap (left_after t region) (sym same)) in
+    let parts = All-pop (IsOf t) c.loop-number.stack.items c.pop.new.self.items (Some c.in-Some.region) c.in-Some.ensures.items c.loop-number.invariant.1 in (
       subst (IsWalked t p rs is (k + 1)) (sym left) more,
       c.in_ok-push_all-2.ensures.of t c.in_ok-left_after.ensures.of parts.0,
     )

@@ -1,4 +1,4 @@
-use Rattle.std.proofs.Common.{[], ap, subst, sym}
+use Rattle.std.proofs.Common.{ap, subst, sym}
 use Rattle.std.proofs.lemmas.List.Elements.{All-nil}
 use Rattle.fs_region.specs.Trees.{is_open, root}
 use Rattle.fs_refute.specs.Views.{region_of, regions_of, runs_over, AreOf, IsOf}

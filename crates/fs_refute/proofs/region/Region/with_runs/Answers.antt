@@ -1,4 +1,4 @@
-use Rattle.std.proofs.Common.{◌≡◌, ◌∙◌, ap, sym, [], length, get_or-set_other, arith}
+use Rattle.std.proofs.Common.{◌≡◌, ◌∙◌, ap, [], length, get_or-set_other, arith}
 use Rattle.std.specs.Arc.{arc_value}
 use Rattle.std.proofs.Math.ListN.{set}
 use Rattle.std.proofs.lemmas.List.{map-set, length-map, set_past}
@@ -24,10 +24,10 @@ returns c =
     } in
     let shared : lists_in c.in_ok-all.all.items ≡ lists_in old.runs.items = c.in_ok-all.ensures ∙ ap lists_in c.deref.ensures.value in
     let is : lists_in new.runs.items ≡ set (lists_in old.runs.items) hart c.args.runs =
-        ap lists_in c.set.ensures
-        ∙ map-set arc_value c.in_ok-all.all.items hart c.in_ok-runs.runs
-        ∙ ap (λ lists. set lists hart (arc_value c.in_ok-runs.runs)) shared
-        ∙ ap (set (lists_in old.runs.items) hart) c.in_ok-runs.ensures.ok in
+    ap lists_in c.set.ensures
+    ∙ map-set arc_value c.in_ok-all.all.items hart c.in_ok-runs.runs
+    ∙ ap (λ lists. set lists hart (arc_value c.in_ok-runs.runs)) shared
+    ∙ ap (set (lists_in old.runs.items) hart) c.in_ok-runs.ensures.ok in
     let long : length (lists_in old.runs.items) ≡ length old.runs.items = length-map old.runs.items arc_value in
     record {
       hart = λ low. set_runs old new shares hart c.args.runs (omega (arith, low, long)) is;
