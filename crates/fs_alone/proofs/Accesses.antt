@@ -9,7 +9,7 @@ use Rattle.fs_model.specs.declared.step.Step.{Step}
 use Rattle.fs_model.specs.declared.test.Test.{Test}
 use Rattle.fs_model.specs.Operations.{access_of, accesses_of, operations}
 use Rattle.fs_model.proofs.WhichOperation.{length_operations}
-use Rattle.fs_region.specs.Musts.{alone}
+use Rattle.fs_answer.specs.Musts.{alone}
 
 kept : (k : ℕ) (steps : List Step) → length (filter (λ numbered. is_some numbered.1.address) (enumerate_from k steps)) ≤ length steps
 kept k [] = omega arith

@@ -13,9 +13,10 @@ use Rattle.fs_model.specs.Execution.{code_of}
 use Rattle.fs_model.specs.Numbers.{numbers_below}
 use Rattle.fs_model.specs.Slots.{is_memory_at}
 use Rattle.fs_model.proofs.AccessSteps.{is_memory_at-past}
-use Rattle.fs_region.specs.Regions.{names_in, names}
-use Rattle.fs_region.specs.Trees.{is_name}
-use Rattle.fs_region.proofs.Lists.{none_in, in_filter, in_flat_map, in_map, in_numbered}
+use Rattle.fs_answer.specs.Regions.{names_in, names}
+use Rattle.fs_answer.specs.Trees.{is_name}
+use Rattle.fs_region.proofs.Lists.{in_filter, in_numbered}
+use Rattle.fs_values.proofs.Contained.{none_in, in_map, in_parts}
 use Rattle.fs_region.proofs.Names.{number_in}
 
 -- ---- the name of a memory instruction is one of them
@@ -36,7 +37,7 @@ pub named_in : (t : Test) (n : Name) → is_name t n ≡ true → Contains (name
 named_in t n e =
     let low = hart_low t n e in
     let code = code_of t n.hart in
-    in_flat_map names_in (enumerate_from 0 t.codes) (n.hart, code_of t n.hart) n
+    in_parts names_in (enumerate_from 0 t.codes) (n.hart, code_of t n.hart) n
     (subst (λ (k : ℕ). Contains (enumerate_from 0 t.codes) (k, code_of t n.hart)) (omega arith) (in_numbered 0 t.codes n.hart [] low))
     (in_map (λ at. record { hart = n.hart; at = at }) (filter (is_memory_at (code_of t n.hart)) (numbers_below (length (code_of t n.hart)))) n.at
     (in_filter (is_memory_at (code_of t n.hart)) (numbers_below (length (code_of t n.hart))) n.at (number_in (length (code_of t n.hart)) n.at (memory_low (code_of t n.hart) n.at e)) e))

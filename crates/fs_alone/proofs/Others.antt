@@ -13,7 +13,7 @@ use Rattle.fs_model.specs.Operations.{operation, steps_of}
 use Rattle.fs_hart.specs.declared.trace.Trace.{Trace}
 use Rattle.fs_hart.specs.Steps.{steps_in}
 use Rattle.fs_cand.proofs.Distinct.{named}
-use Rattle.fs_region.specs.Musts.{alone, number_of, traces_of}
+use Rattle.fs_answer.specs.Musts.{alone, number_of, traces_of}
 use Rattle.fs_region.proofs.Alone.{number_named}
 
 abbrev pub nothing_run : ℕ → List Step

@@ -19,8 +19,8 @@ use Rattle.fs_model.specs.Trace.{AreSteps, after_step, start_with}
 use Rattle.fs_model.specs.Witness.{name_of, step_name}
 use Rattle.fs_model.proofs.WhichOperation.{length_operations, no_hart_past}
 use Rattle.fs_local.specs.Local.{place_of}
-use Rattle.fs_region.specs.Musts.{has_name, number_of}
-use Rattle.fs_region.specs.Regions.{step_at}
+use Rattle.fs_answer.specs.Musts.{has_name, number_of}
+use Rattle.fs_answer.specs.Regions.{step_at}
 use Rattle.fs_alone.specs.inner.Tables.{listed_at, name_at, is_at}
 use Rattle.fs_alone.proofs.Found.{none_at, found_below}
 

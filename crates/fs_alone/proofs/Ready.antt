@@ -18,8 +18,8 @@ use Rattle.fs_cand.specs.declared.candidate.Candidate.{Candidate}
 use Rattle.fs_cand.specs.Candidates.{runs_of}
 use Rattle.fs_ppo.specs.Rules.{numbered_rule}
 use Rattle.fs_local.specs.Local.{place_of}
-use Rattle.fs_region.specs.Regions.{Region}
-use Rattle.fs_region.specs.Musts.{alone, holds_of, is_rule, known_source, number_of, source_number, traces_of}
+use Rattle.fs_answer.specs.Regions.{Region}
+use Rattle.fs_answer.specs.Musts.{alone, holds_of, is_rule, known_source, number_of, source_number, traces_of}
 use Rattle.fs_region.proofs.Alone.{own_steps, number_named}
 use Rattle.fs_alone.specs.declared.rules.Returned.{Returned}
 use Rattle.fs_alone.specs.declared.source.Sourced.{Sourced}

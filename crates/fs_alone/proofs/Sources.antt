@@ -10,9 +10,9 @@ use Rattle.fs_model.specs.Operations.{PreExecution, accesses, operation, operati
 use Rattle.fs_model.proofs.WhichOperation.{hart_access, length_operations, no_hart_past}
 use Rattle.fs_cand.proofs.Distinct.{named}
 use Rattle.fs_ppo.proofs.Tests.{same_tests}
-use Rattle.fs_region.specs.Regions.{Region, same_name, same_source, names}
-use Rattle.fs_region.specs.Musts.{number_of, source_number}
-use Rattle.fs_region.specs.Trees.{is_name}
+use Rattle.fs_answer.specs.Regions.{Region, same_name, same_source, names}
+use Rattle.fs_answer.specs.Musts.{number_of, source_number}
+use Rattle.fs_answer.specs.Trees.{is_name}
 use Rattle.fs_region.proofs.Names.{name_is, is_itself}
 use Rattle.fs_region.proofs.Alone.{number_named}
 use Rattle.fs_alone.specs.declared.source.Source.{Source}

@@ -6,8 +6,8 @@ use Rattle.fs_model.specs.Execution.{IsTrace}
 use Rattle.fs_model.specs.Operations.{PreExecution}
 use Rattle.fs_hart.specs.declared.trace.Trace.{Trace}
 use Rattle.fs_hart.specs.Runs.{registers_after}
-use Rattle.fs_region.specs.Regions.{Region, Source as Known, Initial, From}
-use Rattle.fs_region.specs.Musts.{alone}
+use Rattle.fs_answer.specs.Regions.{Region, Source as Known, Initial, From}
+use Rattle.fs_answer.specs.Musts.{alone}
 use Rattle.fs_alone.specs.declared.source.Source.{Source}
 use Rattle.fs_alone.specs.declared.source.Source.TheVariants as coded
 use Rattle.fs_alone.specs.declared.source.Sourced.{Sourced}

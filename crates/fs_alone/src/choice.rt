@@ -2,7 +2,7 @@
 
 ghost use Rattle.std.specs.Prelude.{◌≡◌, Some, option_map};
 ghost use Rattle.fs_model.specs.declared.step.Choice.TheVariants.{Word};
-ghost use Rattle.fs_region.specs.Splits.{choice_number, step_number};
+ghost use Rattle.fs_answer.specs.Splits.{choice_number, step_number};
 
 use fs_hart::Step;
 use fs_instr::Instr;

@@ -6,7 +6,7 @@ ghost use Rattle.fs_model.specs.Numbers.{numbers_below};
 ghost use Rattle.fs_model.specs.Test.{IsBounded};
 ghost use Rattle.fs_model.specs.Execution.{code_of};
 ghost use Rattle.fs_hart.specs.Steps.{steps_in};
-ghost use Rattle.fs_region.specs.Musts.{traces_of};
+ghost use Rattle.fs_answer.specs.Musts.{traces_of};
 ghost use Rattle.fs_alone.specs.Alone.{IsRun};
 ghost use Rattle.fs_alone.specs.inner.Tables.{IsAlone};
 

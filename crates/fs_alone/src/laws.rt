@@ -9,8 +9,8 @@ ghost use Rattle.fs_model.specs.Preserved.{Rule};
 ghost use Rattle.fs_hart.specs.declared.trace.Trace.{Trace};
 ghost use Rattle.fs_hart.specs.Listing.{AreTraces};
 ghost use Rattle.fs_local.specs.Local.{is_local};
-ghost use Rattle.fs_region.specs.Regions.{Region};
-ghost use Rattle.fs_region.specs.Musts.{is_rule};
+ghost use Rattle.fs_answer.specs.Regions.{Region};
+ghost use Rattle.fs_answer.specs.Musts.{is_rule};
 ghost use Rattle.fs_alone.specs.Alone.{IsRun};
 
 /// A law: what a region knows of sources counts for rules 2, 3 and 12 alone. Of the others a run has the same pairs in

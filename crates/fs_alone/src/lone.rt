@@ -9,9 +9,9 @@ ghost use Rattle.fs_model.specs.Test.{IsBounded};
 ghost use Rattle.fs_model.specs.Preserved.{Rule, Rule8};
 ghost use Rattle.fs_model.specs.Shows.{final_register};
 ghost use Rattle.fs_ppo.specs.Rules.{number_of as number_of_rule};
-ghost use Rattle.fs_region.specs.Regions.{Region, step_at, address_at, loaded_at, stored_at, loads_at};
-ghost use Rattle.fs_region.specs.Musts.{traces_of, number_of, is_rule};
-ghost use Rattle.fs_region.specs.Splits.{chosen_at};
+ghost use Rattle.fs_answer.specs.Regions.{Region, step_at, address_at, loaded_at, stored_at, loads_at};
+ghost use Rattle.fs_answer.specs.Musts.{traces_of, number_of, is_rule};
+ghost use Rattle.fs_answer.specs.Splits.{chosen_at};
 ghost use Rattle.fs_alone.specs.Alone.{IsRun, Knows, execution_of};
 ghost use Rattle.fs_alone.specs.inner.Ordered.{IsOwn, number_from, is_unnamed, count_as_one};
 

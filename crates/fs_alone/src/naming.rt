@@ -5,8 +5,8 @@ ghost use Rattle.fs_kinds.specs.Limits.{most_numbered};
 ghost use Rattle.fs_kinds.specs.declared.fault.Fault.TheVariants.{Memory};
 ghost use Rattle.fs_model.specs.Slots.{is_memory_at};
 ghost use Rattle.fs_model.specs.Test.{IsBounded};
-ghost use Rattle.fs_region.specs.Regions.{names_in, names};
-ghost use Rattle.fs_region.specs.Trees.{is_name};
+ghost use Rattle.fs_answer.specs.Regions.{names_in, names};
+ghost use Rattle.fs_answer.specs.Trees.{is_name};
 
 use fs_instr::Instr;
 use fs_kinds::{Fault, OperationName};

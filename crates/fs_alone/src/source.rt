@@ -1,7 +1,7 @@
 //! What a load returns from, by name.
 
 ghost use Rattle.std.specs.Prelude.{◌≡◌};
-ghost use Rattle.fs_region.specs.Regions.{same_source};
+ghost use Rattle.fs_answer.specs.Regions.{same_source};
 ghost use Rattle.fs_alone.specs.Alone.{source_of};
 
 use fs_kinds::OperationName;

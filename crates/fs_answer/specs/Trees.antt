@@ -12,13 +12,13 @@ use Rattle.fs_model.specs.declared.step.Step.{Step}
 use Rattle.fs_model.specs.Numbers.{numbers_below}
 use Rattle.fs_model.specs.Execution.{code_of}
 use Rattle.fs_model.specs.Shows.{is_outcome}
+use Rattle.fs_model.specs.Values.{HasAllRuns}
 use Rattle.fs_answer.specs.Candidates.{Candidate, IsShowing}
 use Rattle.fs_answer.specs.Certificate.{Link}
 use Rattle.fs_answer.specs.Valid.{IsCycle, most_links}
-pub use Rattle.fs_values.specs.AllRuns.{HasAllRuns}
-use Rattle.fs_region.specs.Regions.{Region, same_name, stored_at}
-use Rattle.fs_region.specs.Musts.{must, must_meet, must_pair, is_before, overwrites}
-use Rattle.fs_region.specs.Splits.{by_choice, by_source, by_order, by_cases, by_outcome, ways_of}
+use Rattle.fs_answer.specs.Regions.{Region, same_name, stored_at}
+use Rattle.fs_answer.specs.Musts.{must, must_meet, must_pair, is_before, overwrites}
+use Rattle.fs_answer.specs.Splits.{by_choice, by_source, by_order, by_cases, by_outcome, ways_of}
 
 -- One step of a refutation. The first five split a region, or drop runs from it; the others end it:
 --   Cycle: each link must come before the next one, and the last before the first;

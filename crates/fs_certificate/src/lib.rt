@@ -3,11 +3,11 @@
 
 mod cause;
 mod certificate;
+mod json_values;
 mod read;
 mod read_answer;
 mod read_cycles;
 mod read_tree;
-mod values;
 mod write;
 mod write_cycles;
 mod write_tree;

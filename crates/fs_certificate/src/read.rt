@@ -12,10 +12,10 @@ ghost use Rattle.fs_certificate.specs.Kept.{IsCertificateFault, KeepsCertificate
 ghost use Rattle.fs_certificate.specs.inner.Sections.{HasSections};
 
 use crate::certificate::Certificate;
+use crate::json_values::{key_count, read_json};
 use crate::read_answer::read_answer;
 use crate::read_cycles::read_cycles;
 use crate::read_tree::{read_tree, version_in};
-use crate::values::{key_count, read_json};
 use fs_answer::{WitnessFile, witness_of};
 use fs_kinds::Fault;
 use fs_list::List;

@@ -9,7 +9,7 @@ ghost use Rattle.fs_answer.specs.WitnessFile.{IsArrayOf};
 ghost use Rattle.fs_certificate.specs.Kept.{IsCertificateFault, answer_of};
 
 use crate::certificate::CertifiedAnswer;
-use crate::values::{key_count, number_in};
+use crate::json_values::{key_count, number_in};
 use fs_kinds::Fault;
 use fs_list::List;
 use serde_json::Value;

@@ -13,7 +13,7 @@ ghost use Rattle.fs_certificate.specs.Kept.{IsCertificateFault, KeepsCycle, Keep
 
 use crate::cause::cause_of_word;
 use crate::certificate::CertificateLink;
-use crate::values::pair_in;
+use crate::json_values::pair_in;
 use fs_answer::read_name;
 use fs_evidence::Cause;
 use fs_kinds::{Fault, OperationName};

@@ -9,7 +9,7 @@ ghost use Rattle.fs_certificate.specs.Kept.{IsCertificateFault, item_of, version
 ghost use Rattle.fs_certificate.specs.inner.Leaves.{IsLeaf};
 
 use crate::certificate::{Item, Version};
-use crate::values::{is_text, number_in, pair_in};
+use crate::json_values::{is_text, number_in, pair_in};
 use fs_kinds::Fault;
 use fs_list::List;
 use serde_json::Value;

@@ -1,10 +1,10 @@
-//! Value sets, the faults that are met while they are found, and what tests allow over them.
+//! Value sets and the runs over them, the faults that are met while they are found, and what tests allow over them.
 
 use fs_examples::{ADD2, CO_RR, LBD, LRSC, MP, MPA, MPB, POINTER, SB, told};
 use fs_kinds::Fault;
 use fs_litmus::{read_fences, read_test};
 use fs_plain::allows_over;
-use fs_values::Values;
+use fs_values::{Values, all_runs};
 use std::alloc::{AllocError, Global};
 use std::test::Fail;
 
@@ -71,6 +71,33 @@ fn values_of_known_tests(rt: HostRuntime) -> Result<(), Fail> {
     ];
     for (text, wanted) in rows {
         let found = told(rt.alloc(), values_text(rt.alloc(), text))?;
+        assert_eq!(rt; found.as_str(), wanted, "in {text}");
+    }
+    Ok(())
+}
+
+/// Writes how many runs over the value sets each hart has of the test that the text reads as.
+fn runs_text(alloc: Global, text: &str) -> Result<String, Fault> {
+    let test = read_test(alloc, text.as_bytes())?;
+    let mut counts = String::new(alloc);
+    for runs in &all_runs(alloc, &test)? {
+        write!(counts, "{} ", runs.len())?;
+    }
+    Ok(counts)
+}
+
+#[test]
+fn runs_of_known_tests(rt: HostRuntime) -> Result<(), Fail> {
+    let rows = [
+        (ADD2, "3 3 "),
+        (MP, "1 4 "),
+        (LRSC, "6 1 "),
+        (POINTER, "1 "),
+        (OVERWRITTEN, "fault F14 Astray P0:1"),
+        (OVERWRITTEN_ASTRAY, "fault F14 Astray P2:0"),
+    ];
+    for (text, wanted) in rows {
+        let found = told(rt.alloc(), runs_text(rt.alloc(), text))?;
         assert_eq!(rt; found.as_str(), wanted, "in {text}");
     }
     Ok(())

@@ -1,7 +1,8 @@
 -- Which words a location can come to hold, counted in rounds: a run whose loads take words of one round adds what it stores to
 -- the next. They bound which runs are listed. That each execution keeps to them, where no run over them goes astray, is a law of
 -- the memory model, and no part of what an execution is.
-use Rattle.std.specs.Prelude.{◌≡◌, ℕ, zero, suc, ◌<◌, ◌⊎◌, Some, List, [], ◌∷◌, All, length, slice_get, sum_by, count_by}
+use Rattle.std.specs.Prelude.{◌≡◌, ◌↔◌, ℕ, zero, suc, ◌<◌, ◌⊎◌, Some, List, [], ◌∷◌, All, length, slice_get, sum_by, count_by}
+use Rattle.std.specs.List.{Contains}
 use Rattle.fs_model.specs.declared.test.Test.{Test}
 use Rattle.fs_model.specs.Test.{address_of}
 use Rattle.fs_model.specs.declared.step.Step.{Step}
@@ -45,3 +46,9 @@ pub record AreRunsOverValues (t : Test) (traces : List (List Step)) : Type 0 whe
   pub harts : length traces ≡ length t.codes
   pub runs : (hart : ℕ) → hart < length t.codes → IsTrace t hart (steps_of traces hart)
   pub values : (hart : ℕ) → hart < length t.codes → LoadsFrom (IsValue t) (steps_of traces hart)
+
+-- all runs of each hart over the value sets, in any order
+abbrev pub HasAllRuns : Test → (ℕ → List (List Step)) → Type 0
+HasAllRuns t runs =
+    (hart : ℕ) → hart < length t.codes → (steps : List Step)
+    → Contains (runs hart) steps ↔ IsTrace t hart steps × LoadsFrom (IsValue t) steps

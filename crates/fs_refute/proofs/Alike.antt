@@ -13,8 +13,8 @@ use Rattle.fs_model.specs.declared.test.Test.{Test}
 use Rattle.fs_model.specs.declared.step.Step.{Step}
 use Rattle.fs_model.specs.Preserved.{Rule}
 use Rattle.fs_model.specs.Shows.{final_register}
-use Rattle.fs_region.specs.Regions.{Region}
-use Rattle.fs_region.specs.Musts.{alone, traces_of, is_rule, has_truth}
+use Rattle.fs_answer.specs.Regions.{Region}
+use Rattle.fs_answer.specs.Musts.{alone, traces_of, is_rule, has_truth}
 use Rattle.fs_alone.specs.Alone.{RunOf}
 use Rattle.fs_refute.specs.declared.outcome.Ending.{Ending}
 use Rattle.fs_refute.specs.Views.{runs_of, AreRunsOf}

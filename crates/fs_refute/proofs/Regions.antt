@@ -12,8 +12,8 @@ use Rattle.fs_kinds.specs.declared.reason.OperationName.{OperationName as Name}
 use Rattle.fs_model.specs.declared.test.Test.{Test}
 use Rattle.fs_model.specs.declared.step.Step.{Step}
 use Rattle.fs_model.specs.Condition.{Condition}
-use Rattle.fs_region.specs.Regions.{Region, Source, same_name}
-use Rattle.fs_region.specs.Splits.{keep, with_source, with_order, with_wanted}
+use Rattle.fs_answer.specs.Regions.{Region, Source, same_name}
+use Rattle.fs_answer.specs.Splits.{keep, with_source, with_order, with_wanted}
 use Rattle.fs_alone.specs.Alone.{RunOf, source_of}
 use Rattle.fs_refute.specs.declared.region.Sourced.{Sourced}
 use Rattle.fs_refute.specs.declared.region.Region.{Region as CodeRegion}

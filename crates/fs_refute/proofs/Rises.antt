@@ -8,7 +8,7 @@ use Rattle.std.proofs.lemmas.Bool.{false≢true, cases_Bool, cases_lt, or_cases,
 use Rattle.std.proofs.lemmas.List.Kept.{Contains-dedup_nat, Contains-from_dedup}
 use Rattle.std.proofs.lemmas.List.Sorted.{list_any-IsPermutation}
 use Rattle.std.proofs.lemmas.Map.Keys.{IsStrictlyIncreasing-dedup}
-use Rattle.fs_region.specs.Splits.{insert, rising}
+use Rattle.fs_answer.specs.Splits.{insert, rising}
 use Rattle.fs_region.proofs.Lists.{any_in, any_from}
 
 -- the list rises, from this number on

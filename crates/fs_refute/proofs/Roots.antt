@@ -9,8 +9,8 @@ use Rattle.std.proofs.lemmas.List.Elements.{All-nil, All-cons, All-head, All-tai
 use Rattle.fs_model.specs.declared.test.Test.{Test}
 use Rattle.fs_model.specs.Condition.{condition_of}
 use Rattle.fs_model.specs.Shows.{is_outcome}
-use Rattle.fs_region.specs.Regions.{Region}
-use Rattle.fs_region.specs.Trees.{root}
+use Rattle.fs_answer.specs.Regions.{Region}
+use Rattle.fs_answer.specs.Trees.{root}
 use Rattle.fs_alone.specs.Alone.{RunOf}
 use Rattle.fs_refute.specs.declared.region.Region.{Region as CodeRegion}
 use Rattle.fs_refute.specs.Views.{region_of, regions_of, runs_of, at_hart, lists_in, source_in, is_in_order, all_wanted, runs_over, AreRunsOf}
@@ -44,9 +44,9 @@ behind t hart (run ∷ runs) all =
 
 pub all_of_test : (t : Test) (lists : List (List (Bor RunOf))) (listed : List (List RunOf)) → map values_in lists ≡ listed
     → ((hart : ℕ) → All (λ run. (run.test ≡ t) × (run.hart ≡ hart)) (slice_index_or listed hart [])) → (hart : ℕ) → AreRunsOf t hart (at_hart lists hart)
-all_of_test t lists listed is ground hart =
+all_of_test t lists listed is basis hart =
     behind t hart (at_hart lists hart)
-    (subst (All (λ run. (run.test ≡ t) × (run.hart ≡ hart))) (sym (values_at lists hart ∙ ap (λ (ls : List (List RunOf)). slice_index_or ls hart []) is)) (ground hart))
+    (subst (All (λ run. (run.test ≡ t) × (run.hart ≡ hart))) (sym (values_at lists hart ∙ ap (λ (ls : List (List RunOf)). slice_index_or ls hart []) is)) (basis hart))
 
 pub root_is : (t : Test) (listed : List (List RunOf)) (region : CodeRegion) → map values_in (lists_in region.runs.items) ≡ listed
     → arc_value region.sources ≡ [] → arc_value region.orders ≡ []

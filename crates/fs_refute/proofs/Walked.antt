@@ -6,8 +6,8 @@ use Rattle.std.proofs.lemmas.List.{take_more, drop_more, drop_all}
 use Rattle.std.proofs.lemmas.Option.{slice_get_within, slice_get-get_or}
 use Rattle.fs_kinds.specs.declared.placement.Entry.{Entry}
 use Rattle.fs_model.specs.declared.test.Test.{Test}
-use Rattle.fs_region.specs.Regions.{Region}
-use Rattle.fs_region.specs.Trees.{Inference, follows, left_after, refutes}
+use Rattle.fs_answer.specs.Regions.{Region}
+use Rattle.fs_answer.specs.Trees.{Inference, follows, left_after, refutes}
 use Rattle.fs_refute.specs.declared.wrong.Wrong.TheVariants as wrong
 use Rattle.fs_refute.specs.Verdict.{after_one, open_after, open_before, IsJudged, IsWholeTree, Answers}
 

@@ -10,12 +10,12 @@ use Rattle.fs_model.specs.declared.step.Step.{Step}
 use Rattle.fs_model.specs.Condition.{Condition, condition_of}
 use Rattle.fs_model.specs.Numbers.{is_same}
 use Rattle.fs_model.specs.Test.{address_of}
-use Rattle.fs_region.specs.Regions.{Region, Source, same_name, address_at, loaded_at, stored_at, names}
-use Rattle.fs_region.specs.Trees as trees
-use Rattle.fs_region.specs.Trees.{Inference}
+use Rattle.fs_answer.specs.Regions.{Region, Source, same_name, address_at, loaded_at, stored_at, names}
+use Rattle.fs_answer.specs.Trees as trees
+use Rattle.fs_answer.specs.Trees.{Inference}
 use Rattle.fs_alone.specs.declared.source.Source.{Source as CodeSource}
 use Rattle.fs_alone.specs.Alone.{RunOf, source_of}
-use Rattle.fs_refute.specs.declared.ground.Ground.{Ground}
+use Rattle.fs_refute.specs.declared.basis.Basis.{Basis}
 use Rattle.fs_refute.specs.declared.inference.Inference.{Inference as CodeInference}
 use Rattle.fs_refute.specs.declared.inference.Inference.TheVariants as inference
 use Rattle.fs_refute.specs.declared.musts.Access.{Access}
@@ -101,17 +101,17 @@ AreOf t = All (IsOf t)
 -- ---- the test
 
 -- the names are those of the test
-abbrev pub HasNames : Ground → Type 0
-HasNames ground = ground.names ≡ names ground.test.now
+abbrev pub HasNames : Basis → Type 0
+HasNames basis = basis.names ≡ names basis.test.now
 
 -- the runs of each hart, of lists for each hart
 abbrev pub runs_over : List (List RunOf) → ℕ → List (List Step)
 runs_over lists hart = map (λ run. run.steps) (slice_index_or lists hart [])
 
 -- each run is one of the test, and of the hart in whose list it stands
-abbrev pub IsGround : Ground → Type 0
-IsGround ground =
-    (hart : ℕ) → All (λ run. (run.test ≡ ground.test.now) × (run.hart ≡ hart)) (slice_index_or ground.runs.now hart [])
+abbrev pub IsBasis : Basis → Type 0
+IsBasis basis =
+    (hart : ℕ) → All (λ run. (run.test ≡ basis.test.now) × (run.hart ≡ hart)) (slice_index_or basis.runs.now hart [])
 
 -- ---- accesses
 

@@ -3,8 +3,8 @@
 ghost use Rattle.std.specs.Prelude.{◌≡◌, ◌==◌, ◌&&◌, not, filter, Some, IfOk};
 ghost use Rattle.std.specs.List.{list_any};
 ghost use Rattle.fs_model.specs.Test.{IsBounded, address_of};
-ghost use Rattle.fs_region.specs.Regions.{address_at, loaded_at, loads_at};
-ghost use Rattle.fs_region.specs.Splits.{chosen_at, agree, agrees_initially};
+ghost use Rattle.fs_answer.specs.Regions.{address_at, loaded_at, loads_at};
+ghost use Rattle.fs_answer.specs.Splits.{chosen_at, agree, agrees_initially};
 ghost use Rattle.fs_model.specs.Numbers.{is_same};
 ghost use Rattle.fs_refute.specs.Views.{runs_of};
 

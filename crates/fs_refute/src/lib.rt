@@ -1,10 +1,8 @@
-//! Checks a refutation: a tree of inferences over regions, one inference after the other. Each is looked at once, and
-//! nothing
-//! is searched for.
+//! Checks a refutation, a tree of inferences over regions: each inference is looked at once, and nothing is searched for.
 #![tactic(auto)]
 
+mod basis;
 mod filters;
-mod ground;
 mod inference;
 pub mod laws;
 mod musts;
@@ -14,7 +12,7 @@ mod splits;
 mod walk;
 mod wrong;
 
-pub use ground::Ground;
+pub use basis::Basis;
 pub use inference::Inference;
 pub use walk::refute;
 pub use wrong::Wrong;

@@ -6,12 +6,12 @@ ghost use Rattle.fs_model.specs.Test.{IsBounded};
 ghost use Rattle.fs_model.specs.Condition.{condition_of};
 ghost use Rattle.fs_model.specs.Execution.{initial_words};
 ghost use Rattle.fs_model.specs.Shows.{final_register};
-ghost use Rattle.fs_region.specs.Regions.{names, stored_at};
-ghost use Rattle.fs_region.specs.Musts.{has_truth, passes, stores_such, must_be, may_end, may, traces_of};
+ghost use Rattle.fs_answer.specs.Regions.{names, stored_at};
+ghost use Rattle.fs_answer.specs.Musts.{has_truth, passes, stores_such, must_be, may_end, may, traces_of};
 ghost use Rattle.fs_refute.specs.Views.{region_of, runs_of, all_wanted, IsOf, HasNames};
 ghost use Rattle.fs_refute.specs.inner.Asked.{EndsSome};
 
-use crate::ground::Ground;
+use crate::basis::Basis;
 use crate::musts::{Access, must_be};
 use crate::region::{Region, Wanted};
 use fs_alone::Lone;
@@ -78,20 +78,20 @@ fn initial_word(test: &Test, location: u8) -> u32
 }
 
 // Must something be stored at the location?
-fn must_be_stored(ground: &Ground<'_>, region: &Region<'_>, location: u8) -> bool
-    requires { HasNames ground.now }
-    ensures { result ≡ list_any (λ a. must_be ground.now.test.now (region_of region.now) stored_at a location)
-        (names ground.now.test.now) }
+fn must_be_stored(basis: &Basis<'_>, region: &Region<'_>, location: u8) -> bool
+    requires { HasNames basis.now }
+    ensures { result ≡ list_any (λ a. must_be basis.now.test.now (region_of region.now) stored_at a location)
+        (names basis.now.test.now) }
 {
-    ground.names.iter().any(|name| must_be(ground.test, region, Access::Store, *name, location))
+    basis.names.iter().any(|name| must_be(basis.test, region, Access::Store, *name, location))
 }
 
 // Does the store come before another?
-fn is_overtaken(ground: &Ground<'_>, region: &Region<'_>, name: OperationName) -> bool
-    requires { HasNames ground.now }
-    ensures { result ≡ list_any ((region_of region.now).before name) (names ground.now.test.now) }
+fn is_overtaken(basis: &Basis<'_>, region: &Region<'_>, name: OperationName) -> bool
+    requires { HasNames basis.now }
+    ensures { result ≡ list_any ((region_of region.now).before name) (names basis.now.test.now) }
 {
-    ground
+    basis
         .names
         .iter()
         .any(|other| region.is_before(name, *other))
@@ -99,41 +99,44 @@ fn is_overtaken(ground: &Ground<'_>, region: &Region<'_>, name: OperationName) -
 
 // May the store be the last one of the location, and of such a word?
 fn may_be_last(
-    ground: &Ground<'_>,
+    basis: &Basis<'_>,
     region: &Region<'_>,
     name: OperationName,
     location: u8,
     ending: Ending,
 ) -> bool
-    requires { HasNames ground.now }
-    ensures { result ≡ (not (list_any ((region_of region.now).before name) (names ground.now.test.now))
+    requires { HasNames basis.now }
+    ensures { result ≡ (not (list_any ((region_of region.now).before name) (names basis.now.test.now))
         && list_any (stores_such location (λ w. has_truth ending.truth (w == ending.word)) name)
         ((region_of region.now).runs name.hart)) }
 {
-    !is_overtaken(ground, region, name)
+    !is_overtaken(basis, region, name)
         && any_stores_such(region.runs(name.hart), name, location, ending)
 }
 
 // May the location end with such a word that is stored there?
-fn may_end_stored(ground: &Ground<'_>, region: &Region<'_>, location: u8, ending: Ending) -> bool
-    requires { HasNames ground.now }
-    ensures { result ≡ list_any (λ a. not (list_any ((region_of region.now).before a) (names ground.now.test.now))
+fn may_end_stored(basis: &Basis<'_>, region: &Region<'_>, location: u8, ending: Ending) -> bool
+    requires { HasNames basis.now }
+    ensures { result ≡ list_any (λ a. not (list_any ((region_of region.now).before a) (names basis.now.test.now))
         && list_any (stores_such location (λ w. has_truth ending.truth (w == ending.word)) a)
         ((region_of region.now).runs a.hart))
-        (names ground.now.test.now) }
+        (names basis.now.test.now) }
 {
-    ground.names.iter().any(|name| may_be_last(ground, region, *name, location, ending))
+    basis
+        .names
+        .iter()
+        .any(|name| may_be_last(basis, region, *name, location, ending))
 }
 
 // May the location end with such a word?
-fn may_end(ground: &Ground<'_>, region: &Region<'_>, location: u8, ending: Ending) -> bool
-    requires { HasNames ground.now }
-    ensures { result ≡ may_end ground.now.test.now (region_of region.now) location
+fn may_end(basis: &Basis<'_>, region: &Region<'_>, location: u8, ending: Ending) -> bool
+    requires { HasNames basis.now }
+    ensures { result ≡ may_end basis.now.test.now (region_of region.now) location
         (λ w. has_truth ending.truth (w == ending.word)) }
 {
-    (is_ending(ending, initial_word(ground.test, location))
-        && !must_be_stored(ground, region, location))
-        || may_end_stored(ground, region, location, ending)
+    (is_ending(ending, initial_word(basis.test, location))
+        && !must_be_stored(basis, region, location))
+        || may_end_stored(basis, region, location, ending)
 }
 
 // May the register end with such a word in one of the runs, which are of the hart?
@@ -145,15 +148,10 @@ fn may_end_register(runs: &[&Lone], register: Reg, ending: Ending) -> bool
 }
 
 // May the condition have this truth value? Its depth is bounded by that of the test's condition.
-pub(crate) fn may(
-    ground: &Ground<'_>,
-    region: &Region<'_>,
-    condition: &Outcome,
-    truth: bool,
-) -> bool
-    requires names { HasNames ground.now }
-    requires region { IsOf ground.now.test.now region.now }
-    ensures { result ≡ may ground.now.test.now (region_of region.now) (condition_of condition.now) truth }
+pub(crate) fn may(basis: &Basis<'_>, region: &Region<'_>, condition: &Outcome, truth: bool) -> bool
+    requires names { HasNames basis.now }
+    requires region { IsOf basis.now.test.now region.now }
+    ensures { result ≡ may basis.now.test.now (region_of region.now) (condition_of condition.now) truth }
 {
     match condition {
         Outcome::Always => truth,
@@ -162,31 +160,31 @@ pub(crate) fn may(
             may_end_register(region.runs(*hart), *reg, Ending { word: *word, truth })
         }
         Outcome::LocationIs { location, word } => {
-            may_end(ground, region, *location, Ending { word: *word, truth })
+            may_end(basis, region, *location, Ending { word: *word, truth })
         }
-        Outcome::Deny(denied) => may(ground, region, denied, !truth),
+        Outcome::Deny(denied) => may(basis, region, denied, !truth),
         Outcome::Both(left, right) => {
             if truth {
-                may(ground, region, left, true) && may(ground, region, right, true)
+                may(basis, region, left, true) && may(basis, region, right, true)
             } else {
-                may(ground, region, left, false) || may(ground, region, right, false)
+                may(basis, region, left, false) || may(basis, region, right, false)
             }
         }
         Outcome::Either(left, right) => {
             if truth {
-                may(ground, region, left, true) || may(ground, region, right, true)
+                may(basis, region, left, true) || may(basis, region, right, true)
             } else {
-                may(ground, region, left, false) && may(ground, region, right, false)
+                may(basis, region, left, false) && may(basis, region, right, false)
             }
         }
     }
 }
 
 // May each wanted condition have its truth value?
-pub(crate) fn may_all(ground: &Ground<'_>, region: &Region<'_>, wanted: &[Wanted<'_>]) -> bool
-    requires names { HasNames ground.now }
-    requires region { IsOf ground.now.test.now region.now }
-    ensures { result ≡ list_all (λ w. may ground.now.test.now (region_of region.now) w.0 w.1) (all_wanted wanted.now) }
+pub(crate) fn may_all(basis: &Basis<'_>, region: &Region<'_>, wanted: &[Wanted<'_>]) -> bool
+    requires names { HasNames basis.now }
+    requires region { IsOf basis.now.test.now region.now }
+    ensures { result ≡ list_all (λ w. may basis.now.test.now (region_of region.now) w.0 w.1) (all_wanted wanted.now) }
 {
-    wanted.iter().all(|wanted| may(ground, region, wanted.condition, wanted.truth))
+    wanted.iter().all(|wanted| may(basis, region, wanted.condition, wanted.truth))
 }

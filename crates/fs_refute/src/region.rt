@@ -3,7 +3,7 @@
 ghost use Rattle.std.specs.Prelude.{◌≡◌, ◌≢◌, ◌≤◌, ◌<◌, ℕ, length, slice_set, IfOk};
 ghost use Rattle.fs_kinds.specs.declared.reason.OperationName.{OperationName as Name};
 ghost use Rattle.fs_model.specs.declared.test.Test.{Test};
-ghost use Rattle.fs_region.specs.Splits.{with_source, with_order, with_wanted};
+ghost use Rattle.fs_answer.specs.Splits.{with_source, with_order, with_wanted};
 ghost use Rattle.fs_alone.specs.Alone.{source_of};
 ghost use Rattle.fs_refute.specs.Views.{region_of, known_source, runs_of, all_wanted, with_runs, source_in, source_after, lists_in, list_at, IsOf, AreRunsOf};
 

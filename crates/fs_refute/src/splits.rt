@@ -6,17 +6,17 @@ ghost use Rattle.fs_model.specs.declared.test.Test.{Test};
 ghost use Rattle.fs_model.specs.declared.step.Step.{Step};
 ghost use Rattle.fs_model.specs.Test.{IsBounded};
 ghost use Rattle.fs_model.specs.Condition.{condition_of};
-ghost use Rattle.fs_region.specs.Regions.{From, same_source};
-ghost use Rattle.fs_region.specs.Musts.{may};
-ghost use Rattle.fs_region.specs.Splits.{keep, agree, chosen_at, rising, by_choice, from_store, from_initial, from_nothing, from_source, is_left, can_be_source, sources_for, by_source, by_order, ways, by_cases, by_outcome, with_run, with_source};
-ghost use Rattle.fs_region.specs.Trees.{is_open};
+ghost use Rattle.fs_answer.specs.Regions.{From, same_source};
+ghost use Rattle.fs_answer.specs.Musts.{may};
+ghost use Rattle.fs_answer.specs.Splits.{keep, agree, chosen_at, rising, by_choice, from_store, from_initial, from_nothing, from_source, is_left, can_be_source, sources_for, by_source, by_order, ways, by_cases, by_outcome, with_run, with_source};
+ghost use Rattle.fs_answer.specs.Trees.{is_open};
 ghost use Rattle.fs_alone.specs.Alone.{source_of};
 ghost use Rattle.fs_refute.specs.Views.{region_of, regions_of, all_wanted, list_at, runs_of, known_source, HasNames, IsOf, AreOf};
 
+use crate::basis::Basis;
 use crate::filters::{
     agreeing_alone, agreeing_loads, agreeing_stores, choosing, loading_initial, not_loading,
 };
-use crate::ground::Ground;
 use crate::musts::is_same_name;
 use crate::outcome::may_all;
 use crate::region::{Region, Runs, Wanted};
@@ -299,18 +299,18 @@ fn add_store(
 // The sources from which the load may return.
 fn sources_for(
     alloc: Global,
-    ground: &Ground<'_>,
+    basis: &Basis<'_>,
     load: OperationName,
     region: &Region<'_>,
 ) -> Result<Vec<Source>, AllocError>
-    requires { HasNames ground.now }
+    requires { HasNames basis.now }
     ensures { IfOk result (λ sources. map source_of sources.items
-        ≡ sources_for ground.now.test.now load (region_of region.now)) }
+        ≡ sources_for basis.now.test.now load (region_of region.now)) }
 {
     let known = region.source(load);
     let mut sources = Vec::new(alloc);
     add_left(&mut sources, known, Source::Initial)?;
-    for store in ground.names.as_slice() {
+    for store in basis.names.as_slice() {
         add_store(&mut sources, load, known, store)?;
     }
     Ok(sources)
@@ -319,23 +319,23 @@ fn sources_for(
 // A region for each source of the load, and one where it isn't executed.
 pub(crate) fn by_source<'a>(
     alloc: Global,
-    ground: &Ground<'_>,
+    basis: &Basis<'_>,
     load: OperationName,
     region: &Region<'a>,
 ) -> Result<Vec<Region<'a>>, AllocError>
-    requires test { IsBounded ground.now.test.now }
-    requires region { IsOf ground.now.test.now region.now }
-    requires names { HasNames ground.now }
+    requires test { IsBounded basis.now.test.now }
+    requires region { IsOf basis.now.test.now region.now }
+    requires names { HasNames basis.now }
     ensures regions { IfOk result (λ left. regions_of left.items
-        ≡ filter (is_open ground.now.test.now) (by_source ground.now.test.now load (region_of region.now))) }
-    ensures of { IfOk result (λ left. AreOf ground.now.test.now left.items) }
+        ≡ filter (is_open basis.now.test.now) (by_source basis.now.test.now load (region_of region.now))) }
+    ensures of { IfOk result (λ left. AreOf basis.now.test.now left.items) }
 {
-    let sources = sources_for(alloc, ground, load, region)?;
+    let sources = sources_for(alloc, basis, load, region)?;
     let mut left = Vec::new(alloc);
-    add_open(ground.test, &mut left, from_nothing(alloc, load, region)?)?;
+    add_open(basis.test, &mut left, from_nothing(alloc, load, region)?)?;
     for source in &sources {
-        let smaller = from_source(alloc, ground.test, load, region, source)?;
-        add_open(ground.test, &mut left, smaller)?;
+        let smaller = from_source(alloc, basis.test, load, region, source)?;
+        add_open(basis.test, &mut left, smaller)?;
     }
     Ok(left)
 }
@@ -502,24 +502,24 @@ pub(crate) fn by_cases<'a>(
 // May each wanted condition have its truth value, with this run of the hart?
 fn may_with<'a>(
     alloc: Global,
-    ground: &Ground<'_>,
+    basis: &Basis<'_>,
     hart: u8,
     region: &Region<'a>,
     run: &'a Lone,
 ) -> Result<bool, AllocError>
-    requires names { HasNames ground.now }
-    requires region { IsOf ground.now.test.now region.now }
+    requires names { HasNames basis.now }
+    requires region { IsOf basis.now.test.now region.now }
     requires hart { hart < length region.now.runs.items }
-    requires test { run.now.test ≡ ground.now.test.now }
+    requires test { run.now.test ≡ basis.now.test.now }
     requires of { run.now.hart ≡ hart }
     ensures { IfOk result (λ may_all. may_all ≡ list_all (λ wanted.
-        may ground.now.test.now (with_run hart run.now.steps (region_of region.now)) wanted.0 wanted.1)
+        may basis.now.test.now (with_run hart run.now.steps (region_of region.now)) wanted.0 wanted.1)
         (region_of region.now).wanted) }
 {
     let mut runs = Vec::new(alloc);
     runs.push(run)?;
     let smaller = region.with_runs(alloc, hart, List::new(runs))?;
-    Ok(may_all(ground, &smaller, smaller.wanted.as_slice()))
+    Ok(may_all(basis, &smaller, smaller.wanted.as_slice()))
 }
 
 // Puts the run behind those that are there, if it passes.
@@ -535,25 +535,25 @@ fn push_if<'a>(runs: &mut Vec<&'a Lone>, run: &&'a Lone, passes: bool) -> Result
 // The hart's runs with each of which every wanted condition may have its truth value.
 pub(crate) fn by_outcome<'a>(
     alloc: Global,
-    ground: &Ground<'_>,
+    basis: &Basis<'_>,
     hart: u8,
     region: &Region<'a>,
 ) -> Result<Vec<Region<'a>>, AllocError>
-    requires test { IsBounded ground.now.test.now }
-    requires names { HasNames ground.now }
-    requires region { IsOf ground.now.test.now region.now }
+    requires test { IsBounded basis.now.test.now }
+    requires names { HasNames basis.now }
+    requires region { IsOf basis.now.test.now region.now }
     ensures regions { IfOk result (λ left. regions_of left.items
-        ≡ filter (is_open ground.now.test.now) (by_outcome ground.now.test.now hart (region_of region.now))) }
-    ensures of { IfOk result (λ left. AreOf ground.now.test.now left.items) }
+        ≡ filter (is_open basis.now.test.now) (by_outcome basis.now.test.now hart (region_of region.now))) }
+    ensures of { IfOk result (λ left. AreOf basis.now.test.now left.items) }
 {
     let mut kept = Vec::new(alloc);
     for run in region.runs(hart) {
-        let passes = may_with(alloc, ground, hart, region, run)?;
+        let passes = may_with(alloc, basis, hart, region, run)?;
         push_if(&mut kept, run, passes)?;
     }
     let mut left = Vec::new(alloc);
     add_open(
-        ground.test,
+        basis.test,
         &mut left,
         keep(alloc, region, hart, List::new(kept))?,
     )?;

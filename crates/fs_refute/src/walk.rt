@@ -8,14 +8,14 @@ ghost use Rattle.fs_model.specs.declared.test.Test.{Test};
 ghost use Rattle.fs_model.specs.Test.{IsBounded};
 ghost use Rattle.fs_model.specs.Condition.{condition_of};
 ghost use Rattle.fs_model.specs.Shows.{is_outcome};
-ghost use Rattle.fs_region.specs.Musts.{must};
-ghost use Rattle.fs_region.specs.Splits.{ways_of};
-ghost use Rattle.fs_region.specs.Trees.{ByOrder, must_be_cycle, follows, left_after, root};
-ghost use Rattle.fs_refute.specs.Views.{region_of, regions_of, lists_in, all_wanted, inference_of, runs_over, HasNames, IsGround, IsOf, AreOf};
+ghost use Rattle.fs_answer.specs.Musts.{must};
+ghost use Rattle.fs_answer.specs.Splits.{ways_of};
+ghost use Rattle.fs_answer.specs.Trees.{ByOrder, must_be_cycle, follows, left_after, root};
+ghost use Rattle.fs_refute.specs.Views.{region_of, regions_of, lists_in, all_wanted, inference_of, runs_over, HasNames, IsBasis, IsOf, AreOf};
 ghost use Rattle.fs_refute.specs.inner.Asked.{values_in};
 ghost use Rattle.fs_refute.specs.Verdict.{Answers, roots, stacked};
 
-use crate::ground::Ground;
+use crate::basis::Basis;
 use crate::inference::Inference;
 use crate::musts::{
     Access, is_before_source, is_same_name, must, must_meet, must_pair, overwrites,
@@ -118,21 +118,21 @@ fn may_order(test: &Test, region: &Region<'_>, first: OperationName, second: Ope
 
 // Can the inference be drawn from the region?
 fn follows(
-    ground: &Ground<'_>,
+    basis: &Basis<'_>,
     placement: &Placement,
     region: &Region<'_>,
     inference: &Inference,
 ) -> bool
-    requires test { IsBounded ground.now.test.now }
-    requires region { IsOf ground.now.test.now region.now }
-    ensures { result ≡ follows ground.now.test.now placement.now (region_of region.now) (inference_of inference.now) }
+    requires test { IsBounded basis.now.test.now }
+    requires region { IsOf basis.now.test.now region.now }
+    ensures { result ≡ follows basis.now.test.now placement.now (region_of region.now) (inference_of inference.now) }
 {
-    let test = ground.test;
+    let test = basis.test;
     match inference {
         Inference::ByChoice(name) | Inference::BySource(name) => is_name(test, *name),
         Inference::ByOrder { first, second } => may_order(test, region, *first, *second),
         Inference::ByCases(number) => has_cases(region, *number),
-        Inference::Filter(hart) => ground.is_hart(*hart),
+        Inference::Filter(hart) => basis.is_hart(*hart),
         Inference::Cycle(links) => must_be_cycle(test, placement, region, links.as_slice()),
         Inference::Stale { load, store } => {
             store.hart == load.hart
@@ -154,29 +154,25 @@ fn follows(
 // The regions that the inference leaves open.
 fn left_after<'a>(
     alloc: Global,
-    ground: &Ground<'_>,
+    basis: &Basis<'_>,
     region: &Region<'a>,
     inference: &Inference,
 ) -> Result<Vec<Region<'a>>, AllocError>
-    requires test { IsBounded ground.now.test.now }
-    requires names { HasNames ground.now }
-    requires region { IsOf ground.now.test.now region.now }
+    requires test { IsBounded basis.now.test.now }
+    requires names { HasNames basis.now }
+    requires region { IsOf basis.now.test.now region.now }
     ensures regions { IfOk result (λ left. regions_of left.items
-        ≡ left_after ground.now.test.now (region_of region.now) (inference_of inference.now)) }
-    ensures of { IfOk result (λ left. AreOf ground.now.test.now left.items) }
+        ≡ left_after basis.now.test.now (region_of region.now) (inference_of inference.now)) }
+    ensures of { IfOk result (λ left. AreOf basis.now.test.now left.items) }
 {
     match inference {
-        Inference::ByChoice(name) => by_choice(alloc, ground.test, *name, region),
-        Inference::BySource(load) => by_source(alloc, ground, *load, region),
+        Inference::ByChoice(name) => by_choice(alloc, basis.test, *name, region),
+        Inference::BySource(load) => by_source(alloc, basis, *load, region),
         Inference::ByOrder { first, second } => by_order(
-            alloc,
-            ground.test,
-            *first,
-            *second,
-            region,
+            alloc, basis.test, *first, *second, region,
         ),
-        Inference::ByCases(number) => by_cases(alloc, ground.test, *number, region),
-        Inference::Filter(hart) => by_outcome(alloc, ground, *hart, region),
+        Inference::ByCases(number) => by_cases(alloc, basis.test, *number, region),
+        Inference::Filter(hart) => by_outcome(alloc, basis, *hart, region),
         _ => Ok(Vec::new(alloc)),
     }
 }
@@ -219,14 +215,14 @@ fn outcome<'a>(alloc: Global, test: &'a Test) -> Result<List<Wanted<'a>>, AllocE
 }
 
 // All candidates with the outcome that is to be ruled out.
-fn root<'a>(alloc: Global, ground: &Ground<'a>) -> Result<Region<'a>, AllocError>
-    requires { IsGround ground.now }
+fn root<'a>(alloc: Global, basis: &Basis<'a>) -> Result<Region<'a>, AllocError>
+    requires { IsBasis basis.now }
     ensures region { IfOk result (λ region. region_of region
-        ≡ root ground.now.test.now (runs_over ground.now.runs.now)) }
-    ensures of { IfOk result (IsOf ground.now.test.now) }
+        ≡ root basis.now.test.now (runs_over basis.now.runs.now)) }
+    ensures of { IfOk result (IsOf basis.now.test.now) }
 {
-    let runs = all_runs(alloc, ground.runs)?;
-    let wanted = outcome(alloc, ground.test)?;
+    let runs = all_runs(alloc, basis.runs)?;
+    let wanted = outcome(alloc, basis.test)?;
     let sources = Arc::new(alloc, List::new(Vec::new(alloc)))?;
     let orders = Arc::new(alloc, List::new(Vec::new(alloc)))?;
     let wanted = Arc::new(alloc, wanted)?;
@@ -256,16 +252,16 @@ fn all_of<'a>(alloc: Global, runs: &'a [Lone]) -> Result<Runs<'a>, AllocError>
 }
 
 // All candidates, if there can be one.
-fn roots<'a>(alloc: Global, ground: &Ground<'a>) -> Result<Vec<Region<'a>>, AllocError>
-    requires test { IsBounded ground.now.test.now }
-    requires ground { IsGround ground.now }
+fn roots<'a>(alloc: Global, basis: &Basis<'a>) -> Result<Vec<Region<'a>>, AllocError>
+    requires test { IsBounded basis.now.test.now }
+    requires basis { IsBasis basis.now }
     ensures regions { IfOk result (λ left. regions_of left.items
-        ≡ roots ground.now.test.now (runs_over ground.now.runs.now)) }
-    ensures of { IfOk result (λ left. AreOf ground.now.test.now left.items) }
+        ≡ roots basis.now.test.now (runs_over basis.now.runs.now)) }
+    ensures of { IfOk result (λ left. AreOf basis.now.test.now left.items) }
 {
-    let all = root(alloc, ground)?;
+    let all = root(alloc, basis)?;
     let mut left = Vec::new(alloc);
-    add_open(ground.test, &mut left, all)?;
+    add_open(basis.test, &mut left, all)?;
     Ok(left)
 }
 
@@ -282,28 +278,28 @@ fn roots<'a>(alloc: Global, ground: &Ground<'a>) -> Result<Vec<Region<'a>>, Allo
 /// takes besides the runs of the harts whose runs it drops. The error is F19.
 pub fn refute(
     alloc: Global,
-    ground: &Ground<'_>,
+    basis: &Basis<'_>,
     placement: &Placement,
     inferences: &[Inference],
 ) -> Result<Result<(), Wrong>, Fault>
-    requires test { IsBounded ground.now.test.now }
-    requires names { HasNames ground.now }
-    requires ground { IsGround ground.now }
-    ensures exact { IfOk result (Answers ground.now.test.now placement.now (roots ground.now.test.now
-        (runs_over ground.now.runs.now))
+    requires test { IsBounded basis.now.test.now }
+    requires names { HasNames basis.now }
+    requires basis { IsBasis basis.now }
+    ensures exact { IfOk result (Answers basis.now.test.now placement.now (roots basis.now.test.now
+        (runs_over basis.now.runs.now))
         (map inference_of inferences.now)) }
     ensures err { IsOkUnless result Memory }
 {
     let mut stack = Vec::new(alloc);
-    push_all(&mut stack, roots(alloc, ground)?)?;
+    push_all(&mut stack, roots(alloc, basis)?)?;
     for (number, inference) in inferences.iter().enumerate() {
         let Some(region) = stack.pop() else {
             return Ok(Err(Wrong::Tree)); // one too many
         };
-        if !follows(ground, placement, &region, inference) {
+        if !follows(basis, placement, &region, inference) {
             return Ok(Err(Wrong::Inference(number)));
         }
-        push_all(&mut stack, left_after(alloc, ground, &region, inference)?)?;
+        push_all(&mut stack, left_after(alloc, basis, &region, inference)?)?;
     }
     if !stack.is_empty() {
         return Ok(Err(Wrong::Tree));

@@ -22,8 +22,9 @@ use Rattle.fs_decide.specs.Decide.{candidate_of}
 use Rattle.fs_decide.proofs.Back.{showing, ordered}
 use Rattle.fs_decide.proofs.Edges.{cycle_excludes}
 use Rattle.fs_values.proofs.Contained.{none_in, later_in}
-use Rattle.fs_region.specs.Regions.{truth}
-use Rattle.fs_region.specs.Trees.{Inference, IsRefuted, HasAllRuns, Covers, cycles_in, is_open, root}
+use Rattle.fs_answer.specs.Regions.{truth}
+use Rattle.fs_model.specs.Values.{HasAllRuns}
+use Rattle.fs_answer.specs.Trees.{Inference, IsRefuted, Covers, cycles_in, is_open, root}
 use Rattle.fs_region.proofs.Lists.{first_in, in_cases, in_filter}
 use Rattle.fs_region.proofs.Splits.{IsMember}
 use Rattle.fs_region.proofs.Walk.{walked, open_there}

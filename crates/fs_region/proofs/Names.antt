@@ -27,7 +27,7 @@ use Rattle.fs_decide.proofs.Sourced.{are_runs}
 use Rattle.fs_cand.proofs.Distinct.{one_named, named}
 use Rattle.fs_cand.proofs.Distinct as distinct
 use Rattle.fs_values.proofs.Contained.{in_map, in_parts}
-use Rattle.fs_region.specs.Regions.{same_name, names_in, names}
+use Rattle.fs_answer.specs.Regions.{same_name, names_in, names}
 use Rattle.fs_region.proofs.Lists.{in_filter, in_numbered}
 
 -- ---- names that are the same

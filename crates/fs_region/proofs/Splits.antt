@@ -24,11 +24,11 @@ use Rattle.fs_answer.specs.Candidates.{Candidate, IsRaw, IsShowing, runs_of, rf}
 use Rattle.fs_decide.proofs.Sourced.{IsSource, source_is, load_sourced, co_total}
 use Rattle.fs_cand.proofs.Distinct.{named, rises}
 use Rattle.fs_values.proofs.Contained.{none_in, later_in, in_map}
-use Rattle.fs_region.specs.Regions.{Region, Source, From, In, Returns, IsStoredBefore, same_name, same_source, name_in, names, truth, address_at, loaded_at, stored_at, loads_at}
-use Rattle.fs_region.specs.Regions as regions
-use Rattle.fs_region.specs.Musts.{must_be, must_meet, may}
-use Rattle.fs_region.specs.Splits.{keep, with_source, with_order, with_wanted, with_run, chosen_at, insert, rising, by_choice, agree, agrees_initially, can_be_source, from_store, from_initial, from_nothing, from_source, is_left, sources_for, by_source, by_order, ways, ways_of, by_cases, by_outcome}
-use Rattle.fs_region.specs.Trees.{is_name}
+use Rattle.fs_answer.specs.Regions.{Region, Source, From, In, Returns, IsStoredBefore, same_name, same_source, name_in, names, truth, address_at, loaded_at, stored_at, loads_at}
+use Rattle.fs_answer.specs.Regions as regions
+use Rattle.fs_answer.specs.Musts.{must_be, must_meet, may}
+use Rattle.fs_answer.specs.Splits.{keep, with_source, with_order, with_wanted, with_run, chosen_at, insert, rising, by_choice, agree, agrees_initially, can_be_source, from_store, from_initial, from_nothing, from_source, is_left, sources_for, by_source, by_order, ways, ways_of, by_cases, by_outcome}
+use Rattle.fs_answer.specs.Trees.{is_name}
 use Rattle.fs_region.proofs.Lists.{from_take, from_drop, get_in, first_in, in_cases, in_filter, in_numbered, any_in, any_from, all_of}
 use Rattle.fs_region.proofs.Names.{name_is, is_itself, name_there, hart_low, named_or_none, runs_forward, once, names_differ}
 use Rattle.fs_region.proofs.Runs.{done, at_load}

@@ -14,9 +14,9 @@ use Rattle.fs_answer.specs.Judged.{Cause, Preserved, ReadsFrom, Coherence, FromR
 use Rattle.fs_answer.specs.Valid.{most_links}
 use Rattle.fs_laws.specs.Strength.{KeepsNoMore}
 use Rattle.fs_laws.proofs.Weakening.{rule-larger, kept-at}
-use Rattle.fs_region.specs.Regions.{Region}
-use Rattle.fs_region.specs.Musts.{alone, number_of, holds_of, known_source, knows_enough, is_rule, must}
-use Rattle.fs_region.specs.Trees.{Inference, ByChoice, BySource, ByOrder, ByCases, Filter, Cycle, Stale, Reversed, Parted, is_open, links_around, must_be_cycle, follows, left_after, refutes, root, RefutesNoLess}
+use Rattle.fs_answer.specs.Regions.{Region}
+use Rattle.fs_answer.specs.Musts.{alone, number_of, holds_of, known_source, knows_enough, is_rule, must}
+use Rattle.fs_answer.specs.Trees.{Inference, ByChoice, BySource, ByOrder, ByCases, Filter, Cycle, Stale, Reversed, Parted, is_open, links_around, must_be_cycle, follows, left_after, refutes, root, RefutesNoLess}
 use Rattle.fs_region.proofs.Lists.{all_in, all_of}
 
 there-larger : (f g : ℕ → ℕ → Bool) (a b : Option ℕ) → ((i j : ℕ) → f i j ≡ true → g i j ≡ true)

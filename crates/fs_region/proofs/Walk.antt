@@ -28,9 +28,9 @@ use Rattle.fs_cand.proofs.Distinct.{named, rises}
 use Rattle.fs_local.specs.Local.{HasLink}
 use Rattle.fs_local.proofs.Cycles.{cycle_by_links}
 use Rattle.fs_values.proofs.Contained.{none_in}
-use Rattle.fs_region.specs.Regions.{Region, Source, Initial, From, same_name, stored_at}
-use Rattle.fs_region.specs.Musts.{must, must_meet, must_pair, is_before, overwrites}
-use Rattle.fs_region.specs.Trees.{Inference, ByChoice, BySource, ByOrder, ByCases, Filter, Cycle, Stale, Reversed, Parted, is_open, must_be_cycle, follows, left_after, refutes, cycle_in, cycles_in, HasCycleOf}
+use Rattle.fs_answer.specs.Regions.{Region, Source, Initial, From, same_name, stored_at}
+use Rattle.fs_answer.specs.Musts.{must, must_meet, must_pair, is_before, overwrites}
+use Rattle.fs_answer.specs.Trees.{Inference, ByChoice, BySource, ByOrder, ByCases, Filter, Cycle, Stale, Reversed, Parted, is_open, must_be_cycle, follows, left_after, refutes, cycle_in, cycles_in, HasCycleOf}
 use Rattle.fs_region.proofs.Lists.{first_in, in_cases, in_filter, some_in}
 use Rattle.fs_region.proofs.Names.{once, names_differ, runs_forward}
 use Rattle.fs_region.proofs.Coherent.{harts_differ, co_not_both}

@@ -15,9 +15,9 @@ ghost use Rattle.fs_answer.specs.Valid.{HasCycles};
 ghost use Rattle.fs_laws.specs.Strength.{KeepsNoMore};
 ghost use Rattle.fs_thin_air.specs.ThinAir.{CanBeListed};
 ghost use Rattle.fs_local.specs.Local.{HasLink};
-ghost use Rattle.fs_region.specs.Regions.{Region, In};
-ghost use Rattle.fs_region.specs.Musts.{must};
-ghost use Rattle.fs_region.specs.Trees.{Inference, IsRefuted, RefutesNoLess, Covers, cycles_in};
+ghost use Rattle.fs_answer.specs.Regions.{Region, In};
+ghost use Rattle.fs_answer.specs.Musts.{must};
+ghost use Rattle.fs_answer.specs.Trees.{Inference, IsRefuted, RefutesNoLess, Covers, cycles_in};
 
 /// A law: what must hold in a region is so in each raw candidate that is in it: the operations of both names are
 /// there, and the first must come before the second, for the cause that is given.

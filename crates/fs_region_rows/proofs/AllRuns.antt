@@ -12,8 +12,8 @@ use Rattle.fs_model.specs.Trace.{start_with, after_step}
 use Rattle.fs_model.specs.Execution.{IsTrace, code_of, registers_of, initial_words}
 use Rattle.fs_model.specs.Values.{IsValue, IsValueAfter, LoadsFrom, LoadsOne, StoresWord, rounds}
 use Rattle.fs_rows.proofs.Inversion.{step_of, idle_step, stores_next, loads_next, reserves_next, succeeds_or_fails, at_end, followed}
-use Rattle.fs_values.specs.AllRuns.{HasAllRuns}
-use Rattle.fs_region.specs.Trees.{IsRefuted}
+use Rattle.fs_model.specs.Values.{HasAllRuns}
+use Rattle.fs_answer.specs.Trees.{IsRefuted}
 use Rattle.fs_region_rows.specs.Small.{Place, x, y, lw, sw, plain, sb, sb_runs, parted, pair_runs, reserve, success, failure, succeeds, fails}
 use Rattle.fs_region_rows.specs.Refutations.{fences, sb_tree, parted_tree}
 

@@ -1,13 +1,13 @@
 //! The candidates that show the outcome, of a test alone.
 
-ghost use Rattle.std.specs.Prelude.{◌≡◌, ◌≢◌, ◌<◌, ◌^◌, All, IfOk, OnOk, IfErr};
+ghost use Rattle.std.specs.Prelude.{◌≡◌, ◌≢◌, All, IfOk, OnOk, IfErr};
 ghost use Rattle.std.specs.Arc.{arc_value};
 ghost use Rattle.fs_kinds.specs.declared.fault.Fault.{Fault as RunFault};
 ghost use Rattle.fs_kinds.specs.declared.fault.Fault.TheVariants.{Memory};
 ghost use Rattle.fs_model.specs.Test.{IsBounded, IsStart};
 ghost use Rattle.fs_answer.specs.CandidateFaults.{IsCandidateFault};
 ghost use Rattle.fs_answer.specs.Listings.{IsListing};
-ghost use Rattle.fs_thin_air.specs.ThinAir.{BeginsWithWords, CanBeListed};
+ghost use Rattle.fs_thin_air.specs.ThinAir.{CanBeListed};
 
 use crate::showing::Showing;
 use fs_kinds::Fault;
@@ -15,20 +15,6 @@ use fs_model::Test;
 use fs_values::Values;
 use std::alloc::Global;
 use std::sync::Arc;
-
-// A law: a word of 32 bits is one.
-fn is_word(_word: u32)
-    ensures { _word < 2 ^ 32 }
-{}
-
-// A law: the words that the locations of a test begin with are words of 32 bits.
-fn begins_with_words(test: &Test)
-    ensures { BeginsWithWords test.now }
-{
-    for declared in test.locations.as_slice() {
-        is_word(declared.word);
-    }
-}
 
 /// The candidates of the test that show its outcome. The fault is the first of its value sets, `TooManyTraces` or
 /// `Astray`, where a hart's runs can't be listed, else `TooManyCandidates` where there are too many candidates or lists
@@ -43,6 +29,5 @@ pub fn showing_of(alloc: Global, test: Arc<Test>) -> Result<Showing, Fault>
     ensures err { IfErr result (λ f. f ≢ Memory → IsCandidateFault (arc_value test) f) }
 {
     let values = Values::of(alloc, &test)?;
-    begins_with_words(&test);
     Showing::of(alloc, test, &values)
 }

@@ -17,7 +17,8 @@ use Rattle.fs_hart.specs.Runs.{registers_after}
 use Rattle.fs_hart.specs.Steps.{steps_in}
 use Rattle.fs_values.specs.Sets.{AreValues}
 use Rattle.fs_values.specs.Rounds.{HasNoFault}
-use Rattle.fs_values.specs.AllRuns.{AreListed, HasAllRuns, HaveFinal, runs_in}
+use Rattle.fs_values.specs.AllRuns.{AreListed, HaveFinal, runs_in}
+use Rattle.fs_model.specs.Values.{HasAllRuns}
 use Rattle.fs_values.proofs.Contained.{in_map, from_map}
 use Rattle.fs_values.proofs.Hart.{is_run, is_listed}
 

@@ -1,10 +1,8 @@
--- All runs of each hart over sets, and over the value sets.
-use Rattle.std.specs.Prelude.{◌≡◌, ◌↔◌, ℕ, ◌<◌, List, [], All, length}
-use Rattle.std.specs.List.{Contains, slice_index_or}
+-- All runs of each hart over sets.
+use Rattle.std.specs.Prelude.{◌≡◌, ℕ, ◌<◌, List, [], All, length}
+use Rattle.std.specs.List.{slice_index_or}
 use Rattle.fs_model.specs.declared.test.Test.{Test}
 use Rattle.fs_model.specs.declared.step.Step.{Step}
-use Rattle.fs_model.specs.Execution.{IsTrace}
-use Rattle.fs_model.specs.Values.{IsValue, LoadsFrom}
 use Rattle.fs_hart.specs.declared.trace.Trace.{Trace}
 use Rattle.fs_hart.specs.Listing.{AreTraces}
 use Rattle.fs_hart.specs.Runs.{registers_after}
@@ -21,9 +19,3 @@ HaveFinal t lists = (hart : ℕ) → hart < length lists → All (λ trace. trac
 -- the steps of the runs that the hart has in the lists
 abbrev pub runs_in : List (List Trace) → ℕ → List (List Step)
 runs_in lists hart = steps_in (slice_index_or lists hart [])
-
--- all runs of each hart over the value sets, in any order
-abbrev pub HasAllRuns : Test → (ℕ → List (List Step)) → Type 0
-HasAllRuns t runs =
-    (hart : ℕ) → hart < length t.codes → (steps : List Step)
-    → Contains (runs hart) steps ↔ IsTrace t hart steps × LoadsFrom (IsValue t) steps

@@ -8,7 +8,8 @@ ghost use Rattle.fs_model.specs.TooMany.{IsRunFault};
 ghost use Rattle.fs_hart.specs.Listing.{IsOffered};
 ghost use Rattle.fs_thin_air.specs.ThinAir.{CanBeListed};
 ghost use Rattle.fs_values.specs.Rounds.{HasNoFault};
-ghost use Rattle.fs_values.specs.AllRuns.{AreListed, HaveFinal, HasAllRuns, runs_in};
+ghost use Rattle.fs_values.specs.AllRuns.{AreListed, HaveFinal, runs_in};
+ghost use Rattle.fs_model.specs.Values.{HasAllRuns};
 
 use crate::values::Values;
 use fs_hart::{Trace, Words, traces_over};

@@ -3,9 +3,9 @@ use Rattle.std.specs.Prelude.{◌≡◌, ℕ, Bool, false, ◌&&◌, ◌||◌, n
 use Rattle.fs_model.specs.Numbers.{is_same}
 use Rattle.fs_model.specs.Operations.{PreExecution, operation, po, is_load, is_store, is_amo_or_sc}
 use Rattle.fs_ppo.specs.Rules.{numbered_rule}
-use Rattle.fs_region.specs.Regions.{Region, same_source}
-use Rattle.fs_region.specs.Musts.{number_of, source_number}
-use Rattle.fs_region.specs.Trees.{is_name}
+use Rattle.fs_answer.specs.Regions.{Region, same_source}
+use Rattle.fs_answer.specs.Musts.{number_of, source_number}
+use Rattle.fs_answer.specs.Trees.{is_name}
 use Rattle.fs_alone.specs.declared.source.Source.{Source}
 use Rattle.fs_alone.specs.declared.source.Source.TheVariants.{Initial, From}
 use Rattle.fs_alone.specs.declared.rules.Returned.{Returned}

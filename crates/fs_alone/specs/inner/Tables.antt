@@ -13,7 +13,7 @@ use Rattle.fs_hart.specs.Runs.{registers_after}
 use Rattle.fs_cand.specs.declared.candidate.Candidate.{Candidate}
 use Rattle.fs_cand.specs.Candidates.{IsMade}
 use Rattle.fs_local.specs.Local.{place_of}
-use Rattle.fs_region.specs.Musts.{traces_of, alone, number_of}
+use Rattle.fs_answer.specs.Musts.{traces_of, alone, number_of}
 
 -- ---- tables
 

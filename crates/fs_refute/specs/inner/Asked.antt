@@ -11,8 +11,8 @@ use Rattle.fs_model.specs.Test.{address_of}
 use Rattle.fs_model.specs.Preserved.{Rule, Rule8}
 use Rattle.fs_model.specs.Shows.{final_register}
 use Rattle.fs_ppo.specs.Rules.{number_of as number_of_rule}
-use Rattle.fs_region.specs.Regions.{Region, address_at, loaded_at}
-use Rattle.fs_region.specs.Musts.{alone, traces_of, is_rule, has_truth}
+use Rattle.fs_answer.specs.Regions.{Region, address_at, loaded_at}
+use Rattle.fs_answer.specs.Musts.{alone, traces_of, is_rule, has_truth}
 use Rattle.fs_alone.specs.declared.source.Sourced.{Sourced}
 use Rattle.fs_alone.specs.Alone.{RunOf, Knows, execution_of}
 use Rattle.fs_refute.specs.declared.outcome.Ending.{Ending}

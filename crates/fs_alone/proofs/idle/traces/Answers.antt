@@ -3,7 +3,7 @@ use Rattle.std.specs.Prelude.{slice_get}
 use Rattle.fs_model.specs.Numbers.{numbers_below}
 use Rattle.fs_hart.specs.declared.trace.Trace.{Trace}
 use Rattle.fs_hart.specs.Steps.{steps_in}
-use Rattle.fs_region.specs.Musts.{traces_of}
+use Rattle.fs_answer.specs.Musts.{traces_of}
 use Rattle.fs_alone.proofs.Others.{nothing_run, idle_long, runs_set, own_set}
 use Rattle.fs_alone.proofs.idle.traces.Goals as goal
 

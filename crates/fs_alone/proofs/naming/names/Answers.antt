@@ -1,5 +1,5 @@
 use Rattle.std.proofs.Common.{◌++◌, get_or, flat_map, ap, ◌∙◌, arith}
-use Rattle.fs_region.specs.Regions.{names_in}
+use Rattle.fs_answer.specs.Regions.{names_in}
 use Rattle.fs_model.proofs.Numbered.{numbered_flat, numbered_end}
 use Rattle.fs_alone.proofs.naming.names.Goals as goal
 

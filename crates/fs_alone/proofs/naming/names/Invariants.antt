@@ -1,6 +1,6 @@
 use Rattle.std.proofs.Common.{◌≡◌, take, flat_map}
 use Rattle.std.specs.List.{enumerate_from}
-use Rattle.fs_region.specs.Regions.{names_in}
+use Rattle.fs_answer.specs.Regions.{names_in}
 use Rattle.fs_alone.proofs.naming.names.Given as goal
 
 abbrev pub invariant-loop-hart : goal.invariant-loop-hart

@@ -3,7 +3,7 @@ use Rattle.std.specs.Borrow.{Bor}
 use Rattle.std.specs.List.{list_any}
 use Rattle.std.proofs.lemmas.Iterator.{YieldsList-from_slice, items_from_collect}
 use Rattle.std.proofs.lemmas.Iterator.Consumers.{YieldsList-from_copied, YieldsList-from_filter}
-use Rattle.fs_region.specs.Splits.{agree}
+use Rattle.fs_answer.specs.Splits.{agree}
 use Rattle.fs_alone.specs.Alone.{RunOf}
 use Rattle.fs_refute.specs.Views.{runs_of}
 use Rattle.fs_refute.proofs.filters.agreeing_loads.Goals as goal

@@ -2,7 +2,7 @@ use Rattle.std.proofs.Common.{◌≡◌, true, take}
 use Rattle.std.specs.List.{list_all}
 use Rattle.fs_model.specs.Preserved.{Rule}
 use Rattle.fs_ppo.specs.Rules.{number_of as number_of_rule}
-use Rattle.fs_region.specs.Regions.{Region}
+use Rattle.fs_answer.specs.Regions.{Region}
 use Rattle.fs_alone.specs.Alone.{Knows}
 use Rattle.fs_refute.specs.inner.Asked.{is_ordered_in}
 use Rattle.fs_refute.proofs.musts.all_order.Given as goal

@@ -1,7 +1,7 @@
 use Rattle.std.proofs.Common.{◌≡◌, true, [], take}
 use Rattle.std.specs.List.{list_all}
 use Rattle.fs_model.specs.Preserved.{Rule8}
-use Rattle.fs_region.specs.Regions.{Region}
+use Rattle.fs_answer.specs.Regions.{Region}
 use Rattle.fs_refute.specs.inner.Asked.{is_ordered_in}
 use Rattle.fs_refute.proofs.musts.all_pair.Given as goal
 

@@ -3,7 +3,7 @@ use Rattle.std.specs.List.{list_all}
 use Rattle.std.specs.Borrow.{Bor}
 use Rattle.std.proofs.lemmas.Bool.{eq-eqb}
 use Rattle.fs_kinds.specs.declared.reason.OperationName.{OperationName as Name}
-use Rattle.fs_region.specs.Musts.{alone, is_rule, knows_enough}
+use Rattle.fs_answer.specs.Musts.{alone, is_rule, knows_enough}
 use Rattle.fs_alone.specs.Alone.{RunOf}
 use Rattle.fs_refute.specs.Views.{region_of, runs_of, AreRunsOf}
 use Rattle.fs_refute.proofs.Lists.{last_of_four, second_of_two}

@@ -2,7 +2,7 @@ use Rattle.std.proofs.Common.{◌∙◌, [], ap, sym, refl, subst}
 use Rattle.std.specs.List.{list_all}
 use Rattle.std.proofs.lemmas.Bool.{eq-eqb}
 use Rattle.fs_model.specs.Preserved.{Rule8}
-use Rattle.fs_region.specs.Musts.{alone, is_rule}
+use Rattle.fs_answer.specs.Musts.{alone, is_rule}
 use Rattle.fs_refute.specs.Views.{region_of, runs_of, AreRunsOf}
 use Rattle.fs_refute.proofs.Lists.{last_of_four}
 use Rattle.fs_refute.proofs.musts.must_pair.Goals as goal

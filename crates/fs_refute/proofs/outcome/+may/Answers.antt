@@ -5,14 +5,14 @@ use Rattle.std.specs.List.{list_any}
 use Rattle.fs_model.specs.Condition.{condition_of}
 use Rattle.fs_model.specs.Shows.{final_register}
 use Rattle.fs_model.specs.declared.outcome.Outcome.{Outcome}
-use Rattle.fs_region.specs.Musts.{traces_of, has_truth, may}
+use Rattle.fs_answer.specs.Musts.{traces_of, has_truth, may}
 use Rattle.fs_alone.specs.Alone.{RunOf}
 use Rattle.fs_refute.specs.Views.{region_of, runs_of, AreRunsOf}
 use Rattle.fs_refute.proofs.outcome.+may.Goals as goal
 
 pub returns-in-RegisterIs : goal.returns-in-RegisterIs
 returns-in-RegisterIs d c =
-    let t = c.args.ground.now.test.now in
+    let t = c.args.basis.now.test.now in
     let region = region_of c.args.region.now in
     let hart = c.in-RegisterIs.hart in
     c.may_end_register.ensures t hart (subst (AreRunsOf t hart) (sym c.runs.ensures) (c.requires.region hart))
@@ -22,4 +22,4 @@ returns-in-RegisterIs d c =
 pub returns-in-LocationIs : goal.returns-in-LocationIs
 returns-in-LocationIs d c =
     c.may_end.ensures
-    ∙ ap (λ (o : Outcome). may c.args.ground.now.test.now (region_of c.args.region.now) (condition_of o) c.args.truth) (sym c.in-LocationIs.is)
+    ∙ ap (λ (o : Outcome). may c.args.basis.now.test.now (region_of c.args.region.now) (condition_of o) c.args.truth) (sym c.in-LocationIs.is)

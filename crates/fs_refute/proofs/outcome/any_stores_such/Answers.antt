@@ -5,7 +5,7 @@ use Rattle.std.proofs.lemmas.Iterator.{YieldsList-from_slice}
 use Rattle.std.proofs.lemmas.Iterator.Search.{any_from_yields_List}
 use Rattle.std.specs.List.{list_any}
 use Rattle.fs_model.specs.declared.step.Step.{Step}
-use Rattle.fs_region.specs.Musts.{has_truth, stores_such}
+use Rattle.fs_answer.specs.Musts.{has_truth, stores_such}
 use Rattle.fs_alone.specs.Alone.{RunOf}
 use Rattle.fs_refute.proofs.Lists.{any_seen}
 use Rattle.fs_refute.proofs.outcome.any_stores_such.Goals as goal

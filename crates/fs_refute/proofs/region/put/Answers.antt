@@ -1,6 +1,6 @@
 use Rattle.std.proofs.Common.{◌≡◌, ◌∙◌, ap, refl, filter, [], ◌∷◌, ◌++◌, rules}
 use Rattle.std.specs.Prelude.{not}
-use Rattle.fs_region.specs.Regions.{same_name}
+use Rattle.fs_answer.specs.Regions.{same_name}
 use Rattle.fs_refute.specs.declared.region.Sourced.{Sourced}
 use Rattle.fs_refute.specs.Views.{source_in}
 use Rattle.fs_refute.proofs.Regions.{put_is}

@@ -2,9 +2,9 @@ use Rattle.std.proofs.Common.{◌≡◌, ◌∙◌, ◌+◌, Bool, List, [], ◌
 use Rattle.std.specs.Prelude.{slice_get}
 use Rattle.std.proofs.lemmas.Option.{slice_get-map, slice_get_read}
 use Rattle.fs_model.specs.Condition.{Condition}
-use Rattle.fs_region.specs.Regions.{Region}
-use Rattle.fs_region.specs.Splits.{with_wanted, ways_of}
-use Rattle.fs_region.specs.Trees.{is_open}
+use Rattle.fs_answer.specs.Regions.{Region}
+use Rattle.fs_answer.specs.Splits.{with_wanted, ways_of}
+use Rattle.fs_answer.specs.Trees.{is_open}
 use Rattle.fs_refute.specs.declared.region.Wanted.{Wanted}
 use Rattle.fs_refute.specs.Views.{region_of, wanted_of, all_wanted}
 use Rattle.fs_refute.proofs.Lists.{made_more, made_all, map_seen, parts_seen}

@@ -1,6 +1,6 @@
 use Rattle.std.proofs.Common.{◌≡◌, ◌+◌, ◌++◌, take, drop}
-use Rattle.fs_region.specs.Splits.{with_wanted}
-use Rattle.fs_region.specs.Trees.{is_open}
+use Rattle.fs_answer.specs.Splits.{with_wanted}
+use Rattle.fs_answer.specs.Trees.{is_open}
 use Rattle.fs_refute.specs.Views.{region_of, regions_of, all_wanted, AreOf}
 use Rattle.fs_refute.proofs.Lists.{made_and_kept}
 use Rattle.fs_refute.proofs.splits.by_cases.Given as goal

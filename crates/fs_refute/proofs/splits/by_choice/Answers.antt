@@ -2,9 +2,9 @@ use Rattle.std.proofs.Common.{◌≡◌, ◌∙◌, ℕ, Bool, List, [], filter,
 use Rattle.std.specs.Prelude.{◌==◌}
 use Rattle.std.specs.Borrow.{Bor}
 use Rattle.fs_model.specs.declared.step.Step.{Step}
-use Rattle.fs_region.specs.Regions.{Region}
-use Rattle.fs_region.specs.Splits.{chosen_at, keep, rising}
-use Rattle.fs_region.specs.Trees.{is_open}
+use Rattle.fs_answer.specs.Regions.{Region}
+use Rattle.fs_answer.specs.Splits.{chosen_at, keep, rising}
+use Rattle.fs_answer.specs.Trees.{is_open}
 use Rattle.fs_alone.specs.Alone.{RunOf}
 use Rattle.fs_refute.specs.Views.{region_of, list_at, runs_of}
 use Rattle.fs_refute.proofs.Lists.{made_and_kept, made_more, made_all}

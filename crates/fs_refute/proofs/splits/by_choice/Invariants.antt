@@ -1,6 +1,6 @@
 use Rattle.std.proofs.Common.{◌≡◌, take}
-use Rattle.fs_region.specs.Splits.{chosen_at, keep}
-use Rattle.fs_region.specs.Trees.{is_open}
+use Rattle.fs_answer.specs.Splits.{chosen_at, keep}
+use Rattle.fs_answer.specs.Trees.{is_open}
 use Rattle.std.specs.Prelude.{◌==◌}
 use Rattle.fs_refute.specs.Views.{region_of, regions_of, AreOf}
 use Rattle.fs_refute.proofs.Lists.{made_and_kept}

@@ -1,7 +1,7 @@
 use Rattle.std.proofs.Common.{ap, subst, sym}
 use Rattle.std.proofs.lemmas.List.Elements.{All-nil}
-use Rattle.fs_region.specs.Splits.{with_order}
-use Rattle.fs_region.specs.Trees.{is_open}
+use Rattle.fs_answer.specs.Splits.{with_order}
+use Rattle.fs_answer.specs.Trees.{is_open}
 use Rattle.fs_refute.specs.Views.{region_of, regions_of, AreOf, IsOf}
 use Rattle.fs_refute.proofs.Lists.{both_added}
 use Rattle.fs_refute.proofs.splits.by_order.Goals as goal

@@ -5,9 +5,9 @@ use Rattle.std.specs.Borrow.{Bor}
 use Rattle.std.proofs.lemmas.List.{take_all}
 use Rattle.std.proofs.lemmas.List.Elements.{All-nil, filter_more}
 use Rattle.fs_model.specs.declared.step.Step.{Step}
-use Rattle.fs_region.specs.Musts.{may}
-use Rattle.fs_region.specs.Splits.{keep, with_run}
-use Rattle.fs_region.specs.Trees.{is_open}
+use Rattle.fs_answer.specs.Musts.{may}
+use Rattle.fs_answer.specs.Splits.{keep, with_run}
+use Rattle.fs_answer.specs.Trees.{is_open}
 use Rattle.fs_alone.specs.Alone.{RunOf}
 use Rattle.fs_refute.specs.Views.{region_of, regions_of, list_at, AreOf, IsOf}
 use Rattle.fs_refute.proofs.Lists.{one_added}
@@ -15,7 +15,7 @@ use Rattle.fs_refute.proofs.splits.by_outcome.Goals as goal
 
 pub loop-run-preserved : goal.loop-run-preserved
 loop-run-preserved c =
-    let t = c.args.ground.now.test.now in
+    let t = c.args.basis.now.test.now in
     let region = region_of c.args.region.now in
     let test : Bor RunOf → Bool = λ run. list_all (λ wanted. may t (with_run c.args.hart run.now.steps region) wanted.0 wanted.1) region.wanted in
     let runs = c.runs-run-items.result.now in
@@ -29,7 +29,7 @@ loop-run-preserved c =
 
 pub returns : goal.returns
 returns c =
-    let t = c.args.ground.now.test.now in
+    let t = c.args.basis.now.test.now in
     let old = c.args.region.now in
     let region = region_of old in
     let test : List Step → Bool = λ run. list_all (λ wanted. may t (with_run c.args.hart run region) wanted.0 wanted.1) region.wanted in

@@ -1,8 +1,8 @@
 use Rattle.std.proofs.Common.{◌∙◌, [], ◌∷◌, filter, map, ap, subst, sym}
 use Rattle.std.proofs.lemmas.List.Elements.{All-nil, filter-append}
-use Rattle.fs_region.specs.Regions.{Region}
-use Rattle.fs_region.specs.Splits.{from_nothing, from_source}
-use Rattle.fs_region.specs.Trees.{is_open}
+use Rattle.fs_answer.specs.Regions.{Region}
+use Rattle.fs_answer.specs.Splits.{from_nothing, from_source}
+use Rattle.fs_answer.specs.Trees.{is_open}
 use Rattle.fs_alone.specs.Alone.{source_of}
 use Rattle.fs_alone.specs.declared.source.Source.{Source}
 use Rattle.fs_refute.specs.Views.{region_of, regions_of, AreOf, IsOf}
@@ -11,7 +11,7 @@ use Rattle.fs_refute.proofs.splits.by_source.Goals as goal
 
 pub loop-source-init : goal.loop-source-init
 loop-source-init c =
-    let t = c.args.ground.now.test.now in
+    let t = c.args.basis.now.test.now in
     let first = from_nothing c.args.load (region_of c.args.region.now) in (
       one_added (is_open t) _ _ (region_of c.in_ok-from_nothing.field-0) first (ap regions_of c.new-left.ensures.items)
           c.in_ok-add_open.ensures.regions c.in_ok-from_nothing.ensures.region
@@ -21,7 +21,7 @@ loop-source-init c =
 
 pub loop-source-preserved : goal.loop-source-preserved
 loop-source-preserved c =
-    let t = c.args.ground.now.test.now in
+    let t = c.args.basis.now.test.now in
     let region = region_of c.args.region.now in
     let split : Source → Region = λ source. from_source t c.args.load region (source_of source) in (
       made_more (is_open t) split (filter (is_open t) (from_nothing c.args.load region ∷ [])) c.deref-source-items.result.now c.loop-source.source-index
@@ -32,7 +32,7 @@ loop-source-preserved c =
 
 pub returns : goal.returns
 returns c =
-    let t = c.args.ground.now.test.now in
+    let t = c.args.basis.now.test.now in
     let region = region_of c.args.region.now in
     let p = is_open t in
     let split : Source → Region = λ source. from_source t c.args.load region (source_of source) in

@@ -1,6 +1,6 @@
 use Rattle.std.proofs.Common.{◌≡◌, ◌++◌, ◌∷◌, [], filter, take}
-use Rattle.fs_region.specs.Splits.{from_nothing, from_source}
-use Rattle.fs_region.specs.Trees.{is_open}
+use Rattle.fs_answer.specs.Splits.{from_nothing, from_source}
+use Rattle.fs_answer.specs.Trees.{is_open}
 use Rattle.fs_alone.specs.Alone.{source_of}
 use Rattle.fs_refute.specs.Views.{region_of, regions_of, AreOf}
 use Rattle.fs_refute.proofs.Lists.{made_and_kept}
@@ -9,7 +9,7 @@ use Rattle.fs_refute.proofs.splits.by_source.Given as goal
 abbrev pub invariant-loop-source : goal.invariant-loop-source
 invariant-loop-source l =
     (regions_of l.left.items
-    ≡ filter (is_open l.ground.test.now) (from_nothing l.load (region_of l.region) ∷ [])
-    ++ made_and_kept (is_open l.ground.test.now) (λ source. from_source l.ground.test.now l.load (region_of l.region) (source_of source))
+    ≡ filter (is_open l.basis.test.now) (from_nothing l.load (region_of l.region) ∷ [])
+    ++ made_and_kept (is_open l.basis.test.now) (λ source. from_source l.basis.test.now l.load (region_of l.region) (source_of source))
     (take l.source-index l.source-items))
-    × AreOf l.ground.test.now l.left.items
+    × AreOf l.basis.test.now l.left.items

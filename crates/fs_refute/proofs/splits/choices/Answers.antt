@@ -1,7 +1,7 @@
 use Rattle.std.proofs.Common.{◌∙◌, ap, sym}
 use Rattle.std.specs.Borrow.{Bor}
 use Rattle.std.proofs.lemmas.List.Filters.{dedup_is}
-use Rattle.fs_region.specs.Splits.{chosen_at, rising}
+use Rattle.fs_answer.specs.Splits.{chosen_at, rising}
 use Rattle.fs_alone.specs.Alone.{RunOf}
 use Rattle.fs_refute.proofs.Lists.{map_seen}
 use Rattle.fs_refute.proofs.Rises.{rising_is}

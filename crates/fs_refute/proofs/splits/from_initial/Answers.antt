@@ -1,7 +1,7 @@
 use Rattle.std.proofs.Common.{◌≡◌, ◌∙◌, Bool, List, filter, ap}
 use Rattle.fs_model.specs.declared.step.Step.{Step}
-use Rattle.fs_region.specs.Regions.{Initial}
-use Rattle.fs_region.specs.Splits.{agrees_initially, with_source}
+use Rattle.fs_answer.specs.Regions.{Initial}
+use Rattle.fs_answer.specs.Splits.{agrees_initially, with_source}
 use Rattle.fs_refute.specs.Views.{list_at}
 use Rattle.fs_refute.proofs.splits.from_initial.Goals as goal
 

@@ -1,7 +1,7 @@
 use Rattle.std.proofs.Common.{◌≡◌, ◌∙◌, Bool, List, filter, ap}
 use Rattle.std.specs.Prelude.{not}
 use Rattle.fs_model.specs.declared.step.Step.{Step}
-use Rattle.fs_region.specs.Regions.{loads_at}
+use Rattle.fs_answer.specs.Regions.{loads_at}
 use Rattle.fs_refute.specs.Views.{list_at}
 use Rattle.fs_refute.proofs.splits.from_nothing.Goals as goal
 

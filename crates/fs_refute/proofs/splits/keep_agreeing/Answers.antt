@@ -1,8 +1,8 @@
 use Rattle.std.proofs.Common.{◌∙◌, ap}
 use Rattle.std.specs.Prelude.{◌==◌}
 use Rattle.std.proofs.lemmas.Bool.{eq-eqb, ne_eqb}
-use Rattle.fs_region.specs.Regions.{From}
-use Rattle.fs_region.specs.Splits.{with_source}
+use Rattle.fs_answer.specs.Regions.{From}
+use Rattle.fs_answer.specs.Splits.{with_source}
 use Rattle.fs_refute.proofs.Lists.{first_if, second_if}
 use Rattle.fs_refute.proofs.splits.keep_agreeing.Goals as goal
 

@@ -2,7 +2,7 @@ use Rattle.std.proofs.Common.{◌≡◌, ◌∙◌, Bool, List, filter, ap, sym}
 use Rattle.std.specs.Borrow.{Bor}
 use Rattle.std.specs.List.{list_any}
 use Rattle.fs_model.specs.declared.step.Step.{Step}
-use Rattle.fs_region.specs.Splits.{agree, keep}
+use Rattle.fs_answer.specs.Splits.{agree, keep}
 use Rattle.fs_alone.specs.Alone.{RunOf}
 use Rattle.fs_refute.specs.Views.{list_at, runs_of}
 use Rattle.fs_refute.proofs.splits.keep_between.Goals as goal

@@ -1,6 +1,6 @@
 use Rattle.std.proofs.Common.{◌≡◌, ◌∙◌, Bool, List, filter, ap}
 use Rattle.fs_model.specs.declared.step.Step.{Step}
-use Rattle.fs_region.specs.Splits.{agree}
+use Rattle.fs_answer.specs.Splits.{agree}
 use Rattle.fs_refute.specs.Views.{list_at}
 use Rattle.fs_refute.proofs.splits.keep_within.Goals as goal
 

@@ -1,8 +1,8 @@
 use Rattle.std.proofs.Common.{◌∙◌, [], ◌∷◌, ◌++◌, filter, map, ap, sym}
 use Rattle.std.proofs.lemmas.List.{take_all}
 use Rattle.std.proofs.lemmas.List.Elements.{filter-append}
-use Rattle.fs_region.specs.Regions.{Initial, From, names}
-use Rattle.fs_region.specs.Splits.{is_left, can_be_source}
+use Rattle.fs_answer.specs.Regions.{Initial, From, names}
+use Rattle.fs_answer.specs.Splits.{is_left, can_be_source}
 use Rattle.fs_alone.specs.Alone.{source_of}
 use Rattle.fs_refute.specs.Views.{known_source}
 use Rattle.fs_refute.proofs.Lists.{kept_made_kept, kept_joins, added, none_added}
@@ -30,5 +30,5 @@ returns c =
     c.loop-store.invariant
     ∙ ap (λ ns. filter p (Initial ∷ []) ++ kept_made_kept p From q ns)
     (take_all c.loop-store.store-index c.as_slice-store-items.result.now c.loop-store-test.false ∙ c.as_slice-store-items.ensures ∙ c.requires)
-    ∙ sym (filter-append p (Initial ∷ []) (map From (filter q (names c.args.ground.now.test.now))))
-    ∙ ap (λ known. filter (is_left known) (Initial ∷ map From (filter q (names c.args.ground.now.test.now)))) c.source-known.ensures
+    ∙ sym (filter-append p (Initial ∷ []) (map From (filter q (names c.args.basis.now.test.now))))
+    ∙ ap (λ known. filter (is_left known) (Initial ∷ map From (filter q (names c.args.basis.now.test.now)))) c.source-known.ensures

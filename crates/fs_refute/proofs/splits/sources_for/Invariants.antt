@@ -1,6 +1,6 @@
 use Rattle.std.proofs.Common.{◌≡◌, ◌++◌, ◌∷◌, [], filter, map, take}
-use Rattle.fs_region.specs.Regions.{Initial, From}
-use Rattle.fs_region.specs.Splits.{is_left, can_be_source}
+use Rattle.fs_answer.specs.Regions.{Initial, From}
+use Rattle.fs_answer.specs.Splits.{is_left, can_be_source}
 use Rattle.fs_alone.specs.Alone.{source_of}
 use Rattle.fs_refute.specs.Views.{known_source}
 use Rattle.fs_refute.proofs.Lists.{kept_made_kept}

@@ -1,5 +1,5 @@
 use Rattle.std.proofs.Common.{◌∙◌, ap, sym}
-use Rattle.fs_region.specs.Trees.{follows}
+use Rattle.fs_answer.specs.Trees.{follows}
 use Rattle.fs_refute.specs.declared.inference.Inference.{Inference}
 use Rattle.fs_refute.specs.Views.{region_of, inference_of}
 use Rattle.fs_refute.proofs.walk.follows.Goals as goal
@@ -7,4 +7,4 @@ use Rattle.fs_refute.proofs.walk.follows.Goals as goal
 pub returns-in-ByOrder : goal.returns-in-ByOrder
 returns-in-ByOrder c =
     c.may_order.ensures c.args.placement.now
-    ∙ ap (λ (i : Inference). follows c.args.ground.now.test.now c.args.placement.now (region_of c.args.region.now) (inference_of i)) (sym c.in-ByOrder.is)
+    ∙ ap (λ (i : Inference). follows c.args.basis.now.test.now c.args.placement.now (region_of c.args.region.now) (inference_of i)) (sym c.in-ByOrder.is)

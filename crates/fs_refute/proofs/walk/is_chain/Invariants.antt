@@ -1,6 +1,6 @@
 use Rattle.std.proofs.Common.{◌≡◌, ◌++◌, ◌∷◌, [], true, take, drop}
 use Rattle.std.specs.List.{list_all, zip}
-use Rattle.fs_region.specs.Musts.{must}
+use Rattle.fs_answer.specs.Musts.{must}
 use Rattle.fs_refute.specs.Views.{region_of}
 use Rattle.fs_refute.proofs.walk.is_chain.Given as goal
 

@@ -2,7 +2,7 @@ use Rattle.std.proofs.Common.{◌≡◌, ◌∙◌, ◌++◌, ◌∷◌, [], Som
 use Rattle.std.proofs.lemmas.Bool.{eqb-false, eqb-true}
 use Rattle.std.proofs.lemmas.List.{append-nil, get_or-map, length-map, length-reverse, nil_from_length}
 use Rattle.std.proofs.lemmas.List.Elements.{All-nil, All-pop}
-use Rattle.fs_region.specs.Trees.{follows, left_after}
+use Rattle.fs_answer.specs.Trees.{follows, left_after}
 use Rattle.fs_refute.specs.declared.region.Region.{Region as CodeRegion}
 use Rattle.fs_refute.specs.Views.{region_of, regions_of, inference_of, runs_over, AreOf, IsOf}
 use Rattle.fs_refute.specs.Verdict.{roots, stacked}
@@ -12,8 +12,8 @@ use Rattle.fs_refute.proofs.walk.refute.Goals as goal
 
 pub loop-number-init : goal.loop-number-init
 loop-number-init c =
-    let t = c.args.ground.now.test.now in
-    let rs = roots t (runs_over c.args.ground.now.runs.now) in
+    let t = c.args.basis.now.test.now in
+    let rs = roots t (runs_over c.args.basis.now.runs.now) in
     let is = map inference_of c.args.inferences.now in
     let all : stacked c.push_all.new.stack.items ≡ rs =
     c.in_ok-push_all.ensures.regions
@@ -25,9 +25,9 @@ loop-number-init c =
 
 pub returns-in_default-clause-exact : goal.returns-in_default-clause-exact
 returns-in_default-clause-exact c =
-    let t = c.args.ground.now.test.now in
+    let t = c.args.basis.now.test.now in
     let p = c.args.placement.now in
-    let rs = roots t (runs_over c.args.ground.now.runs.now) in
+    let rs = roots t (runs_over c.args.basis.now.runs.now) in
     let is = map inference_of c.args.inferences.now in
     let k = c.loop-number.number in
     let long = length-map c.args.inferences.now inference_of in
@@ -39,14 +39,14 @@ returns-in_default-clause-exact c =
 
 pub follows-requires-clause-region : goal.follows-requires-clause-region
 follows-requires-clause-region c =
-    let t = c.args.ground.now.test.now in
+    let t = c.args.basis.now.test.now in
     (All-pop (IsOf t) c.loop-number.stack.items c.pop.new.self.items (Some c.in-Some.region) c.in-Some.ensures.items c.loop-number.invariant.1).1
 
 pub returns-then-not-follows-clause-exact : goal.returns-then-not-follows-clause-exact
 returns-then-not-follows-clause-exact c =
-    let t = c.args.ground.now.test.now in
+    let t = c.args.basis.now.test.now in
     let p = c.args.placement.now in
-    let rs = roots t (runs_over c.args.ground.now.runs.now) in
+    let rs = roots t (runs_over c.args.basis.now.runs.now) in
     let is = map inference_of c.args.inferences.now in
     let k = c.loop-number.number in
     let item = c.index-inferences-number.result in
@@ -62,14 +62,14 @@ returns-then-not-follows-clause-exact c =
 
 pub left_after-requires-clause-region : goal.left_after-requires-clause-region
 left_after-requires-clause-region c =
-    let t = c.args.ground.now.test.now in
+    let t = c.args.basis.now.test.now in
     (All-pop (IsOf t) c.loop-number.stack.items c.pop.new.self.items (Some c.in-Some.region) c.in-Some.ensures.items c.loop-number.invariant.1).1
 
 pub loop-number-preserved : goal.loop-number-preserved
 loop-number-preserved c =
-    let t = c.args.ground.now.test.now in
+    let t = c.args.basis.now.test.now in
     let p = c.args.placement.now in
-    let rs = roots t (runs_over c.args.ground.now.runs.now) in
+    let rs = roots t (runs_over c.args.basis.now.runs.now) in
     let is = map inference_of c.args.inferences.now in
     let k = c.loop-number.number in
     let item = c.index-inferences-number.result in
@@ -92,9 +92,9 @@ loop-number-preserved c =
 
 pub returns-then-not-is_empty-clause-exact : goal.returns-then-not-is_empty-clause-exact
 returns-then-not-is_empty-clause-exact c =
-    let t = c.args.ground.now.test.now in
+    let t = c.args.basis.now.test.now in
     let p = c.args.placement.now in
-    let rs = roots t (runs_over c.args.ground.now.runs.now) in
+    let rs = roots t (runs_over c.args.basis.now.runs.now) in
     let is = map inference_of c.args.inferences.now in
     let k = c.loop-number.number in
     let stack = c.loop-number.stack.items in
@@ -109,9 +109,9 @@ returns-then-not-is_empty-clause-exact c =
 
 pub returns-clause-exact : goal.returns-clause-exact
 returns-clause-exact c =
-    let t = c.args.ground.now.test.now in
+    let t = c.args.basis.now.test.now in
     let p = c.args.placement.now in
-    let rs = roots t (runs_over c.args.ground.now.runs.now) in
+    let rs = roots t (runs_over c.args.basis.now.runs.now) in
     let is = map inference_of c.args.inferences.now in
     let k = c.loop-number.number in
     let long = length-map c.args.inferences.now inference_of in

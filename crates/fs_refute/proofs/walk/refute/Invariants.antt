@@ -6,5 +6,5 @@ use Rattle.fs_refute.proofs.walk.refute.Given as goal
 
 abbrev pub invariant-loop-number : goal.invariant-loop-number
 invariant-loop-number l =
-    IsWalked l.ground.test.now l.placement (roots l.ground.test.now (runs_over l.ground.runs.now)) (map inference_of l.inferences) l.number (stacked l.stack.items)
-    × AreOf l.ground.test.now l.stack.items
+    IsWalked l.basis.test.now l.placement (roots l.basis.test.now (runs_over l.basis.runs.now)) (map inference_of l.inferences) l.number (stacked l.stack.items)
+    × AreOf l.basis.test.now l.stack.items

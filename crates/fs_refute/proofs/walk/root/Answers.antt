@@ -7,8 +7,8 @@ use Rattle.fs_refute.proofs.walk.root.Goals as goal
 
 pub returns : goal.returns
 returns c =
-    let t = c.args.ground.now.test.now in
-    let listed = c.args.ground.now.runs.now in
+    let t = c.args.basis.now.test.now in
+    let listed = c.args.basis.now.runs.now in
     let region : Region = record {
       runs = c.in_ok-runs.runs;
       sources = c.in_ok-sources.sources;

@@ -5,18 +5,14 @@ use Rattle.fs_kinds.specs.declared.fault.Fault.TheVariants.{Memory, TooManyCandi
 use Rattle.fs_model.specs.declared.test.Test.{Test}
 use Rattle.fs_model.specs.TooMany.{IsRunFault}
 use Rattle.fs_answer.specs.CandidateFaults.{HasTooMany, IsCandidateFault}
-use Rattle.fs_thin_air.specs.ThinAir.{BeginsWithWords, CanBeListed}
+use Rattle.fs_thin_air.specs.ThinAir.{CanBeListed}
 use Rattle.fs_showing.proofs.Faults.{on_ok, on_ok_from, no_fault, of_candidates}
 use Rattle.fs_showing.proofs.candidates.showing_of.Goals as goal
 
 pub returns-clause-listable : goal.returns-clause-listable
 returns-clause-listable c =
     let t = c.args.test.value in
-    on_ok c.of-2.result (CanBeListed t) (record {
-      bounded = c.requires.test;
-      words = subst BeginsWithWords c.deref-2.ensures c.begins_with_words.ensures;
-      no_fault = subst (λ (u : Test). (f : Fault) → IsRunFault u f → ⊥) c.deref.ensures c.in_ok-values.ensures.clean;
-    })
+    on_ok c.of-2.result (CanBeListed t) (subst CanBeListed c.deref.ensures c.in_ok-values.ensures.listable)
 
 pub returns-clause-clean : goal.returns-clause-clean
 returns-clause-clean c =

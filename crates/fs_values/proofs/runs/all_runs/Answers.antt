@@ -1,6 +1,7 @@
 use Rattle.std.proofs.Common.{◌≡◌, length, subst, sym}
 use Rattle.fs_values.specs.Sets.{AreValues}
-use Rattle.fs_values.specs.AllRuns.{AreListed, HasAllRuns, HaveFinal, runs_in}
+use Rattle.fs_values.specs.AllRuns.{AreListed, HaveFinal, runs_in}
+use Rattle.fs_model.specs.Values.{HasAllRuns}
 use Rattle.fs_values.proofs.Answered.{if_ok, both_ok}
 use Rattle.fs_values.proofs.Listed.{has_all, have_final}
 use Rattle.fs_values.proofs.runs.all_runs.Goals as goal

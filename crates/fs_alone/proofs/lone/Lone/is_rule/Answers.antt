@@ -1,6 +1,6 @@
 use Rattle.std.proofs.Common.{Some, sym, ◌∙◌, ap, subst}
 use Rattle.fs_model.specs.Execution.{initial_words}
-use Rattle.fs_region.specs.Musts.{known_source}
+use Rattle.fs_answer.specs.Musts.{known_source}
 use Rattle.fs_alone.specs.Alone.{RunOf, execution_of}
 use Rattle.fs_alone.specs.inner.Tables.{IsAlone}
 use Rattle.fs_alone.proofs.Ready.{is_rule_at, returned}

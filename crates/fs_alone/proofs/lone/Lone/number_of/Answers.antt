@@ -2,7 +2,7 @@ use Rattle.std.proofs.Common.{◌≡◌, None, sym, subst}
 use Rattle.std.specs.Arc.{arc_value}
 use Rattle.fs_model.specs.Operations.{steps_of}
 use Rattle.fs_hart.specs.Steps.{steps_in}
-use Rattle.fs_region.specs.Musts.{number_of}
+use Rattle.fs_answer.specs.Musts.{number_of}
 use Rattle.fs_alone.specs.Alone.{RunOf, execution_of}
 use Rattle.fs_alone.proofs.Others.{other_hart}
 use Rattle.fs_alone.proofs.lone.Lone.number_of.Goals as goal

@@ -4,7 +4,7 @@ use Rattle.fs_model.specs.Operations.{steps_of}
 use Rattle.fs_model.specs.declared.step.Step.{Step}
 use Rattle.fs_hart.specs.Steps.{steps_in}
 use Rattle.fs_local.specs.Local.{place_of}
-use Rattle.fs_region.specs.Regions.{step_at}
+use Rattle.fs_answer.specs.Regions.{step_at}
 use Rattle.fs_alone.specs.Alone.{RunOf}
 use Rattle.fs_alone.specs.inner.Tables.{listed_at}
 use Rattle.fs_alone.proofs.Positions.{step_is}

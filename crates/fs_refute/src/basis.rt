@@ -10,7 +10,7 @@ use fs_model::Test;
 /// A test with the runs of each hart, and the names of its memory instructions: what all refutations of the test are
 /// over.
 #[derive(Drop)]
-pub struct Ground<'a> {
+pub struct Basis<'a> {
     pub test: &'a Test,
     /// For each hart, from hart 0 on, its runs.
     pub runs: &'a [List<Lone>],
@@ -18,7 +18,7 @@ pub struct Ground<'a> {
     pub names: List<OperationName>,
 }
 
-impl Ground<'_> {
+impl Basis<'_> {
     // Is it the number of a hart?
     pub(crate) fn is_hart(&self, hart: u8) -> bool
         ensures { result ≡ nat_lt hart (length self.now.test.now.codes) }
