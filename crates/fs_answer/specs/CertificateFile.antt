@@ -2,18 +2,19 @@
 use Rattle.std.specs.Prelude.{◌≡◌, ℕ, ◌<◌, ◌≤◌, ◌^◌, Bool, true, false, Some, option_map, List, [], ◌∷◌, All, length, codes}
 use Rattle.std.specs.List.{list_all}
 use Rattle.std.specs.Str.{IsUtf8}
-use Rattle.serde_json.specs.Data.{Data, no_items, item}
+use Rattle.serde_json.specs.Data.{Data, Items, no_items, item}
 use Rattle.serde_json.specs.Events.{members_len}
 use Rattle.serde_json.specs.Find.{get, as_str, as_array, as_object}
 use Rattle.serde_json.specs.Read.{read}
 use Rattle.fs_kinds.specs.PriceObject.{whole}
+use Rattle.fs_kinds.specs.declared.reason.OperationName.{OperationName as Name}
 use Rattle.fs_model.specs.declared.step.Choice.{Choice}
 use Rattle.fs_model.specs.declared.step.Choice.TheVariants.{Word}
 use Rattle.fs_model.specs.Preserved.{Rule1, Rule2, Rule3, Rule4, Rule5, Rule6, Rule7, Rule8, Rule9, Rule10, Rule11, Rule12, Rule13}
 use Rattle.fs_answer.specs.Judged.{Cause, Preserved, ReadsFrom, Coherence, FromReads}
-use Rattle.fs_answer.specs.Certificate.{Certificate, Version, First, Second, Answer, Fenced, NoneForbids, Link, Item, SplitAt, Costly, Refuted, Bounded}
-use Rattle.fs_answer.specs.Valid.{most_links}
-use Rattle.fs_answer.specs.WitnessFile.{IsArrayOf, IsName, IsWitnessValue}
+use Rattle.fs_answer.specs.Certificate.{Certificate, Version, First, Second, Fourth, Answer, Fenced, NoneForbids, Link, Inference, ByChoice, BySource, ByOrder, ByCases, Filter, Cycle, Stale, Reversed, Parted, Cycles, Listed, Inferred, Item, SplitAt, Costly, Refuted, Bounded}
+use Rattle.fs_answer.specs.Cycles.{most_links}
+use Rattle.fs_answer.specs.WitnessFile.{EachItem, IsArrayOf, IsName, IsInRange, IsWitnessValue}
 
 -- a whole number of 64 bits, written as an integer
 abbrev pub most_number : ℕ
@@ -66,23 +67,61 @@ IsLink d link =
 abbrev pub IsCycleValue : Data → List Link → Type 0
 IsCycleValue d links = IsArrayOf IsLink d links × (1 ≤ length links) × (length links ≤ most_links)
 
--- ---- trees: the number of a slot; "c"; ["w", a witness's number]; and in the second version ["b", [witnesses' numbers]]
+-- ---- inferences, in the fourth version: an array with a letter and what the inference speaks of; or a cycle. Names and harts are in
+-- range.
+
+abbrev pub IsNameInRange : Data → Name → Type 0
+IsNameInRange d name = IsName d name × IsInRange name
+
+-- an array with this letter and these names
+abbrev pub IsOfNames : (letter : List ℕ) → Data → List Name → Type 0
+IsOfNames letter d names =
+    (first : Data) × (others : Items) × (as_array d ≡ Some (item first others))
+    × IsText first letter × EachItem IsNameInRange others names
+
+-- an array with this letter and this number
+abbrev pub IsOfNumber : (letter : List ℕ) → Data → ℕ → Type 0
+IsOfNumber letter d n = (first : Data) × (second : Data) × AreTwo d first second × IsText first letter × IsNumber second n
+
+abbrev pub IsInference : Data → Inference → Type 0
+IsInference d (ByChoice name) = IsOfNames (codes "c") d (name ∷ [])
+IsInference d (BySource load) = IsOfNames (codes "s") d (load ∷ [])
+IsInference d (ByOrder first second) = IsOfNames (codes "o") d (first ∷ second ∷ [])
+IsInference d (ByCases condition) = IsOfNumber (codes "d") d condition
+IsInference d (Filter hart) = IsOfNumber (codes "f") d hart × (hart < 256)
+IsInference d (Cycle links) = IsCycleValue d links × All (λ link. IsInRange link.operation) links
+IsInference d (Stale load store) = IsOfNames (codes "l") d (load ∷ store ∷ [])
+IsInference d (Reversed load store) = IsOfNames (codes "a") d (load ∷ store ∷ [])
+IsInference d (Parted load store other) = IsOfNames (codes "a") d (load ∷ store ∷ other ∷ [])
+
+abbrev pub AreCycles : Version → Data → Cycles → Type 0
+AreCycles First d (Listed cycles) = IsArrayOf IsCycleValue d cycles
+AreCycles Second d (Listed cycles) = IsArrayOf IsCycleValue d cycles
+AreCycles Fourth d (Inferred inferences) = IsArrayOf IsInference d inferences
+AreCycles _ d _ = ⊥
+
+-- ---- trees: the number of a slot; "c"; ["w", a witness's number]; and but for the first version ["b", [witnesses' numbers]]
+
+abbrev pub IsBoundedValue : Data → List ℕ → Type 0
+IsBoundedValue d js =
+    (letter : Data) × (numbers : Data) × AreTwo d letter numbers × IsText letter (codes "b")
+    × IsArrayOf IsNumber numbers js × (1 ≤ length js)
 
 abbrev pub IsItem : Version → Data → Item → Type 0
 IsItem version d (SplitAt slot) = IsNumber d slot
 IsItem version d Costly = IsText d (codes "c")
 IsItem version d (Refuted j) = (letter : Data) × (number : Data) × AreTwo d letter number × IsText letter (codes "w") × IsNumber number j
 IsItem First d (Bounded js) = ⊥
-IsItem Second d (Bounded js) =
-    (letter : Data) × (numbers : Data) × AreTwo d letter numbers × IsText letter (codes "b")
-    × IsArrayOf IsNumber numbers js × (1 ≤ length js)
+IsItem Second d (Bounded js) = IsBoundedValue d js
+IsItem Fourth d (Bounded js) = IsBoundedValue d js
 
 -- ---- what a file can say
 
--- witnesses bound a leaf in the second version alone, and there is one at least
+-- witnesses bound no leaf in the first version, and there is one at least
 abbrev pub is_sayable : Version → Item → Bool
 is_sayable First (Bounded js) = false
 is_sayable Second (Bounded []) = false
+is_sayable Fourth (Bounded []) = false
 is_sayable version leaf = true
 
 abbrev pub numbers_in : Item → List ℕ
@@ -95,6 +134,28 @@ abbrev pub cost_in : Answer → ℕ
 cost_in NoneForbids = 0
 cost_in (Fenced cost fences) = cost
 
+abbrev pub IsSayableCycle : List Link → Type 0
+IsSayableCycle links = (1 ≤ length links) × (length links ≤ most_links)
+
+-- names and harts are in range
+abbrev pub IsSayableInference : Inference → Type 0
+IsSayableInference (ByChoice name) = IsInRange name
+IsSayableInference (BySource load) = IsInRange load
+IsSayableInference (ByOrder first second) = IsInRange first × IsInRange second
+IsSayableInference (ByCases condition) = condition ≤ most_number
+IsSayableInference (Filter hart) = hart < 256
+IsSayableInference (Cycle links) = IsSayableCycle links × All (λ link. IsInRange link.operation) links
+IsSayableInference (Stale load store) = IsInRange load × IsInRange store
+IsSayableInference (Reversed load store) = IsInRange load × IsInRange store
+IsSayableInference (Parted load store other) = IsInRange load × IsInRange store × IsInRange other
+
+-- inferences are of the fourth version, and it lists no cycles
+abbrev pub AreSayable : Version → Cycles → Type 0
+AreSayable First (Listed cycles) = All IsSayableCycle cycles
+AreSayable Second (Listed cycles) = All IsSayableCycle cycles
+AreSayable Fourth (Inferred inferences) = All IsSayableInference inferences
+AreSayable _ _ = ⊥
+
 -- a loaded word is one of 32 bits
 abbrev pub IsChoiceOfWord : Choice → Type 0
 IsChoiceOfWord (Word w) = w < 2 ^ 32
@@ -103,7 +164,7 @@ IsChoiceOfWord choice = Unit {0}
 -- Not each certificate is that of a file: what is written must be one of these.
 pub record CanBeSaid (c : Certificate) : Type 0 where
   pub cost : cost_in c.answer ≤ most_number
-  pub cycles : All (λ links. (1 ≤ length links) × (length links ≤ most_links)) c.cycles
+  pub cycles : AreSayable c.version c.cycles
   pub items : list_all (is_sayable c.version) c.tree ≡ true
   pub numbers : All (λ leaf. All (λ n. n ≤ most_number) (numbers_in leaf)) c.tree
   pub words : All (λ w. All (λ choices. All IsChoiceOfWord choices) w.choices) c.witnesses
@@ -113,6 +174,7 @@ pub record CanBeSaid (c : Certificate) : Type 0 where
 abbrev pub version_number : Version → ℕ
 version_number First = 1
 version_number Second = 2
+version_number Fourth = 4
 
 -- the value is an object that says this certificate, and has no further key; of a doubled key the last value counts
 pub record IsCertificateValue (d : Data) (c : Certificate) : Type 0 where
@@ -128,7 +190,7 @@ pub record IsCertificateValue (d : Data) (c : Certificate) : Type 0 where
   pub at_version : get (codes "version") d ≡ Some version
   pub at_witnesses : get (codes "witnesses") d ≡ Some witnesses
   pub says_answer : IsAnswerValue answer c.answer
-  pub says_cycles : IsArrayOf IsCycleValue cycles c.cycles
+  pub says_cycles : AreCycles c.version cycles c.cycles
   pub says_tree : IsArrayOf (IsItem c.version) tree c.tree
   pub says_version : IsNumber version (version_number c.version)
   pub says_witnesses : IsArrayOf IsWitnessValue witnesses c.witnesses

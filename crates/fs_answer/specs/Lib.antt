@@ -7,6 +7,7 @@ pub mod Widths
 pub mod Parts
 pub mod Pruning
 pub mod Certificate
+pub mod Cycles
 pub mod Valid
 pub mod Refusals
 pub mod WitnessFile

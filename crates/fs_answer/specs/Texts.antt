@@ -8,12 +8,13 @@ use Rattle.serde_json.specs.Written.{compact_text}
 use Rattle.fs_kinds.specs.declared.kind.Kind.{Kind}
 use Rattle.fs_kinds.specs.declared.placement.Entry.{Entry}
 use Rattle.fs_kinds.specs.declared.slot.Slot.{Slot}
+use Rattle.fs_kinds.specs.declared.reason.OperationName.{OperationName as Name}
 use Rattle.fs_kinds.specs.Kind.{word}
 use Rattle.fs_kinds.specs.ReasonText.{operation_name}
 use Rattle.fs_model.specs.declared.step.Choice.{Choice}
 use Rattle.fs_model.specs.declared.step.Choice.TheVariants.{Word, Success, Failure}
 use Rattle.fs_model.specs.Witness.{Witness}
-use Rattle.fs_answer.specs.Certificate.{Certificate, Answer, Fenced, NoneForbids, Link, Item, SplitAt, Costly, Refuted, Bounded}
+use Rattle.fs_answer.specs.Certificate.{Certificate, Answer, Fenced, NoneForbids, Link, Inference, ByChoice, BySource, ByOrder, ByCases, Filter, Cycle, Stale, Reversed, Parted, Cycles, Listed, Inferred, Item, SplitAt, Costly, Refuted, Bounded}
 use Rattle.fs_answer.specs.CertificateFile.{cause_word, version_number}
 
 -- ---- values
@@ -60,6 +61,28 @@ answer_value (Fenced cost fences) = json.object (members_of (
 abbrev pub link_value : Link → json.Data
 link_value link = array_of (json.string (operation_name link.operation) ∷ json.string (cause_word link.cause) ∷ [])
 
+-- a letter and names
+abbrev pub of_names : (letter : List ℕ) → List Name → json.Data
+of_names letter names = array_of (json.string letter ∷ map (λ name. json.string (operation_name name)) names)
+
+abbrev pub of_number : (letter : List ℕ) → ℕ → json.Data
+of_number letter n = array_of (json.string letter ∷ number n ∷ [])
+
+abbrev pub inference_value : Inference → json.Data
+inference_value (ByChoice name) = of_names (codes "c") (name ∷ [])
+inference_value (BySource load) = of_names (codes "s") (load ∷ [])
+inference_value (ByOrder first second) = of_names (codes "o") (first ∷ second ∷ [])
+inference_value (ByCases condition) = of_number (codes "d") condition
+inference_value (Filter hart) = of_number (codes "f") hart
+inference_value (Cycle links) = array_of (map link_value links)
+inference_value (Stale load store) = of_names (codes "l") (load ∷ store ∷ [])
+inference_value (Reversed load store) = of_names (codes "a") (load ∷ store ∷ [])
+inference_value (Parted load store other) = of_names (codes "a") (load ∷ store ∷ other ∷ [])
+
+abbrev pub cycles_value : Cycles → json.Data
+cycles_value (Listed cycles) = array_of (map (λ links. array_of (map link_value links)) cycles)
+cycles_value (Inferred inferences) = array_of (map inference_value inferences)
+
 abbrev pub item_value : Item → json.Data
 item_value (SplitAt slot) = number slot
 item_value Costly = json.string (codes "c")
@@ -69,7 +92,7 @@ item_value (Bounded js) = array_of (json.string (codes "b") ∷ array_of (map nu
 abbrev pub certificate_value : Certificate → json.Data
 certificate_value c = json.object (members_of (
     (codes "answer", answer_value c.answer)
-    ∷ (codes "cycles", array_of (map (λ links. array_of (map link_value links)) c.cycles))
+    ∷ (codes "cycles", cycles_value c.cycles)
     ∷ (codes "tree", array_of (map item_value c.tree))
     ∷ (codes "version", number (version_number c.version))
     ∷ (codes "witnesses", array_of (map witness_value c.witnesses))

@@ -14,27 +14,11 @@ use Rattle.fs_model.specs.Execution.{code_of}
 use Rattle.fs_model.specs.Shows.{is_outcome}
 use Rattle.fs_model.specs.Values.{HasAllRuns}
 use Rattle.fs_answer.specs.Candidates.{Candidate, IsShowing}
-use Rattle.fs_answer.specs.Certificate.{Link}
-use Rattle.fs_answer.specs.Valid.{IsCycle, most_links}
+use Rattle.fs_answer.specs.Certificate.{Link, Inference, ByChoice, BySource, ByOrder, ByCases, Filter, Cycle, Stale, Reversed, Parted}
+use Rattle.fs_answer.specs.Cycles.{IsCycle, most_links}
 use Rattle.fs_answer.specs.Regions.{Region, same_name, stored_at}
 use Rattle.fs_answer.specs.Musts.{must, must_meet, must_pair, is_before, overwrites}
 use Rattle.fs_answer.specs.Splits.{by_choice, by_source, by_order, by_cases, by_outcome, ways_of}
-
--- One step of a refutation. The first five split a region, or drop runs from it; the others end it:
---   Cycle: each link must come before the next one, and the last before the first;
---   Stale: the load would return from a store that an own store before it overwrites, against the load value axiom;
---   Reversed: the store of a pair would be before what the pair's load returns from, against atomicity;
---   Parted: a store of another hart would be between the two, against atomicity.
-pub data Inference : Type 0 where
-  ByChoice : (name : Name) → Inference
-  BySource : (load : Name) → Inference
-  ByOrder : (first second : Name) → Inference
-  ByCases : (condition : ℕ) → Inference
-  Filter : (hart : ℕ) → Inference
-  Cycle : (links : List Link) → Inference
-  Stale : (load store : Name) → Inference
-  Reversed : (load store : Name) → Inference
-  Parted : (load store other : Name) → Inference
 
 module _ (t : Test) where
   -- the instruction there is one that accesses memory
@@ -103,9 +87,13 @@ root t runs = record {
   wanted = (condition_of t.condition, is_outcome t.quantifier true) ∷ [];
 }
 
+-- the regions that are open at first
+abbrev pub roots : Test → (ℕ → List (List Step)) → List Region
+roots t runs = filter (is_open t) (root t runs ∷ [])
+
 -- the inferences are one whole tree for the test, with these runs
 abbrev pub refutes_test : Test → List Entry → (ℕ → List (List Step)) → List Inference → Bool
-refutes_test t p runs inferences = refutes t p (filter (is_open t) (root t runs ∷ [])) inferences
+refutes_test t p runs inferences = refutes t p (roots t runs) inferences
 
 -- the inferences refute the whole test under the placement
 pub record IsRefuted (t : Test) (p : List Entry) (inferences : List Inference) : Type 0 where

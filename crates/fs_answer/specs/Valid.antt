@@ -1,49 +1,27 @@
--- Valid certificates: for a placement one cycle for each showing candidate, and a tree that leaves no better placement; for
--- none an execution that shows the outcome with rw,rw in every slot.
-use Rattle.std.specs.Prelude.{◌≡◌, ℕ, ◌≤◌, nat_le, Bool, true, Option, None, Some, List, [], ◌∷◌, ◌++◌, map, length, take, drop, slice_get}
-use Rattle.std.specs.List.{AllZip, list_all, zip}
+-- Valid certificates: for a placement one cycle for each showing candidate or a refutation, and a tree that leaves no better
+-- placement; for none an execution that shows the outcome with rw,rw in every slot.
+use Rattle.std.specs.Prelude.{◌≡◌, ℕ, nat_le, Bool, true, Option, None, Some, List, [], ◌∷◌, ◌++◌, map, slice_get}
+use Rattle.std.specs.List.{AllZip}
 use Rattle.fs_kinds.specs.declared.placement.Entry.{Entry}
 use Rattle.fs_kinds.specs.declared.slot.Slot.{Slot}
 use Rattle.fs_kinds.specs.PriceTable.{PriceTable, cost}
 use Rattle.fs_model.specs.declared.test.Test.{Test}
 use Rattle.fs_model.specs.Slots.{slots}
-use Rattle.fs_model.specs.Operations.{PreExecution}
 use Rattle.fs_model.specs.Execution.{Execution}
 use Rattle.fs_model.specs.Allows.{RefutesAll}
-use Rattle.fs_model.specs.Witness.{Witness, IsOfWitness, name_of}
-use Rattle.fs_answer.specs.Candidates.{Candidate, runs_of}
-use Rattle.fs_answer.specs.Listings.{IsListing}
-use Rattle.fs_answer.specs.Judged.{Cause, is_edge}
+use Rattle.fs_model.specs.Witness.{Witness, IsOfWitness}
 use Rattle.fs_answer.specs.Shown.{ShowsAs}
 use Rattle.fs_answer.specs.Widths.{width}
 use Rattle.fs_answer.specs.Parts.{Part, undecided, is_undecided, floor, filled, child_parts}
 use Rattle.fs_answer.specs.Pruning.{is_pruned}
-use Rattle.fs_answer.specs.Certificate.{Certificate, Version, First, Second, NoneForbids, Item, SplitAt, Costly, Refuted, Bounded, Link, IsAnswered}
+use Rattle.fs_answer.specs.Certificate.{Certificate, Version, First, Second, Fourth, Cycles, Listed, Inferred, count, NoneForbids, Item, SplitAt, Costly, Refuted, Bounded, IsAnswered}
+use Rattle.fs_answer.specs.Cycles.{HasCycles}
+use Rattle.fs_answer.specs.Trees.{IsRefuted}
 
--- ---- cycles
-
-abbrev pub most_links : ℕ
-most_links = 64
-
--- each operation with the next one, and the last with the first
-abbrev pub around : List ℕ → List (ℕ × ℕ)
-around operations = zip operations (drop 1 operations ++ take 1 operations)
-
--- each two are an edge of the judged relation, for the cause beside them
-abbrev pub are_edges : PreExecution → List Entry → Candidate → List (ℕ × ℕ) → List Cause → Bool
-are_edges x p c pairs causes = list_all (λ edge. is_edge x p c edge.0.0 edge.0.1 edge.1) (zip pairs causes)
-
--- a cycle of the candidate's judged relation under the placement
-pub record IsCycle (t : Test) (p : List Entry) (c : Candidate) (links : List Link) : Type 0 where
-  pub some : 1 ≤ length links
-  pub most : length links ≤ most_links
-  pub operations : List ℕ
-  pub names : map (name_of (runs_of t c)) operations ≡ map (λ link. Some link.operation) links
-  pub edges : are_edges (runs_of t c) p c (around operations) (map (λ link. link.cause) links) ≡ true
-
--- one cycle for each showing candidate, in their order
-abbrev pub HasCycles : Test → List Entry → List (List Link) → Type 0
-HasCycles t p cycles = (cs : List Candidate) × IsListing t cs × AllZip (IsCycle t p) cs cycles
+-- these show that the placement forbids the outcome
+abbrev pub Forbid : Test → List Entry → Cycles → Type 0
+Forbid t p (Listed cycles) = HasCycles t p cycles
+Forbid t p (Inferred inferences) = IsRefuted t p inferences
 
 -- ---- the tree
 
@@ -51,6 +29,7 @@ HasCycles t p cycles = (cs : List Candidate) × IsListing t cs × AllZip (IsCycl
 abbrev pub is_costly : Version → PriceTable → List Entry → Part → Bool
 is_costly First prices p part = nat_le (cost prices p) (cost prices (floor part))
 is_costly Second prices p part = is_pruned prices (Some p) part []
+is_costly Fourth prices p part = is_pruned prices (Some p) part []
 
 -- the witness of this number gives this execution, and it shows the outcome with these fences
 abbrev pub RefutesBy : Test → List Witness → List Entry → ℕ → Execution → Type 0
@@ -84,13 +63,13 @@ module _ (t : Test) (prices : PriceTable) (c : Certificate) (p : List Entry) whe
 -- a valid certificate for the placement p
 pub record IsValidFor (t : Test) (prices : PriceTable) (c : Certificate) (p : List Entry) : Type 0 where
   pub answered : IsAnswered t prices c.answer p
-  pub cycles : HasCycles t p c.cycles
+  pub cycles : Forbid t p c.cycles
   pub tree : Covers t prices c p (undecided t ∷ []) c.tree
 
 -- a valid certificate for none
 pub record IsValidForNone (t : Test) (c : Certificate) : Type 0 where
   pub answered : c.answer ≡ NoneForbids
-  pub cycles : c.cycles ≡ []
+  pub cycles : count c.cycles ≡ 0
   pub tree : c.tree ≡ []
   pub witness : Witness
   pub only : c.witnesses ≡ witness ∷ []

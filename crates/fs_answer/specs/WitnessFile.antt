@@ -1,6 +1,6 @@
 -- Witness files: the JSON text (RFC 8259) of an object with two members. `choices` is an array with an array of choices for each
 -- hart, and `order` an array of operations' names.
-use Rattle.std.specs.Prelude.{◌≡◌, ℕ, List, [], ◌∷◌, ◌++◌, map, length, slice_index, codes, Bool, true, false, not, ◌==◌, nat_lt, ◌&&◌, if◌then◌else◌, Option, None, Some, option_map, ◌⊎◌}
+use Rattle.std.specs.Prelude.{◌≡◌, ◌<◌, ℕ, List, [], ◌∷◌, ◌++◌, map, length, slice_index, codes, Bool, true, false, not, ◌==◌, nat_lt, ◌&&◌, if◌then◌else◌, Option, None, Some, option_map, ◌⊎◌}
 use Rattle.std.specs.Str.{IsUtf8}
 use Rattle.serde_json.specs.Data.{Data, Items, no_items, item}
 use Rattle.serde_json.specs.Events.{members_len}
@@ -50,6 +50,10 @@ IsChoice d choice = choice_in d ≡ Some choice
 abbrev pub IsName : Data → Name → Type 0
 IsName d name = (text : List ℕ) × (as_str d ≡ Some text) × IsOperationName text name
 
+-- both numbers are of one byte: no operation has another name
+abbrev pub IsInRange : Name → Type 0
+IsInRange name = (name.hart < 256) × (name.at < 256)
+
 -- ---- witnesses
 
 -- an object with these values at the two keys, and no further key; of a doubled key the last value counts
@@ -76,7 +80,7 @@ pub record IsWitnessFile (harts : ℕ) (bytes : List ℕ) (w : Witness) : Type 0
 
 -- ---- what the reader keeps of it
 
--- the name where both numbers are of one byte: no operation has another
+-- the name where it is in range
 abbrev pub in_range : Name → Option Name
 in_range name = if nat_lt name.hart 256 && nat_lt name.at 256 then Some name else None
 

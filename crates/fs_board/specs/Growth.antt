@@ -6,7 +6,7 @@ use Rattle.fs_model.specs.declared.test.Test.{Test}
 use Rattle.fs_model.specs.Allows.{is_better}
 use Rattle.fs_model.specs.Execution.{Execution}
 use Rattle.fs_answer.specs.Parts.{Part}
-use Rattle.fs_answer.specs.Valid.{HasCycles}
+use Rattle.fs_answer.specs.Cycles.{HasCycles}
 use Rattle.fs_history.specs.Board.{Board, Node, Status, Open}
 use Rattle.fs_evidence.specs.Evidence.{Shown, Refuted, IsWitnessFor}
 

@@ -8,7 +8,7 @@ ghost use Rattle.fs_model.specs.Allows.{Allows};
 ghost use Rattle.fs_model.specs.Execution.{Execution};
 ghost use Rattle.fs_answer.specs.Parts.{Part as PartValue, floor};
 ghost use Rattle.fs_answer.specs.Pruning.{is_no_better};
-ghost use Rattle.fs_answer.specs.Valid.{HasCycles};
+ghost use Rattle.fs_answer.specs.Cycles.{HasCycles};
 ghost use Rattle.fs_history.specs.Board.{Node as NodeValue, Event as EventValue, Reply as ReplyValue, Take, Claim, Adopt, SplitAt, CutCost, CutWitness, CutBound, Post, Peek, Given, Seen, Closed, Held, is_open, is_held, has_node, part_at, opening, with_status};
 ghost use Rattle.fs_history.specs.Histories.{Steps, IsHistory, with_witnesses};
 ghost use Rattle.fs_board.specs.Counts.{count_of};

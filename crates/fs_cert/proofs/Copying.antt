@@ -15,7 +15,8 @@ use Rattle.fs_model.specs.Witness.{Witness}
 use Rattle.fs_answer.specs.declared.witness.WitnessFile.{WitnessFile}
 use Rattle.fs_answer.specs.CertificateFile.{IsChoiceOfWord, most_number}
 use Rattle.fs_answer.specs.WitnessFile.{in_range, KeepsWitness}
-use Rattle.fs_certificate.specs.Kept.{IsInRange, AreInRangeNames}
+use Rattle.fs_answer.specs.WitnessFile.{IsInRange}
+use Rattle.fs_certificate.specs.Kept.{AreInRangeNames}
 use Rattle.fs_bound.proofs.Ranked.{order}
 use Rattle.fs_tree.proofs.Places.{at-more}
 use Rattle.fs_cert.specs.inner.Copies.{IsCopiedChoice, AreCopiedChoices, IsCopiedName, IsCopiedWitness, AreCopiedWitnesses, StandsAt, AreNumbered, IsNumbering}

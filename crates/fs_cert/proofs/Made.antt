@@ -20,7 +20,8 @@ use Rattle.fs_answer.specs.Pruning.{is_pruned}
 use Rattle.fs_answer.specs.Certificate as said
 use Rattle.fs_answer.specs.Certificate.{Certificate, Version, Second, NoneForbids, Link, Item, fence_words}
 use Rattle.fs_answer.specs.CertificateFile.{is_sayable, numbers_in, most_number}
-use Rattle.fs_answer.specs.Valid.{HasCycles, IsCycle, Covers, is_costly, most_links}
+use Rattle.fs_answer.specs.Cycles.{HasCycles, IsCycle, most_links}
+use Rattle.fs_answer.specs.Valid.{Covers, is_costly}
 use Rattle.fs_certificate.specs.declared.certificate.Certificate.{Certificate as Kept}
 use Rattle.fs_certificate.specs.declared.certificate.Item.{Item as CodeItem}
 use Rattle.fs_certificate.specs.Kept.{KeepsCycle, answer_of, version_of, item_of}

@@ -14,9 +14,10 @@ use Rattle.fs_model.specs.Witness.{name_of}
 use Rattle.fs_answer.specs.Candidates.{Candidate, runs_of}
 use Rattle.fs_answer.specs.Certificate.{Link}
 use Rattle.fs_answer.specs.Judged.{Cause, is_edge}
-use Rattle.fs_answer.specs.Valid.{IsCycle, are_edges, around, most_links}
+use Rattle.fs_answer.specs.Cycles.{IsCycle, are_edges, around, most_links}
 use Rattle.fs_certificate.specs.declared.certificate.CertificateLink.{CertificateLink}
-use Rattle.fs_certificate.specs.Kept.{KeepsLink, KeepsCycle, IsInRange, AreInRangeLinks}
+use Rattle.fs_answer.specs.WitnessFile.{IsInRange}
+use Rattle.fs_certificate.specs.Kept.{KeepsLink, KeepsCycle, AreInRangeLinks}
 use Rattle.fs_cert.specs.Cycles.{BeginsAtLeast}
 use Rattle.fs_cert.specs.inner.Copies.{IsCopiedLink, IsCopiedCycle, turned}
 use Rattle.fs_cert.proofs.Copying.{zip_all, zip_weaker}

@@ -8,7 +8,7 @@ ghost use Rattle.fs_model.specs.Test.{IsBounded};
 ghost use Rattle.fs_model.specs.Slots.{slots};
 ghost use Rattle.fs_model.specs.Allows.{RefutesAll};
 ghost use Rattle.fs_model.specs.Execution.{Execution};
-ghost use Rattle.fs_answer.specs.Valid.{HasCycles};
+ghost use Rattle.fs_answer.specs.Cycles.{HasCycles};
 ghost use Rattle.fs_evidence.specs.Evidence.{IsWitnessFor};
 ghost use Rattle.fs_history.specs.Board.{is_finished};
 ghost use Rattle.fs_cert.specs.Certified.{Certifies, CertifiesNone, HasEachOnce};

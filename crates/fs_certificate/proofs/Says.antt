@@ -16,9 +16,10 @@ use Rattle.fs_model.specs.Witness.{Witness}
 use Rattle.fs_answer.specs.Certificate.{Certificate, Version, First, Second, Answer, Fenced, NoneForbids, Link, Item, SplitAt, Costly, Refuted, Bounded}
 use Rattle.fs_answer.specs.CertificateFile.{most_number, IsNumber, IsText, IsAnswerValue, cause_word, IsLink, IsCycleValue, IsItem, is_sayable, numbers_in, cost_in, IsChoiceOfWord, CanBeSaid, version_number, IsCertificateValue}
 use Rattle.fs_answer.specs.Texts.{items_of, array_of, number, choice_value, answer_value, link_value, item_value, witness_value, certificate_value}
-use Rattle.fs_answer.specs.Valid.{most_links}
+use Rattle.fs_answer.specs.Cycles.{most_links}
 use Rattle.fs_answer.specs.WitnessFile.{EachItem, IsArrayOf, IsChoice, IsName, IsWitnessValue, most_word}
-use Rattle.fs_certificate.specs.Kept.{AreInRange, AreInRangeLinks, AreInRangeNames, IsInRange}
+use Rattle.fs_answer.specs.WitnessFile.{IsInRange}
+use Rattle.fs_certificate.specs.Kept.{AreInRange, AreInRangeLinks, AreInRangeNames}
 use Rattle.fs_certificate.specs.inner.Written.{choices_value, cycle_value, name_value}
 
 -- ---- arrays

@@ -11,7 +11,8 @@ use Rattle.fs_kinds.specs.declared.reason.OperationName.{OperationName as Name}
 use Rattle.fs_answer.specs.Texts.{items_of, array_of, item_value}
 use Rattle.fs_answer.specs.WitnessFile.{EachItem, in_range}
 use Rattle.fs_answer.proofs.Items.{each_more}
-use Rattle.fs_certificate.specs.Kept.{IsInRange, item_of}
+use Rattle.fs_answer.specs.WitnessFile.{IsInRange}
+use Rattle.fs_certificate.specs.Kept.{item_of}
 use Rattle.fs_certificate.specs.declared.certificate.Item.{Item as Kept}
 use Rattle.fs_certificate.specs.inner.Written.{Writes, WritesArray, IsKeptName, kept_item_value, text_value}
 

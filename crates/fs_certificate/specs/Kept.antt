@@ -7,7 +7,7 @@ use Rattle.fs_kinds.specs.declared.reason.OperationName.{OperationName as Name}
 use Rattle.fs_model.specs.Witness.{Witness}
 use Rattle.fs_evidence.specs.Evidence.{cause_of}
 use Rattle.fs_answer.specs.Certificate as said
-use Rattle.fs_answer.specs.WitnessFile.{in_range, KeepsWitness}
+use Rattle.fs_answer.specs.WitnessFile.{in_range, IsInRange, KeepsWitness}
 use Rattle.fs_certificate.specs.declared.certificate.Certificate.{Certificate}
 use Rattle.fs_certificate.specs.declared.certificate.CertificateLink.{CertificateLink}
 use Rattle.fs_certificate.specs.declared.certificate.CertifiedAnswer.{CertifiedAnswer}
@@ -51,9 +51,6 @@ abbrev pub IsCertificateFault : Fault → Type 0
 IsCertificateFault fault = (fault ≡ BadCertificate) ⊎ (fault ≡ Memory)
 
 -- ---- what can be written: each name is an operation's
-
-abbrev pub IsInRange : Name → Type 0
-IsInRange name = (name.hart < 256) × (name.at < 256)
 
 abbrev pub AreInRangeLinks : List said.Link → Type 0
 AreInRangeLinks = All (λ link. IsInRange link.operation)

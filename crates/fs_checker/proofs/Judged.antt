@@ -18,7 +18,8 @@ use Rattle.fs_answer.specs.Certificate.{Certificate, Answer, Fenced, NoneForbids
 use Rattle.fs_answer.specs.Listings.{IsListing}
 use Rattle.fs_answer.specs.Parts.{Part, undecided, filled, child_parts}
 use Rattle.fs_answer.specs.Refusals.{IsBad, IsBadAnswer, Fails, IsRefusal, IsRefusedAfter, IsPlacedRefusal}
-use Rattle.fs_answer.specs.Valid.{IsCycle, Refutes, IsValidFor, IsValidForNone}
+use Rattle.fs_answer.specs.Cycles.{IsCycle}
+use Rattle.fs_answer.specs.Valid.{Refutes, IsValidFor, IsValidForNone}
 use Rattle.fs_certificate.specs.declared.certificate.Certificate.{Certificate as Kept}
 use Rattle.fs_certificate.specs.Kept.{KeepsCertificate, item_of}
 use Rattle.fs_checker.specs.inner.Cycles.{IsCyclesVerdict}

@@ -11,7 +11,7 @@ use Rattle.fs_model.specs.Reasons.{AreRuns, HaveNames}
 use Rattle.fs_model.specs.Witness.{Witness, name_of}
 use Rattle.fs_answer.specs.Candidates.{Candidate, IsRaw, runs_of}
 use Rattle.fs_answer.specs.Certificate.{Link}
-use Rattle.fs_answer.specs.Valid.{IsCycle, are_edges, around, most_links}
+use Rattle.fs_answer.specs.Cycles.{IsCycle, are_edges, around, most_links}
 use Rattle.fs_answer.specs.WitnessFile.{in_range}
 use Rattle.fs_evidence.specs.Evidence.{cause_of}
 use Rattle.fs_cand.specs.inner.NamedOrder.{numbers_of}

@@ -9,7 +9,7 @@ use Rattle.fs_kinds.specs.declared.placement.Entry.{Entry}
 use Rattle.fs_model.specs.Operations.{PreExecution}
 use Rattle.fs_answer.specs.Candidates.{Candidate}
 use Rattle.fs_answer.specs.Judged.{Cause, ReadsFrom, is_edge}
-use Rattle.fs_answer.specs.Valid.{around}
+use Rattle.fs_answer.specs.Cycles.{around}
 use Rattle.fs_evidence.specs.Evidence.{cause_of}
 use Rattle.fs_cand.specs.inner.NamedOrder.{number_of, numbers_of}
 use Rattle.fs_certificate.specs.declared.certificate.CertificateLink.{CertificateLink}

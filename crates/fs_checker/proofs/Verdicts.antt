@@ -12,7 +12,7 @@ use Rattle.fs_model.specs.Test.{IsBounded}
 use Rattle.fs_answer.specs.Candidates.{Candidate, IsRaw, runs_of}
 use Rattle.fs_answer.specs.Certificate.{Link}
 use Rattle.fs_answer.specs.Listings.{IsListing}
-use Rattle.fs_answer.specs.Valid.{IsCycle}
+use Rattle.fs_answer.specs.Cycles.{IsCycle}
 use Rattle.fs_certificate.specs.declared.certificate.CertificateLink.{CertificateLink}
 use Rattle.fs_checker.specs.inner.Cycles.{is_cycle, is_cycle_at, IsCyclesVerdict}
 use Rattle.fs_certificate.specs.Kept.{KeepsCycle}

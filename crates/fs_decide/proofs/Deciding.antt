@@ -8,7 +8,7 @@ use Rattle.fs_model.specs.Allows.{Allows}
 use Rattle.fs_answer.specs.Candidates.{Candidate, IsRaw, IsShowing, runs_of}
 use Rattle.fs_answer.specs.Judged.{is_judged}
 use Rattle.fs_answer.specs.Certificate.{Link}
-use Rattle.fs_answer.specs.Valid.{IsCycle, HasCycles}
+use Rattle.fs_answer.specs.Cycles.{IsCycle, HasCycles}
 use Rattle.fs_thin_air.specs.ThinAir.{CanBeListed}
 use Rattle.fs_decide.specs.Decide.{IsOrdered, IsAcyclic, HasOrdered, HasAcyclic, candidate_of, ordered_by}
 use Rattle.fs_decide.proofs.Forth.{executed}

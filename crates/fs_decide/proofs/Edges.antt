@@ -14,7 +14,7 @@ use Rattle.fs_answer.specs.Candidates.{Candidate, IsRaw, runs_of, rf, co, stores
 use Rattle.fs_answer.specs.Judged.{Cause, Preserved, ReadsFrom, Coherence, FromReads, is_edge, is_judged, rfe}
 use Rattle.fs_answer.specs.Certificate.{Link}
 use Rattle.fs_model.specs.Witness.{name_of}
-use Rattle.fs_answer.specs.Valid.{IsCycle, around, are_edges}
+use Rattle.fs_answer.specs.Cycles.{IsCycle, around, are_edges}
 use Rattle.fs_model.proofs.Preserved.{ppo_in_po}
 use Rattle.fs_model.proofs.OptionalNumbers.{one_value}
 use Rattle.fs_model.proofs.ListedNumbers.{AreOnce}

@@ -16,7 +16,7 @@ use Rattle.fs_answer.specs.Judged.{all_causes, is_edge, is_judged}
 use Rattle.fs_answer.specs.Certificate.{Link}
 use Rattle.fs_answer.specs.Listings.{IsListing}
 use Rattle.fs_model.specs.Witness.{name_of, step_name}
-use Rattle.fs_answer.specs.Valid.{IsCycle, HasCycles, are_edges, most_links}
+use Rattle.fs_answer.specs.Cycles.{IsCycle, HasCycles, are_edges, most_links}
 use Rattle.fs_model.proofs.ListedNumbers.{has-here, has-later, has-cases, has-append}
 use Rattle.fs_model.proofs.HartOperations.{has_name}
 use Rattle.fs_decide.specs.Decide.{IsRound, ordered_by}

@@ -11,7 +11,7 @@ use Rattle.fs_model.specs.Execution.{Execution, pre_execution}
 use Rattle.fs_model.specs.Allows.{Shows}
 use Rattle.fs_answer.specs.Candidates.{Candidate, IsShowing, runs_of, rf}
 use Rattle.fs_answer.specs.Judged.{is_judged}
-use Rattle.fs_answer.specs.Valid.{around}
+use Rattle.fs_answer.specs.Cycles.{around}
 
 -- The order has each operation of the harts once, and the global memory order goes the way of each edge of the judged relation.
 pub record IsOrdered (t : Test) (p : List Entry) (c : Candidate) (order : List ℕ) : Type 0 where

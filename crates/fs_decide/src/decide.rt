@@ -12,7 +12,7 @@ ghost use Rattle.fs_model.specs.Preserved.{rule, Rule4};
 ghost use Rattle.fs_answer.specs.Judged.{all_causes, is_edge, is_judged};
 ghost use Rattle.fs_answer.specs.Listings.{IsListing};
 ghost use Rattle.fs_answer.specs.Certificate.{Link};
-ghost use Rattle.fs_answer.specs.Valid.{IsCycle, HasCycles, most_links};
+ghost use Rattle.fs_answer.specs.Cycles.{IsCycle, HasCycles, most_links};
 ghost use Rattle.fs_thin_air.specs.ThinAir.{CanBeListed};
 ghost use Rattle.fs_decide.specs.Decide.{IsOrdered, IsExecuted, IsSorted, IsRound, IsAcyclic, HasOrdered, HasAcyclic, candidate_of, ordered_by, of_harts};
 

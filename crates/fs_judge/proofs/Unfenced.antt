@@ -16,7 +16,7 @@ use Rattle.fs_model.specs.Preserved.{Rule1, Rule2, Rule3, Rule4, Rule5, Rule6, R
 use Rattle.fs_answer.specs.Candidates.{Candidate, runs_of}
 use Rattle.fs_answer.specs.Certificate.{Link}
 use Rattle.fs_answer.specs.Judged.{Cause, Preserved, ReadsFrom, Coherence, FromReads, is_edge}
-use Rattle.fs_answer.specs.Valid.{IsCycle, are_edges, around}
+use Rattle.fs_answer.specs.Cycles.{IsCycle, are_edges, around}
 
 -- no fence is placed there
 no_kind : (first second : Classes) (hart : Option ℕ) (step : Option Step)

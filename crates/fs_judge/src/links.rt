@@ -8,7 +8,7 @@ ghost use Rattle.fs_model.specs.Operations.{accesses};
 ghost use Rattle.fs_model.specs.Witness.{name_of};
 ghost use Rattle.fs_answer.specs.Candidates.{IsRaw, runs_of};
 ghost use Rattle.fs_answer.specs.Judged.{is_judged};
-ghost use Rattle.fs_answer.specs.Valid.{IsCycle};
+ghost use Rattle.fs_answer.specs.Cycles.{IsCycle};
 ghost use Rattle.fs_cand.specs.Candidates.{candidate_of, IsMade};
 ghost use Rattle.fs_ppo.specs.Rules.{OfRuns};
 ghost use Rattle.fs_relation.specs.Edges.{has_edge};

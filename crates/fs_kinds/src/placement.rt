@@ -4,7 +4,6 @@ ghost use Rattle.fs_kinds.specs.Placement.{all_with};
 
 use crate::fault::Fault;
 use crate::kind::Kind;
-use crate::prices::Prices;
 use crate::slot::Slot;
 use std::alloc::{AllocError, Global};
 use std::marker::Model;
@@ -39,7 +38,6 @@ impl Model for Placement {
 impl Placement {
     ghost use Rattle.std.specs.Prelude.{OnOk, OnErr, ◌↔◌, IsOk, IsErrOf, ◌≢◌, IsNone, position};
     ghost use Rattle.fs_kinds.specs.Slot.{is_rising, is_same_slot};
-    ghost use Rattle.fs_kinds.specs.PriceTable.{are_offered, cost};
     ghost use Rattle.fs_kinds.specs.Placement.{slots_of, all_with, has_slot, with_kind, kind_at, is_weaker, precedes};
 
     /// No fence at any of the slots. The slots must rise. The error is F19.
@@ -130,18 +128,6 @@ impl Placement {
             .all(|(entry, above)| entry.is_weaker(above))
     }
 
-    /// The sum over the slots of price times weight. The placement's kinds must be offered.
-    pub fn cost(&self, prices: &Prices) -> u64
-        requires { IsTrue (are_offered prices.now self.now) }
-        ensures { result ≡ cost prices.now self.now }
-    {
-        let mut total = 0;
-        for entry in self.as_slice() {
-            total += entry.cost(prices);
-        }
-        total
-    }
-
     /// Does the placement come before `other` among those of equal cost? The first slot at which they
     /// differ decides: none comes first, then the kinds in table order. Both must have the same slots.
     pub fn before(&self, other: &Placement) -> bool
@@ -161,8 +147,6 @@ impl Placement {
 impl Entry {
     ghost use Rattle.fs_kinds.specs.Kind.{is_subset};
     ghost use Rattle.fs_kinds.specs.Placement.{pairs_kept, rank};
-    ghost use Rattle.fs_kinds.specs.PriceTable.{is_offered, entry_cost};
-    ghost use Rattle.fs_kinds.specs.Slot.{IsSlot};
 
     /// Does the entry keep only pairs that `other` keeps too?
     fn is_weaker(&self, other: &Entry) -> bool
@@ -173,21 +157,6 @@ impl Entry {
             (Some(_), None) => false,
             (Some(kind), Some(above)) => kind.no_stronger(above),
         }
-    }
-
-    /// What the fence at the slot costs: price times weight, or nothing where there is no fence. Its
-    /// kind must be offered.
-    fn cost(self, prices: &Prices) -> u64
-        requires { IsTrue (is_offered prices.now self.kind) }
-        ensures value { result ≡ entry_cost prices.now self }
-        ensures most { result ≤ 1000000000 }
-        ensures in_range { IsSlot self.slot }
-    {
-        let price = match self.kind {
-            None => 0,
-            Some(kind) => prices.of(kind).unwrap(),
-        };
-        u64::from(price) * u64::from(prices.weight(self.slot))
     }
 
     /// The place of the entry's kind in the order of placements of equal cost.

@@ -1,16 +1,17 @@
 //! Prices of fences.
-ghost use Rattle.std.specs.Prelude.{◌≡◌, ◌≤◌, ◌<◌, ◌^◌, IfSome, IsSome, IfOk, OnOk, OnErr, IfErr, IsErrOf, IsOkUnless, Some, None, unwrap_or};
+ghost use Rattle.std.specs.Prelude.{◌≡◌, ◌≤◌, ◌<◌, ◌^◌, IsTrue, IfSome, IsSome, IfOk, OnOk, OnErr, IfErr, IsErrOf, IsOkUnless, Some, None, unwrap_or};
 ghost use Rattle.std.specs.Map.{lookup};
 ghost use Rattle.serde_json.specs.Data.{Members};
 ghost use Rattle.serde_json.specs.View.{view};
 ghost use Rattle.fs_kinds.specs.Kind.{word};
 ghost use Rattle.fs_kinds.specs.Slot.{IsSlot, slot_name, is_same_slot};
-ghost use Rattle.fs_kinds.specs.PriceTable.{most_price, most_weight};
+ghost use Rattle.fs_kinds.specs.PriceTable.{most_price, most_weight, is_offered, are_offered, entry_cost, cost};
 ghost use Rattle.fs_kinds.specs.PriceObject.{whole, IsWeight, AreWeights, weight_at, price_in, IsPrice, ArePrices, IsPriceValue, IsTableOf, IsPriceFault, IsWeightFault};
 ghost use Rattle.fs_kinds.specs.declared.slot.Slot.{Slot};
 
 use crate::fault::Fault;
 use crate::kind::Kind;
+use crate::placement::{Entry, Placement};
 use crate::slot::Slot;
 use serde_json::Value;
 use std::alloc::Global;
@@ -54,6 +55,32 @@ impl Prices {
         ensures in_range { result ≤ most_weight }
     {
         self.weights.get(&slot).copied().unwrap_or(1)
+    }
+
+    /// What the placement costs: the sum over its slots of price times weight. Its kinds must be offered.
+    pub fn cost(&self, placement: &Placement) -> u64
+        requires { IsTrue (are_offered self.now placement.now) }
+        ensures { result ≡ cost self.now placement.now }
+    {
+        let mut total = 0;
+        for entry in placement.as_slice() {
+            total += self.entry_cost(*entry);
+        }
+        total
+    }
+
+    /// What the fence at the slot costs: price times weight, or nothing where there is no fence. Its kind must be offered.
+    fn entry_cost(&self, entry: Entry) -> u64
+        requires { IsTrue (is_offered self.now entry.kind) }
+        ensures value { result ≡ entry_cost self.now entry }
+        ensures most { result ≤ 1000000000 }
+        ensures in_range { IsSlot entry.slot }
+    {
+        let price = match entry.kind {
+            None => 0,
+            Some(kind) => self.of(kind).unwrap(),
+        };
+        u64::from(price) * u64::from(self.weight(entry.slot))
     }
 }
 

@@ -12,7 +12,7 @@ use Rattle.fs_model.specs.Witness.{name_of}
 use Rattle.fs_answer.specs.Candidates.{Candidate, IsRaw, runs_of}
 use Rattle.fs_answer.specs.Judged.{is_edge}
 use Rattle.fs_answer.specs.Certificate.{Link}
-use Rattle.fs_answer.specs.Valid.{IsCycle, are_edges, most_links}
+use Rattle.fs_answer.specs.Cycles.{IsCycle, are_edges, most_links}
 use Rattle.fs_cand.proofs.Distinct.{one_named}
 use Rattle.fs_local.specs.Local.{HasLink}
 use Rattle.fs_local.proofs.Named.{runs}

@@ -14,7 +14,7 @@ ghost use Rattle.fs_model.specs.Witness.{name_of};
 ghost use Rattle.fs_answer.specs.Candidates.{Candidate, IsRaw, runs_of, rf};
 ghost use Rattle.fs_answer.specs.Judged.{Preserved, is_edge};
 ghost use Rattle.fs_answer.specs.Certificate.{Link};
-ghost use Rattle.fs_answer.specs.Valid.{IsCycle, most_links};
+ghost use Rattle.fs_answer.specs.Cycles.{IsCycle, most_links};
 ghost use Rattle.fs_local.specs.Local.{access_at, is_local, local_rule, through, place_of, named_rule, always, never, named_through, always_through, source_name, HasLink};
 
 /// A law: an operation of a hart is what its run has at its place. What a rule asks of two operations of one hart,

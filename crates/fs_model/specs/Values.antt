@@ -2,10 +2,11 @@
 -- the next. They bound which runs are listed. That each execution keeps to them, where no run over them goes astray, is a law of
 -- the memory model, and no part of what an execution is.
 use Rattle.std.specs.Prelude.{◌≡◌, ◌↔◌, ℕ, zero, suc, ◌<◌, ◌⊎◌, Some, List, [], ◌∷◌, All, length, slice_get, sum_by, count_by}
-use Rattle.std.specs.List.{Contains}
+use Rattle.std.specs.List.{AllPairs, Contains}
 use Rattle.fs_model.specs.declared.test.Test.{Test}
 use Rattle.fs_model.specs.Test.{address_of}
 use Rattle.fs_model.specs.declared.step.Step.{Step}
+use Rattle.fs_model.specs.Choices.{choices_of, ComesBefore}
 use Rattle.fs_model.specs.Forms.{is_storing}
 use Rattle.fs_model.specs.Operations.{steps_of}
 use Rattle.fs_model.specs.Execution.{Execution, IsTrace, initial_words}
@@ -47,8 +48,11 @@ pub record AreRunsOverValues (t : Test) (traces : List (List Step)) : Type 0 whe
   pub runs : (hart : ℕ) → hart < length t.codes → IsTrace t hart (steps_of traces hart)
   pub values : (hart : ℕ) → hart < length t.codes → LoadsFrom (IsValue t) (steps_of traces hart)
 
--- all runs of each hart over the value sets, in any order
+-- all runs of the hart over the value sets, each once, in choice order
+pub record AreAllRuns (t : Test) (hart : ℕ) (runs : List (List Step)) : Type 0 where
+  pub rising : AllPairs (λ a b. ComesBefore (choices_of a) (choices_of b)) runs
+  pub exact : (steps : List Step) → Contains runs steps ↔ IsTrace t hart steps × LoadsFrom (IsValue t) steps
+
+-- of each hart all runs
 abbrev pub HasAllRuns : Test → (ℕ → List (List Step)) → Type 0
-HasAllRuns t runs =
-    (hart : ℕ) → hart < length t.codes → (steps : List Step)
-    → Contains (runs hart) steps ↔ IsTrace t hart steps × LoadsFrom (IsValue t) steps
+HasAllRuns t runs = (hart : ℕ) → hart < length t.codes → AreAllRuns t hart (runs hart)

@@ -6,7 +6,7 @@ ghost use Rattle.std.specs.Arc.{arc_value};
 ghost use Rattle.fs_kinds.specs.declared.fault.Fault.TheVariants.{Memory};
 ghost use Rattle.fs_model.specs.Allows.{Allows};
 ghost use Rattle.fs_model.specs.Execution.{Execution};
-ghost use Rattle.fs_answer.specs.Valid.{HasCycles};
+ghost use Rattle.fs_answer.specs.Cycles.{HasCycles};
 ghost use Rattle.fs_history.specs.Board.{Take, Claim, Adopt, SplitAt, CutCost, CutWitness, CutBound, Post, Peek};
 ghost use Rattle.fs_evidence.specs.Evidence.{Shown, IsWitnessFor, witness_in, placement_in};
 ghost use Rattle.fs_board.specs.Growth.{AreWitnesses};

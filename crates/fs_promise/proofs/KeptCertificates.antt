@@ -17,7 +17,8 @@ use Rattle.fs_answer.specs.Candidates.{Candidate}
 use Rattle.fs_answer.specs.Certificate.{Certificate, Version, Answer, Fenced, NoneForbids, Item, SplitAt, Costly, Refuted, Bounded, Link, IsAnswered}
 use Rattle.fs_answer.specs.Parts.{Part, undecided, floor, filled, child_parts}
 use Rattle.fs_answer.specs.Refusals.{IsBadAnswer, IsFirstBad, IsFirstUnshown, Fails, IsPlacedRefusal, IsRefusal}
-use Rattle.fs_answer.specs.Valid.{IsCycle, HasCycles, RefutesBy, Refutes, Bounds, Covers, IsValid}
+use Rattle.fs_answer.specs.Cycles.{IsCycle, HasCycles}
+use Rattle.fs_answer.specs.Valid.{RefutesBy, Refutes, Bounds, Covers, IsValid}
 use Rattle.fs_promise.proofs.Kept.{with_condition_of, Keeps, back, carried, each, pairwise}
 use Rattle.fs_promise.proofs.KeptCandidates.{listing}
 use Rattle.fs_promise.proofs.KeptPlacements.{placement, refutes_all, of_witness, shows_as}

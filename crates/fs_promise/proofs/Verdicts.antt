@@ -13,7 +13,8 @@ use Rattle.fs_answer.specs.Candidates.{Candidate}
 use Rattle.fs_answer.specs.Certificate.{Certificate, Answer, Fenced, NoneForbids, IsAnswered, fence_words}
 use Rattle.fs_answer.specs.Parts.{undecided}
 use Rattle.fs_answer.specs.Refusals.{IsBad, IsBadAnswer, IsFirstBad, Fails, IsPlacedRefusal, IsRefusedAfter, IsRefusal}
-use Rattle.fs_answer.specs.Valid.{IsCycle, Covers, IsValidFor, IsValidForNone, IsValid}
+use Rattle.fs_answer.specs.Cycles.{IsCycle}
+use Rattle.fs_answer.specs.Valid.{Covers, IsValidFor, IsValidForNone, IsValid}
 use Rattle.fs_promise.proofs.Firsts.{zip_at, place_once}
 use Rattle.fs_promise.proofs.Listed.{one_listing}
 use Rattle.fs_promise.proofs.Walks.{covers_or_fails, fails_once}

@@ -7,7 +7,8 @@ use Rattle.std.proofs.lemmas.Option.{slice_get_within, slice_get-get_or}
 use Rattle.fs_kinds.specs.declared.placement.Entry.{Entry}
 use Rattle.fs_model.specs.declared.test.Test.{Test}
 use Rattle.fs_answer.specs.Regions.{Region}
-use Rattle.fs_answer.specs.Trees.{Inference, follows, left_after, refutes}
+use Rattle.fs_answer.specs.Certificate.{Inference}
+use Rattle.fs_answer.specs.Trees.{follows, left_after, refutes}
 use Rattle.fs_refute.specs.declared.wrong.Wrong.TheVariants as wrong
 use Rattle.fs_refute.specs.Verdict.{after_one, open_after, open_before, IsJudged, IsWholeTree, Answers}
 

@@ -4,7 +4,8 @@ use Rattle.fs_kinds.specs.declared.placement.Entry.{Entry}
 use Rattle.fs_model.specs.declared.test.Test.{Test}
 use Rattle.fs_model.specs.declared.step.Step.{Step}
 use Rattle.fs_answer.specs.Regions.{Region}
-use Rattle.fs_answer.specs.Trees.{Inference, follows, left_after, is_open, refutes, root}
+use Rattle.fs_answer.specs.Certificate.{Inference}
+use Rattle.fs_answer.specs.Trees.{follows, left_after, is_open, refutes, root}
 use Rattle.fs_refute.specs.declared.region.Region.{Region as CodeRegion}
 use Rattle.fs_refute.specs.Views.{regions_of}
 use Rattle.fs_refute.specs.declared.wrong.Wrong.{Wrong}

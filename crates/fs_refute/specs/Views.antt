@@ -12,7 +12,7 @@ use Rattle.fs_model.specs.Numbers.{is_same}
 use Rattle.fs_model.specs.Test.{address_of}
 use Rattle.fs_answer.specs.Regions.{Region, Source, same_name, address_at, loaded_at, stored_at, names}
 use Rattle.fs_answer.specs.Trees as trees
-use Rattle.fs_answer.specs.Trees.{Inference}
+use Rattle.fs_answer.specs.Certificate.{Inference}
 use Rattle.fs_alone.specs.declared.source.Source.{Source as CodeSource}
 use Rattle.fs_alone.specs.Alone.{RunOf, source_of}
 use Rattle.fs_refute.specs.declared.basis.Basis.{Basis}

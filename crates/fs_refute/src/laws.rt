@@ -4,7 +4,8 @@ ghost use Rattle.std.specs.Prelude.{◌≡◌, ◌↔◌, List, true};
 ghost use Rattle.fs_kinds.specs.declared.placement.Entry.{Entry};
 ghost use Rattle.fs_model.specs.declared.test.Test.{Test};
 ghost use Rattle.fs_answer.specs.Regions.{Region};
-ghost use Rattle.fs_answer.specs.Trees.{Inference, refutes};
+ghost use Rattle.fs_answer.specs.Certificate.{Inference};
+ghost use Rattle.fs_answer.specs.Trees.{refutes};
 ghost use Rattle.fs_refute.specs.Verdict.{IsWholeTree};
 
 /// A law: inferences refute regions where each of them is reached and follows from the region that it speaks of, the

@@ -15,7 +15,7 @@ use Rattle.fs_model.specs.Fenced.{fenced}
 use Rattle.fs_model.specs.Shows.{is_outcome}
 use Rattle.fs_answer.specs.Candidates.{Candidate, IsShowing}
 use Rattle.fs_answer.specs.Certificate.{Link}
-use Rattle.fs_answer.specs.Valid.{IsCycle, HasCycles}
+use Rattle.fs_answer.specs.Cycles.{IsCycle, HasCycles}
 use Rattle.fs_thin_air.specs.ThinAir.{CanBeListed}
 use Rattle.fs_laws.proofs.FencedLaw.{allows_alike}
 use Rattle.fs_decide.specs.Decide.{candidate_of}
@@ -24,7 +24,8 @@ use Rattle.fs_decide.proofs.Edges.{cycle_excludes}
 use Rattle.fs_values.proofs.Contained.{none_in, later_in}
 use Rattle.fs_answer.specs.Regions.{truth}
 use Rattle.fs_model.specs.Values.{HasAllRuns}
-use Rattle.fs_answer.specs.Trees.{Inference, IsRefuted, Covers, cycles_in, is_open, root}
+use Rattle.fs_answer.specs.Certificate.{Inference}
+use Rattle.fs_answer.specs.Trees.{IsRefuted, Covers, cycles_in, is_open, root}
 use Rattle.fs_region.proofs.Lists.{first_in, in_cases, in_filter}
 use Rattle.fs_region.proofs.Splits.{IsMember}
 use Rattle.fs_region.proofs.Walk.{walked, open_there}

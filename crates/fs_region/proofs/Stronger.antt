@@ -11,12 +11,13 @@ use Rattle.fs_model.specs.Operations.{PreExecution}
 use Rattle.fs_model.specs.Preserved.{Rule}
 use Rattle.fs_answer.specs.Certificate.{Link}
 use Rattle.fs_answer.specs.Judged.{Cause, Preserved, ReadsFrom, Coherence, FromReads}
-use Rattle.fs_answer.specs.Valid.{most_links}
+use Rattle.fs_answer.specs.Cycles.{most_links}
 use Rattle.fs_laws.specs.Strength.{KeepsNoMore}
 use Rattle.fs_laws.proofs.Weakening.{rule-larger, kept-at}
 use Rattle.fs_answer.specs.Regions.{Region}
 use Rattle.fs_answer.specs.Musts.{alone, number_of, holds_of, known_source, knows_enough, is_rule, must}
-use Rattle.fs_answer.specs.Trees.{Inference, ByChoice, BySource, ByOrder, ByCases, Filter, Cycle, Stale, Reversed, Parted, is_open, links_around, must_be_cycle, follows, left_after, refutes, root, RefutesNoLess}
+use Rattle.fs_answer.specs.Certificate.{Inference, ByChoice, BySource, ByOrder, ByCases, Filter, Cycle, Stale, Reversed, Parted}
+use Rattle.fs_answer.specs.Trees.{is_open, links_around, must_be_cycle, follows, left_after, refutes, root, RefutesNoLess}
 use Rattle.fs_region.proofs.Lists.{all_in, all_of}
 
 there-larger : (f g : ℕ → ℕ → Bool) (a b : Option ℕ) → ((i j : ℕ) → f i j ≡ true → g i j ≡ true)

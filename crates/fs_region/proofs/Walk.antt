@@ -22,7 +22,7 @@ use Rattle.fs_model.proofs.RangeTests.{all_below}
 use Rattle.fs_answer.specs.Candidates.{Candidate, IsShowing, IsRaw, runs_of, rf, co}
 use Rattle.fs_answer.specs.Certificate.{Link}
 use Rattle.fs_answer.specs.Judged.{Preserved}
-use Rattle.fs_answer.specs.Valid.{IsCycle, most_links}
+use Rattle.fs_answer.specs.Cycles.{IsCycle, most_links}
 use Rattle.fs_decide.proofs.Sourced.{source_is, co_is, store_to_parts}
 use Rattle.fs_cand.proofs.Distinct.{named, rises}
 use Rattle.fs_local.specs.Local.{HasLink}
@@ -30,7 +30,8 @@ use Rattle.fs_local.proofs.Cycles.{cycle_by_links}
 use Rattle.fs_values.proofs.Contained.{none_in}
 use Rattle.fs_answer.specs.Regions.{Region, Source, Initial, From, same_name, stored_at}
 use Rattle.fs_answer.specs.Musts.{must, must_meet, must_pair, is_before, overwrites}
-use Rattle.fs_answer.specs.Trees.{Inference, ByChoice, BySource, ByOrder, ByCases, Filter, Cycle, Stale, Reversed, Parted, is_open, must_be_cycle, follows, left_after, refutes, cycle_in, cycles_in, HasCycleOf}
+use Rattle.fs_answer.specs.Certificate.{Inference, ByChoice, BySource, ByOrder, ByCases, Filter, Cycle, Stale, Reversed, Parted}
+use Rattle.fs_answer.specs.Trees.{is_open, must_be_cycle, follows, left_after, refutes, cycle_in, cycles_in, HasCycleOf}
 use Rattle.fs_region.proofs.Lists.{first_in, in_cases, in_filter, some_in}
 use Rattle.fs_region.proofs.Names.{once, names_differ, runs_forward}
 use Rattle.fs_region.proofs.Coherent.{harts_differ, co_not_both}

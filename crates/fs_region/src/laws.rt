@@ -11,13 +11,14 @@ ghost use Rattle.fs_model.specs.Fenced.{fenced};
 ghost use Rattle.fs_answer.specs.Candidates.{Candidate, IsRaw};
 ghost use Rattle.fs_answer.specs.Certificate.{Link};
 ghost use Rattle.fs_answer.specs.Judged.{Cause};
-ghost use Rattle.fs_answer.specs.Valid.{HasCycles};
+ghost use Rattle.fs_answer.specs.Cycles.{HasCycles};
 ghost use Rattle.fs_laws.specs.Strength.{KeepsNoMore};
 ghost use Rattle.fs_thin_air.specs.ThinAir.{CanBeListed};
 ghost use Rattle.fs_local.specs.Local.{HasLink};
 ghost use Rattle.fs_answer.specs.Regions.{Region, In};
 ghost use Rattle.fs_answer.specs.Musts.{must};
-ghost use Rattle.fs_answer.specs.Trees.{Inference, IsRefuted, RefutesNoLess, Covers, cycles_in};
+ghost use Rattle.fs_answer.specs.Certificate.{Inference};
+ghost use Rattle.fs_answer.specs.Trees.{IsRefuted, RefutesNoLess, Covers, cycles_in};
 
 /// A law: what must hold in a region is so in each raw candidate that is in it: the operations of both names are
 /// there, and the first must come before the second, for the cause that is given.

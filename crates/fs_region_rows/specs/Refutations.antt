@@ -12,7 +12,8 @@ use Rattle.fs_model.specs.Preserved.{Rule, Rule1, Rule2, Rule4, Rule10, Rule11}
 use Rattle.fs_answer.specs.Judged.{Cause, Preserved, ReadsFrom, Coherence, FromReads}
 use Rattle.fs_answer.specs.Certificate.{Link}
 use Rattle.fs_answer.specs.Regions.{Region, Source}
-use Rattle.fs_answer.specs.Trees.{left_after, root, Inference, ByChoice, BySource, ByOrder, ByCases, Filter, Cycle, Stale, Reversed, Parted}
+use Rattle.fs_answer.specs.Certificate.{Inference, ByChoice, BySource, ByOrder, ByCases, Filter, Cycle, Stale, Reversed, Parted}
+use Rattle.fs_answer.specs.Trees.{left_after, root}
 
 -- the operation of instruction number `at` of hart 0, and of hart 1
 abbrev pub P0 : ℕ → Name

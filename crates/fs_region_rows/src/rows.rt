@@ -8,7 +8,8 @@ ghost use Rattle.fs_model.specs.Preserved.{Rule2, Rule3, Rule4, Rule5, Rule8, Ru
 ghost use Rattle.fs_answer.specs.Judged.{Preserved, ReadsFrom, Coherence, FromReads};
 ghost use Rattle.fs_answer.specs.Regions.{Initial, From};
 ghost use Rattle.fs_answer.specs.Musts.{must};
-ghost use Rattle.fs_answer.specs.Trees.{ByChoice, BySource, ByOrder, ByCases, Filter, Stale, Reversed, Parted, IsRefuted, follows, left_after, refutes_test, root};
+ghost use Rattle.fs_answer.specs.Certificate.{ByChoice, BySource, ByOrder, ByCases, Filter, Stale, Reversed, Parted};
+ghost use Rattle.fs_answer.specs.Trees.{IsRefuted, follows, left_after, refutes_test, root};
 ghost use Rattle.fs_region_rows.specs.Small.{Place, sb, sb_or, sb_runs, mp, mp_forall, mp_runs, corr, corr_runs, parted, reversed, pair_runs, inner, inner_runs, guarded, guarded_end, guarded_runs, swaps, swap_runs, own, last, own_runs, returned, returned_runs, carried, carried_runs, through, through_runs, swapped, swapped_runs, denied, either, not_both, seen_runs, behind, behind_runs, spinlock, spinlock_runs};
 ghost use Rattle.fs_region_rows.specs.Refutations.{P0, P1, fences, fence_in, link, but_last, ending_in, left_by, child, sources_left, sb_tree, sb_or_tree, mp_tree, mp_forall_tree, corr_tree, parted_tree, reversed_tree, guarded_rest, guarded_tree, guarded_by_store, swap_cycle, swap_tree, own_tree, last_tree, carried_tree, turned_cycle, far_cycle, lock_fences, spinlock_tree};
 

@@ -13,7 +13,8 @@ use Rattle.fs_model.specs.Slots.{slot_at}
 use Rattle.fs_model.specs.Operations.{PreExecution}
 use Rattle.fs_model.specs.Witness.{name_of}
 use Rattle.fs_answer.specs.Certificate.{First, Second, Fenced, Link, Costly, Refuted, IsAnswered, fence_words}
-use Rattle.fs_answer.specs.Valid.{IsCycle, IsValidFor, HasCycles, around, are_edges}
+use Rattle.fs_answer.specs.Cycles.{IsCycle, HasCycles, around, are_edges}
+use Rattle.fs_answer.specs.Valid.{IsValidFor}
 use Rattle.fs_answer.specs.Refusals.{IsRefusal}
 use Rattle.fs_rows.specs.Rows.{prices, named}
 use Rattle.fs_rows.specs.CoherentReads.{corr, store, loads, stale}

@@ -10,7 +10,7 @@ use Rattle.fs_model.specs.Operations.{PreExecution, steps_of, is_store, same_har
 use Rattle.fs_model.specs.Execution.{IsTrace}
 use Rattle.fs_model.specs.Values.{LoadsOne, LoadsFrom, IsValue}
 use Rattle.fs_answer.specs.Candidates.{IsRaw, IsShowing, rf, is_sourced, is_store_order, stores_to}
-use Rattle.fs_answer.specs.Valid.{IsCycle}
+use Rattle.fs_answer.specs.Cycles.{IsCycle}
 use Rattle.fs_rows.specs.CoherentReads.{corr, store, loads, stale, circle}
 use Rattle.fs_model.proofs.Ranges.{each_two_below, po_in_range}
 

@@ -22,7 +22,8 @@ use Rattle.fs_model.specs.Witness.{Witness, IsOfWitness}
 use Rattle.fs_model.proofs.Runs.{run_once}
 use Rattle.fs_answer.specs.Certificate.{Fenced, Costly, IsAnswered, fence_words}
 use Rattle.fs_answer.specs.Shown.{ShowsAs}
-use Rattle.fs_answer.specs.Valid.{IsCycle, Refutes, IsValidForNone}
+use Rattle.fs_answer.specs.Cycles.{IsCycle}
+use Rattle.fs_answer.specs.Valid.{Refutes, IsValidForNone}
 use Rattle.fs_answer.specs.Refusals.{IsRefusal, IsBadAnswer}
 use Rattle.fs_rows.specs.Rows.{prices}
 use Rattle.fs_rows.specs.MessagePassing.{mp, mp11, two_stores, two_loads, overtaken, passed, passes, passing_fences}

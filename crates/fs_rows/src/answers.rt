@@ -9,7 +9,7 @@ ghost use Rattle.fs_kinds.specs.PriceTable.{cost};
 ghost use Rattle.fs_model.specs.Preserved.{Rule1};
 ghost use Rattle.fs_answer.specs.Candidates.{IsShowing, runs_of};
 ghost use Rattle.fs_answer.specs.Judged.{Preserved, is_edge};
-ghost use Rattle.fs_answer.specs.Valid.{IsCycle};
+ghost use Rattle.fs_answer.specs.Cycles.{IsCycle};
 ghost use Rattle.fs_rows.specs.CoherentReads.{corr, stale, circle};
 ghost use Rattle.fs_model.specs.Allows.{Allows};
 ghost use Rattle.fs_model.specs.Reasons.{IsYes, IsReason};

@@ -15,7 +15,7 @@ use Rattle.fs_model.specs.Slots.{slots}
 use Rattle.fs_model.specs.Allows.{Allows, IsCheapest, is_better}
 use Rattle.fs_answer.specs.CandidateFaults.{IsCandidateFault}
 use Rattle.fs_answer.specs.Parts.{floor, undecided}
-use Rattle.fs_answer.specs.Valid.{HasCycles}
+use Rattle.fs_answer.specs.Cycles.{HasCycles}
 use Rattle.fs_history.specs.Board.{is_finished}
 use Rattle.fs_history.specs.Histories.{IsHistory}
 use Rattle.fs_history.specs.Sizes.{tree_size}

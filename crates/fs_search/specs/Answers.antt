@@ -6,7 +6,7 @@ use Rattle.fs_kinds.specs.PriceTable.{PriceTable, cost}
 use Rattle.fs_model.specs.declared.test.Test.{Test}
 use Rattle.fs_model.specs.Execution.{Execution}
 use Rattle.fs_model.specs.Allows.{IsCheapest, RefutesAll, no_fences}
-use Rattle.fs_answer.specs.Valid.{HasCycles}
+use Rattle.fs_answer.specs.Cycles.{HasCycles}
 use Rattle.fs_history.specs.Board.{is_finished}
 use Rattle.fs_history.specs.Sizes.{IsUnanswered}
 use Rattle.fs_evidence.specs.Evidence.{Question, Refuted, IsWitnessFor}

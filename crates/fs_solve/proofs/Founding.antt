@@ -15,7 +15,7 @@ use Rattle.fs_model.specs.Witness.{Witness}
 use Rattle.fs_answer.specs.Certificate as said
 use Rattle.fs_answer.specs.CertificateFile.{CanBeSaid, IsCertificateFile}
 use Rattle.fs_answer.specs.Texts.{certificate_text}
-use Rattle.fs_answer.specs.Valid.{HasCycles}
+use Rattle.fs_answer.specs.Cycles.{HasCycles}
 use Rattle.fs_answer.specs.CandidateFaults.{HasNoCandidateFault}
 use Rattle.fs_certificate.specs.declared.certificate.Certificate.{Certificate}
 use Rattle.fs_certificate.specs.Kept.{AreInRange, KeepsCertificate}

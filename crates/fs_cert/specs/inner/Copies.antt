@@ -9,7 +9,8 @@ use Rattle.fs_answer.specs.Certificate.{Link}
 use Rattle.fs_answer.specs.CertificateFile.{IsChoiceOfWord, most_number}
 use Rattle.fs_answer.specs.WitnessFile.{in_range}
 use Rattle.fs_certificate.specs.declared.certificate.CertificateLink.{CertificateLink}
-use Rattle.fs_certificate.specs.Kept.{KeepsLink, IsInRange}
+use Rattle.fs_answer.specs.WitnessFile.{IsInRange}
+use Rattle.fs_certificate.specs.Kept.{KeepsLink}
 use Rattle.fs_cert.specs.Cycles.{BeginsAtLeast}
 
 abbrev pub IsCopiedLink : CertificateLink → Link → Type 0

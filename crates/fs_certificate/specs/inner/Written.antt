@@ -10,7 +10,8 @@ use Rattle.fs_answer.specs.declared.witness.WitnessFile.{WitnessFile}
 use Rattle.fs_answer.specs.Certificate.{Link}
 use Rattle.fs_answer.specs.Texts.{array_of, members_of, number, choice_value, item_value, link_value, witness_value}
 use Rattle.fs_answer.specs.WitnessFile.{in_range, KeepsWitness}
-use Rattle.fs_certificate.specs.Kept.{KeepsLink, IsInRange, AreInRangeLinks, AreInRangeNames, item_of}
+use Rattle.fs_answer.specs.WitnessFile.{IsInRange}
+use Rattle.fs_certificate.specs.Kept.{KeepsLink, AreInRangeLinks, AreInRangeNames, item_of}
 use Rattle.fs_certificate.specs.declared.certificate.CertificateLink.{CertificateLink}
 use Rattle.fs_certificate.specs.declared.certificate.Item.{Item}
 

@@ -11,7 +11,7 @@ use Rattle.fs_hart.specs.Steps.{steps_in}
 use Rattle.fs_answer.specs.Candidates.{Candidate, runs_of}
 use Rattle.fs_answer.specs.Certificate.{Link}
 use Rattle.fs_answer.specs.Refusals.{IsFirstBad}
-use Rattle.fs_answer.specs.Valid.{IsCycle, around, are_edges, most_links}
+use Rattle.fs_answer.specs.Cycles.{IsCycle, around, are_edges, most_links}
 use Rattle.fs_evidence.specs.Evidence.{cause_of}
 use Rattle.fs_cand.specs.inner.NamedOrder.{name_in, numbers_of}
 use Rattle.fs_cand.specs.declared.candidate.Candidate.{Candidate as Made}

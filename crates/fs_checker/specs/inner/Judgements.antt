@@ -9,7 +9,8 @@ use Rattle.fs_answer.specs.Candidates.{Candidate}
 use Rattle.fs_answer.specs.Certificate.{Certificate}
 use Rattle.fs_answer.specs.Parts.{undecided}
 use Rattle.fs_answer.specs.Refusals.{IsRefusal, IsPlacedRefusal}
-use Rattle.fs_answer.specs.Valid.{IsCycle, Covers, IsValid}
+use Rattle.fs_answer.specs.Cycles.{IsCycle}
+use Rattle.fs_answer.specs.Valid.{Covers, IsValid}
 
 -- what is said against the cycles and the tree of a certificate that answers the placement: nothing, or the first reason
 abbrev pub IsPlacedVerdict : Test → PriceTable → Certificate → List Entry → List Candidate → Option Reason → Type 0

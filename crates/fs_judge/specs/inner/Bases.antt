@@ -7,7 +7,7 @@ use Rattle.fs_model.specs.Operations.{operations}
 use Rattle.fs_answer.specs.Candidates.{Candidate, runs_of}
 use Rattle.fs_answer.specs.Judged.{is_judged}
 use Rattle.fs_answer.specs.Listings.{IsListing}
-use Rattle.fs_answer.specs.Valid.{IsCycle}
+use Rattle.fs_answer.specs.Cycles.{IsCycle}
 use Rattle.fs_thin_air.specs.ThinAir.{CanBeListed}
 use Rattle.fs_relation.specs.Edges.{has_edge}
 use Rattle.fs_edges.specs.Fencing.{orders_at, is_fenced}

@@ -4,7 +4,7 @@ use Rattle.fs_kinds.specs.declared.placement.Entry.{Entry}
 use Rattle.fs_model.specs.declared.test.Test.{Test}
 use Rattle.fs_model.specs.Allows.{Allows}
 use Rattle.fs_answer.specs.Candidates.{Candidate}
-use Rattle.fs_answer.specs.Valid.{IsCycle, HasCycles}
+use Rattle.fs_answer.specs.Cycles.{IsCycle, HasCycles}
 use Rattle.fs_judge.specs.Verdicts.{IsShownWith}
 use Rattle.fs_judge.specs.declared.judging.Finding.{Finding}
 use Rattle.fs_judge.specs.declared.judging.Finding.TheVariants.{Ordered, Cyclic}

@@ -1,6 +1,6 @@
 use Rattle.std.proofs.Common.{◌≡◌, Some, map, length, sym, ap, subst, ◌∙◌}
 use Rattle.fs_kinds.specs.PriceTable.{are_offered}
-use Rattle.fs_answer.specs.Valid.{HasCycles}
+use Rattle.fs_answer.specs.Cycles.{HasCycles}
 use Rattle.fs_evidence.specs.Evidence.{Question, Refuted, witness_in}
 use Rattle.fs_tree.proofs.Closed.{history-right}
 use Rattle.fs_cert.specs.Certified.{Certifies, AreDistinct}

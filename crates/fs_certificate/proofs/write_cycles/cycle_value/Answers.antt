@@ -1,7 +1,8 @@
 use Rattle.std.proofs.Common.{arith}
 use Rattle.serde_json.specs.View.{view}
 use Rattle.fs_answer.specs.Texts.{link_value}
-use Rattle.fs_certificate.specs.Kept.{IsInRange, KeepsLink}
+use Rattle.fs_answer.specs.WitnessFile.{IsInRange}
+use Rattle.fs_certificate.specs.Kept.{KeepsLink}
 use Rattle.fs_certificate.specs.inner.Written.{WritesLink}
 use Rattle.fs_certificate.proofs.Steps.{each_next, writes_array}
 use Rattle.fs_certificate.proofs.write_cycles.cycle_value.Goals as goal

@@ -1,6 +1,6 @@
 use Rattle.std.proofs.Common.{arith}
 use Rattle.serde_json.specs.View.{view}
-use Rattle.fs_certificate.specs.Kept.{IsInRange}
+use Rattle.fs_answer.specs.WitnessFile.{IsInRange}
 use Rattle.fs_certificate.specs.inner.Written.{IsKeptName, WritesName, name_value}
 use Rattle.fs_certificate.proofs.Steps.{each_next, writes_array}
 use Rattle.fs_certificate.proofs.write_witnesses.names_value.Goals as goal

@@ -4,7 +4,7 @@ use Rattle.fs_model.specs.Execution.{initial_words}
 use Rattle.fs_answer.specs.Candidates.{runs_of}
 use Rattle.fs_answer.specs.Judged.{is_judged}
 use Rattle.fs_answer.specs.Certificate.{Link}
-use Rattle.fs_answer.specs.Valid.{IsCycle}
+use Rattle.fs_answer.specs.Cycles.{IsCycle}
 use Rattle.fs_cand.specs.Candidates.{candidate_of}
 use Rattle.fs_judge.specs.inner.Links.{IsLink, followers}
 use Rattle.fs_judge.proofs.Linked.{longer, more, low_at, edge_at, cycle_of, judged_edges}

@@ -3,7 +3,7 @@ use Rattle.std.specs.Prelude.{slice_get}
 use Rattle.fs_model.specs.Allows.{Allows}
 use Rattle.fs_answer.specs.Candidates.{Candidate}
 use Rattle.fs_answer.specs.Certificate.{Link}
-use Rattle.fs_answer.specs.Valid.{IsCycle, HasCycles}
+use Rattle.fs_answer.specs.Cycles.{IsCycle, HasCycles}
 use Rattle.fs_decide.proofs.Deciding.{cycles_forbid_all}
 use Rattle.fs_judge.specs.inner.Findings.{IsFinding}
 use Rattle.fs_judge.proofs.Linked.{longer, more}

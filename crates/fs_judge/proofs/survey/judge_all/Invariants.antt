@@ -2,7 +2,7 @@ use Rattle.std.proofs.Common.{◌≡◌, ℕ, Some, List, length}
 use Rattle.std.specs.Prelude.{slice_get}
 use Rattle.fs_answer.specs.Candidates.{Candidate}
 use Rattle.fs_answer.specs.Certificate.{Link}
-use Rattle.fs_answer.specs.Valid.{IsCycle}
+use Rattle.fs_answer.specs.Cycles.{IsCycle}
 use Rattle.fs_judge.proofs.survey.judge_all.Given as goal
 
 -- a cycle for each candidate so far

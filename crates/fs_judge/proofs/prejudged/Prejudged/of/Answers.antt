@@ -2,7 +2,7 @@ use Rattle.std.proofs.Common.{◌≡◌, ◌∙◌, List, [], sym, ap, subst}
 use Rattle.fs_kinds.specs.declared.placement.Entry.{Entry}
 use Rattle.fs_answer.specs.Candidates.{runs_of}
 use Rattle.fs_answer.specs.Judged.{is_judged}
-use Rattle.fs_answer.specs.Valid.{IsCycle}
+use Rattle.fs_answer.specs.Cycles.{IsCycle}
 use Rattle.fs_cand.specs.Candidates.{candidate_of}
 use Rattle.fs_judge.proofs.Unfenced.{still_cycle}
 use Rattle.fs_judge.proofs.prejudged.Prejudged.of.Goals as goal

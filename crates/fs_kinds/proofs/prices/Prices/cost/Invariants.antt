@@ -1,12 +1,12 @@
 use Rattle.std.proofs.Common.{◌≡◌, ◌*◌, ◌≤◌, ℕ, suc, take, get_or}
 use Rattle.fs_kinds.specs.PriceTable.{cost}
 use Rattle.fs_kinds.proofs.Entries.{IsCounted, blank}
-use Rattle.fs_kinds.proofs.placement.Placement.cost.Given as goal
+use Rattle.fs_kinds.proofs.prices.Prices.cost.Given as goal
 
 -- the cost so far, and how many slots there can be up to the last one
 abbrev pub invariant-loop-entry : goal.invariant-loop-entry
 invariant-loop-entry l = record {
-  so_far : l.total ≡ cost l.prices (take l.entry-index l.self);
+  so_far : l.total ≡ cost l.self (take l.entry-index l.placement);
   bound : l.total ≤ 1000000000 * l.entry-index;
-  counted : (k : ℕ) → suc k ≡ l.entry-index → IsCounted k (get_or l.self k blank).slot;
+  counted : (k : ℕ) → suc k ≡ l.entry-index → IsCounted k (get_or l.placement k blank).slot;
 }
