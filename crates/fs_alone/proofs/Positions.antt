@@ -18,6 +18,7 @@ use Rattle.fs_model.specs.Operations.{PreExecution, accesses, nothing, operation
 use Rattle.fs_model.specs.Trace.{AreSteps, after_step, start_with}
 use Rattle.fs_model.specs.Witness.{name_of, step_name}
 use Rattle.fs_model.proofs.WhichOperation.{length_operations, no_hart_past}
+use Rattle.fs_cand.proofs.RunNames.{in_code}
 use Rattle.fs_local.specs.Local.{place_of}
 use Rattle.fs_answer.specs.Musts.{has_name, number_of}
 use Rattle.fs_answer.specs.Regions.{step_at}
@@ -81,16 +82,6 @@ step_is run at =
     ]
 
 -- ---- past the code
-
--- a step stands in the code
-in_code : (n : ℕ) (code : List Instr) (h : Hart) (steps : List Step) (j : ℕ) (u : Step) → AreSteps n code h steps → slice_get steps j ≡ Some u → u.at < length code
-in_code n code h [] j u r e = absurd (let none : None ≡ Some u = e in cc)
-in_code n code h (s ∷ ss) zero u r e =
-    let same : Some s ≡ Some u = e in
-    let one : s ≡ u = cc in
-    let low = slice_get_within code h.at s.instr r.0.1 in
-    omega (arith, low, r.0.0, ap (λ z. z.at) one)
-in_code n code h (s ∷ ss) (suc j) u r e = in_code n code (after_step h s) ss j u r.1 e
 
 not_there : (t : Test) (hart : ℕ) (run : List Step) → IsTrace t hart run → (at : ℕ) → length (code_of t hart) ≤ at → (j : ℕ) (s : Step)
     → slice_get run j ≡ Some s → (s.at == at) ≡ false

@@ -6,7 +6,6 @@ use Rattle.fs_model.specs.declared.test.Test.{Test}
 use Rattle.fs_model.specs.Values.{AreRunsOverValues}
 use Rattle.fs_model.specs.TooMany.{AreMoreThan, IsRunFault}
 use Rattle.fs_answer.specs.Candidates.{IsRaw}
-use Rattle.fs_answer.specs.Certificate.{Version, First, Second, Fourth}
 
 -- how many candidates and lists of runs there may be
 abbrev pub most_candidates : ℕ
@@ -25,13 +24,3 @@ IsCandidateFault t f = IsRunFault t f
 -- a hart's runs, nor the lists of runs, nor the candidates are too many
 abbrev pub HasNoCandidateFault : Test → Type 0
 HasNoCandidateFault t = (f : Fault) → IsCandidateFault t f → ⊥
-
--- of the runs over the value sets none goes astray, and those of a hart aren't too many
-abbrev pub HasNoRunFault : Test → Type 0
-HasNoRunFault t = (f : Fault) → IsRunFault t f → ⊥
-
--- why a certificate of the version isn't judged: a list of cycles is over the candidates, inferences are over the runs
-abbrev pub IsVersionFault : Version → Test → Fault → Type 0
-IsVersionFault First = IsCandidateFault
-IsVersionFault Second = IsCandidateFault
-IsVersionFault Fourth = IsRunFault

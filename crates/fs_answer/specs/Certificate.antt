@@ -1,5 +1,5 @@
 -- What a certificate is made of, and the answers that it may give.
-use Rattle.std.specs.Prelude.{◌≡◌, ℕ, ◌<◌, Option, None, Some, List, [], ◌∷◌, length}
+use Rattle.std.specs.Prelude.{◌≡◌, ℕ, ◌<◌, Option, None, Some, List, [], ◌∷◌}
 use Rattle.std.specs.List.{flat_map}
 use Rattle.fs_kinds.specs.declared.kind.Kind.{Kind}
 use Rattle.fs_kinds.specs.declared.placement.Entry.{Entry}
@@ -13,11 +13,10 @@ use Rattle.fs_model.specs.Execution.{Execution}
 use Rattle.fs_model.specs.Witness.{Witness}
 use Rattle.fs_answer.specs.Judged.{Cause}
 
--- in the first version ties are left open, in the second and the fourth the answer is the first of the cheapest
+-- in the first version ties are left open, in the second the answer is the first of the cheapest
 pub data Version : Type 0 where
   First : Version
   Second : Version
-  Fourth : Version
 
 -- a cost and the words of the fences, such as `P0:3=w,w`; or none
 pub data Answer : Type 0 where
@@ -45,19 +44,8 @@ pub data Inference : Type 0 where
   Reversed : (load store : Name) → Inference
   Parted : (load store other : Name) → Inference
 
--- What shows that the answer's placement forbids the outcome: a cycle for each showing candidate; or in the fourth version a
--- refutation, whose inferences are one whole tree in preorder.
-pub data Cycles : Type 0 where
-  Listed : (cycles : List (List Link)) → Cycles
-  Inferred : (inferences : List Inference) → Cycles
-
--- how many cycles or inferences there are
-abbrev pub count : Cycles → ℕ
-count (Listed cycles) = length cycles
-count (Inferred inferences) = length inferences
-
 -- An item of a tree in preorder: a node that splits at the slot of this number, or a leaf. A leaf costs too much, or the witness of
--- this number refutes it, or the witnesses of these numbers bound it; the last not in the first version.
+-- this number refutes it, or the witnesses of these numbers bound it; the last in the second version alone.
 pub data Item : Type 0 where
   SplitAt : (slot : ℕ) → Item
   Costly : Item
@@ -67,7 +55,7 @@ pub data Item : Type 0 where
 pub record Certificate : Type 0 where
   pub version : Version
   pub answer : Answer
-  pub cycles : Cycles
+  pub cycles : List (List Link)
   pub tree : List Item
   pub witnesses : List Witness
 
@@ -95,7 +83,6 @@ pub record IsLeastCost (t : Test) (prices : PriceTable) (p : List Entry) : Type 
 abbrev pub IsBest : Version → Test → PriceTable → List Entry → Type 0
 IsBest First = IsLeastCost
 IsBest Second = IsCheapest
-IsBest Fourth = IsCheapest
 
 -- what it shows of an answer: the placement is the best one, as the version has it; or none is right, since an execution shows the
 -- outcome with rw,rw in every slot

@@ -22,7 +22,7 @@ use Rattle.fs_cand.proofs.Distinct as distinct
 use Rattle.fs_cand.proofs.NamedOrder.{NamesInRange}
 
 -- a step stands in the code
-in_code : (n : ℕ) (code : List Instr) (h : Hart) (steps : List Step) (j : ℕ) (u : Step) → AreSteps n code h steps → slice_get steps j ≡ Some u → u.at < length code
+pub in_code : (n : ℕ) (code : List Instr) (h : Hart) (steps : List Step) (j : ℕ) (u : Step) → AreSteps n code h steps → slice_get steps j ≡ Some u → u.at < length code
 in_code n code h [] j u r e = absurd (let none : None ≡ Some u = e in cc)
 in_code n code h (s ∷ ss) zero u r e =
     let same : Some s ≡ Some u = e in

@@ -13,3 +13,4 @@ pub mod Walking
 pub mod Faults
 pub mod Judged
 pub mod OneFile
+pub mod Covering

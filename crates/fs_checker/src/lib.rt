@@ -15,5 +15,5 @@ mod unforbidden;
 mod verdict;
 mod witness;
 
-pub use laws::file_says_one_certificate;
+pub use laws::{file_says_one_certificate, valid_is_right};
 pub use verdict::{CheckVerdict, check};

@@ -17,12 +17,12 @@ ghost use Rattle.fs_checker.specs.Checks.{IsCheckVerdict, IsCheckFault};
 ghost use Rattle.fs_checker.specs.inner.Judgements.{IsJudgement};
 
 use crate::fenced::{Judgement, judge_fenced, test_of};
+use crate::laws::valid_is_right;
 use crate::unforbidden::judge_none;
 use fs_certificate::{Certificate, CertifiedAnswer};
 use fs_kinds::{Fault, Placement, Prices, Reason};
 use fs_model::Test;
 use fs_showing::{Showing, showing_of};
-use fs_tree::valid_is_right;
 use std::alloc::Global;
 use std::sync::Arc;
 

@@ -134,7 +134,7 @@ or_word : (a b : Option Op) (y : Op) (w : List ℕ) → (a ≡ Some y → is_wor
 or_word None b y w one two e = two e
 or_word (Some x) b y w one two e = one e
 
-op_word : (w : List ℕ) (o : Op) → op_of w ≡ Some o → is_word w ≡ true
+pub op_word : (w : List ℕ) (o : Op) → op_of w ≡ Some o → is_word w ≡ true
 unfolding op_of register_names immediate_names branch_names single_names plain_names acquiring_names releasing_names both_names both_apart_names
 op_word w o e =
     or_word (look_up register_names w) _ o w (found_word register_names w o refl)
@@ -147,7 +147,7 @@ op_word w o e =
     (or_word (look_up both_names w) _ o w (found_word both_names w o refl)
     (found_word both_apart_names w o refl)))))))) e
 
-spelled_word : {c : Class} {w : List ℕ} {ts : List Tok} {i : Instr} {l : Option (List ℕ)} → Spells (Word c w ∷ ts) i l → is_word w ≡ true
+pub spelled_word : {c : Class} {w : List ℕ} {ts : List Tok} {i : Instr} {l : Option (List ℕ)} → Spells (Word c w ∷ ts) i l → is_word w ≡ true
 spelled_word (spells {w = w} {op = o} e h r) = op_word w o e
 
 -- ---- instructions

@@ -69,7 +69,8 @@ and_false false = refl
 no_digits : (ds : List ℕ) → is_digits (76 ∷ ds) ≡ false
 no_digits ds = and_false _
 
-name_back : (t : ℕ) → t < 2 ^ 32 → is_name (class_of (76 ∷ decimal t)) ≡ true
+-- L and a position is a name
+pub name_back : (t : ℕ) → t < 2 ^ 32 → is_name (class_of (76 ∷ decimal t)) ≡ true
 unfolding class_of keyword_of is_number
 name_back t h = let d = decimal_is_IsNumeral t (omega arith) in let e = no_dot (decimal t) d.0.1 in rw (no_digits (decimal t), e) refl
 

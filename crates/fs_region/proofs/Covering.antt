@@ -39,7 +39,7 @@ outcome_is Forall b e = not-true b e
 in_root : (t : Test) (runs : ℕ → List (List Step)) (bounded : IsBounded t) → HasAllRuns t runs → (c : Candidate) → IsShowing t c → IsMember t c (root t runs)
 in_root t runs bounded all c shows = record {
   inside = record {
-    runs = λ hart low. (all hart low (steps_of c.traces hart)).1 (shows.raw.runs.runs hart low, shows.raw.runs.values hart low);
+    runs = λ hart low. ((all hart low).exact (steps_of c.traces hart)).1 (shows.raw.runs.runs hart low, shows.raw.runs.values hart low);
     sources = λ load source e. absurd (let none : None ≡ Some source = e in cc);
     orders = λ first second before. absurd (false≢true before);
     wanted = λ condition v has. elim (in_cases (condition_of t.condition, is_outcome t.quantifier true) [] (condition, v) has) [

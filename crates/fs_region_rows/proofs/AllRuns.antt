@@ -1,13 +1,15 @@
 -- All runs of store buffering, and of a pair and a store: so what refutes these by their runs refutes them.
-use Rattle.std.proofs.Common.{◌≡◌, ◌⊎◌, ℕ, zero, suc, ◌<◌, None, Some, List, [], ◌∷◌, length, inl, inr, refl, sym, ◌∙◌, ap, subst, arith, lit<, lit≤, pos}
+use Rattle.std.proofs.Common.{◌≡◌, ◌⊎◌, ℕ, zero, suc, ◌<◌, None, Some, List, [], ◌∷◌, All, length, inl, inr, refl, sym, ◌∙◌, ap, subst, arith, lit<, lit≤, pos}
 use Rattle.std.specs.Prelude.{slice_get}
-use Rattle.std.specs.List.{Contains}
+use Rattle.std.specs.List.{AllPairs, Contains}
+use Rattle.std.proofs.lemmas.List.Kept.{AllPairs-cons}
 use Rattle.std.proofs.lemmas.List.Elements.{All-nil, All-cons}
 use Rattle.fs_instr.specs.declared.instr.Instr.TheVariants.{Lw, Sw, Lr, Sc}
 use Rattle.fs_kinds.specs.declared.kind.Kind.TheVariants.{WR}
 use Rattle.fs_model.specs.declared.test.Test.{Test}
 use Rattle.fs_model.specs.declared.step.Step.{Step}
 use Rattle.fs_model.specs.Test.{address_of}
+use Rattle.fs_model.specs.Choices.{choices_of, ComesBefore}
 use Rattle.fs_model.specs.Trace.{start_with, after_step}
 use Rattle.fs_model.specs.Execution.{IsTrace, code_of, registers_of, initial_words}
 use Rattle.fs_model.specs.Values.{IsValue, IsValueAfter, LoadsFrom, LoadsOne, StoresWord, rounds}
@@ -16,6 +18,20 @@ use Rattle.fs_model.specs.Values.{HasAllRuns}
 use Rattle.fs_answer.specs.Trees.{IsRefuted}
 use Rattle.fs_region_rows.specs.Small.{Place, x, y, lw, sw, plain, sb, sb_runs, parted, pair_runs, reserve, success, failure, succeeds, fails}
 use Rattle.fs_region_rows.specs.Refutations.{fences, sb_tree, parted_tree}
+
+-- ---- choice order
+
+abbrev Precedes : List Step → List Step → Type 0
+Precedes a b = ComesBefore (choices_of a) (choices_of b)
+
+two_rise : {A : Type 0} (R : A → A → Type 0) (x y : A) → R x y → AllPairs R (x ∷ y ∷ [])
+two_rise R x y holds zero zero d below within = absurd (omega (arith, below))
+two_rise R x y holds zero (suc zero) d below within = holds
+two_rise R x y holds zero (suc (suc j)) d below within = absurd (omega (arith, within))
+two_rise R x y holds (suc i) j d below within = absurd (omega (arith, below, within))
+
+one_rises : {A : Type 0} (R : A → A → Type 0) (x : A) → AllPairs R (x ∷ [])
+one_rises R x i j d below within = absurd (omega (arith, below, within))
 
 -- ---- what locations hold
 
@@ -202,9 +218,9 @@ module _ (b : Place) where
       in_two second ss is.0 (value_is (rounds t) 0 is.0 (loads 1 (lw 1 7 x is.0) (lit< tt) 0 is.0 refl refl)) is.1
 
   sb_all : HasAllRuns t sb_runs
-  sb_all zero low ss = (first_there ss, first_in_list ss)
-  sb_all (suc zero) low ss = (second_there ss, second_in_list ss)
-  sb_all (suc (suc hart)) low ss = absurd (omega (arith, low))
+  sb_all zero low = record { rising = two_rise Precedes (first 0) (first 1) (inl (lit< tt)); exact = λ ss. (first_there ss, first_in_list ss) }
+  sb_all (suc zero) low = record { rising = two_rise Precedes (second 0) (second 1) (inl (lit< tt)); exact = λ ss. (second_there ss, second_in_list ss) }
+  sb_all (suc (suc hart)) low = absurd (omega (arith, low))
 
   pub sb_refuted : IsRefuted (sb b) (fences WR WR) sb_tree
   sb_refuted = record { runs = sb_runs; all = sb_all; refuted = refl }
@@ -363,10 +379,34 @@ module _ (b : Place) where
   behind_in_list : (ss : List Step) → Runs_so 1 ss → Contains (pair_runs 1) ss
   behind_in_list ss run = (0, lit< tt, sym (behind_is ss run.0))
 
+  -- one run is before others
+  abbrev IsFirst : List Step → List (List Step) → Type 0
+  IsFirst run = All (Precedes run)
+
+  before : (run other : List Step) (others : List (List Step)) → Precedes run other → IsFirst run others → IsFirst run (other ∷ others)
+  before run other others = All-cons (Precedes run) other others
+
+  pair_rises : AllPairs Precedes (pair_runs 0)
+  pair_rises =
+      AllPairs-cons Precedes (succeeds 0) _
+      (before (succeeds 0) (fails 0) _ (inr (refl, inl tt)) (before (succeeds 0) (succeeds 1) _ (inl (lit< tt))
+      (before (succeeds 0) (fails 1) _ (inl (lit< tt)) (before (succeeds 0) (succeeds 2) _ (inl (lit< tt))
+      (before (succeeds 0) (fails 2) [] (inl (lit< tt)) (All-nil (Precedes (succeeds 0))))))))
+      (AllPairs-cons Precedes (fails 0) _
+      (before (fails 0) (succeeds 1) _ (inl (lit< tt)) (before (fails 0) (fails 1) _ (inl (lit< tt))
+      (before (fails 0) (succeeds 2) _ (inl (lit< tt)) (before (fails 0) (fails 2) [] (inl (lit< tt)) (All-nil (Precedes (fails 0)))))))
+      (AllPairs-cons Precedes (succeeds 1) _
+      (before (succeeds 1) (fails 1) _ (inr (refl, inl tt)) (before (succeeds 1) (succeeds 2) _ (inl (lit< tt))
+      (before (succeeds 1) (fails 2) [] (inl (lit< tt)) (All-nil (Precedes (succeeds 1))))))
+      (AllPairs-cons Precedes (fails 1) _
+      (before (fails 1) (succeeds 2) _ (inl (lit< tt)) (before (fails 1) (fails 2) [] (inl (lit< tt)) (All-nil (Precedes (fails 1)))))
+      (two_rise Precedes (succeeds 2) (fails 2) (inr (refl, inl tt))))))
+
   pair_all : HasAllRuns pair pair_runs
-  pair_all zero low ss = (pair_there ss, pair_in_list ss)
-  pair_all (suc zero) low ss = (behind_there ss, behind_in_list ss)
-  pair_all (suc (suc hart)) low ss = absurd (omega (arith, low))
+  pair_all zero low = record { rising = pair_rises; exact = λ ss. (pair_there ss, pair_in_list ss) }
+  pair_all (suc zero) low =
+      record { rising = one_rises Precedes behind; exact = λ ss. (behind_there ss, behind_in_list ss) }
+  pair_all (suc (suc hart)) low = absurd (omega (arith, low))
 
   pub parted_refuted : IsRefuted (parted b) [] parted_tree
   parted_refuted = record { runs = pair_runs; all = pair_all; refuted = refl }

@@ -27,31 +27,9 @@ use Rattle.fs_instr.specs.declared.operands.OperandPart.TheVariants as part
 use Rattle.fs_instr.specs.declared.instr.Instr.{Instr}
 use Rattle.fs_instr.specs.declared.instr.Instr.TheVariants as instr
 use Rattle.fs_instr.proofs.PrintedWords.{is_word, found_word}
-use Rattle.fs_instr.proofs.PrintedParts.{printed}
+use Rattle.fs_instr.proofs.PrintedParts.{printed, op_word, spelled_word}
 use Rattle.fs_instr.proofs.ReadsBack.{reads_back}
 use Rattle.fs_round_trip.proofs.PrintedBytes.{Opens, nil_ascii, cons_ascii, tested_ascii, word_ascii}
-
--- ---- names
-
-or_word : (a b : Option Op) (y : Op) (w : List ℕ) → (a ≡ Some y → is_word w ≡ true) → (b ≡ Some y → is_word w ≡ true) → option_or a b ≡ Some y → is_word w ≡ true
-or_word None b y w one two e = two e
-or_word (Some x) b y w one two e = one e
-
-op_word : (w : List ℕ) (o : Op) → op_of w ≡ Some o → is_word w ≡ true
-unfolding op_of register_names immediate_names branch_names single_names plain_names acquiring_names releasing_names both_names both_apart_names
-op_word w o e =
-    or_word (look_up register_names w) _ o w (found_word register_names w o refl)
-    (or_word (look_up immediate_names w) _ o w (found_word immediate_names w o refl)
-    (or_word (look_up branch_names w) _ o w (found_word branch_names w o refl)
-    (or_word (look_up single_names w) _ o w (found_word single_names w o refl)
-    (or_word (look_up plain_names w) _ o w (found_word plain_names w o refl)
-    (or_word (look_up acquiring_names w) _ o w (found_word acquiring_names w o refl)
-    (or_word (look_up releasing_names w) _ o w (found_word releasing_names w o refl)
-    (or_word (look_up both_names w) _ o w (found_word both_names w o refl)
-    (found_word both_apart_names w o refl)))))))) e
-
-spelled_word : {c : Class} {w : List ℕ} {ts : List Tok} {i : Instr} {l : Option (List ℕ)} → Spells (Word c w ∷ ts) i l → is_word w ≡ true
-spelled_word (spells {w = w} {op = o} e h r) = op_word w o e
 
 -- ---- operands
 

@@ -15,7 +15,7 @@ use Rattle.fs_instr.specs.PrintedTokens.{instr_tokens, parts_tokens, label_of}
 use Rattle.fs_instr.specs.Spelled.{Spells}
 use Rattle.fs_instr.specs.declared.instr.Instr.{Instr}
 use Rattle.fs_instr.specs.declared.instr.Instr.TheVariants as instr
-use Rattle.fs_instr.proofs.ReadsBack.{reads_back}
+use Rattle.fs_instr.proofs.ReadsBack.{name_back, reads_back}
 use Rattle.fs_code.specs.Cells.{Label, Instruction, is_colon, front_label, AreLabels, none, label, IsCell, labels, instruction, AreCells, empty, next}
 use Rattle.fs_round_trip.specs.inner.Written.{label_toks}
 
@@ -25,24 +25,8 @@ label_name at = codes "L" ++ decimal at
 
 -- ---- a label is a name
 
-dot_or : (b d : Bool) → (b ≡ true → ⊥) → d ≡ false → (b || d) ≡ false
-dot_or true d h e = absurd (h refl)
-dot_or false d h e = e
-
-no_dot : (ds : List ℕ) → AllDigits 10 ds → list_any (λ c. eqb c 46) ds ≡ false
-no_dot [] h = refl
-no_dot (c ∷ cs) h = dot_or (eqb c 46) _ (λ e. let low : digit_value 46 < 10 = subst (λ x. digit_value x < 10) (eqb-true c 46 e) h.0 in let bad : 36 < 10 = low in omega arith) (no_dot cs h.1)
-
-and_false : (b : Bool) → (b && false) ≡ false
-and_false true = refl
-and_false false = refl
-
-no_digits : (ds : List ℕ) → is_digits (76 ∷ ds) ≡ false
-no_digits ds = and_false _
-
 pub label_named : (t : ℕ) → t < 2 ^ 32 → is_name (class_of (label_name t)) ≡ true
-unfolding class_of keyword_of is_number
-label_named t h = let d = decimal_is_IsNumeral t (omega arith) in let e = no_dot (decimal t) d.0.1 in rw (no_digits (decimal t), e) refl
+label_named t h = name_back t h
 
 -- ---- a token at the front
 

@@ -17,32 +17,19 @@ use Rattle.fs_showing.specs.RawCandidates.{AreAllRuns}
 use Rattle.fs_showing.proofs.Among.{ascends-map, pairs_ascend}
 use Rattle.fs_showing.proofs.Rising.{ascends_pairs}
 
-map_same : (t : Test) (hart : ℕ) (ends : List End) → steps_in (map (trace_at t hart) ends) ≡ map (λ e. e.steps) ends
-map_same t hart [] = refl
-map_same t hart (e ∷ es) = ap (λ ss. e.steps ∷ ss) (map_same t hart es)
-
 module _ (t : Test) (sets : List (List ℕ)) (values : AreValues t sets) where
-  rises : (hart : ℕ) (traces : List Trace) → AreTraces t hart sets traces
-      → AllPairs (λ s u. ComesBefore (choices_of s) (choices_of u)) (steps_in traces)
-  rises hart traces listed =
-      let steps_are : steps_in traces ≡ map (λ e. e.steps) listed.ends = ap steps_in listed.runs ∙ map_same t hart listed.ends in
-      subst (AllPairs (λ s u. ComesBefore (choices_of s) (choices_of u))) (sym steps_are)
-      (pairs_ascend (λ s u. ComesBefore (choices_of s) (choices_of u)) (map (λ e. e.steps) listed.ends)
-      (ascends-map IsEarlier (λ s u. ComesBefore (choices_of s) (choices_of u)) (λ (e : End). e.steps) (λ e f before. before) listed.ends
-      (ascends_pairs IsEarlier listed.ends listed.listing.different.rising)))
-
   pub are_all_runs : (lists : List (List Trace)) → length lists ≡ length t.codes → AreListed t sets lists → AreAllRuns t (map steps_in lists)
   are_all_runs lists long listed = record {
     harts = length-map lists steps_in ∙ long;
     each = λ hart low steps.
         let here = get_or-map steps_in lists hart [] [] (omega (arith, low, long)) in
         subst (λ ss. Contains ss steps ↔ IsTrace t hart steps × LoadsFrom (IsValue t) steps) (sym here)
-        (has_all t sets values lists long listed hart low steps);
+        ((has_all t sets values lists long listed hart low).exact steps);
     rising = λ hart low.
         let within : hart < length lists = omega (arith, low, long) in
         let here = get_or-map steps_in lists hart [] [] within in
         subst (AllPairs (λ s u. ComesBefore (choices_of s) (choices_of u))) (sym here)
-        (rises hart (slice_index_or lists hart []) (listed hart within));
+        (has_all t sets values lists long listed hart low).rising;
   }
 
 -- ---- over plain numbers, so that nothing else is read

@@ -7,6 +7,5 @@ pub mod Bettering
 pub mod Closed
 pub mod Final
 pub mod Growing
-pub mod Covering
 pub mod Splitting
 pub mod Ended

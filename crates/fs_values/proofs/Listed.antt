@@ -1,18 +1,20 @@
 -- The runs of all harts, from what the listing of each gives.
-use Rattle.std.proofs.Common.{◌≡◌, ◌∙◌, ℕ, ◌+◌, ◌-◌, ◌<◌, ◌≤◌, List, [], length, All, refl, sym, subst, arith, Fits, w8, Result, Ok, Err}
+use Rattle.std.proofs.Common.{◌≡◌, ◌∙◌, ℕ, ◌+◌, ◌-◌, ◌<◌, ◌≤◌, List, [], ◌∷◌, None, map, length, get_or, All, refl, sym, ap, subst, arith, Fits, w8, Result, Ok, Err}
 use Rattle.std.specs.Prelude.{IsOkUnless}
-use Rattle.std.specs.List.{Contains, slice_index_or}
+use Rattle.std.specs.List.{AllPairs, Contains, slice_index_or}
 use Rattle.std.specs.Result.{IsErrAnd}
+use Rattle.std.proofs.lemmas.List.{get_or-map, length-map}
 use Rattle.std.proofs.lemmas.List.Elements.{All-map, All-weaker}
 use Rattle.fs_kinds.specs.declared.fault.Fault.{Fault}
 use Rattle.fs_kinds.specs.declared.fault.Fault.TheVariants as fault
 use Rattle.fs_model.specs.declared.test.Test.{Test}
 use Rattle.fs_model.specs.declared.step.Step.{Step}
+use Rattle.fs_model.specs.Choices.{choices_of, ComesBefore}
 use Rattle.fs_model.specs.Execution.{IsTrace}
 use Rattle.fs_model.specs.TooMany.{IsHartFault}
 use Rattle.fs_model.specs.Values.{IsValue, LoadsFrom, LoadsOne}
 use Rattle.fs_hart.specs.declared.trace.Trace.{Trace}
-use Rattle.fs_hart.specs.Listing.{IsOffered, IsTraceFault, AreTraces, trace_at}
+use Rattle.fs_hart.specs.Listing.{End, IsOffered, IsTraceFault, AreTraces, trace_at}
 use Rattle.fs_hart.specs.Runs.{registers_after}
 use Rattle.fs_hart.specs.Steps.{steps_in}
 use Rattle.fs_values.specs.Sets.{AreValues}
@@ -45,10 +47,35 @@ module _ (t : Test) (sets : List (List ℕ)) (values : AreValues t sets) where
         let x = is_listed t sets hart traces listed steps (run.0, loads_offered steps run.1) in
         subst (Contains (steps_in traces)) x.2 (in_map (λ (y : Trace). y.steps) traces x.0 x.1)
 
+    map_same : (ends : List End) → steps_in (map (trace_at t hart) ends) ≡ map (λ e. e.steps) ends
+    map_same [] = refl
+    map_same (e ∷ es) = ap (λ ss. e.steps ∷ ss) (map_same es)
+
+    abbrev Precedes : List Step → List Step → Type 0
+    Precedes a b = ComesBefore (choices_of a) (choices_of b)
+
+    rise : AllPairs Precedes (steps_in traces)
+    rise =
+        let same : steps_in traces ≡ map (λ e. e.steps) listed.ends = ap steps_in listed.runs ∙ map_same listed.ends in
+        subst (AllPairs Precedes) (sym same) (λ i j d below within.
+            let end : End = record { steps = d; astray = None } in
+            let long = length-map listed.ends (λ (e : End). e.steps) in
+            let later : j < length listed.ends = omega (arith, within, long) in
+            let earlier : i < length listed.ends = omega (arith, below, later) in
+            let first = get_or-map (λ (e : End). e.steps) listed.ends i end d earlier in
+            let second = get_or-map (λ (e : End). e.steps) listed.ends j end d later in
+            subst (λ b. Precedes (get_or (map (λ (e : End). e.steps) listed.ends) i d) b) (sym second)
+            (subst (λ a. Precedes a (get_or listed.ends j end).steps) (sym first)
+            (listed.listing.different.rising i j end below later)))
+
   pub has_all : (lists : List (List Trace)) → length lists ≡ length t.codes → AreListed t sets lists → HasAllRuns t (runs_in lists)
-  has_all lists long listed hart low steps =
+  has_all lists long listed hart low =
       let traces = listed hart (omega (arith, low, long)) in
-      (listed_run hart (slice_index_or lists hart []) traces steps, run_listed hart (slice_index_or lists hart []) traces steps)
+      let here = slice_index_or lists hart [] in
+      record {
+        rising = rise hart here traces;
+        exact = λ steps. (listed_run hart here traces steps, run_listed hart here traces steps);
+      }
 
 -- ---- registers
 

@@ -10,7 +10,7 @@ use Rattle.fs_kinds.specs.PriceTable.{PriceTable, cost}
 use Rattle.fs_model.specs.declared.test.Test.{Test}
 use Rattle.fs_model.specs.Allows.{Shows, Allows, IsPlacement, is_better}
 use Rattle.fs_answer.specs.Parts.{Part, undecided, floor, is_under, is_undecided, child_parts}
-use Rattle.fs_answer.specs.Certificate.{Certificate, Version, First, Second, Item, SplitAt, Costly, Refuted, Bounded, IsBest}
+use Rattle.fs_answer.specs.Certificate.{Certificate, Version, First, Second, Item, SplitAt, Costly, Refuted, Bounded, IsBest, IsRight}
 use Rattle.fs_answer.specs.Valid.{Covers, IsValid, IsValidFor, is_costly}
 use Rattle.fs_bound.specs.Bounds.{IsNoBetter}
 use Rattle.fs_bound.proofs.Ranked.{first-less}
@@ -18,7 +18,6 @@ use Rattle.fs_bound.proofs.Floors.{floor-cost}
 use Rattle.fs_bound.proofs.Bounded.{bounded}
 use Rattle.fs_thin_air.specs.ThinAir.{CanBeListed}
 use Rattle.fs_decide.proofs.Deciding.{cycles_forbid_all}
-use Rattle.fs_tree.specs.Rightness.{IsRight}
 use Rattle.fs_tree.specs.Trees.{IsPart}
 use Rattle.fs_tree.proofs.Places.{count_one, at-append, at-more, at-end, once-counted}
 use Rattle.fs_tree.proofs.PartsOfTests.{part-child, part-root, under-root}
