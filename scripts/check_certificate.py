@@ -993,8 +993,17 @@ def is_item(value, version):
             or version > 1 and value[0] == 'b' and is_list(value[1], is_whole) and value[1] != [])
 
 
-INFERENCES = {'c': [is_name_of_operation], 's': [is_name_of_operation], 'o': [is_name_of_operation] * 2,
-              'd': [is_whole], 'f': [is_whole], 'l': [is_name_of_operation] * 2}
+def is_hart(value):
+    return is_whole(value, 256)
+
+
+def is_byte_name(value):
+    """A name both numbers of which are of one byte, as in inferences."""
+    return is_name_of_operation(value) and all(int(part) < 256 for part in value[1:].split(':'))
+
+
+INFERENCES = {'c': [is_byte_name], 's': [is_byte_name], 'o': [is_byte_name] * 2, 'd': [is_whole], 'f': [is_hart],
+              'l': [is_byte_name] * 2}
 """Of each inference of a refutation but a cycle and one of atomicity the forms of what stands behind its letter."""
 
 
@@ -1004,11 +1013,11 @@ def is_inference(value):
         return False
     letter, *rest = value
     if letter == 'a':
-        return len(rest) in (2, 3) and all(map(is_name_of_operation, rest))
+        return len(rest) in (2, 3) and all(map(is_byte_name, rest))
     if is_text(letter):
         forms = INFERENCES.get(letter, ())
         return len(rest) == len(forms) > 0 and all(is_form(part) for is_form, part in zip(forms, rest))
-    return is_cycle(value)
+    return is_cycle(value) and all(is_byte_name(name) for name, cause in value)
 
 
 def is_choice(value):

@@ -53,7 +53,7 @@ pub(crate) fn answer_of(
     ensures value { IfOk result (λ answer. answer_of answer ≡ Fenced (cost prices.now placement.now) (fence_words placement.now)) }
     ensures most { cost prices.now placement.now ≤ most_number }
 {
-    let cost = placement.cost(prices);
+    let cost = prices.cost(placement);
     let fences = words_of(alloc, placement.as_slice())?;
     Ok(CertifiedAnswer::Fenced { cost, fences })
 }

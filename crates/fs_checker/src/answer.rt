@@ -85,7 +85,7 @@ pub(crate) fn answered_placement(
     let Some(placement) = fill(empty, &slots, prices, fences) else {
         return Ok(None);
     };
-    if placement.cost(prices) == cost {
+    if prices.cost(&placement) == cost {
         Ok(Some(placement))
     } else {
         Ok(None)

@@ -104,7 +104,7 @@ fn fenced_text(
 {
     let mut text = write_fenced(alloc, test, placement)?;
     if let Some(prices) = prices {
-        writeln!(text, "(* cost {} *)", placement.cost(prices))?;
+        writeln!(text, "(* cost {} *)", prices.cost(placement))?;
     }
     Ok(text)
 }

@@ -29,7 +29,7 @@ fn fenced(prices: &Prices, placement: Placement) -> Answer
     requires { IsTrue (are_offered prices.now placement) }
     ensures { result ≡ Answer.Fenced placement (cost prices.now placement) }
 {
-    let cost = placement.cost(prices);
+    let cost = prices.cost(&placement);
     Answer::Fenced { placement, cost }
 }
 
