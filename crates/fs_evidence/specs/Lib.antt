@@ -1,1 +1,2 @@
 pub mod Evidence
+pub mod Inferences

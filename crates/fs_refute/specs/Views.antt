@@ -11,13 +11,10 @@ use Rattle.fs_model.specs.Condition.{Condition, condition_of}
 use Rattle.fs_model.specs.Numbers.{is_same}
 use Rattle.fs_model.specs.Test.{address_of}
 use Rattle.fs_answer.specs.Regions.{Region, Source, same_name, address_at, loaded_at, stored_at, names}
-use Rattle.fs_answer.specs.Trees as trees
 use Rattle.fs_answer.specs.Certificate.{Inference}
 use Rattle.fs_alone.specs.declared.source.Source.{Source as CodeSource}
 use Rattle.fs_alone.specs.Alone.{RunOf, source_of}
 use Rattle.fs_refute.specs.declared.basis.Basis.{Basis}
-use Rattle.fs_refute.specs.declared.inference.Inference.{Inference as CodeInference}
-use Rattle.fs_refute.specs.declared.inference.Inference.TheVariants as inference
 use Rattle.fs_refute.specs.declared.musts.Access.{Access}
 use Rattle.fs_refute.specs.declared.musts.Access.TheVariants.{Load, Store}
 use Rattle.fs_refute.specs.declared.region.Sourced.{Sourced}
@@ -121,16 +118,3 @@ access_of Store = stored_at
 
 abbrev pub accesses_at : (List Step → ℕ → Option ℕ) → ℕ → ℕ → List Step → Bool
 accesses_at access at location run = is_some (access run at) && is_same (address_at run at) (Some (address_of location))
-
--- ---- inferences
-
-abbrev pub inference_of : CodeInference → Inference
-inference_of (inference.ByChoice name) = trees.ByChoice name
-inference_of (inference.BySource load) = trees.BySource load
-inference_of (inference.ByOrder first second) = trees.ByOrder first second
-inference_of (inference.ByCases number) = trees.ByCases number
-inference_of (inference.Filter hart) = trees.Filter hart
-inference_of (inference.Cycle links) = trees.Cycle links
-inference_of (inference.Stale load store) = trees.Stale load store
-inference_of (inference.Reversed load store) = trees.Reversed load store
-inference_of (inference.Parted load store other) = trees.Parted load store other

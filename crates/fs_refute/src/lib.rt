@@ -3,7 +3,6 @@
 
 mod basis;
 mod filters;
-mod inference;
 pub mod laws;
 mod musts;
 mod outcome;
@@ -13,6 +12,5 @@ mod walk;
 mod wrong;
 
 pub use basis::Basis;
-pub use inference::Inference;
 pub use walk::refute;
 pub use wrong::Wrong;

@@ -12,12 +12,12 @@ ghost use Rattle.fs_answer.specs.Musts.{must};
 ghost use Rattle.fs_answer.specs.Splits.{ways_of};
 ghost use Rattle.fs_answer.specs.Certificate.{ByOrder};
 ghost use Rattle.fs_answer.specs.Trees.{must_be_cycle, follows, left_after, root};
-ghost use Rattle.fs_refute.specs.Views.{region_of, regions_of, lists_in, all_wanted, inference_of, runs_over, HasNames, IsBasis, IsOf, AreOf};
+ghost use Rattle.fs_evidence.specs.Inferences.{inference_of};
+ghost use Rattle.fs_refute.specs.Views.{region_of, regions_of, lists_in, all_wanted, runs_over, HasNames, IsBasis, IsOf, AreOf};
 ghost use Rattle.fs_refute.specs.inner.Asked.{values_in};
 ghost use Rattle.fs_refute.specs.Verdict.{Answers, roots, stacked};
 
 use crate::basis::Basis;
-use crate::inference::Inference;
 use crate::musts::{
     Access, is_before_source, is_same_name, must, must_meet, must_pair, overwrites,
 };
@@ -25,7 +25,7 @@ use crate::region::{Region, Runs, Wanted};
 use crate::splits::{add_open, by_cases, by_choice, by_order, by_outcome, by_source, has_parts};
 use crate::wrong::Wrong;
 use fs_alone::{Lone, is_name};
-use fs_evidence::Link;
+use fs_evidence::{Inference, Link};
 use fs_kinds::{Fault, OperationName, Placement};
 use fs_list::List;
 use fs_model::{Quantifier, Test};

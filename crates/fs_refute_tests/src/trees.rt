@@ -7,13 +7,13 @@ ghost use Rattle.fs_alone.specs.Alone.{IsRun};
 ghost use Rattle.fs_refute_tests.specs.Ready.{AreOf, AreAllOf};
 
 use fs_alone::{Lone, listed_are_runs, names};
-use fs_evidence::{Cause, Link};
+use fs_evidence::{Cause, Inference, Link};
 use fs_examples::{LRSC, SB, placement_of};
 use fs_hart::{Trace, Words, traces_over};
 use fs_kinds::{Fault, OperationName};
 use fs_list::List;
 use fs_litmus::{Test, read_test};
-use fs_refute::{Basis, Inference, Wrong, refute};
+use fs_refute::{Basis, Wrong, refute};
 use fs_values::Values;
 use std::alloc::Global;
 use std::sync::Arc;

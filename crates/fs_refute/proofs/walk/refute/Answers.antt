@@ -4,7 +4,8 @@ use Rattle.std.proofs.lemmas.List.{append-nil, get_or-map, length-map, length-re
 use Rattle.std.proofs.lemmas.List.Elements.{All-nil, All-pop}
 use Rattle.fs_answer.specs.Trees.{follows, left_after}
 use Rattle.fs_refute.specs.declared.region.Region.{Region as CodeRegion}
-use Rattle.fs_refute.specs.Views.{region_of, regions_of, inference_of, runs_over, AreOf, IsOf}
+use Rattle.fs_evidence.specs.Inferences.{inference_of}
+use Rattle.fs_refute.specs.Views.{region_of, regions_of, runs_over, AreOf, IsOf}
 use Rattle.fs_refute.specs.Verdict.{roots, stacked}
 use Rattle.fs_refute.proofs.Roots.{stacked_push, first_of}
 use Rattle.fs_refute.proofs.Walked.{IsWalked, walk_none, walk_more, walk_wrong, walk_shut, walk_done, walk_open}

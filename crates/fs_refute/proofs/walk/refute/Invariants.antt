@@ -1,5 +1,6 @@
 use Rattle.std.proofs.Common.{map}
-use Rattle.fs_refute.specs.Views.{inference_of, runs_over, AreOf}
+use Rattle.fs_evidence.specs.Inferences.{inference_of}
+use Rattle.fs_refute.specs.Views.{runs_over, AreOf}
 use Rattle.fs_refute.specs.Verdict.{roots, stacked}
 use Rattle.fs_refute.proofs.Walked.{IsWalked}
 use Rattle.fs_refute.proofs.walk.refute.Given as goal

@@ -1,6 +1,6 @@
 //! The steps of a refutation.
 
-use fs_evidence::Link;
+use crate::evidence::Link;
 use fs_kinds::OperationName;
 use fs_list::List;
 

@@ -1,0 +1,16 @@
+-- What the code's inferences stand for.
+use Rattle.fs_answer.specs.Certificate as certificate
+use Rattle.fs_answer.specs.Certificate.{Inference}
+use Rattle.fs_evidence.specs.declared.inference.Inference.{Inference as CodeInference}
+use Rattle.fs_evidence.specs.declared.inference.Inference.TheVariants as inference
+
+abbrev pub inference_of : CodeInference → Inference
+inference_of (inference.ByChoice name) = certificate.ByChoice name
+inference_of (inference.BySource load) = certificate.BySource load
+inference_of (inference.ByOrder first second) = certificate.ByOrder first second
+inference_of (inference.ByCases number) = certificate.ByCases number
+inference_of (inference.Filter hart) = certificate.Filter hart
+inference_of (inference.Cycle links) = certificate.Cycle links
+inference_of (inference.Stale load store) = certificate.Stale load store
+inference_of (inference.Reversed load store) = certificate.Reversed load store
+inference_of (inference.Parted load store other) = certificate.Parted load store other
