@@ -1,6 +1,6 @@
 //! Certificates of answers.
 
-ghost use Rattle.std.specs.Prelude.{◌≡◌, IfOk, IfSome, IsOkUnless, IsTrue, None, Some, List, MatchOption, true};
+ghost use Rattle.std.specs.Prelude.{◌≡◌, IfOk, IsOkUnless, IsTrue, None, Some, List, true};
 ghost use Rattle.fs_kinds.specs.Placement.{all_with};
 ghost use Rattle.fs_kinds.specs.PriceTable.{PriceTable, are_offered};
 ghost use Rattle.fs_model.specs.declared.test.Test.{Test};
@@ -49,26 +49,24 @@ fn fenced(
 }
 
 /// The certificate of a finished board's bound: the bound is its answer, the board's tree shows that nothing better forbids the outcome,
-/// and each of the board's witnesses stands in it once. None where the board has no bound. The error is want of memory. It takes time
-/// of nodes times slots, and of witnesses times the different ones among them.
-pub fn from_board(alloc: Global, board: &Board) -> Result<Option<Certificate>, Fault>
+/// and each of the board's witnesses stands in it once. The error is want of memory. It takes time of nodes times slots, and
+/// of witnesses times the different ones among them.
+pub fn from_board(alloc: Global, board: &Board, bound: &Forbidden) -> Result<Certificate, Fault>
     requires bounded { IsBounded board.now.question.test }
     requires finished { is_finished board.now.board ≡ true }
-    ensures ok { IfOk result (λ made. MatchOption made (board.now.board.bound ≡ None)
-        (Certifies board.now.question.test board.now.question.prices board.now.board.bound)) }
-    ensures once { IfOk result (λ made. IfSome made HasEachOnce) }
+    requires posted { board.now.board.bound ≡ Some bound.now.placement }
+    requires cycles { HasCycles board.now.question.test bound.now.placement bound.now.cycles }
+    ensures ok { IfOk result (Certifies board.now.question.test board.now.question.prices board.now.board.bound) }
+    ensures once { IfOk result HasEachOnce }
     ensures err { IsOkUnless result Fault.Memory }
 {
     let _legal = board.log();
-    let Some(forbidden) = board.bound() else {
-        return Ok(None);
-    };
     let question = board.question();
     let slots = slots(alloc, &question.test)?;
     let numbering = number_all(alloc, board.witnesses())?;
     let tree = tree_of(alloc, board, &slots, &numbering.numbers)?;
     let witnesses = List::new(numbering.files);
-    Ok(Some(fenced(alloc, question, forbidden, tree, witnesses)?))
+    Ok(fenced(alloc, question, bound, tree, witnesses)?)
 }
 
 /// The certificate of no fence at all, where that forbids the outcome, as the cycles show: nothing is better, whatever the prices. The

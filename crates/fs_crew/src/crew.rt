@@ -1,14 +1,12 @@
 //! The answer to a question, searched by many workers.
 
-ghost use Rattle.std.specs.Prelude.{◌≡◌, ◌≢◌, ◌≤◌, ◌<◌, [], length, IfOk, IfErr, IfSome, IfNone, IsOkUnless, OnOk, All, None};
+ghost use Rattle.std.specs.Prelude.{◌≡◌, ◌≢◌, ◌≤◌, [], IfOk, IfErr, IfSome, IsOkUnless, OnOk, All};
 ghost use Rattle.std.specs.Arc.{arc_value};
 ghost use Rattle.fs_kinds.specs.PriceTable.{IsPriceTable};
 ghost use Rattle.fs_model.specs.Test.{IsBounded, IsStart};
-ghost use Rattle.fs_model.specs.Slots.{slots};
 ghost use Rattle.fs_answer.specs.CandidateFaults.{IsCandidateFault};
-ghost use Rattle.fs_history.specs.Sizes.{tree_size};
 ghost use Rattle.fs_pool.specs.Asked.{IsAsked};
-ghost use Rattle.fs_search.specs.Answers.{IsAnswer, IsAtAnEnd, IsBoardOf, IsShownLeast, IsSolveFault};
+ghost use Rattle.fs_search.specs.Answers.{IsAnswer, IsSolveFault, Rests};
 ghost use Rattle.fs_search.specs.Histories.{GoesOn};
 
 use crate::gate::Gate;
@@ -203,13 +201,8 @@ fn concluded<G: Gate>(
     requires most { limit ≤ 1000000 }
     requires asked { IfSome left (λ b. IsAsked b (arc_value problem) limit) }
     ensures ok { IfOk result (λ s. IsAnswer (arc_value problem).test (arc_value problem).prices s.answer) }
-    ensures board { IfOk result (λ s. IfSome s.board (IsBoardOf (arc_value problem) limit s.answer)) }
+    ensures rests { IfOk result (Rests (arc_value problem) limit) }
     ensures goes { IfSome left (λ b. IfOk result (λ s. IfSome s.board (GoesOn b))) }
-    ensures lost { IfOk result (λ s. IfNone s.board
-        (limit < tree_size (arc_value problem).prices (length (slots (arc_value problem).test)))) }
-    ensures ends { IfOk result (λ s. IfNone s.board (IsAtAnEnd (arc_value problem).test s.answer)) }
-    ensures least { IfOk result (λ s. IfNone s.board (IsShownLeast (arc_value problem).test s.answer s.least)) }
-    ensures either { IfOk result (λ s. IfSome s.board (λ _. s.least ≡ None)) }
     ensures err { IfErr result (λ f. f ≢ Fault.Memory → IsSolveFault (arc_value problem) limit f) }
 {
     let board = taken_up(alloc, &problem, left, limit, gate)?;
@@ -239,12 +232,7 @@ pub fn solve<R: Threads + Wait + Sync, G: Gate + Sync>(
     requires most { limit ≤ 1000000 }
     ensures ok { IfOk result (λ s. IsAnswer (arc_value question).test (arc_value question).prices s.answer) }
     ensures clean { OnOk result ((f : Fault) → IsCandidateFault (arc_value question).test f → ⊥) }
-    ensures board { IfOk result (λ s. IfSome s.board (IsBoardOf (arc_value question) limit s.answer)) }
-    ensures lost { IfOk result (λ s. IfNone s.board
-        (limit < tree_size (arc_value question).prices (length (slots (arc_value question).test)))) }
-    ensures ends { IfOk result (λ s. IfNone s.board (IsAtAnEnd (arc_value question).test s.answer)) }
-    ensures least { IfOk result (λ s. IfNone s.board (IsShownLeast (arc_value question).test s.answer s.least)) }
-    ensures either { IfOk result (λ s. IfSome s.board (λ _. s.least ≡ None)) }
+    ensures rests { IfOk result (Rests (arc_value question) limit) }
     ensures err { IfErr result (λ f. f ≢ Fault.Memory → IsSolveFault (arc_value question) limit f) }
 {
     if workers == 1 {

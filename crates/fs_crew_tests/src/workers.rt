@@ -60,9 +60,9 @@ impl Gate for Ends {
 fn line_of(alloc: Global, solved: &Solved) -> Result<String, AllocError> {
     let mut text = String::new(alloc);
     match &solved.answer {
-        Answer::Fenced { placement, cost } => {
+        Answer::Fenced { forbidden, cost } => {
             write!(text, "fenced {cost}")?;
-            write_fences(placement, &mut text)?;
+            write_fences(&forbidden.placement, &mut text)?;
         }
         Answer::None { .. } => text.push_str("none")?,
     }

@@ -103,7 +103,6 @@ pub limit-not-memory : (f : Fault) → f ≡ NodeLimit → f ≢ Memory
 limit-not-memory f is other = let e : NodeLimit ≡ Memory = sym is ∙ other in absurd (cc)
 
 -- the cycles of no fence at all, as its placement has them
-pub least-shown : (t : Test) (f : Refuted) (p : List Entry) → f.placement ≡ p → f.placement ≡ all_with None (slots t)
-    → HasCycles t (all_with None (slots t)) f.cycles
-    → (f.placement ≡ p) × (f.placement ≡ all_with None (slots t)) × HasCycles t f.placement f.cycles
-least-shown t f p copied is cycles = (copied, is, subst (λ (q : List Entry). HasCycles t q f.cycles) (sym is) cycles)
+pub least-cycles : (t : Test) (f : Refuted) → f.placement ≡ all_with None (slots t) → HasCycles t (all_with None (slots t)) f.cycles
+    → HasCycles t f.placement f.cycles
+least-cycles t f is cycles = subst (λ (q : List Entry). HasCycles t q f.cycles) (sym is) cycles

@@ -4,25 +4,29 @@ ghost use Rattle.std.specs.Prelude.{◌≡◌, option_map};
 
 use fs_board::Board;
 use fs_evidence::{Forbidden, Witness};
-use fs_kinds::Placement;
+use std::sync::Arc;
 
 /// The answer to a question.
 #[derive(Drop)]
 pub enum Answer {
-    /// The cheapest placement that forbids the outcome, of several the first, and what it costs.
-    Fenced { placement: Placement, cost: u64 },
+    /// The cheapest placement that forbids the outcome, of several the first, as the cycles show, and what it costs.
+    Fenced {
+        forbidden: Arc<Forbidden>,
+        cost: u64,
+    },
     /// No placement does: the witness shows the outcome even with `rw,rw` in every slot.
-    None { witness: Witness },
+    None {
+        witness: Witness,
+    },
 }
 
-/// An answer, with the finished board that it was read from. There is no board where the search came to its limit before it was
-/// finished: then the answer is no fence at all, or none by a witness, and was found by judging the least and the greatest placement.
+/// An answer, which has with it what shows it, and the finished board that it was read from. There is no board where the
+/// search came to its limit before it was finished: then the answer is no fence at all, or none by a witness, and was found
+/// by judging the least and the greatest placement.
 #[derive(Drop)]
 pub struct Solved {
     pub answer: Answer,
     pub board: Option<Board>,
-    /// What showed, where there is no board and the answer is no fence at all, that this forbids the outcome.
-    pub least: Option<Forbidden>,
 }
 
 impl Solved {

@@ -1,6 +1,6 @@
 //! The answer to a question.
 
-ghost use Rattle.std.specs.Prelude.{◌≡◌, ◌≢◌, ◌≤◌, ◌<◌, length, IfOk, IfErr, IfSome, IfNone, MatchOption, OnOk, IsOkUnless, IsTrue, All, Some, None, true};
+ghost use Rattle.std.specs.Prelude.{◌≡◌, ◌≢◌, ◌≤◌, IfOk, IfErr, IfSome, MatchOption, OnOk, IsOkUnless, IsTrue, All, Some, None, true};
 ghost use Rattle.std.specs.Arc.{arc_value};
 ghost use Rattle.fs_kinds.specs.Placement.{all_with};
 ghost use Rattle.fs_kinds.specs.PriceTable.{IsPriceTable, are_offered, cost};
@@ -9,15 +9,15 @@ ghost use Rattle.fs_model.specs.Slots.{slots};
 ghost use Rattle.fs_model.specs.Allows.{Allows};
 ghost use Rattle.fs_answer.specs.CandidateFaults.{IsCandidateFault};
 ghost use Rattle.fs_history.specs.Board.{is_finished};
-ghost use Rattle.fs_history.specs.Sizes.{tree_size};
+ghost use Rattle.fs_evidence.specs.Evidence.{placement_in};
 ghost use Rattle.fs_judge.specs.Verdicts.{IsVerdict};
-ghost use Rattle.fs_search.specs.Answers.{IsAnswer, IsAtAnEnd, IsBoardOf, IsShownLeast, IsSolveFault, placement_of};
+ghost use Rattle.fs_search.specs.Answers.{IsAnswer, IsAtAnEnd, IsSolveFault, Rests, placement_of};
 ghost use Rattle.fs_search.specs.Histories.{GoesOn};
 
 use crate::answer::{Answer, Solved};
 use crate::sweep::search;
 use fs_board::Board;
-use fs_evidence::Question;
+use fs_evidence::{Forbidden, Question};
 use fs_judge::{Problem, Verdict};
 use fs_kinds::{Fault, Kind, Placement, Prices};
 use fs_model::slots;
@@ -25,12 +25,12 @@ use std::alloc::Global;
 use std::sync::Arc;
 
 /// The placement as an answer, with its cost.
-fn fenced(prices: &Prices, placement: Placement) -> Answer
-    requires { IsTrue (are_offered prices.now placement) }
-    ensures { result ≡ Answer.Fenced placement (cost prices.now placement) }
+fn fenced(prices: &Prices, forbidden: Arc<Forbidden>) -> Answer
+    requires { IsTrue (are_offered prices.now (placement_in forbidden)) }
+    ensures { result ≡ Answer.Fenced forbidden (cost prices.now (placement_in forbidden)) }
 {
-    let cost = prices.cost(&placement);
-    Answer::Fenced { placement, cost }
+    let cost = prices.cost(&forbidden.placement);
+    Answer::Fenced { forbidden, cost }
 }
 
 /// The verdict on no fence at all.
@@ -67,8 +67,8 @@ fn posted_answer(board: &Board) -> Result<Option<Answer>, Fault>
     let Some(best) = board.bound() else {
         return Ok(None);
     };
-    let placement = best.placement.copy()?;
-    let answer = fenced(&board.question().prices, placement);
+    let forbidden = Arc::try_clone(best)?;
+    let answer = fenced(&board.question().prices, forbidden);
     Ok(Some(answer))
 }
 
@@ -102,7 +102,6 @@ fn answer_by_ends(alloc: Global, problem: &Problem) -> Result<Solved, Fault>
     ensures ok { IfOk result (λ s. IsAnswer problem.now.test problem.now.prices s.answer) }
     ensures board { IfOk result (λ s. s.board ≡ None) }
     ensures ends { IfOk result (λ s. IsAtAnEnd problem.now.test s.answer) }
-    ensures least { IfOk result (λ s. IsShownLeast problem.now.test s.answer s.least) }
     ensures err { IfErr result (λ f. f ≢ Fault.Memory → (f ≡ Fault.NodeLimit)
         × Allows problem.now.test (all_with None (slots problem.now.test))
         × (Allows problem.now.test (all_with (Some Kind.RwRw) (slots problem.now.test)) → ⊥)) }
@@ -112,17 +111,15 @@ fn answer_by_ends(alloc: Global, problem: &Problem) -> Result<Solved, Fault>
         return Ok(Solved {
             answer: Answer::None { witness },
             board: None,
-            least: None,
         });
     }
     let on_none = verdict_on_none(alloc, problem)?;
     match on_none {
         Verdict::Forbids(forbidden) => {
-            let placement = forbidden.placement.copy()?;
+            let least = Arc::new(alloc, forbidden)?;
             Ok(Solved {
-                answer: fenced(&problem.question().prices, placement),
+                answer: fenced(&problem.question().prices, least),
                 board: None,
-                least: Some(forbidden),
             })
         }
         Verdict::Allowed(_) => Err(Fault::NodeLimit),
@@ -140,13 +137,8 @@ pub fn conclude(alloc: Global, problem: Arc<Problem>, board: Board) -> Result<So
     requires same { board.question ≡ arc_value problem }
     requires clean { (f : Fault) → IsCandidateFault (arc_value problem).test f → ⊥ }
     ensures ok { IfOk result (λ s. IsAnswer (arc_value problem).test (arc_value problem).prices s.answer) }
-    ensures board { IfOk result (λ s. IfSome s.board (IsBoardOf (arc_value problem) board.board.limit s.answer)) }
+    ensures rests { IfOk result (Rests (arc_value problem) board.board.limit) }
     ensures goes { IfOk result (λ s. IfSome s.board (GoesOn board)) }
-    ensures lost { IfOk result (λ s. IfNone s.board
-        (board.board.limit < tree_size (arc_value problem).prices (length (slots (arc_value problem).test)))) }
-    ensures ends { IfOk result (λ s. IfNone s.board (IsAtAnEnd (arc_value problem).test s.answer)) }
-    ensures least { IfOk result (λ s. IfNone s.board (IsShownLeast (arc_value problem).test s.answer s.least)) }
-    ensures either { IfOk result (λ s. IfSome s.board (λ _. s.least ≡ None)) }
     ensures err { IfErr result (λ f. f ≢ Fault.Memory → IsSolveFault (arc_value problem) board.board.limit f) }
 {
     let mut board = board;
@@ -157,7 +149,6 @@ pub fn conclude(alloc: Global, problem: Arc<Problem>, board: Board) -> Result<So
             Ok(Solved {
                 answer,
                 board: Some(board),
-                least: None,
             })
         }
         Err(Fault::NodeLimit) => {
@@ -173,8 +164,8 @@ pub fn conclude(alloc: Global, problem: Arc<Problem>, board: Board) -> Result<So
 /// all placements has more nodes below its root than the limit. F13 to F15 come where the candidates can't be listed; or F19.
 ///
 /// The finished board is handed out with the answer, and its bound is the answer's placement. There is none only where the tree of all
-/// placements has more nodes below its root than the limit, and then the answer is none or no fence at all, and the cycles of no fence at
-/// all are handed out in place of a board.
+/// placements has more nodes below its root than the limit, and then the answer is none or no fence at all. An answer that
+/// is a placement comes with a cycle for each showing candidate.
 ///
 /// To list the candidates takes time by how many lists of runs and how many raw candidates there are, times the square of the
 /// operations. What the search takes after that, `search` says.
@@ -186,12 +177,7 @@ pub fn solve(alloc: Global, question: Arc<Question>, limit: usize) -> Result<Sol
     requires limit { limit ≤ 1000000 }
     ensures ok { IfOk result (λ s. IsAnswer (arc_value question).test (arc_value question).prices s.answer) }
     ensures clean { OnOk result ((f : Fault) → IsCandidateFault (arc_value question).test f → ⊥) }
-    ensures board { IfOk result (λ s. IfSome s.board (IsBoardOf (arc_value question) limit s.answer)) }
-    ensures lost { IfOk result (λ s. IfNone s.board
-        (limit < tree_size (arc_value question).prices (length (slots (arc_value question).test)))) }
-    ensures ends { IfOk result (λ s. IfNone s.board (IsAtAnEnd (arc_value question).test s.answer)) }
-    ensures least { IfOk result (λ s. IfNone s.board (IsShownLeast (arc_value question).test s.answer s.least)) }
-    ensures either { IfOk result (λ s. IfSome s.board (λ _. s.least ≡ None)) }
+    ensures rests { IfOk result (Rests (arc_value question) limit) }
     ensures err { IfErr result (λ f. f ≢ Fault.Memory → IsSolveFault (arc_value question) limit f) }
 {
     let asked = Arc::try_clone(&question)?;

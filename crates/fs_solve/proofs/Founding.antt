@@ -1,5 +1,5 @@
 -- From an answer that was found to what is printed of it, and to its certificate.
-use Rattle.std.proofs.Common.{◌≡◌, ℕ, Option, None, Some, IfSome, IfNone, List, Result, IfOk, Ok, Err, IfErr, refl, sym, subst, ap, ◌∙◌, inl, inr}
+use Rattle.std.proofs.Common.{◌≡◌, ℕ, Option, None, Some, MatchOption, List, Result, IfOk, Ok, Err, IfErr, refl, sym, subst, ◌∙◌, inl, inr}
 use Rattle.std.specs.Prelude.{IsOkUnless}
 use Rattle.fs_kinds.specs.declared.fault.Fault.{Fault}
 use Rattle.fs_kinds.specs.declared.fault.Fault.TheVariants.{Memory}
@@ -20,8 +20,8 @@ use Rattle.fs_answer.specs.CandidateFaults.{HasNoCandidateFault}
 use Rattle.fs_certificate.specs.declared.certificate.Certificate.{Certificate}
 use Rattle.fs_certificate.specs.Kept.{AreInRange, KeepsCertificate}
 use Rattle.fs_io.specs.declared.status.Status.{Status}
-use Rattle.fs_evidence.specs.Evidence.{Question, Refuted, Shown, IsWitnessFor}
-use Rattle.fs_crew.specs.Answers.{Answer, Solved, IsAnswer, IsBoardOf, IsShownLeast, placement_of}
+use Rattle.fs_evidence.specs.Evidence.{Question, Refuted, Shown, IsWitnessFor, placement_in}
+use Rattle.fs_crew.specs.Answers.{Answer, Solved, IsAnswer, IsAtLimit, IsBoardOf, Rests, placement_of}
 use Rattle.fs_crew.specs.Forms as answer
 use Rattle.fs_cert.specs.Certified.{Certifies, CertifiesNone}
 use Rattle.fs_solve.specs.Solve.{IsCertified, IsWitnessed, IsFirstSolveFault, IsSolved, PrintsAnswer, PrintsPlaced, of_memory}
@@ -30,28 +30,25 @@ use Rattle.fs_solve.specs.inner.Made.{CertifiesAnswer, HasWitness, PrintsWitness
 
 -- what was answered to a copy of the question
 pub found-for : (q asked given : Question) (limit : ℕ) (s : Solved) → asked ≡ q → given ≡ asked → IsBounded q.test
-    → HasNoCandidateFault given.test → IsAnswer given.test given.prices s.answer → IfSome s.board (IsBoardOf given limit s.answer)
-    → IfNone s.board (IsShownLeast given.test s.answer s.least) → IsFoundFor q limit asked s
-found-for q asked given limit s same copied bounded listed is board least =
+    → HasNoCandidateFault given.test → IsAnswer given.test given.prices s.answer → Rests given limit s → IsFoundFor q limit asked s
+found-for q asked given limit s same copied bounded listed is rests =
     subst (λ (x : Question). IsFoundFor q limit x s) copied (record {
       question = copied ∙ same;
       bounded = subst (λ (x : Question). IsBounded x.test) (sym (copied ∙ same)) bounded;
       listed = listed;
       answer = is;
-      board = board;
-      least = least;
+      rests = rests;
     })
 
 -- what was answered to a copy of the question that the bytes ask
 pub found-asked : (test prices : List ℕ) (asked given : Question) (limit : ℕ) (s : Solved) → IsAskedBy test prices asked → given ≡ asked
-    → HasNoCandidateFault given.test → IsAnswer given.test given.prices s.answer → IfSome s.board (IsBoardOf given limit s.answer)
-    → IfNone s.board (IsShownLeast given.test s.answer s.least) → IsFound test prices limit asked s
-found-asked test prices asked given limit s by copied listed is board least = record {
+    → HasNoCandidateFault given.test → IsAnswer given.test given.prices s.answer → Rests given limit s → IsFound test prices limit asked s
+found-asked test prices asked given limit s by copied listed is rests = record {
   the_test = asked.test;
   table = asked.prices;
   reads = by.reads;
   priced = by.priced;
-  found = found-for asked asked given limit s refl copied by.is_test.bounded listed is board least;
+  found = found-for asked asked given limit s refl copied by.is_test.bounded listed is rests;
 }
 
 -- what is printed with this placement is the answer in print
@@ -64,7 +61,7 @@ abbrev pub Prints : Answer → List ℕ → Status → Type 0
 Prints a text status = (t : Test) (prices : PriceTable) → IsAnswer t prices a → PrintsPlaced t prices (placement_of a) text status
 
 witnessed : (a : Answer) (witnesses : List Witness) (text : List ℕ) → HasWitness a witnesses → PrintsWitness a text → IsWitnessed (placement_of a) witnesses text
-witnessed (answer.Fenced p n) witnesses text has prints = tt
+witnessed (answer.Fenced f n) witnesses text has prints = tt
 witnessed (answer.None w) witnesses text has prints = (w.witness, has, prints)
 
 module _ (test prices : List ℕ) (limit : ℕ) (asked : Question) (s : Solved) (text : List ℕ) (status : Status) where
@@ -119,38 +116,36 @@ witness-certifies t prices a w made is holds certified =
     let shown = subst (IsAnswer t prices) is holds in
     subst (λ (x : Answer). CertifiesAnswer t prices x made) (sym is) (certified t prices shown.0 shown.1 shown.2)
 
-pub fenced-certifies : (t : Test) (prices : PriceTable) (a : Answer) (p : List Entry) (n : ℕ) (r : Result Certificate Fault) → a ≡ answer.Fenced p n
-    → IfOk r (Certifies t prices (placement_of a)) → IfOk r (CertifiesAnswer t prices a)
-fenced-certifies t prices a p n r is =
-    subst (λ (x : Answer). IfOk r (Certifies t prices (placement_of x)) → IfOk r (CertifiesAnswer t prices x)) (sym is) (λ certified. certified)
+pub fenced-certifies : (t : Test) (prices : PriceTable) (a : Answer) (f : _) (n : ℕ) (p : List Entry) (r : Result Certificate Fault)
+    → a ≡ answer.Fenced f n → p ≡ placement_in f → IfOk r (Certifies t prices (Some p)) → IfOk r (CertifiesAnswer t prices a)
+fenced-certifies t prices a f n p r is placed certified =
+    subst (λ (x : Answer). IfOk r (CertifiesAnswer t prices x)) (sym is) (subst (λ (q : List Entry). IfOk r (Certifies t prices (Some q))) placed certified)
 
-pub fenced-some : (a : Answer) (p : List Entry) (n : ℕ) → a ≡ answer.Fenced p n → placement_of a ≡ None → ⊥
-fenced-some a p n is none = let e : Some p ≡ None = sym (ap placement_of is) ∙ none in absurd (cc)
+-- an answer that is a placement has its cycles
+pub fenced-cycles : (t : Test) (prices : PriceTable) (a : Answer) (f : _) (n : ℕ) (x : Refuted) → a ≡ answer.Fenced f n → x ≡ f.value → IsAnswer t prices a
+    → HasCycles t x.placement x.cycles
+fenced-cycles t prices a f n x is same holds =
+    subst (λ (y : Refuted). HasCycles t y.placement y.cycles) (sym same) (subst (IsAnswer t prices) is holds).2
 
-pub board-there : (asked : Question) (limit : ℕ) (s : Solved) (b : _) → Some b ≡ s.board → IfSome s.board (IsBoardOf asked limit s.answer)
-    → IsBoardOf asked limit s.answer b
-board-there asked limit s b is h = subst (λ o. IfSome o (IsBoardOf asked limit s.answer)) (sym is) h
+pub board-there : (asked : Question) (limit : ℕ) (s : Solved) (b : _) → Some b ≡ s.board → Rests asked limit s → IsBoardOf asked limit s.answer b
+board-there asked limit s b is h = subst (λ o. MatchOption o (IsAtLimit asked limit s.answer) (IsBoardOf asked limit s.answer)) (sym is) h
 
-pub least-there : (asked : Question) (s : Solved) → None ≡ s.board → IfNone s.board (IsShownLeast asked.test s.answer s.least)
-    → IsShownLeast asked.test s.answer s.least
-least-there asked s is h = subst (λ o. IfNone o (IsShownLeast asked.test s.answer s.least)) (sym is) h
-
--- what the cycles of no fence at all say of the answer
-pub least-is : (t : Test) (a : Answer) (f : Refuted) → IsShownLeast t a (Some f)
-    → (placement_of a ≡ Some f.placement) × (f.placement ≡ all_with None (slots t)) × HasCycles t f.placement f.cycles
-least-is t (answer.None w) f is = absurd (cc)
-least-is t (answer.Fenced p n) f is = (ap (λ q. Some q) (sym is.0), is.1, is.2)
-
-pub least-some : (t : Test) (a : Answer) → (placement_of a ≡ None → ⊥) → IsShownLeast t a None → ⊥
-least-some t (answer.None w) some is = some refl
-least-some t (answer.Fenced p n) some is = is
+-- an answer that is a placement and has no board is no fence at all
+pub least-there : (asked : Question) (limit : ℕ) (s : Solved) (p : List Entry) → None ≡ s.board → placement_of s.answer ≡ Some p → Rests asked limit s
+    → p ≡ all_with None (slots asked.test)
+least-there asked limit s p is placed h =
+    let there : IsAtLimit asked limit s.answer = subst (λ o. MatchOption o (IsAtLimit asked limit s.answer) (IsBoardOf asked limit s.answer)) (sym is) h in
+    elim there.ends [
+      | inl none ↦ let e : Some p ≡ None = sym placed ∙ none in absurd (cc)
+      | inr least ↦ let e : Some p ≡ Some (all_with None (slots asked.test)) = sym placed ∙ least in cc
+    ]
 
 pub certificate-said : (t : Test) (prices : PriceTable) (a : Answer) (made : Certificate) (bytes : List ℕ)
     → CertifiesAnswer t prices a made
     → ((c : said.Certificate) → KeepsCertificate made c → AreInRange c → bytes ≡ certificate_text c)
     → ((c : said.Certificate) → KeepsCertificate made c → AreInRange c → CanBeSaid c → IsCertificateFile bytes c)
     → SaysAnswer t prices a bytes
-certificate-said t prices (answer.Fenced p n) made bytes certifies written says = record {
+certificate-said t prices (answer.Fenced f n) made bytes certifies written says = record {
   certified = record {
     certificate = certifies.certificate;
     file = says certifies.certificate certifies.keeps certifies.in_range certifies.sayable;

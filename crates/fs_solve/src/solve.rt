@@ -1,13 +1,14 @@
 //! What `solve` answers.
 
-ghost use Rattle.std.specs.Prelude.{◌≡◌, ◌≢◌, ◌≤◌, ℕ, List, None, IfOk, IfErr, IsOkUnless, string_bytes};
+ghost use Rattle.std.specs.Prelude.{◌≡◌, ◌≤◌, ℕ, List, Some, IfOk, IfErr, IsOkUnless, string_bytes};
 ghost use Rattle.std.specs.Arc.{arc_value};
 ghost use Rattle.fs_kinds.specs.PriceTable.{PriceTable, IsPriceTable};
 ghost use Rattle.fs_model.specs.declared.test.Test.{Test as Tests};
 ghost use Rattle.fs_model.specs.Test.{IsTest};
 ghost use Rattle.fs_litmus.specs.Reads.{Reads};
+ghost use Rattle.fs_answer.specs.Cycles.{HasCycles};
 ghost use Rattle.fs_evidence.specs.Evidence.{Question as Asked};
-ghost use Rattle.fs_crew.specs.Answers.{IsAnswer, IsShownLeast, placement_of};
+ghost use Rattle.fs_crew.specs.Answers.{IsAnswer, placement_of};
 ghost use Rattle.fs_cert.specs.Certified.{Certifies};
 ghost use Rattle.fs_place.specs.Place.{ArePricesOf};
 ghost use Rattle.fs_solve.specs.Solve.{PrintsPlaced, IsSolved, IsCertified, IsFirstSolveFault};
@@ -240,8 +241,8 @@ fn answer_output(alloc: Global, answer: &Answer) -> Result<Output, Fault>
     ensures err { IsOkUnless result Fault.Memory }
 {
     match answer {
-        Answer::Fenced { placement, cost } => Ok(Output {
-            text: fenced_text(alloc, placement, *cost)?,
+        Answer::Fenced { forbidden, cost } => Ok(Output {
+            text: fenced_text(alloc, &forbidden.placement, *cost)?,
             status: Status::Success,
         }),
         Answer::None { witness } => Ok(Output {
@@ -271,44 +272,25 @@ fn certificate_of(alloc: Global, question: &Question, solved: &Solved) -> Result
 {
     match &solved.answer {
         Answer::None { witness } => Ok(from_witness(alloc, witness)?),
-        Answer::Fenced { .. } => fenced_certificate(alloc, question, solved),
+        Answer::Fenced { forbidden, .. } => fenced_certificate(alloc, question, solved, forbidden),
     }
 }
 
-/// The certificate of an answer that is a placement: of the board's bound, where there is a board.
+/// The certificate of an answer that is a placement: of the board's bound, where there is a board, else of no fence at all.
 fn fenced_certificate(
     alloc: Global,
     question: &Question,
     solved: &Solved,
+    forbidden: &Forbidden,
 ) -> Result<Certificate, Fault>
-    requires some { placement_of solved.now.answer ≡ None → ⊥ }
+    requires placed { placement_of solved.now.answer ≡ Some forbidden.now.placement }
+    requires cycles { HasCycles question.now.test forbidden.now.placement forbidden.now.cycles }
     requires found { (q : Asked) × (limit : ℕ) × IsFoundFor q limit question.now solved.now }
-    ensures ok { IfOk result (Certifies question.now.test question.now.prices (placement_of solved.now.answer)) }
+    ensures ok { IfOk result (Certifies question.now.test question.now.prices (Some forbidden.now.placement)) }
     ensures err { IsOkUnless result Fault.Memory }
 {
     match solved.board() {
-        Some(board) => match from_board(alloc, board)? {
-            Some(certificate) => Ok(certificate),
-            None => unreachable!(),
-        },
-        None => least_certificate(alloc, question, &solved.answer, &solved.least),
-    }
-}
-
-/// The certificate of no fence at all.
-fn least_certificate(
-    alloc: Global,
-    question: &Question,
-    answer: &Answer,
-    least: &Option<Forbidden>,
-) -> Result<Certificate, Fault>
-    requires some { placement_of answer.now ≡ None → ⊥ }
-    requires shown { IsShownLeast question.now.test answer.now least.now }
-    ensures ok { IfOk result (Certifies question.now.test question.now.prices (placement_of answer.now)) }
-    ensures err { IsOkUnless result Fault.Memory }
-{
-    match least {
-        Some(forbidden) => Ok(from_least(alloc, question, forbidden)?),
-        None => unreachable!(),
+        Some(board) => from_board(alloc, board, forbidden),
+        None => Ok(from_least(alloc, question, forbidden)?),
     }
 }

@@ -85,7 +85,7 @@ fn both_answers(alloc: Global, text: &str, prices: &str) -> Result<(String, Stri
     let wanted = plain_answer(alloc, &question.test, &question.prices)?;
     let solved = solve(alloc, question, 1_000_000)?;
     let found = match &solved.answer {
-        Answer::Fenced { placement, cost } => fenced_text(alloc, placement, *cost)?,
+        Answer::Fenced { forbidden, cost } => fenced_text(alloc, &forbidden.placement, *cost)?,
         Answer::None { .. } => String::from_str(alloc, "none")?,
     };
     Ok((found, wanted))

@@ -1,16 +1,16 @@
 //! Certificates of answers: made of what a search leaves, written, read, and checked.
-ghost use Rattle.std.specs.Prelude.{◌≡◌, true, IfOk, IfSome};
+ghost use Rattle.std.specs.Prelude.{◌≡◌, Some, IfOk};
 ghost use Rattle.std.specs.Arc.{arc_value};
 ghost use Rattle.fs_kinds.specs.PriceTable.{IsPriceTable};
-ghost use Rattle.fs_model.specs.Test.{IsBounded, IsTest};
-ghost use Rattle.fs_history.specs.Board.{is_finished};
+ghost use Rattle.fs_model.specs.Test.{IsTest};
+ghost use Rattle.fs_answer.specs.Cycles.{HasCycles};
+ghost use Rattle.fs_search.specs.Answers.{IsAnswer, Rests, placement_of};
 
 use crate::printing::{print_fences, say_refused};
-use fs_board::Board;
 use fs_cert::{from_board, from_witness};
 use fs_certificate::Certificate;
 use fs_checker::{CheckVerdict, check};
-use fs_evidence::Question;
+use fs_evidence::{Forbidden, Question};
 use fs_examples::{CO_RR, MP11, PRICES, SBF, question_of};
 use fs_kinds::Fault;
 use fs_search::{Answer, Solved, solve};
@@ -20,38 +20,47 @@ use std::sync::Arc;
 /// The greatest number that a node may have.
 const LIMIT: usize = 10_000;
 
-/// The answer to the question, with its finished board.
+/// The answer to the question.
 fn solved_of(alloc: Global, question: &Arc<Question>) -> Result<Solved, Fault>
     requires test { IsTest (arc_value question.now).test }
     requires prices { IsPriceTable (arc_value question.now).prices }
-    ensures bounded { IfOk result (λ solved. IfSome solved.board (λ board. IsBounded board.question.test)) }
-    ensures finished { IfOk result (λ solved. IfSome solved.board (λ board. is_finished board.board ≡ true)) }
+    ensures ok { IfOk result (λ s. IsAnswer (arc_value question.now).test (arc_value question.now).prices s.answer) }
+    ensures rests { IfOk result (Rests (arc_value question.now) 10000) }
 {
     solve(alloc, Arc::try_clone(question)?, LIMIT)
 }
 
-/// The certificate of the board's bound. `NodeLimit` where there is none.
-fn certificate_of_board(alloc: Global, board: &Board) -> Result<Certificate, Fault>
-    requires bounded { IsBounded board.now.question.test }
-    requires finished { is_finished board.now.board ≡ true }
+/// The certificate of an answer that is a placement. `NodeLimit` where the search came to its limit.
+fn fenced_certificate(
+    alloc: Global,
+    question: &Arc<Question>,
+    solved: &Solved,
+    forbidden: &Forbidden,
+) -> Result<Certificate, Fault>
+    requires test { IsTest (arc_value question.now).test }
+    requires placed { placement_of solved.now.answer ≡ Some forbidden.now.placement }
+    requires cycles { HasCycles (arc_value question.now).test forbidden.now.placement forbidden.now.cycles }
+    requires rests { Rests (arc_value question.now) 10000 solved.now }
 {
-    match from_board(alloc, board)? {
-        Some(certificate) => Ok(certificate),
+    match solved.board() {
+        Some(board) => from_board(alloc, board, forbidden),
         None => Err(Fault::NodeLimit),
     }
 }
 
-/// The certificate of the answer. `NodeLimit` where the search came to its limit.
-fn certificate_of(alloc: Global, solved: &Solved) -> Result<Certificate, Fault>
-    requires bounded { IfSome solved.now.board (λ board. IsBounded board.question.test) }
-    requires finished { IfSome solved.now.board (λ board. is_finished board.board ≡ true) }
+/// The certificate of the answer. `NodeLimit` where it is a placement and the search came to its limit.
+fn certificate_of(
+    alloc: Global,
+    question: &Arc<Question>,
+    solved: &Solved,
+) -> Result<Certificate, Fault>
+    requires test { IsTest (arc_value question.now).test }
+    requires answer { IsAnswer (arc_value question.now).test (arc_value question.now).prices solved.now.answer }
+    requires rests { Rests (arc_value question.now) 10000 solved.now }
 {
-    if let Answer::None { witness } = &solved.answer {
-        return Ok(from_witness(alloc, witness)?);
-    }
-    match solved.board() {
-        Some(board) => certificate_of_board(alloc, board),
-        None => Err(Fault::NodeLimit),
+    match &solved.answer {
+        Answer::None { witness } => Ok(from_witness(alloc, witness)?),
+        Answer::Fenced { forbidden, .. } => fenced_certificate(alloc, question, solved, forbidden),
     }
 }
 
@@ -141,7 +150,7 @@ fn answered<R: Print>(rt: &R, alloc: Global, question: &Arc<Question>) -> Result
     requires prices { IsPriceTable (arc_value question.now).prices }
 {
     let solved = twice!(rt, solved_of(alloc, question))?;
-    twice!(rt, certificate_of(alloc, &solved))
+    twice!(rt, certificate_of(alloc, question, &solved))
 }
 
 /// Answers the question, and makes a certificate of the answer.

@@ -1,12 +1,12 @@
 -- An answer that was found, before it is printed.
-use Rattle.std.specs.Prelude.{◌≡◌, ℕ, List, IfNone, IfSome}
+use Rattle.std.specs.Prelude.{◌≡◌, ℕ, List}
 use Rattle.fs_kinds.specs.PriceTable.{PriceTable, IsPriceTable}
 use Rattle.fs_model.specs.declared.test.Test.{Test}
 use Rattle.fs_model.specs.Test.{IsBounded, IsTest}
 use Rattle.fs_litmus.specs.Reads.{Reads}
 use Rattle.fs_answer.specs.CandidateFaults.{HasNoCandidateFault}
 use Rattle.fs_evidence.specs.Evidence.{Question}
-use Rattle.fs_crew.specs.Answers.{Solved, IsAnswer, IsBoardOf, IsShownLeast}
+use Rattle.fs_crew.specs.Answers.{Solved, IsAnswer, Rests}
 use Rattle.fs_place.specs.Place.{ArePricesOf}
 
 -- the bytes read as the question's test and hold its prices
@@ -22,8 +22,7 @@ pub record IsFoundFor (q : Question) (limit : ℕ) (asked : Question) (s : Solve
   pub bounded : IsBounded asked.test
   pub listed : HasNoCandidateFault asked.test
   pub answer : IsAnswer asked.test asked.prices s.answer
-  pub board : IfSome s.board (IsBoardOf asked limit s.answer)
-  pub least : IfNone s.board (IsShownLeast asked.test s.answer s.least)
+  pub rests : Rests asked limit s
 
 -- the bytes read as the test and hold the prices of the question
 pub record IsFound (test prices : List ℕ) (limit : ℕ) (asked : Question) (s : Solved) : Type 0 where

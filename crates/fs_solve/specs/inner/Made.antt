@@ -5,21 +5,22 @@ use Rattle.fs_model.specs.declared.test.Test.{Test}
 use Rattle.fs_model.specs.Witness.{Witness}
 use Rattle.fs_answer.specs.Texts.{none_lines}
 use Rattle.fs_certificate.specs.declared.certificate.Certificate.{Certificate}
+use Rattle.fs_evidence.specs.Evidence.{placement_in}
 use Rattle.fs_crew.specs.Answers.{Answer, placement_of}
 use Rattle.fs_crew.specs.Forms as answer
 use Rattle.fs_cert.specs.Certified.{Certifies, CertifiesNone}
 use Rattle.fs_solve.specs.Solve.{IsCertificateOf}
 
 abbrev pub PrintsWitness : Answer → List ℕ → Type 0
-PrintsWitness (answer.Fenced p n) text = Unit {0}
+PrintsWitness (answer.Fenced f n) text = Unit {0}
 PrintsWitness (answer.None w) text = text ≡ none_lines w.witness
 
 abbrev pub CertifiesAnswer : Test → PriceTable → Answer → Certificate → Type 0
-CertifiesAnswer t prices (answer.Fenced p n) = Certifies t prices (Some p)
+CertifiesAnswer t prices (answer.Fenced f n) = Certifies t prices (Some (placement_in f))
 CertifiesAnswer t prices (answer.None w) = CertifiesNone t prices w.witness
 
 abbrev pub HasWitness : Answer → List Witness → Type 0
-HasWitness (answer.Fenced p n) witnesses = Unit {0}
+HasWitness (answer.Fenced f n) witnesses = Unit {0}
 HasWitness (answer.None w) witnesses = witnesses ≡ w.witness ∷ []
 
 pub record SaysAnswer (t : Test) (prices : PriceTable) (a : Answer) (bytes : List ℕ) : Type 0 where

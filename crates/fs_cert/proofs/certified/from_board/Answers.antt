@@ -1,7 +1,6 @@
-use Rattle.std.proofs.Common.{◌≡◌, Some, map, length, sym, ap, subst, ◌∙◌}
+use Rattle.std.proofs.Common.{◌≡◌, map, length, sym, ap, subst, ◌∙◌}
 use Rattle.fs_kinds.specs.PriceTable.{are_offered}
-use Rattle.fs_answer.specs.Cycles.{HasCycles}
-use Rattle.fs_evidence.specs.Evidence.{Question, Refuted, witness_in}
+use Rattle.fs_evidence.specs.Evidence.{Question, witness_in}
 use Rattle.fs_tree.proofs.Closed.{history-right}
 use Rattle.fs_cert.specs.Certified.{Certifies, AreDistinct}
 use Rattle.fs_cert.specs.inner.Copies.{AreCopiedWitnesses, AreNumbered, StandsAt}
@@ -30,12 +29,10 @@ tree_of-requires-clause-long c =
 pub fenced-requires : goal.fenced-requires
 fenced-requires c =
     let s = c.args.board.now in
-    let f = c.deref-6.result.now in
+    let f = c.args.bound.now in
     let same : c.deref-5.result.now ≡ s.question = c.deref-5.ensures ∙ c.question-question.ensures in
-    let posted : s.board.bound ≡ Some f.placement =
-    sym c.in-Some.ensures.value ∙ ap (λ (x : Refuted). Some x.placement) (sym c.deref-6.ensures) in
     let right = history-right s.question.test s.question.prices s.board.limit s.log s.board c.log-legal.ensures.legal in
-    let forbidden = right.bound f.placement posted in
+    let forbidden = right.bound f.placement c.requires.posted in
     ap (λ (q : Question). are_offered q.prices f.placement) same ∙ forbidden.placement.offered
 
 pub returns-clause-ok : goal.returns-clause-ok
@@ -44,25 +41,21 @@ returns-clause-ok c =
     let numbering = c.in_ok-numbering.ensures.numbers in
     let ns = c.in_ok-numbering.numbering.numbers.items in
     let all = map witness_in c.witnesses.result.now in
-    let f = c.deref-6.result.now in
+    let f = c.args.bound.now in
     let same : c.deref-5.result.now ≡ s.question = c.deref-5.ensures ∙ c.question-question.ensures in
-    let posted : s.board.bound ≡ Some f.placement =
-    sym c.in-Some.ensures.value ∙ ap (λ (x : Refuted). Some x.placement) (sym c.deref-6.ensures) in
     let right = history-right s.question.test s.question.prices s.board.limit s.log s.board c.log-legal.ensures.legal in
-    let forbidden = right.bound f.placement posted in
+    let forbidden = right.bound f.placement c.requires.posted in
     let tree = c.in_ok-tree.tree in
     let files = c.new-witnesses.result in
     let made = c.in_ok-fenced.field-0 in
     let is : IsFenced s.question f tree files made = subst (λ (q : Question). IsFenced q f tree files made) same c.in_ok-fenced.ensures in
     let copied : AreCopiedWitnesses files numbering.0 = subst (λ l. AreCopiedWitnesses l numbering.0) (sym c.new-witnesses.ensures) numbering.1 in
-    let cycles : HasCycles s.question.test f.placement f.cycles =
-    subst (λ (x : Refuted). HasCycles s.question.test x.placement x.cycles) (sym c.deref-6.ensures) c.in-Some.ensures.cycles in
     let numbered : AreNumbered numbering.0 s.board.witnesses c.deref-4.result.now =
     subst (AreNumbered numbering.0 s.board.witnesses) (sym c.deref-4.ensures.value)
     (subst (λ ws. AreNumbered numbering.0 ws ns) c.witnesses.ensures.value numbering.2) in
-    subst (λ bound. Certifies s.question.test s.question.prices bound made) (sym posted)
-    (fenced_certifies s.question f tree files made numbering.0 is copied cycles forbidden.placement c.in_ok-tree.ensures.small
-    (λ certificate second witnesses. c.in_ok-tree.ensures.tree certificate f.placement second posted
+    subst (λ bound. Certifies s.question.test s.question.prices bound made) (sym c.requires.posted)
+    (fenced_certifies s.question f tree files made numbering.0 is copied c.requires.cycles forbidden.placement c.in_ok-tree.ensures.small
+    (λ certificate second witnesses. c.in_ok-tree.ensures.tree certificate f.placement second c.requires.posted
     (subst (λ ws. AreNumbered ws s.board.witnesses c.deref-4.result.now) (sym witnesses) numbered)))
 
 pub returns-clause-once : goal.returns-clause-once

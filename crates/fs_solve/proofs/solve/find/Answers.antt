@@ -20,4 +20,4 @@ returns-in_err-solved-clause-fault g c =
 pub returns-clause-answer : goal.returns-clause-answer
 returns-clause-answer g c =
     found-asked _ _ _ _ c.args.limit _ c.in_ok-question.ensures.asked c.in_ok-asked.ensures c.in_ok-solved.ensures.clean
-    c.in_ok-solved.ensures.ok c.in_ok-solved.ensures.board c.in_ok-solved.ensures.least
+    c.in_ok-solved.ensures.ok c.in_ok-solved.ensures.rests
