@@ -25,6 +25,10 @@ label_name at = codes "L" ++ decimal at
 
 -- ---- a label is a name
 
+and_false : (b : Bool) → (b && false) ≡ false
+and_false true = refl
+and_false false = refl
+
 pub label_named : (t : ℕ) → t < 2 ^ 32 → is_name (class_of (label_name t)) ≡ true
 label_named t h = name_back t h
 

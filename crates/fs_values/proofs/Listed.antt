@@ -58,15 +58,15 @@ module _ (t : Test) (sets : List (List ℕ)) (values : AreValues t sets) where
     rise =
         let same : steps_in traces ≡ map (λ e. e.steps) listed.ends = ap steps_in listed.runs ∙ map_same listed.ends in
         subst (AllPairs Precedes) (sym same) (λ i j d below within.
-            let end : End = record { steps = d; astray = None } in
-            let long = length-map listed.ends (λ (e : End). e.steps) in
-            let later : j < length listed.ends = omega (arith, within, long) in
-            let earlier : i < length listed.ends = omega (arith, below, later) in
-            let first = get_or-map (λ (e : End). e.steps) listed.ends i end d earlier in
-            let second = get_or-map (λ (e : End). e.steps) listed.ends j end d later in
-            subst (λ b. Precedes (get_or (map (λ (e : End). e.steps) listed.ends) i d) b) (sym second)
-            (subst (λ a. Precedes a (get_or listed.ends j end).steps) (sym first)
-            (listed.listing.different.rising i j end below later)))
+        let end : End = record { steps = d; astray = None } in
+        let long = length-map listed.ends (λ (e : End). e.steps) in
+        let later : j < length listed.ends = omega (arith, within, long) in
+        let earlier : i < length listed.ends = omega (arith, below, later) in
+        let first = get_or-map (λ (e : End). e.steps) listed.ends i end d earlier in
+        let second = get_or-map (λ (e : End). e.steps) listed.ends j end d later in
+        subst (λ b. Precedes (get_or (map (λ (e : End). e.steps) listed.ends) i d) b) (sym second)
+        (subst (λ a. Precedes a (get_or listed.ends j end).steps) (sym first)
+        (listed.listing.different.rising i j end below later)))
 
   pub has_all : (lists : List (List Trace)) → length lists ≡ length t.codes → AreListed t sets lists → HasAllRuns t (runs_in lists)
   has_all lists long listed hart low =
