@@ -386,20 +386,36 @@ module _ (b : Place) where
   before : (run other : List Step) (others : List (List Step)) → Precedes run other → IsFirst run others → IsFirst run (other ∷ others)
   before run other others = All-cons (Precedes run) other others
 
+  -- the runs from the second, third, fourth and fifth one on
+  abbrev seconds : List (List Step)
+  seconds = fails 0 ∷ succeeds 1 ∷ fails 1 ∷ succeeds 2 ∷ fails 2 ∷ []
+
+  abbrev thirds : List (List Step)
+  thirds = succeeds 1 ∷ fails 1 ∷ succeeds 2 ∷ fails 2 ∷ []
+
+  abbrev fourths : List (List Step)
+  fourths = fails 1 ∷ succeeds 2 ∷ fails 2 ∷ []
+
+  abbrev fifths : List (List Step)
+  fifths = succeeds 2 ∷ fails 2 ∷ []
+
+  -- a run that loads less is before the last two
+  before_last : (run : List Step) → Precedes run (succeeds 2) → Precedes run (fails 2) → IsFirst run fifths
+  before_last run one two = before run (succeeds 2) (fails 2 ∷ []) one (before run (fails 2) [] two (All-nil (Precedes run)))
+
   pair_rises : AllPairs Precedes (pair_runs 0)
   pair_rises =
-      AllPairs-cons Precedes (succeeds 0) _
-      (before (succeeds 0) (fails 0) _ (inr (refl, inl tt)) (before (succeeds 0) (succeeds 1) _ (inl (lit< tt))
-      (before (succeeds 0) (fails 1) _ (inl (lit< tt)) (before (succeeds 0) (succeeds 2) _ (inl (lit< tt))
-      (before (succeeds 0) (fails 2) [] (inl (lit< tt)) (All-nil (Precedes (succeeds 0))))))))
-      (AllPairs-cons Precedes (fails 0) _
-      (before (fails 0) (succeeds 1) _ (inl (lit< tt)) (before (fails 0) (fails 1) _ (inl (lit< tt))
-      (before (fails 0) (succeeds 2) _ (inl (lit< tt)) (before (fails 0) (fails 2) [] (inl (lit< tt)) (All-nil (Precedes (fails 0)))))))
-      (AllPairs-cons Precedes (succeeds 1) _
-      (before (succeeds 1) (fails 1) _ (inr (refl, inl tt)) (before (succeeds 1) (succeeds 2) _ (inl (lit< tt))
-      (before (succeeds 1) (fails 2) [] (inl (lit< tt)) (All-nil (Precedes (succeeds 1))))))
-      (AllPairs-cons Precedes (fails 1) _
-      (before (fails 1) (succeeds 2) _ (inl (lit< tt)) (before (fails 1) (fails 2) [] (inl (lit< tt)) (All-nil (Precedes (fails 1)))))
+      AllPairs-cons Precedes (succeeds 0) seconds
+      (before (succeeds 0) (fails 0) thirds (inr (refl, inl tt))
+      (before (succeeds 0) (succeeds 1) fourths (inl (lit< tt))
+      (before (succeeds 0) (fails 1) fifths (inl (lit< tt)) (before_last (succeeds 0) (inl (lit< tt)) (inl (lit< tt))))))
+      (AllPairs-cons Precedes (fails 0) thirds
+      (before (fails 0) (succeeds 1) fourths (inl (lit< tt))
+      (before (fails 0) (fails 1) fifths (inl (lit< tt)) (before_last (fails 0) (inl (lit< tt)) (inl (lit< tt)))))
+      (AllPairs-cons Precedes (succeeds 1) fourths
+      (before (succeeds 1) (fails 1) fifths (inr (refl, inl tt)) (before_last (succeeds 1) (inl (lit< tt)) (inl (lit< tt))))
+      (AllPairs-cons Precedes (fails 1) fifths
+      (before_last (fails 1) (inl (lit< tt)) (inl (lit< tt)))
       (two_rise Precedes (succeeds 2) (fails 2) (inr (refl, inl tt))))))
 
   pair_all : HasAllRuns pair pair_runs
