@@ -1,4 +1,4 @@
--- Why the candidates of a test aren't listed.
+-- Why the candidates of a test aren't listed, and why a certificate isn't judged.
 use Rattle.std.specs.Prelude.{ℕ, ◌⊎◌}
 use Rattle.fs_kinds.specs.declared.fault.Fault.{Fault}
 use Rattle.fs_kinds.specs.declared.fault.Fault.TheVariants as fault
@@ -6,6 +6,7 @@ use Rattle.fs_model.specs.declared.test.Test.{Test}
 use Rattle.fs_model.specs.Values.{AreRunsOverValues}
 use Rattle.fs_model.specs.TooMany.{AreMoreThan, IsRunFault}
 use Rattle.fs_answer.specs.Candidates.{IsRaw}
+use Rattle.fs_answer.specs.Certificate.{Cycles, Listed, Inferred}
 
 -- how many candidates and lists of runs there may be
 abbrev pub most_candidates : ℕ
@@ -24,3 +25,11 @@ IsCandidateFault t f = IsRunFault t f
 -- a hart's runs, nor the lists of runs, nor the candidates are too many
 abbrev pub HasNoCandidateFault : Test → Type 0
 HasNoCandidateFault t = (f : Fault) → IsCandidateFault t f → ⊥
+
+-- why a certificate with these cycles isn't judged: a cycle for each candidate needs their list, and a refutation the runs alone
+abbrev pub IsCyclesFault : Cycles → Test → Fault → Type 0
+IsCyclesFault (Listed cycles) t f = IsCandidateFault t f
+IsCyclesFault (Inferred inferences) t f = IsRunFault t f
+
+abbrev pub HasNoCyclesFault : Cycles → Test → Type 0
+HasNoCyclesFault cycles t = (f : Fault) → IsCyclesFault cycles t f → ⊥

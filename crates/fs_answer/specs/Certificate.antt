@@ -13,10 +13,12 @@ use Rattle.fs_model.specs.Execution.{Execution}
 use Rattle.fs_model.specs.Witness.{Witness}
 use Rattle.fs_answer.specs.Judged.{Cause}
 
--- in the first version ties are left open, in the second the answer is the first of the cheapest
+-- In the first version ties are left open, in the second the answer is the first of the cheapest. So it is in the fourth, which has
+-- inferences in place of cycles. There is no third.
 pub data Version : Type 0 where
   First : Version
   Second : Version
+  Fourth : Version
 
 -- a cost and the words of the fences, such as `P0:3=w,w`; or none
 pub data Answer : Type 0 where
@@ -44,8 +46,22 @@ pub data Inference : Type 0 where
   Reversed : (load store : Name) → Inference
   Parted : (load store other : Name) → Inference
 
+-- what is to show that the answer forbids the outcome: a cycle for each showing candidate, in their order; or the steps of a refutation
+pub data Cycles : Type 0 where
+  Listed : (cycles : List (List Link)) → Cycles
+  Inferred : (inferences : List Inference) → Cycles
+
+abbrev pub IsEmpty : Cycles → Type 0
+IsEmpty (Listed cycles) = cycles ≡ []
+IsEmpty (Inferred inferences) = inferences ≡ []
+
+-- the cycles of a list; of a refutation none
+abbrev pub listed_in : Cycles → List (List Link)
+listed_in (Listed cycles) = cycles
+listed_in (Inferred inferences) = []
+
 -- An item of a tree in preorder: a node that splits at the slot of this number, or a leaf. A leaf costs too much, or the witness of
--- this number refutes it, or the witnesses of these numbers bound it; the last in the second version alone.
+-- this number refutes it, or the witnesses of these numbers bound it; the last not in the first version.
 pub data Item : Type 0 where
   SplitAt : (slot : ℕ) → Item
   Costly : Item
@@ -55,7 +71,7 @@ pub data Item : Type 0 where
 pub record Certificate : Type 0 where
   pub version : Version
   pub answer : Answer
-  pub cycles : List (List Link)
+  pub cycles : Cycles
   pub tree : List Item
   pub witnesses : List Witness
 
@@ -83,6 +99,7 @@ pub record IsLeastCost (t : Test) (prices : PriceTable) (p : List Entry) : Type 
 abbrev pub IsBest : Version → Test → PriceTable → List Entry → Type 0
 IsBest First = IsLeastCost
 IsBest Second = IsCheapest
+IsBest Fourth = IsCheapest
 
 -- what it shows of an answer: the placement is the best one, as the version has it; or none is right, since an execution shows the
 -- outcome with rw,rw in every slot

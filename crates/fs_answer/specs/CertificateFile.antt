@@ -12,7 +12,7 @@ use Rattle.fs_model.specs.declared.step.Choice.{Choice}
 use Rattle.fs_model.specs.declared.step.Choice.TheVariants.{Word}
 use Rattle.fs_model.specs.Preserved.{Rule1, Rule2, Rule3, Rule4, Rule5, Rule6, Rule7, Rule8, Rule9, Rule10, Rule11, Rule12, Rule13}
 use Rattle.fs_answer.specs.Judged.{Cause, Preserved, ReadsFrom, Coherence, FromReads}
-use Rattle.fs_answer.specs.Certificate.{Certificate, Version, First, Second, Answer, Fenced, NoneForbids, Link, Inference, ByChoice, BySource, ByOrder, ByCases, Filter, Cycle, Stale, Reversed, Parted, Item, SplitAt, Costly, Refuted, Bounded}
+use Rattle.fs_answer.specs.Certificate.{Certificate, Version, First, Second, Fourth, Answer, Fenced, NoneForbids, Cycles, Listed, Inferred, Link, Inference, ByChoice, BySource, ByOrder, ByCases, Filter, Cycle, Stale, Reversed, Parted, Item, SplitAt, Costly, Refuted, Bounded}
 use Rattle.fs_answer.specs.Cycles.{most_links}
 use Rattle.fs_answer.specs.WitnessFile.{EachItem, IsArrayOf, IsName, IsInRange, IsWitnessValue}
 
@@ -67,8 +67,7 @@ IsLink d link =
 abbrev pub IsCycleValue : Data → List Link → Type 0
 IsCycleValue d links = IsArrayOf IsLink d links × (1 ≤ length links) × (length links ≤ most_links)
 
--- ---- inferences of a refutation, which no version has yet: an array with a letter and what the inference speaks of; or a cycle. Names
--- and harts are in range.
+-- ---- inferences of a refutation: an array with a letter and what the inference speaks of; or a cycle. Names and harts are in range.
 
 abbrev pub IsNameInRange : Data → Name → Type 0
 IsNameInRange d name = IsName d name × IsInRange name
@@ -94,23 +93,30 @@ IsInference d (Stale load store) = IsOfNames (codes "l") d (load ∷ store ∷ [
 IsInference d (Reversed load store) = IsOfNames (codes "a") d (load ∷ store ∷ [])
 IsInference d (Parted load store other) = IsOfNames (codes "a") d (load ∷ store ∷ other ∷ [])
 
--- ---- trees: the number of a slot; "c"; ["w", a witness's number]; and in the second version ["b", [witnesses' numbers]]
+-- in the first two versions cycles, in the fourth inferences
+abbrev pub AreCycles : Version → Data → Cycles → Type 0
+AreCycles First d (Listed cycles) = IsArrayOf IsCycleValue d cycles
+AreCycles Second d (Listed cycles) = IsArrayOf IsCycleValue d cycles
+AreCycles Fourth d (Inferred inferences) = IsArrayOf IsInference d inferences
+AreCycles version d other = ⊥
+
+-- ---- trees: the number of a slot; "c"; ["w", a witness's number]; and but for the first version ["b", [witnesses' numbers]]
 
 abbrev pub IsItem : Version → Data → Item → Type 0
 IsItem version d (SplitAt slot) = IsNumber d slot
 IsItem version d Costly = IsText d (codes "c")
 IsItem version d (Refuted j) = (letter : Data) × (number : Data) × AreTwo d letter number × IsText letter (codes "w") × IsNumber number j
 IsItem First d (Bounded js) = ⊥
-IsItem Second d (Bounded js) =
+IsItem version d (Bounded js) =
     (letter : Data) × (numbers : Data) × AreTwo d letter numbers × IsText letter (codes "b")
     × IsArrayOf IsNumber numbers js × (1 ≤ length js)
 
 -- ---- what a file can say
 
--- witnesses bound a leaf in the second version alone, and there is one at least
+-- witnesses bound no leaf in the first version, and there is one at least
 abbrev pub is_sayable : Version → Item → Bool
 is_sayable First (Bounded js) = false
-is_sayable Second (Bounded []) = false
+is_sayable version (Bounded []) = false
 is_sayable version leaf = true
 
 abbrev pub numbers_in : Item → List ℕ
@@ -138,6 +144,12 @@ IsSayableInference (Stale load store) = IsInRange load × IsInRange store
 IsSayableInference (Reversed load store) = IsInRange load × IsInRange store
 IsSayableInference (Parted load store other) = IsInRange load × IsInRange store × IsInRange other
 
+abbrev pub AreSayable : Version → Cycles → Type 0
+AreSayable First (Listed cycles) = All IsSayableCycle cycles
+AreSayable Second (Listed cycles) = All IsSayableCycle cycles
+AreSayable Fourth (Inferred inferences) = All IsSayableInference inferences
+AreSayable version other = ⊥
+
 -- a loaded word is one of 32 bits
 abbrev pub IsChoiceOfWord : Choice → Type 0
 IsChoiceOfWord (Word w) = w < 2 ^ 32
@@ -146,7 +158,7 @@ IsChoiceOfWord choice = Unit {0}
 -- Not each certificate is that of a file: what is written must be one of these.
 pub record CanBeSaid (c : Certificate) : Type 0 where
   pub cost : cost_in c.answer ≤ most_number
-  pub cycles : All IsSayableCycle c.cycles
+  pub cycles : AreSayable c.version c.cycles
   pub items : list_all (is_sayable c.version) c.tree ≡ true
   pub numbers : All (λ leaf. All (λ n. n ≤ most_number) (numbers_in leaf)) c.tree
   pub words : All (λ w. All (λ choices. All IsChoiceOfWord choices) w.choices) c.witnesses
@@ -156,6 +168,7 @@ pub record CanBeSaid (c : Certificate) : Type 0 where
 abbrev pub version_number : Version → ℕ
 version_number First = 1
 version_number Second = 2
+version_number Fourth = 4
 
 -- the value is an object that says this certificate, and has no further key; of a doubled key the last value counts
 pub record IsCertificateValue (d : Data) (c : Certificate) : Type 0 where
@@ -171,7 +184,7 @@ pub record IsCertificateValue (d : Data) (c : Certificate) : Type 0 where
   pub at_version : get (codes "version") d ≡ Some version
   pub at_witnesses : get (codes "witnesses") d ≡ Some witnesses
   pub says_answer : IsAnswerValue answer c.answer
-  pub says_cycles : IsArrayOf IsCycleValue cycles c.cycles
+  pub says_cycles : AreCycles c.version cycles c.cycles
   pub says_tree : IsArrayOf (IsItem c.version) tree c.tree
   pub says_version : IsNumber version (version_number c.version)
   pub says_witnesses : IsArrayOf IsWitnessValue witnesses c.witnesses

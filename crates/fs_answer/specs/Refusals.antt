@@ -10,21 +10,22 @@ use Rattle.fs_kinds.specs.declared.reason.Reason.TheVariants as reason
 use Rattle.fs_kinds.specs.declared.slot.Slot.{Slot}
 use Rattle.fs_kinds.specs.PriceTable.{PriceTable}
 use Rattle.fs_model.specs.declared.test.Test.{Test}
+use Rattle.fs_model.specs.declared.step.Step.{Step}
 use Rattle.fs_model.specs.Slots.{slots}
 use Rattle.fs_answer.specs.Candidates.{Candidate}
 use Rattle.fs_answer.specs.Listings.{IsListing}
 use Rattle.fs_model.specs.Witness.{Witness}
 use Rattle.fs_answer.specs.Parts.{Part, undecided, is_undecided, floor, filled, child_parts}
-use Rattle.fs_answer.specs.Certificate.{Certificate, Answer, Fenced, NoneForbids, Item, SplitAt, Costly, Refuted, Bounded, Link, Inference, IsAnswered}
+use Rattle.fs_answer.specs.Certificate.{Certificate, Answer, Fenced, NoneForbids, Item, SplitAt, Costly, Refuted, Bounded, Link, Inference, Cycles, Listed, Inferred, IsEmpty, IsAnswered}
 use Rattle.fs_answer.specs.Cycles.{IsCycle}
 use Rattle.fs_answer.specs.Regions.{Region}
-use Rattle.fs_answer.specs.Trees.{follows, left_after}
-use Rattle.fs_answer.specs.Valid.{Refutes, Bounds, is_costly}
+use Rattle.fs_answer.specs.Trees.{follows, left_after, roots, AreItsRuns}
+use Rattle.fs_answer.specs.Valid.{Forbid, Refutes, Bounds, is_costly}
 
 -- the answer isn't one of the test and the prices, or an answer of none has more or less than its witness
 abbrev pub IsBad : Test → PriceTable → Certificate → Answer → Type 0
 IsBad t prices c (Fenced cost fences) = (p : List Entry) → IsAnswered t prices (Fenced cost fences) p → ⊥
-IsBad t prices c NoneForbids = (c.cycles ≢ []) ⊎ ((c.tree ≢ []) ⊎ (length c.witnesses ≢ 1))
+IsBad t prices c NoneForbids = (IsEmpty c.cycles → ⊥) ⊎ ((c.tree ≢ []) ⊎ (length c.witnesses ≢ 1))
 
 abbrev pub IsBadAnswer : Test → PriceTable → Certificate → Type 0
 IsBadAnswer t prices c = IsBad t prices c c.answer
@@ -48,6 +49,18 @@ first_wrong t p (region ∷ regions) (inference ∷ inferences) k =
     if follows t p region inference
     then first_wrong t p (left_after t region inference ++ regions) inferences (k + 1)
     else Some (reason.Cycle k)
+
+-- the reason against a list of cycles: there isn't one for each showing candidate, or one isn't its candidate's
+abbrev pub IsListRefusal : Test → List Entry → List Candidate → List (List Link) → Reason → Type 0
+IsListRefusal t p cs cycles reason.Cycles = length cycles ≢ length cs
+IsListRefusal t p cs cycles (reason.Cycle index) = (length cycles ≡ length cs) × IsFirstBad t p cs cycles index
+IsListRefusal t p cs cycles other = ⊥
+
+-- the reason against what is to show that the placement forbids the outcome
+abbrev pub IsCyclesRefusal : Test → List Entry → Cycles → Reason → Type 0
+IsCyclesRefusal t p (Listed cycles) why = (cs : List Candidate) × IsListing t cs × IsListRefusal t p cs cycles why
+IsCyclesRefusal t p (Inferred inferences) why =
+    (runs : ℕ → List (List Step)) × AreItsRuns t runs × (first_wrong t p (roots t runs) inferences 0 ≡ Some why)
 
 -- the slot of this number is there and undecided
 abbrev pub is_free : Test → ℕ → Part → Bool
@@ -85,17 +98,15 @@ module _ (t : Test) (prices : PriceTable) (c : Certificate) (p : List Entry) whe
       ⊎ (Bounds t prices c.witnesses p part js × Fails parts items (k + 1) r))
 
 -- the reason against a certificate of a placement, from its cycles on; those against witnesses are none
-abbrev pub IsPlacedRefusal : Test → PriceTable → Certificate → List Entry → List Candidate → Reason → Type 0
-IsPlacedRefusal t prices c p cs reason.Cycles = length c.cycles ≢ length cs
-IsPlacedRefusal t prices c p cs (reason.Cycle index) = (length c.cycles ≡ length cs) × IsFirstBad t p cs c.cycles index
-IsPlacedRefusal t prices c p cs other =
-    AllZip (IsCycle t p) cs c.cycles × Fails t prices c p (undecided t ∷ []) c.tree 0 other
+abbrev pub IsPlacedRefusal : Test → PriceTable → Certificate → List Entry → Reason → Type 0
+IsPlacedRefusal t prices c p reason.Cycles = IsCyclesRefusal t p c.cycles reason.Cycles
+IsPlacedRefusal t prices c p (reason.Cycle index) = IsCyclesRefusal t p c.cycles (reason.Cycle index)
+IsPlacedRefusal t prices c p other = Forbid t p c.cycles × Fails t prices c p (undecided t ∷ []) c.tree 0 other
 
 -- a reason against a certificate whose answer is one
 abbrev pub IsRefusedAfter : Test → PriceTable → Certificate → Reason → Answer → Type 0
 IsRefusedAfter t prices c why (Fenced cost fences) =
-    (p : List Entry) × IsAnswered t prices (Fenced cost fences) p
-    × ((cs : List Candidate) × IsListing t cs × IsPlacedRefusal t prices c p cs why)
+    (p : List Entry) × IsAnswered t prices (Fenced cost fences) p × IsPlacedRefusal t prices c p why
 IsRefusedAfter t prices c why NoneForbids =
     (IsBadAnswer t prices c → ⊥) × (Refutes t c.witnesses (all_with (Some RwRw) (slots t)) 0 → ⊥)
     × (why ≡ reason.Witness 0)

@@ -14,7 +14,7 @@ use Rattle.fs_kinds.specs.ReasonText.{operation_name}
 use Rattle.fs_model.specs.declared.step.Choice.{Choice}
 use Rattle.fs_model.specs.declared.step.Choice.TheVariants.{Word, Success, Failure}
 use Rattle.fs_model.specs.Witness.{Witness}
-use Rattle.fs_answer.specs.Certificate.{Certificate, Answer, Fenced, NoneForbids, Link, Inference, ByChoice, BySource, ByOrder, ByCases, Filter, Cycle, Stale, Reversed, Parted, Item, SplitAt, Costly, Refuted, Bounded}
+use Rattle.fs_answer.specs.Certificate.{Certificate, Answer, Fenced, NoneForbids, Cycles, Listed, Inferred, Link, Inference, ByChoice, BySource, ByOrder, ByCases, Filter, Cycle, Stale, Reversed, Parted, Item, SplitAt, Costly, Refuted, Bounded}
 use Rattle.fs_answer.specs.CertificateFile.{cause_word, version_number}
 
 -- ---- values
@@ -79,6 +79,10 @@ inference_value (Stale load store) = of_names (codes "l") (load ∷ store ∷ []
 inference_value (Reversed load store) = of_names (codes "a") (load ∷ store ∷ [])
 inference_value (Parted load store other) = of_names (codes "a") (load ∷ store ∷ other ∷ [])
 
+abbrev pub cycles_value : Cycles → json.Data
+cycles_value (Listed cycles) = array_of (map (λ links. array_of (map link_value links)) cycles)
+cycles_value (Inferred inferences) = array_of (map inference_value inferences)
+
 abbrev pub item_value : Item → json.Data
 item_value (SplitAt slot) = number slot
 item_value Costly = json.string (codes "c")
@@ -88,7 +92,7 @@ item_value (Bounded js) = array_of (json.string (codes "b") ∷ array_of (map nu
 abbrev pub certificate_value : Certificate → json.Data
 certificate_value c = json.object (members_of (
     (codes "answer", answer_value c.answer)
-    ∷ (codes "cycles", array_of (map (λ links. array_of (map link_value links)) c.cycles))
+    ∷ (codes "cycles", cycles_value c.cycles)
     ∷ (codes "tree", array_of (map item_value c.tree))
     ∷ (codes "version", number (version_number c.version))
     ∷ (codes "witnesses", array_of (map witness_value c.witnesses))

@@ -1,7 +1,7 @@
 -- Refutations: a tree of inferences over regions, in preorder. An inference splits a region, or shows that its
 -- showing candidates have a cycle in common, or that it has none. Whoever checks a tree looks at each inference once,
 -- and searches for nothing.
-use Rattle.std.specs.Prelude.{◌≡◌, ℕ, ◌==◌, nat_le, nat_lt, Bool, true, false, ◌&&◌, not, None, List, [], ◌∷◌, ◌++◌, filter, length, take, drop, slice_get}
+use Rattle.std.specs.Prelude.{◌≡◌, ℕ, ◌≤◌, ◌==◌, nat_le, nat_lt, Bool, true, false, ◌&&◌, not, None, List, [], ◌∷◌, ◌++◌, filter, length, take, drop, slice_get}
 use Rattle.std.specs.List.{Contains, flat_map, list_all, zip}
 use Rattle.fs_kinds.specs.declared.placement.Entry.{Entry}
 use Rattle.fs_kinds.specs.declared.reason.OperationName.{OperationName as Name}
@@ -95,10 +95,15 @@ roots t runs = filter (is_open t) (root t runs ∷ [])
 abbrev pub refutes_test : Test → List Entry → (ℕ → List (List Step)) → List Inference → Bool
 refutes_test t p runs inferences = refutes t p (roots t runs) inferences
 
+-- of each hart of the test all runs, and of no other hart any: one list for each hart is so
+pub record AreItsRuns (t : Test) (runs : ℕ → List (List Step)) : Type 0 where
+  pub all : HasAllRuns t runs
+  pub others : (hart : ℕ) → length t.codes ≤ hart → runs hart ≡ []
+
 -- the inferences refute the whole test under the placement
 pub record IsRefuted (t : Test) (p : List Entry) (inferences : List Inference) : Type 0 where
   pub runs : ℕ → List (List Step)
-  pub all : HasAllRuns t runs
+  pub all : AreItsRuns t runs
   pub refuted : refutes_test t p runs inferences ≡ true
 
 -- ---- what it shows

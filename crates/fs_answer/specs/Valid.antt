@@ -1,5 +1,5 @@
--- Valid certificates: for a placement one cycle for each showing candidate, and a tree that leaves no better placement; for
--- none an execution that shows the outcome with rw,rw in every slot.
+-- Valid certificates: for a placement one cycle for each showing candidate, or a refutation, and a tree that leaves no better
+-- placement; for none an execution that shows the outcome with rw,rw in every slot.
 use Rattle.std.specs.Prelude.{◌≡◌, ℕ, nat_le, Bool, true, Option, None, Some, List, [], ◌∷◌, ◌++◌, map, slice_get}
 use Rattle.std.specs.List.{AllZip}
 use Rattle.fs_kinds.specs.declared.placement.Entry.{Entry}
@@ -14,8 +14,15 @@ use Rattle.fs_answer.specs.Shown.{ShowsAs}
 use Rattle.fs_answer.specs.Widths.{width}
 use Rattle.fs_answer.specs.Parts.{Part, undecided, is_undecided, floor, filled, child_parts}
 use Rattle.fs_answer.specs.Pruning.{is_pruned}
-use Rattle.fs_answer.specs.Certificate.{Certificate, Version, First, Second, NoneForbids, Item, SplitAt, Costly, Refuted, Bounded, IsAnswered}
+use Rattle.fs_answer.specs.Certificate.{Certificate, Version, First, Second, Fourth, NoneForbids, Cycles, Listed, Inferred, IsEmpty, Item, SplitAt, Costly, Refuted, Bounded, IsAnswered}
 use Rattle.fs_answer.specs.Cycles.{HasCycles}
+use Rattle.fs_answer.specs.Trees.{IsRefuted}
+
+-- ---- what shows that the placement forbids the outcome
+
+abbrev pub Forbid : Test → List Entry → Cycles → Type 0
+Forbid t p (Listed cycles) = HasCycles t p cycles
+Forbid t p (Inferred inferences) = IsRefuted t p inferences
 
 -- ---- the tree
 
@@ -23,6 +30,7 @@ use Rattle.fs_answer.specs.Cycles.{HasCycles}
 abbrev pub is_costly : Version → PriceTable → List Entry → Part → Bool
 is_costly First prices p part = nat_le (cost prices p) (cost prices (floor part))
 is_costly Second prices p part = is_pruned prices (Some p) part []
+is_costly Fourth prices p part = is_pruned prices (Some p) part []
 
 -- the witness of this number gives this execution, and it shows the outcome with these fences
 abbrev pub RefutesBy : Test → List Witness → List Entry → ℕ → Execution → Type 0
@@ -56,13 +64,13 @@ module _ (t : Test) (prices : PriceTable) (c : Certificate) (p : List Entry) whe
 -- a valid certificate for the placement p
 pub record IsValidFor (t : Test) (prices : PriceTable) (c : Certificate) (p : List Entry) : Type 0 where
   pub answered : IsAnswered t prices c.answer p
-  pub cycles : HasCycles t p c.cycles
+  pub cycles : Forbid t p c.cycles
   pub tree : Covers t prices c p (undecided t ∷ []) c.tree
 
 -- a valid certificate for none
 pub record IsValidForNone (t : Test) (c : Certificate) : Type 0 where
   pub answered : c.answer ≡ NoneForbids
-  pub cycles : c.cycles ≡ []
+  pub cycles : IsEmpty c.cycles
   pub tree : c.tree ≡ []
   pub witness : Witness
   pub only : c.witnesses ≡ witness ∷ []

@@ -18,13 +18,14 @@ use Rattle.fs_answer.specs.declared.witness.WitnessFile.{WitnessFile}
 use Rattle.fs_answer.specs.Parts.{undecided, floor}
 use Rattle.fs_answer.specs.Pruning.{is_pruned}
 use Rattle.fs_answer.specs.Certificate as said
-use Rattle.fs_answer.specs.Certificate.{Certificate, Version, Second, NoneForbids, Link, Item, fence_words}
+use Rattle.fs_answer.specs.Certificate.{Certificate, Version, Second, NoneForbids, Listed, Link, Item, fence_words}
 use Rattle.fs_answer.specs.CertificateFile.{is_sayable, numbers_in, most_number}
 use Rattle.fs_answer.specs.Cycles.{HasCycles, IsCycle, most_links}
 use Rattle.fs_answer.specs.Valid.{Covers, is_costly}
 use Rattle.fs_certificate.specs.declared.certificate.Certificate.{Certificate as Kept}
 use Rattle.fs_certificate.specs.declared.certificate.Item.{Item as CodeItem}
-use Rattle.fs_certificate.specs.Kept.{KeepsCycle, answer_of, version_of, item_of}
+use Rattle.fs_certificate.specs.declared.certificate.CertifiedCycles.TheVariants.{Listed as KeptList}
+use Rattle.fs_certificate.specs.Kept.{KeepsCycles, answer_of, version_of, item_of}
 use Rattle.fs_answer.specs.WitnessFile.{KeepsWitness}
 use Rattle.fs_bound.proofs.Floors.{cost-alone}
 use Rattle.fs_bound.proofs.Ranked.{better-irreflexive}
@@ -55,7 +56,7 @@ abbrev certificate_of : Question → Refuted → List (List Link) → List CodeI
 certificate_of q f cycles tree ws = record {
   version = Second;
   answer = said.Fenced (cost q.prices f.placement) (fence_words f.placement);
-  cycles = cycles;
+  cycles = Listed cycles;
   tree = map item_of tree;
   witnesses = ws;
 }
@@ -65,12 +66,12 @@ pub fenced_certifies : (q : Question) (f : Refuted) (tree : List CodeItem) (file
     → AreSayable (map item_of tree)
     → ((c : Certificate) → c.version ≡ Second → c.witnesses ≡ ws → Covers q.test q.prices c f.placement (undecided q.test ∷ []) (map item_of tree))
     → Certifies q.test q.prices (Some f.placement) made
-fenced_certifies q f tree files made ws is copied cycles placement sayable covers = let said = are_said made.cycles f.cycles is.cycles in record {
+fenced_certifies q f tree files made ws is copied cycles placement sayable covers = let said = are_said is.copies f.cycles is.cycles in record {
   certificate = certificate_of q f said.said tree ws;
   keeps = record {
     version = sym is.version;
     answer = sym is.answer;
-    cycles = said.keeps;
+    cycles = subst (λ kept. KeepsCycles kept (Listed said.said)) (sym is.listed) said.keeps;
     tree = ap (map item_of) (sym is.tree_is);
     witnesses = subst (λ l. AllZip KeepsWitness l ws) (sym is.witnesses_are) (copies_keep files ws copied);
   };
@@ -123,10 +124,10 @@ least-covers t prices c p is second =
 -- ---- certificates of none
 
 abbrev certificate_by : Witness → Certificate
-certificate_by w = record { version = Second; answer = NoneForbids; cycles = []; tree = []; witnesses = w ∷ [] }
+certificate_by w = record { version = Second; answer = NoneForbids; cycles = Listed []; tree = []; witnesses = w ∷ [] }
 
 pub none_certifies : (t : Test) (prices : PriceTable) (made : Kept) (w : Witness) (e : Execution) → version_of made.version ≡ Second
-    → answer_of made.answer ≡ NoneForbids → made.cycles ≡ [] → made.tree ≡ [] → AreCopiedWitnesses made.witnesses (w ∷ []) → IsOfWitness t w e
+    → answer_of made.answer ≡ NoneForbids → made.cycles ≡ KeptList [] → made.tree ≡ [] → AreCopiedWitnesses made.witnesses (w ∷ []) → IsOfWitness t w e
     → RefutesAll t e → CertifiesNone t prices w made
 none_certifies t prices made w e version answer cycles tree copied given refutes = record {
   certifies = record {
@@ -134,7 +135,7 @@ none_certifies t prices made w e version answer cycles tree copied given refutes
     keeps = record {
       version = sym version;
       answer = sym answer;
-      cycles = subst (λ l. AllZip KeepsCycle l []) (sym cycles) tt;
+      cycles = subst (λ kept. KeepsCycles kept (Listed [])) (sym cycles) tt;
       tree = ap (map item_of) (sym tree);
       witnesses = copies_keep made.witnesses (w ∷ []) copied;
     };

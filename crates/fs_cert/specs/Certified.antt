@@ -21,7 +21,7 @@ pub record Certifies (t : Test) (prices : PriceTable) (answer : Option (List Ent
   pub valid : IsValid t prices certificate answer
   pub in_range : AreInRange certificate
   pub sayable : CanBeSaid certificate
-  pub least : All BeginsAtLeast certificate.cycles
+  pub least : All BeginsAtLeast (said.listed_in certificate.cycles)
 
 -- It is one of none, by this witness.
 pub record CertifiesNone (t : Test) (prices : PriceTable) (w : Witness) (kept : Certificate) : Type 0 where

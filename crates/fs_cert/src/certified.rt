@@ -21,7 +21,7 @@ use crate::numbered::number_all;
 use crate::preorder::tree_of;
 use fs_answer::WitnessFile;
 use fs_board::Board;
-use fs_certificate::{Certificate, CertifiedAnswer, Item, Version};
+use fs_certificate::{Certificate, CertifiedAnswer, CertifiedCycles, Item, Version};
 use fs_evidence::{Forbidden, Question, Witness};
 use fs_kinds::Fault;
 use fs_list::List;
@@ -42,7 +42,7 @@ fn fenced(
     Ok(Certificate {
         version: Version::Second,
         answer: answer_of(alloc, &question.prices, &forbidden.placement)?,
-        cycles: cycles_of(alloc, forbidden.cycles.as_slice())?,
+        cycles: CertifiedCycles::Listed(cycles_of(alloc, forbidden.cycles.as_slice())?),
         tree,
         witnesses,
     })
@@ -102,7 +102,7 @@ pub fn from_witness(alloc: Global, witness: &Witness) -> Result<Certificate, All
     Ok(Certificate {
         version: Version::Second,
         answer: CertifiedAnswer::NoneForbids,
-        cycles: List::new(Vec::new(alloc)),
+        cycles: CertifiedCycles::Listed(List::new(Vec::new(alloc))),
         tree: List::new(Vec::new(alloc)),
         witnesses: List::new(witnesses),
     })

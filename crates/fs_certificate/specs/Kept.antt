@@ -6,20 +6,24 @@ use Rattle.fs_kinds.specs.declared.fault.Fault.TheVariants.{BadCertificate, Memo
 use Rattle.fs_kinds.specs.declared.reason.OperationName.{OperationName as Name}
 use Rattle.fs_model.specs.Witness.{Witness}
 use Rattle.fs_evidence.specs.Evidence.{cause_of}
+use Rattle.fs_evidence.specs.Inferences.{inference_of}
 use Rattle.fs_answer.specs.Certificate as said
 use Rattle.fs_answer.specs.WitnessFile.{in_range, IsInRange, KeepsWitness}
 use Rattle.fs_certificate.specs.declared.certificate.Certificate.{Certificate}
 use Rattle.fs_certificate.specs.declared.certificate.CertificateLink.{CertificateLink}
 use Rattle.fs_certificate.specs.declared.certificate.CertifiedAnswer.{CertifiedAnswer}
 use Rattle.fs_certificate.specs.declared.certificate.CertifiedAnswer.TheVariants.{Fenced, NoneForbids}
+use Rattle.fs_certificate.specs.declared.certificate.CertifiedCycles.{CertifiedCycles}
+use Rattle.fs_certificate.specs.declared.certificate.CertifiedCycles.TheVariants.{Listed, Inferred}
 use Rattle.fs_certificate.specs.declared.certificate.Item.{Item}
 use Rattle.fs_certificate.specs.declared.certificate.Item.TheVariants.{SplitAt, Costly, Refuted, Bounded}
 use Rattle.fs_certificate.specs.declared.certificate.Version.{Version}
-use Rattle.fs_certificate.specs.declared.certificate.Version.TheVariants.{First, Second}
+use Rattle.fs_certificate.specs.declared.certificate.Version.TheVariants.{First, Second, Fourth}
 
 abbrev pub version_of : Version → said.Version
 version_of First = said.First
 version_of Second = said.Second
+version_of Fourth = said.Fourth
 
 abbrev pub answer_of : CertifiedAnswer → said.Answer
 answer_of (Fenced cost fences) = said.Fenced cost (map string_bytes fences)
@@ -39,11 +43,17 @@ pub record KeepsLink (kept : CertificateLink) (link : said.Link) : Type 0 where
 abbrev pub KeepsCycle : List CertificateLink → List said.Link → Type 0
 KeepsCycle = AllZip KeepsLink
 
+-- the cycles, but for names that no operation has; or the inferences
+abbrev pub KeepsCycles : CertifiedCycles → said.Cycles → Type 0
+KeepsCycles (Listed kept) (said.Listed cycles) = AllZip KeepsCycle kept cycles
+KeepsCycles (Inferred kept) (said.Inferred inferences) = inferences ≡ map inference_of kept
+KeepsCycles kept other = ⊥
+
 -- the certificate, but for names that no operation has
 pub record KeepsCertificate (kept : Certificate) (c : said.Certificate) : Type 0 where
   pub version : c.version ≡ version_of kept.version
   pub answer : c.answer ≡ answer_of kept.answer
-  pub cycles : AllZip KeepsCycle kept.cycles c.cycles
+  pub cycles : KeepsCycles kept.cycles c.cycles
   pub tree : c.tree ≡ map item_of kept.tree
   pub witnesses : AllZip KeepsWitness kept.witnesses c.witnesses
 
@@ -59,5 +69,5 @@ abbrev pub AreInRangeNames : Witness → Type 0
 AreInRangeNames w = All IsInRange w.order
 
 pub record AreInRange (c : said.Certificate) : Type 0 where
-  pub cycles : All AreInRangeLinks c.cycles
+  pub cycles : All AreInRangeLinks (said.listed_in c.cycles)
   pub witnesses : All AreInRangeNames c.witnesses

@@ -1,16 +1,17 @@
 //! What a certificate is made of.
 
 use fs_answer::WitnessFile;
-use fs_evidence::Cause;
+use fs_evidence::{Cause, Inference};
 use fs_kinds::OperationName;
 use fs_list::List;
 
-/// What a certificate claims: in the first version that no cheaper placement forbids the outcome, in the second that the answer is
-/// the first of the cheapest.
+/// What a certificate claims: in the first version that no cheaper placement forbids the outcome, in the others that the answer is
+/// the first of the cheapest. The fourth has a refutation in place of a list of cycles.
 #[derive(Clone, Copy, Debug, PartialEq, Eq)]
 pub enum Version {
     First,
     Second,
+    Fourth,
 }
 
 /// The answer that a certificate is for.
@@ -43,13 +44,21 @@ pub struct CertificateLink {
     pub cause: Cause,
 }
 
+/// What is to show that the answer forbids the outcome.
+#[derive(Drop)]
+pub enum CertifiedCycles {
+    /// A cycle for each candidate execution that shows the outcome, in their order.
+    Listed(List<List<CertificateLink>>),
+    /// The steps of a refutation.
+    Inferred(List<Inference>),
+}
+
 /// What a certificate file says.
 #[derive(Drop)]
 pub struct Certificate {
     pub version: Version,
     pub answer: CertifiedAnswer,
-    /// A cycle for each candidate execution that shows the outcome, in their order.
-    pub cycles: List<List<CertificateLink>>,
+    pub cycles: CertifiedCycles,
     /// The items of the tree, in preorder.
     pub tree: List<Item>,
     /// The executions that leaves name.

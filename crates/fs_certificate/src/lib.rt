@@ -13,4 +13,6 @@ mod write_cycles;
 mod write_tree;
 mod write_witnesses;
 
-pub use certificate::{Certificate, CertificateLink, CertifiedAnswer, Item, Version};
+pub use certificate::{
+    Certificate, CertificateLink, CertifiedAnswer, CertifiedCycles, Item, Version,
+};

@@ -4,7 +4,7 @@ use Rattle.fs_kinds.specs.declared.fault.Fault.{Fault}
 use Rattle.fs_kinds.specs.declared.fault.Fault.TheVariants.{BadCertificate}
 use Rattle.fs_kinds.specs.PriceTable.{PriceTable}
 use Rattle.fs_model.specs.declared.test.Test.{Test}
-use Rattle.fs_answer.specs.CandidateFaults.{IsCandidateFault}
+use Rattle.fs_answer.specs.CandidateFaults.{IsCyclesFault, HasNoCyclesFault}
 use Rattle.fs_answer.specs.Certificate.{Certificate, IsRight}
 use Rattle.fs_answer.specs.CertificateFile.{IsCertificateFile}
 use Rattle.fs_answer.specs.Refusals.{IsRefusal}
@@ -18,8 +18,15 @@ abbrev pub IsCheckVerdict : Test → PriceTable → Certificate → CheckVerdict
 IsCheckVerdict t prices c (Yes kept answer) = KeepsCertificate kept c × (IsValid t prices c answer × IsRight c.version t prices answer)
 IsCheckVerdict t prices c (No why) = IsRefusal t prices c why
 
--- The bytes are no certificate file. Or they are one, and the candidates of the test can't be listed.
+-- the bytes are a certificate file, whose cycles can be judged, and this is said of what they say
+pub record IsJudged (t : Test) (prices : PriceTable) (bytes : List ℕ) (verdict : CheckVerdict) : Type 0 where
+  pub certificate : Certificate
+  pub says : IsCertificateFile bytes certificate
+  pub clean : HasNoCyclesFault certificate.cycles t
+  pub verdict : IsCheckVerdict t prices certificate verdict
+
+-- The bytes are no certificate file. Or they are one, whose cycles can't be judged: the candidates or the runs of the test can't be listed.
 abbrev pub IsCheckFault : Test → (certificate : List ℕ) → Fault → Type 0
 IsCheckFault t bytes f =
     ((f ≡ BadCertificate) × ((c : Certificate) → IsCertificateFile bytes c → ⊥))
-    ⊎ (((c : Certificate) × IsCertificateFile bytes c) × IsCandidateFault t f)
+    ⊎ ((c : Certificate) × IsCertificateFile bytes c × IsCyclesFault c.cycles t f)

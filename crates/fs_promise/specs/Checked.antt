@@ -5,12 +5,12 @@ use Rattle.fs_kinds.specs.PriceTable.{PriceTable, cost}
 use Rattle.fs_model.specs.declared.test.Test.{Test}
 use Rattle.fs_litmus.specs.Reads.{Reads}
 use Rattle.fs_model.specs.Allows.{IsPlacement}
-use Rattle.fs_answer.specs.Certificate.{Certificate, Version, First, Second}
+use Rattle.fs_answer.specs.Certificate.{Certificate, Version, First, Second, Fourth}
 use Rattle.fs_answer.specs.CertificateFile.{IsCertificateFile}
 use Rattle.fs_answer.specs.Texts.{fenced_lines}
 use Rattle.fs_io.specs.declared.status.Status.{Status}
 use Rattle.fs_io.specs.declared.status.Status.TheVariants.{Success}
-use Rattle.fs_answer.specs.CandidateFaults.{HasNoCandidateFault}
+use Rattle.fs_answer.specs.CandidateFaults.{HasNoCyclesFault}
 use Rattle.fs_place.specs.Place.{ArePricesOf}
 use Rattle.fs_verify.specs.Check.{yes_line}
 use Rattle.fs_promise.specs.Headline.{AreRead, StaysPossible, IsRuledOut, CheapestRulesOut, NothingRulesOut}
@@ -27,19 +27,21 @@ pub record LeastRulesOut (t : Test) (prices : PriceTable) (text : List ℕ) : Ty
 abbrev pub IsBestAnswer : Version → Test → PriceTable → (text : List ℕ) → Type 0
 IsBestAnswer First = LeastRulesOut
 IsBestAnswer Second = CheapestRulesOut
+IsBestAnswer Fourth = CheapestRulesOut
 
--- A line `yes` is printed, and below it what is true of the test and the prices. And the test's candidates can be listed.
-abbrev pub IsTrueAnswerBelow : Version → Test → PriceTable → (text : List ℕ) → Type 0
-IsTrueAnswerBelow version t prices text =
-    HasNoCandidateFault t
-    × ((below : List ℕ) × (text ≡ yes_line ++ below) × (IsBestAnswer version t prices below ⊎ NothingRulesOut t below))
+-- A line `yes` is printed, and below it what is true of the test and the prices. And the test's candidates can be listed, or its runs
+-- where the certificate has a refutation.
+abbrev pub IsTrueAnswerBelow : Certificate → Test → PriceTable → (text : List ℕ) → Type 0
+IsTrueAnswerBelow c t prices text =
+    HasNoCyclesFault c.cycles t
+    × ((below : List ℕ) × (text ≡ yes_line ++ below) × (IsBestAnswer c.version t prices below ⊎ NothingRulesOut t below))
 
 -- the bytes read as a test, prices and a certificate, and the yes is true of all that they read as
 abbrev pub IsTrueYes : (test prices certificate text : List ℕ) → Type 0
 IsTrueYes test prices certificate text =
     AreRead test prices × ((c : Certificate) × IsCertificateFile certificate c)
     × ((t : Test) (table : PriceTable) (c : Certificate) → Reads test t → ArePricesOf prices table → IsCertificateFile certificate c
-    → IsTrueAnswerBelow c.version t table text)
+    → IsTrueAnswerBelow c t table text)
 
 -- `check` prints a line `yes` and below it the same lines, and ends with success
 abbrev pub IsYesTo : (text verdict : List ℕ) → (end : Status) → Type 0

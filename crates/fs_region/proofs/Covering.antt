@@ -55,7 +55,7 @@ in_root t runs bounded all c shows = record {
 
 pub covers : (t : Test) (p : List Entry) (inferences : List Inference) → IsBounded t → IsRefuted t p inferences → Covers t p (cycles_in inferences)
 covers t p inferences bounded is c shows =
-    let member = in_root t is.runs bounded is.all c shows in
+    let member = in_root t is.runs bounded is.all.all c shows in
     walked t p c bounded.forward shows _ inferences is.refuted (root t is.runs)
     (in_filter (is_open t) (root t is.runs ∷ []) (root t is.runs) (first_in (root t is.runs) (root t is.runs) [] refl) (open_there t p c bounded.forward shows (root t is.runs) member)) member
 

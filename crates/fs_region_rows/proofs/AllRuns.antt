@@ -222,8 +222,13 @@ module _ (b : Place) where
   sb_all (suc zero) low = record { rising = two_rise Precedes (second 0) (second 1) (inl (lit< tt)); exact = λ ss. (second_there ss, second_in_list ss) }
   sb_all (suc (suc hart)) low = absurd (omega (arith, low))
 
+  sb_others : (hart : ℕ) → length t.codes ≤ hart → sb_runs hart ≡ []
+  sb_others zero high = absurd (omega (arith, high))
+  sb_others (suc zero) high = absurd (omega (arith, high))
+  sb_others (suc (suc hart)) high = refl
+
   pub sb_refuted : IsRefuted (sb b) (fences WR WR) sb_tree
-  sb_refuted = record { runs = sb_runs; all = sb_all; refuted = refl }
+  sb_refuted = record { runs = sb_runs; all = record { all = sb_all; others = sb_others }; refuted = refl }
 
 -- ---- a pair and a store
 
@@ -424,5 +429,10 @@ module _ (b : Place) where
       record { rising = one_rises Precedes behind; exact = λ ss. (behind_there ss, behind_in_list ss) }
   pair_all (suc (suc hart)) low = absurd (omega (arith, low))
 
+  pair_others : (hart : ℕ) → length pair.codes ≤ hart → pair_runs hart ≡ []
+  pair_others zero high = absurd (omega (arith, high))
+  pair_others (suc zero) high = absurd (omega (arith, high))
+  pair_others (suc (suc hart)) high = refl
+
   pub parted_refuted : IsRefuted (parted b) [] parted_tree
-  parted_refuted = record { runs = pair_runs; all = pair_all; refuted = refl }
+  parted_refuted = record { runs = pair_runs; all = record { all = pair_all; others = pair_others }; refuted = refl }

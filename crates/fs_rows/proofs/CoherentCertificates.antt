@@ -73,11 +73,7 @@ module _ (p q : Box (Unit {0}) Global) where
   fewer = (
     unfenced,
     answered,
-    (
-      stale ∷ [],
-      listing p q,
-      ((cycle, tt), inr (slot_at 1 1, refl, refl, inr (refl, inr (refl, inr (refl, inr (refl, inr (refl, inr (refl, refl)))))))),
-    ),
+    (cycles, inr (slot_at 1 1, refl, refl, inr (refl, inr (refl, inr (refl, inr (refl, inr (refl, inr (refl, refl)))))))),
   )
 
   pub more : IsRefusal t prices (with_tree (six_leaves 0 (Costly ∷ leaf))) reason.Tree
@@ -85,29 +81,25 @@ module _ (p q : Box (Unit {0}) Global) where
     unfenced,
     answered,
     (
-      stale ∷ [],
-      listing p q,
-      (
-        (cycle, tt),
-        inr (slot_at 1 1, refl, refl, inr (refl, inr (refl, inr (refl, inr (refl, inr (refl, inr (refl, inr (refl, refl)))))))),
-      ),
+      cycles,
+      inr (slot_at 1 1, refl, refl, inr (refl, inr (refl, inr (refl, inr (refl, inr (refl, inr (refl, inr (refl, refl)))))))),
     ),
   )
 
   pub no_slot : IsRefusal t prices (with_tree (six_leaves 1 leaf)) reason.Tree
-  no_slot = (unfenced, answered, (stale ∷ [], listing p q, ((cycle, tt), inl (refl, refl))))
+  no_slot = (unfenced, answered, (cycles, inl (refl, refl)))
 
   pub two_trees : IsRefusal t prices (with_tree (Costly ∷ leaf)) reason.Tree
-  two_trees = (unfenced, answered, (stale ∷ [], listing p q, ((cycle, tt), inr (refl, refl))))
+  two_trees = (unfenced, answered, (cycles, inr (refl, refl)))
 
   pub no_tree : IsRefusal t prices (with_tree []) reason.Tree
-  no_tree = (unfenced, answered, (stale ∷ [], listing p q, ((cycle, tt), refl)))
+  no_tree = (unfenced, answered, (cycles, refl))
 
   pub no_witness : IsRefusal t prices (with_tree (Refuted 0 ∷ [])) (reason.Witness 0)
   no_witness = (
     unfenced,
     answered,
-    (stale ∷ [], listing p q, ((cycle, tt), inl ((λ refutes. let none = refutes.1.1 in cc), refl))),
+    (cycles, inl ((λ refutes. let none = refutes.1.1 in cc), refl)),
   )
 
   costs_nothing : (slot : Slot) (kind : Option Kind)

@@ -69,10 +69,10 @@ module _ (p q : Box (Unit {0}) Global) where
   answered = record { placement = record { slots = refl; offered = refl }; answered = refl }
 
   pub root_leaf : IsRefusal t prices (fenced 5 (Costly ∷ [])) (reason.Node 0)
-  root_leaf = (two_fences, answered, (overtaken ∷ [], listing p q, ((cycle, tt), inl (refl, refl))))
+  root_leaf = (two_fences, answered, ((overtaken ∷ [], listing p q, (cycle, tt)), inl (refl, refl)))
 
   pub first_leaf : IsRefusal t prices (fenced 5 seven_leaves) (reason.Node 1)
-  first_leaf = (two_fences, answered, (overtaken ∷ [], listing p q, ((cycle, tt), inr (slot_at 0 3, refl, refl, inl (refl, refl)))))
+  first_leaf = (two_fences, answered, ((overtaken ∷ [], listing p q, (cycle, tt)), inr (slot_at 0 3, refl, refl, inl (refl, refl))))
 
   -- ---- certificates of none
 

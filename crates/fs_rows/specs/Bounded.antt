@@ -2,7 +2,7 @@
 use Rattle.std.specs.Prelude.{ℕ, Some, List, [], ◌∷◌, codes}
 use Rattle.fs_kinds.specs.declared.kind.Kind.TheVariants.{WR}
 use Rattle.fs_kinds.specs.declared.placement.Entry.{Entry}
-use Rattle.fs_answer.specs.Certificate.{Certificate, Second, Fenced, Bounded}
+use Rattle.fs_answer.specs.Certificate.{Certificate, Second, Fenced, Listed, Bounded}
 use Rattle.fs_rows.specs.StoreBuffering.{fences}
 use Rattle.fs_rows.specs.Rows.{loads_first}
 
@@ -15,7 +15,7 @@ abbrev pub bounded_by : List ℕ → Certificate
 bounded_by js = record {
   version = Second;
   answer = Fenced 18 (codes "P0:2=w,r" ∷ codes "P1:2=w,r" ∷ []);
-  cycles = [];
+  cycles = Listed [];
   tree = Bounded js ∷ [];
   witnesses = loads_first ∷ [];
 }

@@ -4,7 +4,7 @@ use Rattle.fs_kinds.specs.declared.placement.Entry.{Entry}
 use Rattle.fs_model.specs.Slots.{slot_at}
 use Rattle.fs_model.specs.Preserved.{Rule1, Rule2}
 use Rattle.fs_answer.specs.Judged.{Cause, Preserved, ReadsFrom, Coherence, FromReads}
-use Rattle.fs_answer.specs.Certificate.{Certificate, Version, First, Fenced, Link, Item, SplitAt, Costly}
+use Rattle.fs_answer.specs.Certificate.{Certificate, Version, First, Fenced, Listed, Link, Item, SplitAt, Costly}
 use Rattle.fs_rows.specs.Rows.{named}
 
 -- the one slot is before hart 1's second load, and it stays empty
@@ -40,7 +40,7 @@ no_operation =
 -- a certificate that no fence is needed
 abbrev pub certificate : Version → (cost : ℕ) → List (List Link) → List Item → Certificate
 certificate version cost cycles tree =
-    record { version = version; answer = Fenced cost []; cycles = cycles; tree = tree; witnesses = [] }
+    record { version = version; answer = Fenced cost []; cycles = Listed cycles; tree = tree; witnesses = [] }
 
 -- with its cycle, in the first version
 abbrev pub with_tree : List Item → Certificate

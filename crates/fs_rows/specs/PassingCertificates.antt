@@ -6,7 +6,7 @@ use Rattle.fs_kinds.specs.declared.placement.Entry.{Entry}
 use Rattle.fs_model.specs.Preserved.{Rule4}
 use Rattle.fs_model.specs.Witness.{Witness}
 use Rattle.fs_answer.specs.Judged.{Preserved, ReadsFrom, FromReads}
-use Rattle.fs_answer.specs.Certificate.{Certificate, First, Fenced, NoneForbids, Link, Item, SplitAt, Costly}
+use Rattle.fs_answer.specs.Certificate.{Certificate, First, Fenced, NoneForbids, Listed, Link, Item, SplitAt, Costly}
 use Rattle.fs_rows.specs.Rows.{named}
 use Rattle.fs_rows.specs.MessagePassing.{passing_fences}
 
@@ -29,7 +29,7 @@ fenced_circle =
 -- a certificate of these two fences at this cost
 abbrev pub fenced : (cost : ℕ) → List Item → Certificate
 fenced cost tree =
-    record { version = First; answer = Fenced cost fence_texts; cycles = fenced_circle ∷ []; tree = tree; witnesses = [] }
+    record { version = First; answer = Fenced cost fence_texts; cycles = Listed (fenced_circle ∷ []); tree = tree; witnesses = [] }
 
 -- the root split between the stores, and seven leaves; the first one has no fence there
 abbrev pub seven_leaves : List Item
@@ -37,4 +37,4 @@ seven_leaves = SplitAt 0 ∷ Costly ∷ Costly ∷ Costly ∷ Costly ∷ Costly 
 
 -- a certificate of none
 abbrev pub nothing_helps : List Item → List Witness → Certificate
-nothing_helps tree witnesses = record { version = First; answer = NoneForbids; cycles = []; tree = tree; witnesses = witnesses }
+nothing_helps tree witnesses = record { version = First; answer = NoneForbids; cycles = Listed []; tree = tree; witnesses = witnesses }

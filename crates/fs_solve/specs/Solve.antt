@@ -64,7 +64,7 @@ pub record IsCertificateOf (t : Test) (prices : PriceTable) (answer : Option (Li
   pub written : bytes ≡ certificate_text certificate
   pub second : certificate.version ≡ said.Second
   pub valid : IsValid t prices certificate answer
-  pub least : All BeginsAtLeast certificate.cycles
+  pub least : All BeginsAtLeast (said.listed_in certificate.cycles)
 
 -- where there is no placement, the one of these witnesses is printed
 abbrev pub IsWitnessed : Option (List Entry) → List Witness → List ℕ → Type 0

@@ -9,7 +9,7 @@ use Rattle.fs_kinds.specs.ReasonText.{reason_text}
 use Rattle.fs_model.specs.declared.test.Test.{Test}
 use Rattle.fs_litmus.specs.Reads.{Reads}
 use Rattle.fs_litmus.specs.Faults.{IsTestFault}
-use Rattle.fs_answer.specs.CandidateFaults.{HasNoCandidateFault}
+use Rattle.fs_answer.specs.CandidateFaults.{HasNoCyclesFault}
 use Rattle.fs_answer.specs.Certificate.{Certificate, IsBest}
 use Rattle.fs_answer.specs.CertificateFile.{IsCertificateFile}
 use Rattle.fs_answer.specs.Refusals.{IsRefusal}
@@ -63,11 +63,11 @@ pub record IsChecked (test prices certificate text : List ℕ) (status : Status)
   pub reads : Reads test the_test
   pub priced : ArePricesOf prices table
   pub says : IsCertificateFile certificate the_certificate
-  pub listed : HasNoCandidateFault the_test
+  pub listed : HasNoCyclesFault the_certificate.cycles the_test
   pub verdict : PrintsVerdict the_test table the_certificate text status
 
--- the first fault: of the prices, else of the test, else of the certificate and then of the test's candidates; want of memory may come
--- in place of any answer
+-- the first fault: of the prices, else of the test, else of the certificate and then of the test's candidates, or of its runs where the
+-- certificate has a refutation; want of memory may come in place of any answer
 pub data IsFirstCheckFault (test prices certificate : List ℕ) : Fault → Type 0 where
   of_prices : {fault : Fault} → IsPricesFault (Some prices) fault → IsFirstCheckFault test prices certificate fault
   of_test : {fault : Fault} (table : PriceTable) → ArePricesOf prices table → IsTestFault test fault

@@ -7,6 +7,8 @@ use Rattle.fs_answer.specs.Certificate as said
 use Rattle.fs_answer.specs.Certificate.{fence_words}
 use Rattle.fs_answer.specs.CertificateFile.{most_number}
 use Rattle.fs_certificate.specs.declared.certificate.Certificate.{Certificate}
+use Rattle.fs_certificate.specs.declared.certificate.CertificateLink.{CertificateLink}
+use Rattle.fs_certificate.specs.declared.certificate.CertifiedCycles.TheVariants.{Listed}
 use Rattle.fs_certificate.specs.declared.certificate.Item.{Item}
 use Rattle.fs_certificate.specs.Kept.{answer_of, version_of}
 use Rattle.fs_evidence.specs.Evidence.{Question, Refuted}
@@ -16,6 +18,8 @@ pub record IsFenced (q : Question) (f : Refuted) (tree : List Item) (witnesses :
   pub version : version_of made.version ≡ said.Second
   pub answer : answer_of made.answer ≡ said.Fenced (cost q.prices f.placement) (fence_words f.placement)
   pub most : cost q.prices f.placement ≤ most_number
-  pub cycles : AllZip IsCopiedCycle made.cycles f.cycles
+  pub copies : List (List CertificateLink)
+  pub listed : made.cycles ≡ Listed copies
+  pub cycles : AllZip IsCopiedCycle copies f.cycles
   pub tree_is : made.tree ≡ tree
   pub witnesses_are : made.witnesses ≡ witnesses
