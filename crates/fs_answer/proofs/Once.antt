@@ -1,5 +1,5 @@
 -- A text has one meaning.
-use Rattle.std.proofs.Common.{◌≡◌, ◌≢◌, ℕ, suc, ◌<◌, List, [], ◌∷◌, ◌++◌, refl, ap, subst, ◌∙◌, arith, length, get_or}
+use Rattle.std.proofs.Common.{◌≡◌, ℕ, List, [], ◌∷◌, refl, ap, subst, ◌∙◌}
 use Rattle.serde_json.specs.Data.{Data, Items, no_items, item}
 use Rattle.fs_kinds.specs.declared.reason.OperationName.{OperationName as Name}
 use Rattle.fs_model.specs.declared.step.Choice.{Choice}

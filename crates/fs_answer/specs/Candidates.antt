@@ -6,7 +6,7 @@ use Rattle.fs_model.specs.declared.test.Test.{Test}
 use Rattle.fs_model.specs.Condition.{condition_of}
 use Rattle.fs_model.specs.declared.step.Step.{Step}
 use Rattle.fs_model.specs.Numbers.{has_number, is_same, numbers_below, stands_before}
-use Rattle.fs_model.specs.Operations.{PreExecution, accesses, operations, operation, steps_of, is_load, is_store, same_word, same_hart, po, paired}
+use Rattle.fs_model.specs.Operations.{PreExecution, accesses, operations, operation, is_load, is_store, same_word, same_hart, po, paired}
 use Rattle.fs_model.specs.Execution.{pre_execution}
 use Rattle.fs_model.specs.Values.{AreRunsOverValues}
 use Rattle.fs_model.specs.Shows.{is_store_to, holds, is_outcome, final_register}
