@@ -586,6 +586,48 @@ def certificates():
         yield f"a mebibyte of {sign!r} for a certificate", text, CERTIFICATE
 
 
+def large_refutations(whole):
+    """Certificates of SB of version 4 with much of one thing: neither items nor the regions that they leave open may
+    take more time or memory than the bytes."""
+    items = whole["cycles"]
+    last = items[-1]
+    yield "80,000 filters first", dict(whole, cycles=[["f", 0]] * 80_000 + items)
+    yield "80,000 filters last", dict(whole, cycles=items + [["f", 0]] * 80_000)
+    yield "80,000 filters alone", dict(whole, cycles=[["f", 0]] * 80_000)
+    yield "60,000 choices that are none", dict(whole, cycles=[["c", "P0:1"]] * 60_000 + items)
+    yield "60,000 sources", dict(whole, cycles=[["s", "P0:2"]] * 60_000 + items)
+    yield "60,000 sources, in turn", dict(whole, cycles=[["s", "P0:2"], ["s", "P1:2"]] * 30_000 + items)
+    yield "40,000 orders", dict(whole, cycles=[["o", "P0:1", "P1:1"]] * 40_000 + items)
+    yield "80,000 conditions", dict(whole, cycles=[["d", 0]] * 80_000 + items)
+    yield "8,000 cycles", dict(whole, cycles=items[:-1] + [last] * 8_000)
+    yield "a cycle of 64 links", dict(whole, cycles=items[:-1] + [last * 16])
+    yield "a cycle of 65 links", dict(whole, cycles=items[:-1] + [(last * 17)[:65]])
+    yield "a condition of a number of 64 bits", dict(whole, cycles=[["d", 2 ** 64 - 1], *items])
+    yield "a condition of a number past that", dict(whole, cycles=[["d", 2 ** 64], *items])
+    yield "a hart of 255", dict(whole, cycles=[["f", 255], *items])
+    yield "a hart of 256", dict(whole, cycles=[["f", 256], *items])
+    yield "a name of 255", dict(whole, cycles=[["s", "P255:255"], *items])
+    yield "a name of 256", dict(whole, cycles=[["s", "P0:256"], *items])
+    yield "a name of 1,000,000 bytes", dict(whole, cycles=[["s", "P" + "0" * 1_000_000 + ":2"], *items])
+    yield "a letter of 1,000,000 bytes", dict(whole, cycles=[["s" * 1_000_000, "P0:2"], *items])
+    yield "an item of 100,000 names", dict(whole, cycles=[["s", *["P0:2"] * 100_000], *items])
+    yield "no items", dict(whole, cycles=[])
+
+
+def refutations():
+    """The same of a certificate for SB of version 4."""
+    judge = CertificateJudge()
+    good = json.loads(read(f"{EXAMPLES}/certificates/SB-v4.json"))
+    whole = json.dumps(good, separators=(",", ":")).encode()
+    yield from beginnings_of("a refutation", whole, judge.verdict)
+    yield from bytes_replaced("a refutation", whole, b'"[],: 01249acdflos\xff', judge.verdict)
+    for name, text in values_changed(good):
+        yield f"a refutation with {name}", text, judge.verdict(text)
+    for name, certificate in large_refutations(good):
+        text = json.dumps(certificate, separators=(",", ":")).encode()
+        yield f"a refutation with {name}", text, judge.verdict(text)
+
+
 HUGE = 100_000_000
 
 
