@@ -55,12 +55,26 @@ ESCAPE = re.compile('%s%s|(?P<half>%s)|%s' % (HALF % '89abAB', HALF % 'c-fC-F', 
 """An escape of a JSON text: both halves of a surrogate pair, half of one by itself, or another."""
 
 
+TEXT_OR_BRACKET = re.compile(r'"(?:[^"\\]|\\.)*"|[][{}]', re.DOTALL)
+
+
+def depth_of(text):
+    """How many lists and objects stand in one another in a JSON text."""
+    depth = most = 0
+    for found in TEXT_OR_BRACKET.finditer(text):
+        depth += {'[': 1, '{': 1, ']': -1, '}': -1}.get(found[0], 0)
+        most = max(most, depth)
+    return most
+
+
 def json_of(data):
     """The value that these bytes write, RFC 8259 in UTF-8; of a doubled key the last one counts. Else a ValueError.
     Half a surrogate pair is no text, wherever it stands; Python would take it."""
     text = data.decode('utf-8')
     if any(escape['half'] for escape in ESCAPE.finditer(text)):
         raise ValueError('half a surrogate pair')
+    if depth_of(text) > 127:
+        raise ValueError('too deep')
     return json.loads(text, parse_int=number_of_json, parse_float=number_of_json, parse_constant=number_of_json)
 
 
@@ -999,7 +1013,7 @@ def is_hart(value):
 
 def is_byte_name(value):
     """A name both numbers of which are of one byte, as in inferences."""
-    return is_name_of_operation(value) and all(int(part) < 256 for part in value[1:].split(':'))
+    return is_name_of_operation(value) and all(len(part) < 4 and int(part) < 256 for part in value[1:].split(':'))
 
 
 INFERENCES = {'c': [is_byte_name], 's': [is_byte_name], 'o': [is_byte_name] * 2, 'd': [is_whole], 'f': [is_hart],

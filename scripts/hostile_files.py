@@ -609,6 +609,7 @@ def large_refutations(whole):
     yield "a name of 255", dict(whole, cycles=[["s", "P255:255"], *items])
     yield "a name of 256", dict(whole, cycles=[["s", "P0:256"], *items])
     yield "a name of 1,000,000 bytes", dict(whole, cycles=[["s", "P" + "0" * 1_000_000 + ":2"], *items])
+    yield "a name past the last number", dict(whole, cycles=[["s", "P" + "1" * 500_000 + ":2"], *items])
     yield "a letter of 1,000,000 bytes", dict(whole, cycles=[["s" * 1_000_000, "P0:2"], *items])
     yield "an item of 100,000 names", dict(whole, cycles=[["s", *["P0:2"] * 100_000], *items])
     yield "no items", dict(whole, cycles=[])

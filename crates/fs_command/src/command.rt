@@ -101,13 +101,15 @@ Nothing is searched, so a yes needs no trust in the search:
   fence P1 2 w,r
 
 A certificate is a JSON file with the answer, a cycle for each candidate execution that
-shows the outcome, a tree in which nothing better than the answer is left, and the
-executions that the tree names. docs/CERTIFICATE.md says what makes one valid.
+shows the outcome (in version 4 a refutation of them all), a tree in which nothing better
+than the answer is left, and the executions that the tree names. docs/CERTIFICATE.md says
+what makes one valid.
 
 Reasons, where K counts from 0:
   answer       the answer is none of the test and the prices
-  cycles       not one cycle for each candidate execution that shows the outcome
-  cycle K      this one is no cycle under the answer's fences
+  cycles       not one cycle for each candidate execution that shows the outcome; or the
+               items of a refutation are not one whole tree
+  cycle K      this one is no cycle under the answer's fences, or this item doesn't follow
   tree         the items are not one whole tree
   node K       something better than the answer is left at this item
   witness K    an item needs this execution, and it isn't there or shows nothing there
@@ -119,7 +121,8 @@ Exit status:
      line
   3  memory ran out (fault F19)
 Faults beside those of the files: a hart has too many runs (F13), a run accesses an
-address of no location (F14), there are too many candidate executions (F15).";
+address of no location (F14), there are too many candidate executions (F15; not with
+version 4).";
 
 const PROGRAM_HELP: &str = "\
 `rvfence <COMMAND> --help` says what a command answers.

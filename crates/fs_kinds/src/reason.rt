@@ -45,9 +45,9 @@ pub enum Reason {
     Outcome,
     /// The answer isn't of the test and the prices.
     Answer,
-    /// There isn't one cycle for each candidate execution.
+    /// There isn't one cycle for each candidate execution, or the inferences of a refutation aren't one whole tree.
     Cycles,
-    /// The cycle of this number isn't one.
+    /// The cycle of this number isn't one, or the inference doesn't follow.
     Cycle {
         index: usize,
     },
