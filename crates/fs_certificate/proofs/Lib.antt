@@ -1,4 +1,5 @@
 pub mod Handed
+pub mod Inferences
 pub mod Lists
 pub mod Parts
 pub mod Says

@@ -6,9 +6,12 @@ use Rattle.serde_json.specs.Find.{get, as_str, as_array}
 use Rattle.serde_json.specs.View.{items_view}
 use Rattle.serde_json.specs.declared.value.Value.{Value}
 use Rattle.fs_kinds.specs.declared.reason.OperationName.{OperationName as Name}
-use Rattle.fs_answer.specs.Certificate.{Certificate, Version, First, Second, Answer, Fenced, NoneForbids, Link, Item, SplitAt, Costly, Refuted, Bounded}
-use Rattle.fs_answer.specs.CertificateFile.{AreTwo, IsNumber, IsText, IsAnswerValue, IsLink, IsCycleValue, IsItem, IsCertificateValue, version_number}
+use Rattle.fs_answer.specs.Certificate.{Certificate, Version, First, Second, Fourth, Answer, Fenced, NoneForbids, Cycles, Listed, Inferred, Link, Inference, Item, SplitAt, Costly, Refuted, Bounded}
+use Rattle.fs_answer.specs.CertificateFile.{AreTwo, IsNumber, IsText, IsAnswerValue, IsLink, IsCycleValue, IsInference, IsItem, AreCycles, IsCertificateValue, version_number}
 use Rattle.fs_answer.specs.WitnessFile.{EachItem, IsArrayOf, IsName, IsWitnessValue}
+use Rattle.fs_certificate.specs.Kept.{version_of}
+use Rattle.fs_certificate.specs.declared.certificate.Version.{Version as Kept}
+use Rattle.fs_certificate.specs.declared.certificate.Version.TheVariants as kept
 use Rattle.fs_certificate.specs.inner.Leaves.{IsLeaf}
 use Rattle.fs_certificate.specs.inner.Sections.{HasSections}
 use Rattle.fs_certificate.proofs.Lists.{as_long, same_long}
@@ -38,6 +41,32 @@ bad_length d vs is bad links h =
     let long = as_long IsLink vs links (subst (λ ds. EachItem IsLink ds links) same h.0.2) in
     elim bad [ inl e ↦ absurd (omega arith) | inr e ↦ absurd (omega arith) ]
 
+-- a value that says no cycles says none in the first two versions
+pub no_cycles : (version : Kept) (d : Data) → (version ≡ kept.First) ⊎ (version ≡ kept.Second)
+    → ((cycles : List (List Link)) → ¬ IsArrayOf IsCycleValue d cycles)
+    → (cycles : Cycles) → ¬ AreCycles (version_of version) d cycles
+no_cycles kept.First d is none (Listed cycles) h = none cycles h
+no_cycles kept.First d is none (Inferred inferences) h = h
+no_cycles kept.Second d is none (Listed cycles) h = none cycles h
+no_cycles kept.Second d is none (Inferred inferences) h = h
+no_cycles kept.Fourth d is none cycles h = elim is [ inl e ↦ absurd (cc) | inr e ↦ absurd (cc) ]
+
+pub are_cycles : (version : Kept) (d : Data) (cycles : List (List Link))
+    → (version ≡ kept.First) ⊎ (version ≡ kept.Second) → IsArrayOf IsCycleValue d cycles
+    → AreCycles (version_of version) d (Listed cycles)
+are_cycles kept.First d cycles is h = h
+are_cycles kept.Second d cycles is h = h
+are_cycles kept.Fourth d cycles is h = elim is [ inl e ↦ absurd (cc) | inr e ↦ absurd (cc) ]
+
+-- a value that says no inferences says none in the fourth version
+pub no_inferences : (version : Kept) (d : Data) → version ≡ kept.Fourth
+    → ((inferences : List Inference) → ¬ IsArrayOf IsInference d inferences)
+    → (cycles : Cycles) → ¬ AreCycles (version_of version) d cycles
+no_inferences kept.First d is none cycles h = absurd (cc)
+no_inferences kept.Second d is none cycles h = absurd (cc)
+no_inferences kept.Fourth d is none (Listed cycles) h = h
+no_inferences kept.Fourth d is none (Inferred inferences) h = none inferences h
+
 -- ---- items
 
 no_number : (d : Data) (ds : Items) (n : ℕ) → as_array d ≡ Some ds → ¬ IsNumber d n
@@ -56,6 +85,14 @@ no_text (string s) ds text is h = absurd (cc)
 no_text (array es) ds text is h = absurd (cc)
 no_text (object ms) ds text is h = absurd (cc)
 
+bounded : (d letter argument : Data) (js : List ℕ) → AreTwo d letter argument → IsItem Second d (Bounded js)
+    → IsLeaf Second letter argument (Bounded js)
+bounded d letter argument js two h =
+    let there = h.2 in
+    let first : h.0 ≡ letter = cc in
+    let second : h.1 ≡ argument = cc in
+    (subst (λ e. IsText e (codes "b")) first h.3, subst (λ e. IsArrayOf IsNumber e js) second h.4, h.5)
+
 pub no_leaf : (version : Version) (d letter argument : Data) → AreTwo d letter argument → ((leaf : Item) → ¬ IsLeaf version letter argument leaf)
     → (leaf : Item) → ¬ IsItem version d leaf
 no_leaf version d letter argument two none (SplitAt slot) h = no_number d _ slot two h
@@ -66,11 +103,8 @@ no_leaf version d letter argument two none (Refuted j) h =
     let second : h.1 ≡ argument = cc in
     none (Refuted j) (subst (λ e. IsText e (codes "w")) first h.3, subst (λ e. IsNumber e j) second h.4)
 no_leaf First d letter argument two none (Bounded js) h = h
-no_leaf Second d letter argument two none (Bounded js) h =
-    let there = h.2 in
-    let first : h.0 ≡ letter = cc in
-    let second : h.1 ≡ argument = cc in
-    none (Bounded js) (subst (λ e. IsText e (codes "b")) first h.3, subst (λ e. IsArrayOf IsNumber e js) second h.4, h.5)
+no_leaf Second d letter argument two none (Bounded js) h = none (Bounded js) (bounded d letter argument js two h)
+no_leaf Fourth d letter argument two none (Bounded js) h = none (Bounded js) (bounded d letter argument js two h)
 
 -- neither refuted by a witness nor bounded
 pub no_bounds : (version : Version) (letter argument : Data) → ¬ IsText letter (codes "w") → ((js : List ℕ) → ¬ IsArrayOf IsNumber argument js)
@@ -80,9 +114,18 @@ no_bounds version letter argument other none Costly h = h
 no_bounds version letter argument other none (Refuted j) h = other h.0
 no_bounds First letter argument other none (Bounded js) h = h
 no_bounds Second letter argument other none (Bounded js) h = none js h.1
+no_bounds Fourth letter argument other none (Bounded js) h = none js h.1
 
 is_none : (n : ℕ) → (n == 0) ≡ true → n ≡ 0
 is_none n e = grind (arith, nat_tests)
+
+one_at_least : (letter argument : Data) (found js : List ℕ) → IsArrayOf IsNumber argument found
+    → (length found == 0) ≡ true → ¬ IsLeaf Second letter argument (Bounded js)
+one_at_least letter argument found js is none h =
+    let long = same_long IsNumber IsNumber argument found js is h.1 in
+    let empty = is_none (length found) none in
+    let some = h.2 in
+    absurd (omega arith)
 
 pub no_witness : (version : Version) (letter argument : Data) (found : List ℕ) → ¬ IsText letter (codes "w") → IsArrayOf IsNumber argument found → (length found == 0) ≡ true
     → (leaf : Item) → ¬ IsLeaf version letter argument leaf
@@ -90,19 +133,21 @@ no_witness version letter argument found other is none (SplitAt slot) h = h
 no_witness version letter argument found other is none Costly h = h
 no_witness version letter argument found other is none (Refuted j) h = other h.0
 no_witness First letter argument found other is none (Bounded js) h = h
-no_witness Second letter argument found other is none (Bounded js) h =
-    let long = same_long IsNumber IsNumber argument found js is h.1 in
-    let empty = is_none (length found) none in
-    let some = h.2 in
-    absurd (omega arith)
+no_witness Second letter argument found other is none (Bounded js) h = one_at_least letter argument found js is none h
+no_witness Fourth letter argument found other is none (Bounded js) h = one_at_least letter argument found js is none h
 
 -- ---- certificates
 
 version-once : (v w : Version) → version_number v ≡ version_number w → v ≡ w
 version-once First First e = refl
 version-once First Second e = absurd (omega arith)
+version-once First Fourth e = absurd (omega arith)
 version-once Second First e = absurd (omega arith)
 version-once Second Second e = refl
+version-once Second Fourth e = absurd (omega arith)
+version-once Fourth First e = absurd (omega arith)
+version-once Fourth Second e = absurd (omega arith)
+version-once Fourth Fourth e = refl
 
 pub same-version : (d : Data) (v w : Version) → IsNumber d (version_number v) → IsNumber d (version_number w) → v ≡ w
 same-version d v w left right = version-once v w (cc)
@@ -110,7 +155,7 @@ same-version d v w left right = version-once v w (cc)
 -- the sections of a certificate say its parts
 pub record SaysParts (answer cycles tree version witnesses : Data) (c : Certificate) : Type 0 where
   pub of_answer : IsAnswerValue answer c.answer
-  pub of_cycles : IsArrayOf IsCycleValue cycles c.cycles
+  pub of_cycles : AreCycles c.version cycles c.cycles
   pub of_tree : IsArrayOf (IsItem c.version) tree c.tree
   pub of_version : IsNumber version (version_number c.version)
   pub of_witnesses : IsArrayOf IsWitnessValue witnesses c.witnesses
@@ -125,7 +170,7 @@ parts_at d answer cycles tree version witnesses c has h =
     let to_witnesses : h.witnesses ≡ witnesses = (let l = h.at_witnesses in let r = has.at_witnesses in cc) in
     record {
       of_answer = subst (λ e. IsAnswerValue e c.answer) to_answer h.says_answer;
-      of_cycles = subst (λ e. IsArrayOf IsCycleValue e c.cycles) to_cycles h.says_cycles;
+      of_cycles = subst (λ e. AreCycles c.version e c.cycles) to_cycles h.says_cycles;
       of_tree = subst (λ e. IsArrayOf (IsItem c.version) e c.tree) to_tree h.says_tree;
       of_version = subst (λ e. IsNumber e (version_number c.version)) to_version h.says_version;
       of_witnesses = subst (λ e. IsArrayOf IsWitnessValue e c.witnesses) to_witnesses h.says_witnesses;

@@ -8,13 +8,15 @@ use Rattle.serde_json.specs.Data.{Data, Items, array, string, no_items, item}
 use Rattle.serde_json.specs.View.{view, items_view}
 use Rattle.serde_json.specs.declared.value.Value.{Value}
 use Rattle.fs_kinds.specs.declared.reason.OperationName.{OperationName as Name}
-use Rattle.fs_answer.specs.Texts.{items_of, array_of, item_value}
+use Rattle.fs_evidence.specs.Inferences.{inference_of}
+use Rattle.fs_evidence.specs.declared.inference.Inference.{Inference as KeptInference}
+use Rattle.fs_answer.specs.Texts.{items_of, array_of, inference_value, item_value}
 use Rattle.fs_answer.specs.WitnessFile.{EachItem, in_range}
 use Rattle.fs_answer.proofs.Items.{each_more}
 use Rattle.fs_answer.specs.WitnessFile.{IsInRange}
 use Rattle.fs_certificate.specs.Kept.{item_of}
 use Rattle.fs_certificate.specs.declared.certificate.Item.{Item as Kept}
-use Rattle.fs_certificate.specs.inner.Written.{Writes, WritesArray, IsKeptName, kept_item_value, text_value}
+use Rattle.fs_certificate.specs.inner.Written.{Writes, WritesArray, IsKeptName, kept_inference_value, kept_item_value, text_value}
 
 -- the value is what f makes of x
 abbrev pub Is : {A : Type 0} → (A → Data) → Data → A → Type 0
@@ -78,6 +80,12 @@ zip_names (y ∷ ys) (x ∷ xs) e =
 pub map_items : (ys : List Kept) → map kept_item_value ys ≡ map item_value (map item_of ys)
 map_items [] = refl
 map_items (y ∷ ys) = ap (λ ds. kept_item_value y ∷ ds) (map_items ys)
+
+-- ---- inferences
+
+pub map_inferences : (ys : List KeptInference) → map kept_inference_value ys ≡ map inference_value (map inference_of ys)
+map_inferences [] = refl
+map_inferences (y ∷ ys) = ap (λ ds. kept_inference_value y ∷ ds) (map_inferences ys)
 
 -- ---- texts
 

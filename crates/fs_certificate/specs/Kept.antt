@@ -1,9 +1,8 @@
 -- What is kept of a certificate.
-use Rattle.std.specs.Prelude.{◌≡◌, ◌⊎◌, ◌<◌, List, All, map, string_bytes}
+use Rattle.std.specs.Prelude.{◌≡◌, ◌⊎◌, List, All, map, string_bytes}
 use Rattle.std.specs.List.{AllZip}
 use Rattle.fs_kinds.specs.declared.fault.Fault.{Fault}
 use Rattle.fs_kinds.specs.declared.fault.Fault.TheVariants.{BadCertificate, Memory}
-use Rattle.fs_kinds.specs.declared.reason.OperationName.{OperationName as Name}
 use Rattle.fs_model.specs.Witness.{Witness}
 use Rattle.fs_evidence.specs.Evidence.{cause_of}
 use Rattle.fs_evidence.specs.Inferences.{inference_of}

@@ -4,12 +4,15 @@
 mod cause;
 mod certificate;
 mod json_values;
+mod operands;
 mod read;
 mod read_answer;
 mod read_cycles;
+mod read_inferences;
 mod read_tree;
 mod write;
 mod write_cycles;
+mod write_inferences;
 mod write_tree;
 mod write_witnesses;
 

@@ -6,15 +6,16 @@ ghost use Rattle.serde_json.specs.Data.{Data};
 ghost use Rattle.serde_json.specs.View.{view};
 ghost use Rattle.fs_model.specs.Witness.{Witness};
 ghost use Rattle.fs_answer.specs.Certificate as said;
-ghost use Rattle.fs_answer.specs.CertificateFile.{IsCertificateFile, IsCertificateValue};
+ghost use Rattle.fs_answer.specs.CertificateFile.{AreCycles, IsCertificateFile, IsCertificateValue};
 ghost use Rattle.fs_answer.specs.WitnessFile.{IsArrayOf, IsWitnessValue, KeepsWitness};
-ghost use Rattle.fs_certificate.specs.Kept.{IsCertificateFault, KeepsCertificate};
+ghost use Rattle.fs_certificate.specs.Kept.{IsCertificateFault, KeepsCertificate, KeepsCycles, version_of};
 ghost use Rattle.fs_certificate.specs.inner.Sections.{HasSections};
 
-use crate::certificate::Certificate;
+use crate::certificate::{Certificate, CertifiedCycles, Version};
 use crate::json_values::{key_count, read_json};
 use crate::read_answer::read_answer;
-use crate::read_cycles::read_cycles;
+use crate::read_cycles::read_listed;
+use crate::read_inferences::read_inferences;
 use crate::read_tree::{read_tree, version_in};
 use fs_answer::{WitnessFile, witness_of};
 use fs_kinds::Fault;
@@ -52,7 +53,7 @@ fn read_certificate(alloc: Global, value: &Value) -> Result<Certificate, Fault>
     Ok(Certificate {
         version,
         answer: read_answer(alloc, sections.answer)?,
-        cycles: read_cycles(alloc, sections.cycles)?,
+        cycles: read_cycles(alloc, version, sections.cycles)?,
         tree: read_tree(alloc, version, sections.tree)?,
         witnesses: read_witnesses(alloc, sections.witnesses)?,
     })
@@ -84,6 +85,20 @@ fn sections_of(value: &Value) -> Option<Sections<'_>>
         version: value.get("version")?,
         witnesses: value.get("witnesses")?,
     })
+}
+
+/// The cycles that the value says, or the inferences, in a certificate of this version.
+fn read_cycles(alloc: Global, version: Version, value: &Value) -> Result<CertifiedCycles, Fault>
+    ensures ok { IfOk result (λ kept. (cycles : said.Cycles) × AreCycles (version_of version) (view value.now) cycles
+        × KeepsCycles kept cycles) }
+    ensures bad { IsErrOf result Fault.BadCertificate → (cycles : said.Cycles)
+        → ¬ AreCycles (version_of version) (view value.now) cycles }
+    ensures err { IfErr result IsCertificateFault }
+{
+    match version {
+        Version::First | Version::Second => Ok(CertifiedCycles::Listed(read_listed(alloc, value)?)),
+        Version::Fourth => Ok(CertifiedCycles::Inferred(read_inferences(alloc, value)?)),
+    }
 }
 
 /// The witnesses that the value says.

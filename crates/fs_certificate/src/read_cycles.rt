@@ -10,6 +10,7 @@ ghost use Rattle.fs_answer.specs.CertificateFile.{IsCycleValue, IsLink, IsText, 
 ghost use Rattle.fs_answer.specs.Judged as judged;
 ghost use Rattle.fs_answer.specs.WitnessFile.{IsArrayOf, IsName, in_range};
 ghost use Rattle.fs_certificate.specs.Kept.{IsCertificateFault, KeepsCycle, KeepsLink};
+ghost use Rattle.fs_certificate.specs.inner.Sections.{AreLinkValues};
 
 use crate::cause::cause_of_word;
 use crate::certificate::CertificateLink;
@@ -25,7 +26,7 @@ use std::alloc::Global;
 const MOST_LINKS: usize = 64;
 
 /// The cycles that the value says.
-pub(crate) fn read_cycles(
+pub(crate) fn read_listed(
     alloc: Global,
     value: &Value,
 ) -> Result<List<List<CertificateLink>>, Fault>
@@ -51,13 +52,9 @@ fn read_cycle(alloc: Global, value: &Value) -> Result<List<CertificateLink>, Fau
     ensures bad { IsErrOf result Fault.BadCertificate → (links : List said.Link) → ¬ IsCycleValue (view value.now) links }
     ensures err { IfErr result IsCertificateFault }
 {
-    let Some(items) = value.as_array() else {
+    let Some(items) = link_values(value) else {
         return Err(Fault::BadCertificate);
     };
-    let count = items.len();
-    if count == 0 || count > MOST_LINKS {
-        return Err(Fault::BadCertificate);
-    }
     let mut links = Vec::new(alloc);
     for item in items {
         let Some(link) = link_in(item) else {
@@ -68,8 +65,21 @@ fn read_cycle(alloc: Global, value: &Value) -> Result<List<CertificateLink>, Fau
     Ok(List::new(links))
 }
 
+/// The values of the links of a cycle that the value says, of which there are 1 to 64.
+pub(crate) fn link_values(value: &Value) -> Option<&[Value]>
+    ensures { MatchOption result ((links : List said.Link) → ¬ IsCycleValue (view value.now) links)
+        (λ items. AreLinkValues (view value.now) items.now) }
+{
+    let items = value.as_array()?;
+    let count = items.len();
+    if count == 0 || count > MOST_LINKS {
+        return None;
+    }
+    Some(items)
+}
+
 /// The link that the value says.
-fn link_in(value: &Value) -> Option<CertificateLink>
+pub(crate) fn link_in(value: &Value) -> Option<CertificateLink>
     ensures { MatchOption result ((link : said.Link) → ¬ IsLink (view value.now) link)
         (λ kept. (link : said.Link) × IsLink (view value.now) link × KeepsLink kept link) }
 {
@@ -80,7 +90,7 @@ fn link_in(value: &Value) -> Option<CertificateLink>
 }
 
 /// The operation that the value names, which is none where a number of the name passes 255.
-fn name_in(value: &Value) -> Option<Option<OperationName>>
+pub(crate) fn name_in(value: &Value) -> Option<Option<OperationName>>
     ensures { MatchOption result ((name : OperationName) → ¬ IsName (view value.now) name)
         (λ kept. (name : OperationName) × IsName (view value.now) name × (kept ≡ in_range name)) }
 {

@@ -23,6 +23,7 @@ pub(crate) fn version_in(value: &Value) -> Option<Version>
     match number_in(value)? {
         1 => Some(Version::First),
         2 => Some(Version::Second),
+        4 => Some(Version::Fourth),
         _ => None,
     }
 }

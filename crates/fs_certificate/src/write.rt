@@ -7,10 +7,11 @@ ghost use Rattle.fs_answer.specs.Certificate as said;
 ghost use Rattle.fs_answer.specs.CertificateFile.{CanBeSaid, IsCertificateFile, version_number};
 ghost use Rattle.fs_answer.specs.Texts.{answer_value, array_of, certificate_text, certificate_value};
 ghost use Rattle.fs_certificate.specs.Kept.{AreInRange, KeepsCertificate, answer_of, version_of};
-ghost use Rattle.fs_certificate.specs.inner.Written.{certificate_object};
+ghost use Rattle.fs_certificate.specs.inner.Written.{WritesShown, certificate_object};
 
-use crate::certificate::{Certificate, CertifiedAnswer, Version};
-use crate::write_cycles::cycles_value;
+use crate::certificate::{Certificate, CertifiedAnswer, CertifiedCycles, Version};
+use crate::write_cycles::listed_value;
+use crate::write_inferences::inferences_value;
 use crate::write_tree::tree_value;
 use crate::write_witnesses::witnesses_value;
 use serde_json::{Value, json};
@@ -37,7 +38,7 @@ fn certificate_value(alloc: Global, certificate: &Certificate) -> Result<Value, 
         → view value ≡ certificate_value c) }
 {
     let answer = answer_value(alloc, &certificate.answer)?;
-    let cycles = cycles_value(alloc, certificate.cycles.as_slice())?;
+    let cycles = cycles_value(alloc, &certificate.cycles)?;
     let tree = tree_value(alloc, certificate.tree.as_slice())?;
     let version = version_number(certificate.version);
     let witnesses = witnesses_value(alloc, certificate.witnesses.as_slice())?;
@@ -72,6 +73,17 @@ fn version_number(version: Version) -> u64
     match version {
         Version::First => 1,
         Version::Second => 2,
+        Version::Fourth => 4,
+    }
+}
+
+/// The JSON array of what is to show that the answer forbids the outcome.
+fn cycles_value(alloc: Global, cycles: &CertifiedCycles) -> Result<Value, AllocError>
+    ensures { IfOk result (λ value. WritesShown (view value) cycles.now) }
+{
+    match cycles {
+        CertifiedCycles::Listed(cycles) => listed_value(alloc, cycles.as_slice()),
+        CertifiedCycles::Inferred(inferences) => inferences_value(alloc, inferences.as_slice()),
     }
 }
 

@@ -5,7 +5,7 @@ ghost use Rattle.serde_json.specs.View.{view};
 ghost use Rattle.fs_answer.specs.CertificateFile.{cause_word};
 ghost use Rattle.fs_evidence.specs.Evidence.{cause_of};
 ghost use Rattle.serde_json.specs.Data.{string};
-ghost use Rattle.fs_certificate.specs.inner.Written.{WritesCycle, WritesCycles, WritesLink, WritesName};
+ghost use Rattle.fs_certificate.specs.inner.Written.{WritesCycle, WritesCycles, WritesLink, WritesName, name_value as named};
 
 use crate::cause::word_of;
 use crate::certificate::CertificateLink;
@@ -16,7 +16,7 @@ use serde_json::{Value, json};
 use std::alloc::{AllocError, Global};
 
 /// The JSON array of the cycles.
-pub(crate) fn cycles_value(
+pub(crate) fn listed_value(
     alloc: Global,
     cycles: &[List<CertificateLink>],
 ) -> Result<Value, AllocError>
@@ -54,7 +54,7 @@ fn link_value(
 }
 
 /// The JSON text of the word of a cause.
-fn cause_value(alloc: Global, cause: Cause) -> Result<Value, AllocError>
+pub(crate) fn cause_value(alloc: Global, cause: Cause) -> Result<Value, AllocError>
     ensures { IfOk result (λ value. view value ≡ string (cause_word (cause_of cause))) }
 {
     Ok(Value::from(String::from_str(alloc, word_of(cause))?))
@@ -68,7 +68,14 @@ pub(crate) fn name_value(
     ensures { IfOk result (λ value. WritesName (view value) operation) }
 {
     match operation {
-        Some(name) => Ok(Value::from(format!(in alloc; "{}", name)?)),
+        Some(name) => operation_value(alloc, name),
         None => Ok(Value::Null),
     }
+}
+
+/// The JSON text of an operation's name.
+pub(crate) fn operation_value(alloc: Global, name: OperationName) -> Result<Value, AllocError>
+    ensures { IfOk result (λ value. view value ≡ named name) }
+{
+    Ok(Value::from(format!(in alloc; "{}", name)?))
 }

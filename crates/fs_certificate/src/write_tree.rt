@@ -37,7 +37,7 @@ fn item_value(alloc: Global, item: &Item) -> Result<Value, AllocError>
 }
 
 /// The JSON array of a mark and a value.
-fn marked_value(alloc: Global, mark: &str, value: Value) -> Result<Value, AllocError>
+pub(crate) fn marked_value(alloc: Global, mark: &str, value: Value) -> Result<Value, AllocError>
     ensures { IfOk result (λ made. view made ≡ array_of (string mark.now ∷ view value ∷ [])) }
 {
     json!(in alloc; [mark, value])

@@ -20,14 +20,14 @@ use Rattle.fs_model.specs.Execution.{Execution, code_of, registers_of, pre_execu
 use Rattle.fs_model.specs.Shows.{holds, final_register, final_word}
 use Rattle.fs_model.specs.Witness.{Witness, IsOfWitness}
 use Rattle.fs_model.proofs.Runs.{run_once}
-use Rattle.fs_answer.specs.Certificate.{Fenced, Costly, IsAnswered, fence_words}
+use Rattle.fs_answer.specs.Certificate.{Fenced, Filter, Costly, IsAnswered, fence_words}
 use Rattle.fs_answer.specs.Shown.{ShowsAs}
 use Rattle.fs_answer.specs.Cycles.{IsCycle}
 use Rattle.fs_answer.specs.Valid.{Refutes, IsValidForNone}
 use Rattle.fs_answer.specs.Refusals.{IsRefusal, IsBadAnswer}
 use Rattle.fs_rows.specs.Rows.{prices}
 use Rattle.fs_rows.specs.MessagePassing.{mp, mp11, two_stores, two_loads, overtaken, passed, passes, passing_fences}
-use Rattle.fs_rows.specs.PassingCertificates.{two_fences, fence_texts, fenced_circle, fenced, seven_leaves, nothing_helps}
+use Rattle.fs_rows.specs.PassingCertificates.{two_fences, fence_texts, fenced_circle, fenced, seven_leaves, nothing_helps, nothing_inferred}
 use Rattle.fs_rows.proofs.Inversion.{two_runs}
 use Rattle.fs_rows.proofs.MessagePassing.{given, shows, chosen}
 use Rattle.fs_rows.proofs.PassingListing.{listing}
@@ -87,6 +87,21 @@ module _ (p q : Box (Unit {0}) Global) where
     given = given 1 p q;
     refutes = shows p q;
   }
+
+  pub inferred : IsValidForNone (mp11 p q) (nothing_inferred [])
+  inferred = record {
+    answered = refl;
+    cycles = refl;
+    tree = refl;
+    witness = passes;
+    only = refl;
+    execution = passed;
+    given = given 1 p q;
+    refutes = shows p q;
+  }
+
+  pub one_inference : IsRefusal (mp11 p q) prices (nothing_inferred (Filter 0 ∷ [])) reason.Answer
+  one_inference = inl (λ (e : (Filter 0 ∷ []) ≡ []). cc)
 
   pub no_witnesses : IsRefusal (mp11 p q) prices (nothing_helps [] []) reason.Answer
   no_witnesses = inr (inr (λ (e : 0 ≡ 1). omega (arith, e)))

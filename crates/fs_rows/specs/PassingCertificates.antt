@@ -6,9 +6,9 @@ use Rattle.fs_kinds.specs.declared.placement.Entry.{Entry}
 use Rattle.fs_model.specs.Preserved.{Rule4}
 use Rattle.fs_model.specs.Witness.{Witness}
 use Rattle.fs_answer.specs.Judged.{Preserved, ReadsFrom, FromReads}
-use Rattle.fs_answer.specs.Certificate.{Certificate, First, Fenced, NoneForbids, Listed, Link, Item, SplitAt, Costly}
+use Rattle.fs_answer.specs.Certificate.{Certificate, First, Fourth, Fenced, NoneForbids, Listed, Inferred, Link, Inference, Item, SplitAt, Costly}
 use Rattle.fs_rows.specs.Rows.{named}
-use Rattle.fs_rows.specs.MessagePassing.{passing_fences}
+use Rattle.fs_rows.specs.MessagePassing.{passes, passing_fences}
 
 -- the two fences, which cost 5
 abbrev pub two_fences : List Entry
@@ -38,3 +38,13 @@ seven_leaves = SplitAt 0 ∷ Costly ∷ Costly ∷ Costly ∷ Costly ∷ Costly 
 -- a certificate of none
 abbrev pub nothing_helps : List Item → List Witness → Certificate
 nothing_helps tree witnesses = record { version = First; answer = NoneForbids; cycles = Listed []; tree = tree; witnesses = witnesses }
+
+-- one of the fourth version, with its witness
+abbrev pub nothing_inferred : List Inference → Certificate
+nothing_inferred inferences = record {
+  version = Fourth;
+  answer = NoneForbids;
+  cycles = Inferred inferences;
+  tree = [];
+  witnesses = passes ∷ [];
+}

@@ -4,7 +4,7 @@ ghost use Rattle.std.specs.Prelude.{[], ◌∷◌};
 ghost use Rattle.std.proofs.Common.{Box};
 ghost use Rattle.std.specs.declared.alloc.Global.{Global};
 ghost use Rattle.fs_kinds.specs.declared.reason.Reason.TheVariants.{Answer, Cycles, Cycle, Tree, Node, Witness};
-ghost use Rattle.fs_answer.specs.Certificate.{First, Second, Costly, Refuted, Bounded};
+ghost use Rattle.fs_answer.specs.Certificate.{First, Second, Filter, Costly, Refuted, Bounded};
 ghost use Rattle.fs_answer.specs.Listings.{IsListing};
 ghost use Rattle.fs_answer.specs.Parts.{undecided};
 ghost use Rattle.fs_answer.specs.Valid.{IsValidFor, IsValidForNone};
@@ -15,7 +15,7 @@ ghost use Rattle.fs_rows.specs.Bounded.{both_fences, bounded_by};
 ghost use Rattle.fs_rows.specs.CoherentReads.{corr, stale};
 ghost use Rattle.fs_rows.specs.CoherentCertificates.{unfenced, right_circle, wrong_rule, wrong_edge, no_operation, certificate, with_tree, leaf, six_leaves};
 ghost use Rattle.fs_rows.specs.MessagePassing.{mp, mp11, overtaken, passes};
-ghost use Rattle.fs_rows.specs.PassingCertificates.{fenced, seven_leaves, nothing_helps};
+ghost use Rattle.fs_rows.specs.PassingCertificates.{fenced, seven_leaves, nothing_helps, nothing_inferred};
 
 /// A law: in coherent reads one candidate alone shows a store and then the initial word. The outcome says what the loads return,
 /// and so which stores they return; and the initial store is first in coherence order. The same goes for message passing.
@@ -63,12 +63,14 @@ pub fn cheap_leaves()
 {}
 
 /// A law: a certificate that no fences help where both loads of message passing return 1. It has no tree, and its one witness; in
-/// message passing itself that witness shows nothing.
+/// message passing itself that witness shows nothing. In the fourth version it is one too, and has no inference.
 pub fn certificates_of_none()
     ensures valid { (p q : Box (Unit {0}) Global) → IsValidForNone (mp11 p q) (nothing_helps [] (passes ∷ [])) }
     ensures no_witness { (p q : Box (Unit {0}) Global) → IsRefusal (mp11 p q) prices (nothing_helps [] []) Answer }
     ensures tree { (p q : Box (Unit {0}) Global) → IsRefusal (mp11 p q) prices (nothing_helps (Costly ∷ []) (passes ∷ [])) Answer }
     ensures other_test { (p q : Box (Unit {0}) Global) → IsRefusal (mp p q) prices (nothing_helps [] (passes ∷ [])) (Witness 0) }
+    ensures fourth { (p q : Box (Unit {0}) Global) → IsValidForNone (mp11 p q) (nothing_inferred []) }
+    ensures inference { (p q : Box (Unit {0}) Global) → IsRefusal (mp11 p q) prices (nothing_inferred (Filter 0 ∷ [])) Answer }
 {}
 
 /// A law: leaves of store buffering that witnesses are to bound. Where one of two witnesses isn't there, the leaf fails for that

@@ -1,7 +1,7 @@
 -- Leaves with an argument.
 use Rattle.std.specs.Prelude.{◌≤◌, length, codes}
 use Rattle.serde_json.specs.Data.{Data}
-use Rattle.fs_answer.specs.Certificate.{Version, First, Second, Item, SplitAt, Costly, Refuted, Bounded}
+use Rattle.fs_answer.specs.Certificate.{Version, First, Item, SplitAt, Costly, Refuted, Bounded}
 use Rattle.fs_answer.specs.CertificateFile.{IsNumber, IsText}
 use Rattle.fs_answer.specs.WitnessFile.{IsArrayOf}
 
@@ -11,4 +11,5 @@ IsLeaf version letter argument (SplitAt slot) = ⊥
 IsLeaf version letter argument Costly = ⊥
 IsLeaf version letter argument (Refuted j) = IsText letter (codes "w") × IsNumber argument j
 IsLeaf First letter argument (Bounded js) = ⊥
-IsLeaf Second letter argument (Bounded js) = IsText letter (codes "b") × IsArrayOf IsNumber argument js × (1 ≤ length js)
+IsLeaf version letter argument (Bounded js) = IsText letter (codes "b") × IsArrayOf IsNumber argument js ×
+    (1 ≤ length js)

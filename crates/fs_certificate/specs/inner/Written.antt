@@ -7,12 +7,15 @@ use Rattle.fs_kinds.specs.declared.reason.OperationName.{OperationName as Name}
 use Rattle.fs_kinds.specs.ReasonText.{operation_name}
 use Rattle.fs_model.specs.declared.step.Choice.{Choice}
 use Rattle.fs_answer.specs.declared.witness.WitnessFile.{WitnessFile}
-use Rattle.fs_answer.specs.Certificate.{Link}
-use Rattle.fs_answer.specs.Texts.{array_of, members_of, number, choice_value, item_value, link_value, witness_value}
+use Rattle.fs_evidence.specs.Inferences.{inference_of}
+use Rattle.fs_evidence.specs.declared.inference.Inference.{Inference}
+use Rattle.fs_answer.specs.Certificate.{Link, listed_in}
+use Rattle.fs_answer.specs.Texts.{array_of, members_of, number, choice_value, cycles_value, inference_value, item_value, link_value, witness_value}
 use Rattle.fs_answer.specs.WitnessFile.{in_range, KeepsWitness}
 use Rattle.fs_answer.specs.WitnessFile.{IsInRange}
-use Rattle.fs_certificate.specs.Kept.{KeepsLink, AreInRangeLinks, AreInRangeNames, item_of}
+use Rattle.fs_certificate.specs.Kept.{KeepsCycles, KeepsLink, AreInRangeLinks, AreInRangeNames, item_of}
 use Rattle.fs_certificate.specs.declared.certificate.CertificateLink.{CertificateLink}
+use Rattle.fs_certificate.specs.declared.certificate.CertifiedCycles.{CertifiedCycles}
 use Rattle.fs_certificate.specs.declared.certificate.Item.{Item}
 
 abbrev pub text_value : String Global → Data
@@ -23,6 +26,9 @@ name_value name = string (operation_name name)
 
 abbrev pub kept_item_value : Item → Data
 kept_item_value item = item_value (item_of item)
+
+abbrev pub kept_inference_value : Inference → Data
+kept_inference_value inference = inference_value (inference_of inference)
 
 abbrev pub choices_value : List Choice → Data
 choices_value choices = array_of (map choice_value choices)
@@ -67,6 +73,9 @@ WritesCycle = WritesArray KeepsLink (λ link. IsInRange link.operation) link_val
 
 abbrev pub WritesCycles : Data → List (List CertificateLink) → Type 0
 WritesCycles = WritesArray (AllZip KeepsLink) AreInRangeLinks cycle_value
+
+abbrev pub WritesShown : Data → CertifiedCycles → Type 0
+WritesShown = Writes KeepsCycles (λ cycles. All AreInRangeLinks (listed_in cycles)) cycles_value
 
 abbrev pub WritesWitness : Data → WitnessFile → Type 0
 WritesWitness = Writes KeepsWitness AreInRangeNames witness_value

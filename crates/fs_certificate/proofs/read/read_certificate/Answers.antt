@@ -1,7 +1,7 @@
 use Rattle.std.proofs.Common.{refl, subst, map}
 use Rattle.serde_json.specs.View.{view}
 use Rattle.fs_kinds.specs.declared.fault.Fault.TheVariants.{BadCertificate}
-use Rattle.fs_answer.specs.CertificateFile.{IsItem}
+use Rattle.fs_answer.specs.CertificateFile.{AreCycles, IsItem}
 use Rattle.fs_answer.specs.WitnessFile.{IsArrayOf}
 use Rattle.fs_certificate.specs.Kept.{answer_of, item_of, version_of}
 use Rattle.fs_certificate.proofs.Handed.{fault-handed}
@@ -16,7 +16,9 @@ pub returns-in_err-read_cycles-clause-bad : goal.returns-in_err-read_cycles-clau
 returns-in_err-read_cycles-clause-bad c =
     fault-handed c.from_residual-in_err-read_cycles.result _ BadCertificate c.from_residual-in_err-read_cycles.ensures.1 (λ is said h.
     let parts = parts_at (view c.args.value.now) _ _ _ _ _ said c.in-Some.ensures h in
-    c.in_err-read_cycles.ensures.bad is said.cycles parts.of_cycles)
+    let same = same-version (view c.in-Some.sections.version.now) said.version (version_of c.in-Some-version_in.version) parts.of_version c.in-Some-version_in.ensures in
+    c.in_err-read_cycles.ensures.bad is said.cycles (subst (λ v. AreCycles v (view c.in-Some.sections.cycles.now)
+    said.cycles) same parts.of_cycles))
 
 pub returns-in_err-read_tree-clause-bad : goal.returns-in_err-read_tree-clause-bad
 returns-in_err-read_tree-clause-bad c =

@@ -7,4 +7,4 @@ use Rattle.fs_certificate.proofs.read_cycles.read_cycle.Given as goal
 
 -- the links so far are kept of the items so far
 abbrev pub invariant-loop-item : goal.invariant-loop-item
-invariant-loop-item l = AreKept IsLink KeepsLink (items_view (take l.item-index l.item-items)) l.links.items
+invariant-loop-item l = AreKept IsLink KeepsLink (items_view (take l.item-index l.items)) l.links.items

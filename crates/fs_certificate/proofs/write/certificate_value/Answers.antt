@@ -3,7 +3,7 @@ use Rattle.std.proofs.lemmas.Result.{IfOk-weaker}
 use Rattle.serde_json.specs.View.{view}
 use Rattle.fs_answer.specs.Texts.{array_of, item_value}
 use Rattle.fs_certificate.specs.Kept.{item_of}
-use Rattle.fs_certificate.specs.inner.Written.{WritesCycles, WritesWitnesses, certificate_object}
+use Rattle.fs_certificate.specs.inner.Written.{WritesWitnesses, certificate_object}
 use Rattle.fs_certificate.proofs.Texts.{whole_certificate}
 use Rattle.fs_certificate.proofs.write.certificate_value.Goals as goal
 
@@ -16,6 +16,6 @@ returns c =
     IfOk-weaker c.certificate_object.result _ _ (λ v is said keeps names.
     is ∙ ap (λ n. certificate_object answer cycles tree n witnesses) c.version_number-version.ensures
     ∙ whole_certificate c.args.certificate.now said answer cycles tree witnesses keeps names c.in_ok-answer.ensures
-    (subst (WritesCycles cycles) c.as_slice.ensures c.in_ok-cycles.ensures)
-    (c.in_ok-tree.ensures ∙ ap (λ l. array_of (map item_value (map item_of l))) c.as_slice-2.ensures)
-    (subst (WritesWitnesses witnesses) c.as_slice-3.ensures c.in_ok-witnesses.ensures)) c.certificate_object.ensures
+    c.in_ok-cycles.ensures
+    (c.in_ok-tree.ensures ∙ ap (λ l. array_of (map item_value (map item_of l))) c.as_slice.ensures)
+    (subst (WritesWitnesses witnesses) c.as_slice-2.ensures c.in_ok-witnesses.ensures)) c.certificate_object.ensures

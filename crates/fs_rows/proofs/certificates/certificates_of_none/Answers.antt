@@ -1,4 +1,4 @@
-use Rattle.fs_rows.proofs.PassingCertificates.{valid, no_witnesses, with_tree, other_test}
+use Rattle.fs_rows.proofs.PassingCertificates.{valid, no_witnesses, with_tree, other_test, inferred, one_inference}
 use Rattle.fs_rows.proofs.certificates.certificates_of_none.Goals as goal
 
 pub returns-clause-valid : goal.returns-clause-valid
@@ -12,3 +12,9 @@ returns-clause-tree c = with_tree
 
 pub returns-clause-other_test : goal.returns-clause-other_test
 returns-clause-other_test c = other_test
+
+pub returns-clause-fourth : goal.returns-clause-fourth
+returns-clause-fourth c = inferred
+
+pub returns-clause-inference : goal.returns-clause-inference
+returns-clause-inference c = one_inference

@@ -3,7 +3,7 @@ use Rattle.serde_json.specs.View.{items_view}
 use Rattle.fs_answer.specs.CertificateFile.{IsCycleValue}
 use Rattle.fs_certificate.specs.Kept.{KeepsCycle}
 use Rattle.fs_certificate.proofs.Lists.{AreKept}
-use Rattle.fs_certificate.proofs.read_cycles.read_cycles.Given as goal
+use Rattle.fs_certificate.proofs.read_cycles.read_listed.Given as goal
 
 -- the cycles so far are kept of the items so far
 abbrev pub invariant-loop-item : goal.invariant-loop-item
