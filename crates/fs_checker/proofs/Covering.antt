@@ -8,16 +8,17 @@ use Rattle.fs_kinds.specs.declared.slot.Slot.{Slot}
 use Rattle.fs_kinds.specs.Placement.{precedes}
 use Rattle.fs_kinds.specs.PriceTable.{PriceTable, cost}
 use Rattle.fs_model.specs.declared.test.Test.{Test}
-use Rattle.fs_model.specs.Allows.{Shows, Allows, IsPlacement, is_better}
+use Rattle.fs_model.specs.Allows.{Shows, Allows, IsPlacement, IsCheapest, is_better}
 use Rattle.fs_answer.specs.Parts.{Part, undecided, floor, is_under, is_undecided, child_parts}
-use Rattle.fs_answer.specs.Certificate.{Certificate, Version, First, Second, Item, SplitAt, Costly, Refuted, Bounded, IsBest, IsRight}
-use Rattle.fs_answer.specs.Valid.{Covers, IsValid, IsValidFor, is_costly}
+use Rattle.fs_answer.specs.Certificate.{Certificate, Version, First, Second, Fourth, Cycles, Listed, Inferred, Item, SplitAt, Costly, Refuted, Bounded, IsBest, IsRight}
+use Rattle.fs_answer.specs.Valid.{Forbid, Covers, IsValid, IsValidFor, is_costly}
 use Rattle.fs_bound.specs.Bounds.{IsNoBetter}
 use Rattle.fs_bound.proofs.Ranked.{first-less}
 use Rattle.fs_bound.proofs.Floors.{floor-cost}
 use Rattle.fs_bound.proofs.Bounded.{bounded}
 use Rattle.fs_thin_air.specs.ThinAir.{CanBeListed}
 use Rattle.fs_decide.proofs.Deciding.{cycles_forbid_all}
+use Rattle.fs_region.proofs.Covering.{forbids}
 use Rattle.fs_tree.specs.Trees.{IsPart}
 use Rattle.fs_tree.proofs.Places.{count_one, at-append, at-more, at-end, once-counted}
 use Rattle.fs_tree.proofs.PartsOfTests.{part-child, part-root, under-root}
@@ -35,11 +36,13 @@ record IsUnderSome (parts : List Part) (q : List Entry) : Type 0 where
 abbrev IsNoBest : Version → PriceTable → List Entry → List Entry → Type 0
 IsNoBest First prices p q = cost prices q < cost prices p → ⊥
 IsNoBest Second prices p q = is_better prices q p ≡ false
+IsNoBest Fourth prices p q = is_better prices q p ≡ false
 
 no-best : (version : Version) (prices : PriceTable) (p q : List Entry) → IsNoBetter prices (Some p) q → IsNoBest version prices p q
 no-best First prices p q worse =
     λ cheaper. false≢true (sym worse ∙ first-less (cost prices q) (cost prices p) (precedes q p) cheaper)
 no-best Second prices p q worse = worse
+no-best Fourth prices p q worse = worse
 
 either-way : (version : Version) (t : Test) (prices : PriceTable) (p q : List Entry) → Allows t q ⊎ IsNoBetter prices (Some p) q
     → Allows t q ⊎ IsNoBest version prices p q
@@ -56,6 +59,8 @@ module _ (t : Test) (prices : PriceTable) where
       let most = leb-true (cost prices p) (cost prices (floor part)) costly in
       inr (λ cheaper. omega (arith, least, most, cheaper))
   costly-leaf Second p part q is placement under costly =
+      bounded t prices (Some p) part [] q is.slots (All-nil (Shows t (floor part))) costly placement under
+  costly-leaf Fourth p part q is placement under costly =
       bounded t prices (Some p) part [] q is.slots (All-nil (Shows t (floor part))) costly placement under
 
   abbrev AreParts : List Part → Type 0
@@ -130,6 +135,18 @@ module _ (t : Test) (prices : PriceTable) where
   decided c p q valid placement =
       covered c p q placement c.tree (undecided t ∷ []) root-part valid.tree 0 (undecided t) refl (under-root t prices q placement)
 
+  first-best : (p : List Entry) → IsPlacement t prices p → (Allows t p → ⊥)
+      → ((q : List Entry) → IsPlacement t prices q → Allows t q ⊎ (is_better prices q p ≡ false))
+      → IsCheapest t prices p
+  first-best p placement forbids each = record {
+    placement = placement;
+    forbids = forbids;
+    better = λ q other better. elim (each q other) [
+      | inl allowed ↦ allowed
+      | inr worse ↦ absurd (false≢true (sym worse ∙ better))
+    ];
+  }
+
   -- what the tree shows of the answer, by the version
   best : (version : Version) (p : List Entry) → IsPlacement t prices p → (Allows t p → ⊥)
       → ((q : List Entry) → IsPlacement t prices q → Allows t q ⊎ IsNoBest version prices p q) → IsBest version t prices p
@@ -138,15 +155,17 @@ module _ (t : Test) (prices : PriceTable) where
     forbids = forbids;
     cheaper = λ q other cheaper. elim (each q other) [ inl allowed ↦ allowed | inr never ↦ absurd (never cheaper) ];
   }
-  best Second p placement forbids each = record {
-    placement = placement;
-    forbids = forbids;
-    better = λ q other better. elim (each q other) [ inl allowed ↦ allowed | inr worse ↦ absurd (false≢true (sym worse ∙ better)) ];
-  }
+  best Second p placement forbids each = first-best p placement forbids each
+  best Fourth p placement forbids each = first-best p placement forbids each
+
+  -- what is to show that the placement forbids the outcome does so
+  forbidden : CanBeListed t → (p : List Entry) (cycles : Cycles) → Forbid t p cycles → Allows t p → ⊥
+  forbidden listed p (Listed cycles) shown = cycles_forbid_all t listed p cycles shown
+  forbidden listed p (Inferred inferences) shown = forbids t listed p inferences shown
 
   valid-best : CanBeListed t → (c : Certificate) (p : List Entry) → IsValidFor t prices c p → IsBest c.version t prices p
   valid-best listed c p valid =
-      best c.version p valid.answered.placement (cycles_forbid_all t listed p c.cycles valid.cycles) (λ q. decided c p q valid)
+      best c.version p valid.answered.placement (forbidden listed p c.cycles valid.cycles) (λ q. decided c p q valid)
 
   pub valid-right : CanBeListed t → (c : Certificate) (answer : Option (List Entry)) → IsValid t prices c answer
       → IsRight c.version t prices answer

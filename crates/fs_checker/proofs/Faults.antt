@@ -1,13 +1,16 @@
--- Faults of bytes that are no certificate file.
-use Rattle.std.proofs.Common.{◌≢◌, inl, inr, ℕ, List, Err, ap}
+-- Faults of bytes that are no certificate file, and what is said of those that are one.
+use Rattle.std.proofs.Common.{◌≢◌, inl, inr, ℕ, List, Result, Ok, Err, IfOk, OnOk, ap}
 use Rattle.std.specs.Result.{IsErrOf}
 use Rattle.fs_model.specs.declared.test.Test.{Test}
 use Rattle.fs_kinds.specs.declared.fault.Fault.{Fault}
 use Rattle.fs_kinds.specs.declared.fault.Fault.TheVariants as fault
+use Rattle.fs_kinds.specs.PriceTable.{PriceTable}
+use Rattle.fs_answer.specs.CandidateFaults.{HasNoCyclesFault}
 use Rattle.fs_answer.specs.Certificate.{Certificate}
 use Rattle.fs_answer.specs.CertificateFile.{IsCertificateFile}
 use Rattle.fs_certificate.specs.Kept.{IsCertificateFault}
-use Rattle.fs_checker.specs.Checks.{IsCheckFault}
+use Rattle.fs_checker.specs.declared.verdict.CheckVerdict.{CheckVerdict}
+use Rattle.fs_checker.specs.Checks.{IsCheckVerdict, IsJudged, IsCheckFault}
 
 pub no_certificate : {T : Type 0} (t : Test) (bytes : List ℕ) (f : Fault) → IsCertificateFault f
     → (IsErrOf {T = T} (Err f) fault.BadCertificate → (c : Certificate) → IsCertificateFile bytes c → ⊥) → f ≢ fault.Memory → IsCheckFault t bytes f
@@ -15,3 +18,10 @@ no_certificate t bytes f is bad other = elim is [
   | inl e ↦ inl (e, bad (ap (λ x. Err x) e))
   | inr e ↦ absurd (other e)
 ]
+
+pub judged : (t : Test) (prices : PriceTable) (bytes : List ℕ) (c : Certificate) (r : Result CheckVerdict Fault)
+    → IsCertificateFile bytes c → OnOk r (HasNoCyclesFault c.cycles t) → IfOk r (IsCheckVerdict t prices c)
+    → IfOk r (IsJudged t prices bytes)
+judged t prices bytes c (Ok verdict) says clean is =
+    record { certificate = c; says = says; clean = clean; verdict = is }
+judged t prices bytes c (Err fault) says clean is = tt

@@ -13,20 +13,21 @@ use Rattle.fs_kinds.specs.PriceTable.{PriceTable}
 use Rattle.fs_model.specs.declared.test.Test.{Test}
 use Rattle.fs_model.specs.Slots.{slots}
 use Rattle.fs_model.specs.Witness.{Witness}
-use Rattle.fs_answer.specs.Candidates.{Candidate}
-use Rattle.fs_answer.specs.Certificate.{Certificate, Answer, Fenced, NoneForbids, Item, SplitAt, Costly, Refuted, Bounded, IsAnswered}
-use Rattle.fs_answer.specs.Listings.{IsListing}
+use Rattle.fs_answer.specs.Certificate.{Certificate, Answer, Fenced, NoneForbids, Cycles, Listed, Inferred, IsEmpty, Link, Inference, Item, SplitAt, Costly, Refuted, Bounded, IsAnswered}
 use Rattle.fs_answer.specs.Parts.{Part, undecided, filled, child_parts}
-use Rattle.fs_answer.specs.Refusals.{IsBad, IsBadAnswer, Fails, IsRefusal, IsRefusedAfter, IsPlacedRefusal}
-use Rattle.fs_answer.specs.Cycles.{IsCycle}
-use Rattle.fs_answer.specs.Valid.{Refutes, IsValidFor, IsValidForNone}
+use Rattle.fs_answer.specs.Refusals.{IsBad, IsBadAnswer, IsCyclesRefusal, Fails, IsRefusal, IsRefusedAfter, IsPlacedRefusal}
+use Rattle.fs_answer.specs.Valid.{Forbid, Refutes, IsValidFor, IsValidForNone}
 use Rattle.fs_certificate.specs.declared.certificate.Certificate.{Certificate as Kept}
-use Rattle.fs_certificate.specs.Kept.{KeepsCertificate, item_of}
-use Rattle.fs_checker.specs.inner.Cycles.{IsCyclesVerdict}
+use Rattle.fs_certificate.specs.declared.certificate.CertifiedCycles.{CertifiedCycles}
+use Rattle.fs_certificate.specs.declared.certificate.CertifiedCycles.TheVariants.{Listed as KeptList, Inferred as KeptInferences}
+use Rattle.fs_certificate.specs.Kept.{KeepsCertificate, KeepsCycles, item_of}
+use Rattle.fs_evidence.specs.Inferences.{inference_of}
+use Rattle.fs_checker.specs.inner.Cycles.{IsCyclesVerdict, count_in}
 use Rattle.fs_checker.specs.inner.Filled.{IsPlacementFor}
 use Rattle.fs_checker.specs.inner.Judgements.{IsPlacedVerdict}
 use Rattle.fs_checker.specs.inner.Leaves.{Decides, slots_in_part}
 use Rattle.fs_checker.specs.inner.Walks.{IsWalked}
+use Rattle.fs_checker.proofs.Against.{is_of_cycles, of_cycles}
 use Rattle.fs_checker.proofs.Walking.{undecided_at, slots_undecided}
 
 -- ---- refusals by the tree
@@ -63,44 +64,50 @@ module _ (t : Test) (prices : PriceTable) (c : Certificate) (p : List Entry) whe
   ]
 
   -- a failure of the tree, where the cycles are right
-  placed : (cs : List Candidate) (why : Reason) → is_of_tree why ≡ true → AllZip (IsCycle t p) cs c.cycles
-      → Fails t prices c p (undecided t ∷ []) c.tree 0 why → IsPlacedRefusal t prices c p cs why
-  placed cs reason.Tree of cycles failing = (cycles, failing)
-  placed cs (reason.Node k) of cycles failing = (cycles, failing)
-  placed cs (reason.Witness j) of cycles failing = (cycles, failing)
-  placed cs other of cycles failing = absurd (false≢true of)
+  placed : (why : Reason) → is_of_tree why ≡ true → Forbid t p c.cycles
+      → Fails t prices c p (undecided t ∷ []) c.tree 0 why → IsPlacedRefusal t prices c p why
+  placed reason.Tree of forbid failing = (forbid, failing)
+  placed (reason.Node k) of forbid failing = (forbid, failing)
+  placed (reason.Witness j) of forbid failing = (forbid, failing)
+  placed other of forbid failing = absurd (false≢true of)
 
   -- a reason against the cycles
-  pub cycles_against : (cs : List Candidate) (why : Option Reason) → is_some why ≡ true → IsCyclesVerdict t p cs c.cycles why
-      → IsPlacedVerdict t prices c p cs why
-  cycles_against cs None some verdict = absurd (cc)
-  cycles_against cs (Some reason.Cycles) some verdict = verdict
-  cycles_against cs (Some (reason.Cycle k)) some verdict = verdict
-  cycles_against cs (Some other) some verdict = absurd verdict
+  against : (why : Reason) → is_of_cycles why ≡ true → IsCyclesRefusal t p c.cycles why
+      → IsPlacedRefusal t prices c p why
+  against reason.Cycles of refused = refused
+  against (reason.Cycle k) of refused = refused
+  against other of refused = absurd (false≢true of)
+
+  pub cycles_against : (why : Option Reason) → is_some why ≡ true → IsCyclesVerdict t p c.cycles why
+      → IsPlacedVerdict t prices c p why
+  cycles_against None some verdict = absurd (cc)
+  cycles_against (Some why) some refused = against why (of_cycles t p c.cycles why refused) refused
 
   -- nothing against the cycles, and what is said against the tree
-  pub tree_against : (cs : List Candidate) (before why : Option Reason) → is_some before ≡ false → IsCyclesVerdict t p cs c.cycles before
-      → IsWalked t prices c p (undecided t ∷ []) c.tree why → IsPlacedVerdict t prices c p cs why
-  tree_against cs None None none cycles walked = (cycles, walked)
-  tree_against cs None (Some why) none cycles failing = placed cs why (of_tree (undecided t ∷ []) c.tree 0 why failing) cycles failing
-  tree_against cs (Some r) why none cycles walked = absurd (cc)
+  pub tree_against : (before why : Option Reason) → is_some before ≡ false → IsCyclesVerdict t p c.cycles before
+      → IsWalked t prices c p (undecided t ∷ []) c.tree why → IsPlacedVerdict t prices c p why
+  tree_against None None none forbid walked = (forbid, walked)
+  tree_against None (Some why) none forbid failing =
+      placed why (of_tree (undecided t ∷ []) c.tree 0 why failing) forbid failing
+  tree_against (Some r) why none forbid walked = absurd (cc)
 
-  refused_after : (cs : List Candidate) (why : Reason) → IsAnswered t prices c.answer p → IsListing t cs → IsPlacedRefusal t prices c p cs why
+  refused_after : (why : Reason) → IsAnswered t prices c.answer p → IsPlacedRefusal t prices c p why
       → IsRefusedAfter t prices c why c.answer
-  refused_after cs why answered listing against =
+  refused_after why answered refused =
       let is = answered.answered in
-      subst (IsRefusedAfter t prices c why) (sym is) (p, subst (λ (answer : Answer). IsAnswered t prices answer p) is answered, (cs, listing, against))
+      subst (IsRefusedAfter t prices c why) (sym is)
+      (p, subst (λ (answer : Answer). IsAnswered t prices answer p) is answered, refused)
 
   -- where the answer is one, a reason against the cycles or the tree
-  pub placed_refused : (cs : List Candidate) (why : Reason) → IsAnswered t prices c.answer p → IsListing t cs → IsPlacedVerdict t prices c p cs (Some why)
+  pub placed_refused : (why : Reason) → IsAnswered t prices c.answer p → IsPlacedVerdict t prices c p (Some why)
       → IsRefusal t prices c why
-  placed_refused cs reason.Answer answered listing against =
-      absurd (false≢true (of_tree (undecided t ∷ []) c.tree 0 reason.Answer against.1))
-  placed_refused cs why answered listing against = refused_after cs why answered listing against
+  placed_refused reason.Answer answered refused =
+      absurd (false≢true (of_tree (undecided t ∷ []) c.tree 0 reason.Answer refused.1))
+  placed_refused why answered refused = refused_after why answered refused
 
   -- and where nothing is said against them
-  pub placed_valid : (cs : List Candidate) → IsAnswered t prices c.answer p → IsListing t cs → IsPlacedVerdict t prices c p cs None → IsValidFor t prices c p
-  placed_valid cs answered listing whole = record { answered = answered; cycles = (cs, listing, whole.0); tree = whole.1 }
+  pub placed_valid : IsAnswered t prices c.answer p → IsPlacedVerdict t prices c p None → IsValidFor t prices c p
+  placed_valid answered whole = record { answered = answered; cycles = whole.0; tree = whole.1 }
 
 -- ---- answers of a placement
 
@@ -130,33 +137,61 @@ length_map : {A B : Type 0} (f : A → B) (xs : List A) → length (map f xs) �
 length_map f [] = refl
 length_map f (x ∷ xs) = ap suc (length_map f xs)
 
-abbrev bare : {A B C : Type 0} → List A → List B → List C → Bool
-bare cycles tree witnesses = ((length cycles == 0) && (length tree == 0)) && (length witnesses == 1)
+abbrev bare : {A B : Type 0} → (count : ℕ) → List A → List B → Bool
+bare count tree witnesses = ((count == 0) && (length tree == 0)) && (length witnesses == 1)
+
+-- how many cycles or inferences there are
+count_of : Cycles → ℕ
+count_of (Listed cycles) = length cycles
+count_of (Inferred inferences) = length inferences
+
+kept_count : (kept : CertifiedCycles) (said : Cycles) → KeepsCycles kept said → count_in kept ≡ count_of said
+unfolding count_of
+kept_count (KeptList kept) (Listed cycles) keeps = zip_length _ kept cycles keeps
+kept_count (KeptList kept) (Inferred inferences) keeps = absurd keeps
+kept_count (KeptInferences kept) (Listed cycles) keeps = absurd keeps
+kept_count (KeptInferences kept) (Inferred inferences) keeps =
+    sym (length_map inference_of kept) ∙ ap length (sym keeps)
 
 -- what is kept is bare where the certificate is
-kept_bare : (kept : Kept) (c : Certificate) → KeepsCertificate kept c → bare kept.cycles kept.tree kept.witnesses ≡ bare c.cycles c.tree c.witnesses
+kept_bare : (kept : Kept) (c : Certificate) → KeepsCertificate kept c
+    → bare (count_in kept.cycles) kept.tree kept.witnesses ≡ bare (count_of c.cycles) c.tree c.witnesses
 kept_bare kept c keeps =
-    let cycles = zip_length _ kept.cycles c.cycles keeps.cycles in
+    let cycles = kept_count kept.cycles c.cycles keeps.cycles in
     let tree = sym (length_map item_of kept.tree) ∙ ap length (sym keeps.tree) in
     let witnesses = zip_length _ kept.witnesses c.witnesses keeps.witnesses in
     ap (λ n. ((n == 0) && (length kept.tree == 0)) && (length kept.witnesses == 1)) cycles
-    ∙ (ap (λ n. ((length c.cycles == 0) && (n == 0)) && (length kept.witnesses == 1)) tree
-    ∙ ap (λ n. ((length c.cycles == 0) && (length c.tree == 0)) && (n == 1)) witnesses)
+    ∙ (ap (λ n. ((count_of c.cycles == 0) && (n == 0)) && (length kept.witnesses == 1)) tree
+    ∙ ap (λ n. ((count_of c.cycles == 0) && (length c.tree == 0)) && (n == 1)) witnesses)
 
 empty : {A : Type 0} (xs : List A) → (length xs == 0) ≡ true → xs ≡ []
 empty [] none = refl
 empty (x ∷ xs) none = absurd (let n = eqb-true (length (x ∷ xs)) 0 none in omega (arith, n))
 
-not_bare : {A B C : Type 0} (cycles : List A) (tree : List B) (witnesses : List C) → bare cycles tree witnesses ≡ false
-    → (cycles ≢ []) ⊎ ((tree ≢ []) ⊎ (length witnesses ≢ 1))
-not_bare (x ∷ cycles) tree witnesses unlike = inl (λ e. absurd (cc))
-not_bare [] (x ∷ tree) witnesses unlike = inr (inl (λ e. absurd (cc)))
-not_bare [] [] witnesses unlike = inr (inr (λ one. false≢true (sym unlike ∙ eq-eqb (length witnesses) 1 one)))
+no_cycles : (cycles : Cycles) → (count_of cycles == 0) ≡ true → IsEmpty cycles
+unfolding count_of
+no_cycles (Listed cycles) none = empty cycles none
+no_cycles (Inferred inferences) none = empty inferences none
+
+none_counted : (cycles : Cycles) → IsEmpty cycles → (count_of cycles == 0) ≡ true
+unfolding count_of
+none_counted (Listed cycles) none = ap (λ (xs : List (List Link)). length xs == 0) none
+none_counted (Inferred inferences) none = ap (λ (xs : List Inference). length xs == 0) none
+
+not_bare : {A B : Type 0} (cycles : Cycles) (none : Bool) (tree : List A) (witnesses : List B)
+    → (count_of cycles == 0) ≡ none → ((none && (length tree == 0)) && (length witnesses == 1)) ≡ false
+    → (IsEmpty cycles → ⊥) ⊎ ((tree ≢ []) ⊎ (length witnesses ≢ 1))
+not_bare cycles false tree witnesses some unlike = inl (λ empty. false≢true (sym some ∙ none_counted cycles empty))
+not_bare cycles true (x ∷ tree) witnesses none unlike = inr (inl (λ e. absurd (cc)))
+not_bare cycles true [] witnesses none unlike =
+    inr (inr (λ one. false≢true (sym unlike ∙ eq-eqb (length witnesses) 1 one)))
 
 -- a certificate of none that has more or less than its witness is refused
 pub bad_none : (t : Test) (prices : PriceTable) (kept : Kept) (c : Certificate) → KeepsCertificate kept c → c.answer ≡ NoneForbids
-    → bare kept.cycles kept.tree kept.witnesses ≡ false → IsBadAnswer t prices c
-bad_none t prices kept c keeps is unlike = subst (IsBad t prices c) (sym is) (not_bare c.cycles c.tree c.witnesses (sym (kept_bare kept c keeps) ∙ unlike))
+    → bare (count_in kept.cycles) kept.tree kept.witnesses ≡ false → IsBadAnswer t prices c
+bad_none t prices kept c keeps is unlike =
+    subst (IsBad t prices c) (sym is)
+    (not_bare c.cycles (count_of c.cycles == 0) c.tree c.witnesses refl (sym (kept_bare kept c keeps) ∙ unlike))
 
 only_one : (ws : List Witness) (w : Witness) → length ws ≡ 1 → slice_get ws 0 ≡ Some w → ws ≡ w ∷ []
 only_one [] w one at = absurd (cc)
@@ -165,15 +200,17 @@ only_one (v ∷ u ∷ ws) w one at = absurd (omega (arith, one))
 
 -- one whose witness shows the outcome with rw,rw in every slot is valid
 pub none_valid : (t : Test) (kept : Kept) (c : Certificate) → KeepsCertificate kept c → c.answer ≡ NoneForbids
-    → bare kept.cycles kept.tree kept.witnesses ≡ true → (b : Bool) → b ≡ true → Decides b (Refutes t c.witnesses (all_with (Some RwRw) (slots t)) 0) → IsValidForNone t c
+    → bare (count_in kept.cycles) kept.tree kept.witnesses ≡ true → (b : Bool) → b ≡ true
+    → Decides b (Refutes t c.witnesses (all_with (Some RwRw) (slots t)) 0) → IsValidForNone t c
 none_valid t kept c keeps is alike b holds decided =
     let shown = subst (λ (d : Bool). Decides d (Refutes t c.witnesses (all_with (Some RwRw) (slots t)) 0)) holds decided in
-    let all = and_parts ((length c.cycles == 0) && (length c.tree == 0)) (length c.witnesses == 1) (sym (kept_bare kept c keeps) ∙ alike) in
-    let both = and_parts (length c.cycles == 0) (length c.tree == 0) all.0 in
+    let all = and_parts ((count_of c.cycles == 0) && (length c.tree == 0)) (length c.witnesses == 1)
+    (sym (kept_bare kept c keeps) ∙ alike) in
+    let both = and_parts (count_of c.cycles == 0) (length c.tree == 0) all.0 in
     let witness : Witness = shown.1.0 in
     record {
       answered = is;
-      cycles = empty c.cycles both.0;
+      cycles = no_cycles c.cycles both.0;
       tree = empty c.tree both.1;
       witness = witness;
       only = only_one c.witnesses witness (eqb-true (length c.witnesses) 1 all.1) shown.1.1;
@@ -184,14 +221,15 @@ none_valid t kept c keeps is alike b holds decided =
 
 -- one whose witness doesn't is refused
 pub none_refused : (t : Test) (prices : PriceTable) (kept : Kept) (c : Certificate) → KeepsCertificate kept c → c.answer ≡ NoneForbids
-    → bare kept.cycles kept.tree kept.witnesses ≡ true → (b : Bool) → b ≡ false → Decides b (Refutes t c.witnesses (all_with (Some RwRw) (slots t)) 0)
-    → IsRefusal t prices c (reason.Witness 0)
+    → bare (count_in kept.cycles) kept.tree kept.witnesses ≡ true → (b : Bool) → b ≡ false
+    → Decides b (Refutes t c.witnesses (all_with (Some RwRw) (slots t)) 0) → IsRefusal t prices c (reason.Witness 0)
 none_refused t prices kept c keeps is alike b fails decided =
     let unshown = subst (λ (d : Bool). Decides d (Refutes t c.witnesses (all_with (Some RwRw) (slots t)) 0)) fails decided in
-    let all = and_parts ((length c.cycles == 0) && (length c.tree == 0)) (length c.witnesses == 1) (sym (kept_bare kept c keeps) ∙ alike) in
-    let both = and_parts (length c.cycles == 0) (length c.tree == 0) all.0 in
+    let all = and_parts ((count_of c.cycles == 0) && (length c.tree == 0)) (length c.witnesses == 1)
+    (sym (kept_bare kept c keeps) ∙ alike) in
+    let both = and_parts (count_of c.cycles == 0) (length c.tree == 0) all.0 in
     let good : IsBadAnswer t prices c → ⊥ = λ bad. elim (subst (IsBad t prices c) is bad) [
-      | inl some ↦ some (empty c.cycles both.0)
+      | inl some ↦ some (no_cycles c.cycles both.0)
       | inr others ↦ elim others [
         | inl some ↦ some (empty c.tree both.1)
         | inr more ↦ more (eqb-true (length c.witnesses) 1 all.1)

@@ -1,3 +1,4 @@
+pub mod Against
 pub mod Bearing
 pub mod Breaks
 pub mod Children

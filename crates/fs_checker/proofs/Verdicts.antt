@@ -14,7 +14,7 @@ use Rattle.fs_answer.specs.Certificate.{Link}
 use Rattle.fs_answer.specs.Listings.{IsListing}
 use Rattle.fs_answer.specs.Cycles.{IsCycle}
 use Rattle.fs_certificate.specs.declared.certificate.CertificateLink.{CertificateLink}
-use Rattle.fs_checker.specs.inner.Cycles.{is_cycle, is_cycle_at, IsCyclesVerdict}
+use Rattle.fs_checker.specs.inner.Cycles.{is_cycle, is_cycle_at, IsListVerdict}
 use Rattle.fs_certificate.specs.Kept.{KeepsCycle}
 use Rattle.fs_checker.proofs.Linked.{sound, complete}
 
@@ -96,15 +96,16 @@ module _ (t : Test) (p : List Entry) (cs : List Candidate) (cycles : List (List 
   many : length said ≡ length cycles
   many = AllZip-long KeepsCycle cycles said kept
 
-  pub other_many : length cycles ≢ length cs → IsCyclesVerdict t p cs said (Some reason.Cycles)
+  pub other_many : length cycles ≢ length cs → IsListVerdict t p cs said (Some reason.Cycles)
   other_many other = λ same. other (omega (arith, same, many))
 
-  pub all_cycles : length cycles ≡ length cs → ((k : ℕ) → k < length cycles → is_cycle_at t p cs cycles k ≡ true) → IsCyclesVerdict t p cs said None
+  pub all_cycles : length cycles ≡ length cs → ((k : ℕ) → k < length cycles → is_cycle_at t p cs cycles k ≡ true)
+      → IsListVerdict t p cs said None
   all_cycles long each = zipped_all (IsCycle t p) cs said (omega (arith, long, many))
       (λ k low c links there here. cycle_at k c links there here (each k (omega (arith, low, long))))
 
   pub first_bad : (index : ℕ) → length cycles ≡ length cs → index < length cycles → ((k : ℕ) → k < index → is_cycle_at t p cs cycles k ≡ true) → is_cycle_at t p cs cycles index ≡ false
-      → IsCyclesVerdict t p cs said (Some (reason.Cycle index))
+      → IsListVerdict t p cs said (Some (reason.Cycle index))
   first_bad index long low each fails =
       let there = item_at cs index (omega (arith, low, long)) in
       let here = item_at said index (omega (arith, low, many)) in (

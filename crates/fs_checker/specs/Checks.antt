@@ -19,11 +19,11 @@ IsCheckVerdict t prices c (Yes kept answer) = KeepsCertificate kept c × (IsVali
 IsCheckVerdict t prices c (No why) = IsRefusal t prices c why
 
 -- the bytes are a certificate file, whose cycles can be judged, and this is said of what they say
-pub record IsJudged (t : Test) (prices : PriceTable) (bytes : List ℕ) (verdict : CheckVerdict) : Type 0 where
+pub record IsJudged (t : Test) (prices : PriceTable) (bytes : List ℕ) (given : CheckVerdict) : Type 0 where
   pub certificate : Certificate
   pub says : IsCertificateFile bytes certificate
   pub clean : HasNoCyclesFault certificate.cycles t
-  pub verdict : IsCheckVerdict t prices certificate verdict
+  pub verdict : IsCheckVerdict t prices certificate given
 
 -- The bytes are no certificate file. Or they are one, whose cycles can't be judged: the candidates or the runs of the test can't be listed.
 abbrev pub IsCheckFault : Test → (certificate : List ℕ) → Fault → Type 0

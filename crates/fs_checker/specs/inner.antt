@@ -4,5 +4,6 @@ pub mod Breaks
 pub mod Leaves
 pub mod Cycles
 pub mod Filled
+pub mod Held
 pub mod Walks
 pub mod Judgements

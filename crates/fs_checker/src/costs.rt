@@ -14,8 +14,8 @@ pub(crate) fn is_dearer(prices: &Prices, answer: &[Entry], part: &[Decision]) ->
     cost(prices, answer) <= floor_cost(prices, part)
 }
 
-/// Does the part's floor cost more than the answer, or as much and isn't before it? So a leaf is closed by its cost in the second
-/// version.
+/// Does the part's floor cost more than the answer, or as much and isn't before it? So a leaf is closed by its cost
+/// in the other versions.
 pub(crate) fn is_no_better(prices: &Prices, answer: &[Entry], part: &[Decision]) -> bool
     ensures { result ≡ is_costly Second prices.now answer.now part.now }
 {

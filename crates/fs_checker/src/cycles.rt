@@ -1,4 +1,4 @@
-//! The cycles of a certificate: one of the judged relation for each candidate that shows the outcome.
+//! A list of cycles: one of the judged relation for each candidate that shows the outcome.
 
 ghost use Rattle.std.specs.Prelude.{◌≡◌, ◌<◌, List, length, option_map, slice_get, slice_index, IfOk, IsOkUnless};
 ghost use Rattle.std.specs.List.{AllZip, position};
@@ -11,7 +11,7 @@ ghost use Rattle.fs_answer.specs.Listings.{IsListing};
 ghost use Rattle.fs_cand.specs.Candidates.{candidate_of};
 ghost use Rattle.fs_cand.specs.inner.NamedOrder.{name_in, is_same_name, number_of, numbers_of};
 ghost use Rattle.fs_ppo.specs.Rules.{OfRuns};
-ghost use Rattle.fs_checker.specs.inner.Cycles.{names_in, wanted, followers, have_edges, is_cycle, IsCyclesVerdict};
+ghost use Rattle.fs_checker.specs.inner.Cycles.{names_in, wanted, followers, have_edges, is_cycle, IsListVerdict};
 ghost use Rattle.fs_certificate.specs.Kept.{KeepsCycle};
 
 use fs_cand::Candidate;
@@ -157,7 +157,7 @@ fn is_cycle(
     }
 }
 
-/// The first reason against the cycles of a certificate, where there is one: there isn't one for each candidate that shows the
+/// The first reason against a list of cycles, where there is one: there isn't one for each candidate that shows the
 /// outcome, or one isn't a cycle of its candidate's judged relation under the placement. The error is `Memory`. Each candidate is made once; for each
 /// link linear in the operations, and one test of an edge.
 pub(crate) fn first_bad_cycle(
@@ -169,7 +169,7 @@ pub(crate) fn first_bad_cycle(
     requires test { IsBounded showing.now.test }
     requires listing { IsListing showing.now.test showing.now.candidates }
     ensures ok { (said : List (List Link)) → AllZip KeepsCycle cycles.now said
-        → IfOk result (IsCyclesVerdict showing.now.test placement.now showing.now.candidates said) }
+        → IfOk result (IsListVerdict showing.now.test placement.now showing.now.candidates said) }
     ensures err { IsOkUnless result Memory }
 {
     if cycles.len() != showing.len() {

@@ -1,38 +1,29 @@
 //! What is said of a certificate that answers a placement.
 
-ghost use Rattle.std.specs.Prelude.{◌≡◌, List, [], ◌∷◌, All, map, string_bytes, IfOk, IsOkUnless};
+ghost use Rattle.std.specs.Prelude.{◌≡◌, [], ◌∷◌, All, map, string_bytes, IfOk, IsOkUnless};
 ghost use Rattle.fs_kinds.specs.declared.fault.Fault.TheVariants.{Memory};
 ghost use Rattle.fs_kinds.specs.PriceTable.{PriceTable};
 ghost use Rattle.fs_model.specs.declared.test.Test.{Test as Tests};
 ghost use Rattle.fs_model.specs.Test.{IsBounded, IsStart};
-ghost use Rattle.fs_answer.specs.Candidates.{Candidate};
 ghost use Rattle.fs_answer.specs.Certificate.{Certificate as Said, Fenced, IsAnswered};
-ghost use Rattle.fs_answer.specs.Listings.{IsListing};
 ghost use Rattle.fs_answer.specs.Parts.{undecided};
 ghost use Rattle.fs_certificate.specs.Kept.{KeepsCertificate};
+ghost use Rattle.fs_checker.specs.inner.Held.{test_in, HasListing, Holds};
 ghost use Rattle.fs_checker.specs.inner.Judgements.{IsPlacedVerdict, IsJudgement};
 ghost use Rattle.fs_checker.specs.inner.Walks.{IsWalked};
 
 use crate::answer::answered_placement;
 use crate::breaking::all_breaks;
-use crate::cycles::first_bad_cycle;
+use crate::held::Held;
 use crate::tree::Grounds;
 use crate::witness::shown_widths;
 use fs_certificate::Certificate;
 use fs_kinds::{Fault, Placement, Prices, Reason};
 use fs_model::{Test, slots};
-use fs_showing::Showing;
 use std::alloc::Global;
 
 /// The answer of a valid certificate, a placement or none; or the first reason against one that isn't.
 pub(crate) type Judgement = Result<Option<Placement>, Reason>;
-
-/// The test of the candidates.
-pub(crate) fn test_of(showing: &Showing) -> &Test
-    ensures { result.now ≡ showing.now.test }
-{
-    showing.test()
-}
 
 // The first reason against the tree of a certificate that answers this placement.
 fn first_bad_item(
@@ -65,29 +56,29 @@ fn first_bad_item(
 // The first reason against the cycles of a certificate that answers this placement, or else against its tree.
 fn first_failure(
     alloc: Global,
-    showing: &Showing,
+    held: &Held<'_>,
     prices: &Prices,
     placement: &Placement,
     certificate: &Certificate,
 ) -> Result<Option<Reason>, Fault>
-    requires test { IsBounded showing.now.test }
-    requires starts { All IsStart showing.now.test.starts }
-    requires listing { IsListing showing.now.test showing.now.candidates }
-    ensures ok { (c : Said) → KeepsCertificate certificate.now c
-        → IfOk result (IsPlacedVerdict showing.now.test prices.now c placement.now showing.now.candidates) }
+    requires test { IsBounded (test_in held.now) }
+    requires starts { All IsStart (test_in held.now).starts }
+    requires listing { HasListing held.now }
+    ensures ok { (c : Said) → KeepsCertificate certificate.now c → Holds held.now c.cycles
+        → IfOk result (IsPlacedVerdict (test_in held.now) prices.now c placement.now) }
     ensures err { IsOkUnless result Memory }
 {
-    let reason = first_bad_cycle(alloc, showing, placement, &certificate.cycles)?;
+    let reason = held.first_reason(alloc, placement)?;
     if reason.is_some() {
         return Ok(reason);
     }
-    first_bad_item(alloc, test_of(showing), prices, placement, certificate)
+    first_bad_item(alloc, held.test(), prices, placement, certificate)
 }
 
 // What is said of a certificate that answers the placement, where this is the first reason against its cycles and its tree.
 fn judgement_of(placement: Placement, failure: Option<Reason>) -> Judgement
-    ensures { (t : Tests) (prices : PriceTable) (c : Said) (cs : List Candidate) → IsAnswered t prices c.answer placement → IsListing t cs
-        → IsPlacedVerdict t prices c placement cs failure → IsJudgement t prices c result }
+    ensures { (t : Tests) (prices : PriceTable) (c : Said) → IsAnswered t prices c.answer placement
+        → IsPlacedVerdict t prices c placement failure → IsJudgement t prices c result }
 {
     match failure {
         Some(reason) => Err(reason),
@@ -95,28 +86,29 @@ fn judgement_of(placement: Placement, failure: Option<Reason>) -> Judgement
     }
 }
 
-/// What is said of a certificate whose answer is the fences of these words at this cost, where these candidates show the outcome. The
-/// cost: for each link of a cycle one test of an edge; for each witness that of `check_order` and of its widths, and the slots times the
-/// kinds; and for each item of the tree the slots times the kinds where it is a split, and else the slots times the witnesses that it
-/// names. The error is `Memory`.
+/// What is said of a certificate whose answer is the fences of these words at this cost, where these are its cycles.
+/// The cost: that of `first_reason`; for each witness that of `check_order` and of its widths, and the slots times the
+/// kinds; and for each item of the tree the slots times the kinds where it is a split, and else the slots times the
+/// witnesses that it names. The error is `Memory`.
 pub(crate) fn judge_fenced(
     alloc: Global,
-    showing: &Showing,
+    held: &Held<'_>,
     prices: &Prices,
     certificate: &Certificate,
     cost: u64,
     fences: &[String],
 ) -> Result<Judgement, Fault>
-    requires test { IsBounded showing.now.test }
-    requires starts { All IsStart showing.now.test.starts }
-    requires listing { IsListing showing.now.test showing.now.candidates }
-    ensures ok { (c : Said) → KeepsCertificate certificate.now c → c.answer ≡ Fenced cost (map string_bytes fences.now)
-        → IfOk result (IsJudgement showing.now.test prices.now c) }
+    requires test { IsBounded (test_in held.now) }
+    requires starts { All IsStart (test_in held.now).starts }
+    requires listing { HasListing held.now }
+    ensures ok { (c : Said) → KeepsCertificate certificate.now c → Holds held.now c.cycles
+        → c.answer ≡ Fenced cost (map string_bytes fences.now)
+        → IfOk result (IsJudgement (test_in held.now) prices.now c) }
     ensures err { IsOkUnless result Memory }
 {
-    let Some(placement) = answered_placement(alloc, test_of(showing), prices, cost, fences)? else {
+    let Some(placement) = answered_placement(alloc, held.test(), prices, cost, fences)? else {
         return Ok(Err(Reason::Answer));
     };
-    let failure = first_failure(alloc, showing, prices, &placement, certificate)?;
+    let failure = first_failure(alloc, held, prices, &placement, certificate)?;
     Ok(judgement_of(placement, failure))
 }

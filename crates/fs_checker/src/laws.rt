@@ -14,9 +14,9 @@ pub fn file_says_one_certificate()
     ensures { (bytes : List ℕ) (c d : Certificate) → IsCertificateFile bytes c → IsCertificateFile bytes d → c ≡ d }
 {}
 
-/// A law: where a test's runs can be listed, a valid certificate's answer is right. A placement forbids the outcome, by a cycle for
-/// each showing candidate, and by the tree every better placement allows it, or in the first version every cheaper one. None is right
-/// since even `rw,rw` in every slot allows the outcome.
+/// A law: where a test's runs can be listed, a valid certificate's answer is right. A placement forbids the outcome, by
+/// a cycle for each showing candidate or by a refutation, and by the tree every better placement allows it, or in the
+/// first version every cheaper one. None is right since even `rw,rw` in every slot allows the outcome.
 pub fn valid_is_right()
     ensures { (t : Test) (prices : PriceTable) → CanBeListed t → (c : Certificate) (answer : Option (List Entry))
         → IsValid t prices c answer → IsRight c.version t prices answer }

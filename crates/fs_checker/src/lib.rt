@@ -1,5 +1,5 @@
-//! The checker of certificates of the first two versions: whether one is valid, and then its answer, or the first reason against it. It
-//! stands on the definitions and on the checker of executions, and calls nothing of the search.
+//! The checker of certificates: whether one is valid, and then its answer, or the first reason against it. It stands on
+//! the definitions and on the checkers of executions and of refutations, and calls nothing of the search.
 #![tactic(auto)]
 
 mod answer;
@@ -8,6 +8,7 @@ mod breaking;
 mod costs;
 mod cycles;
 mod fenced;
+mod held;
 mod laws;
 mod stack;
 mod tree;

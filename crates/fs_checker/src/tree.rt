@@ -41,7 +41,7 @@ impl Grounds<'_> {
     {
         match self.version {
             Version::First => is_dearer(self.prices, self.answer, part),
-            Version::Second => is_no_better(self.prices, self.answer, part),
+            Version::Second | Version::Fourth => is_no_better(self.prices, self.answer, part),
         }
     }
 

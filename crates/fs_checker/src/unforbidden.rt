@@ -9,6 +9,7 @@ ghost use Rattle.fs_model.specs.Test.{IsBounded, IsStart};
 ghost use Rattle.fs_answer.specs.Certificate.{Certificate as Said, NoneForbids};
 ghost use Rattle.fs_answer.specs.Valid.{Refutes};
 ghost use Rattle.fs_certificate.specs.Kept.{KeepsCertificate};
+ghost use Rattle.fs_checker.specs.inner.Cycles.{count_in};
 ghost use Rattle.fs_checker.specs.inner.Judgements.{IsJudgement};
 ghost use Rattle.fs_checker.specs.inner.Leaves.{Decides};
 
@@ -16,16 +17,27 @@ use crate::bounds::refutes;
 use crate::fenced::Judgement;
 use crate::stack::undecided;
 use crate::witness::shown_widths;
-use fs_certificate::Certificate;
+use fs_certificate::{Certificate, CertifiedCycles};
 use fs_kinds::{Fault, Kind, Reason};
 use fs_model::{Test, slots};
 use std::alloc::Global;
 
+// Are there no cycles, and no inferences?
+fn is_empty(cycles: &CertifiedCycles) -> bool
+    ensures { result ≡ (count_in cycles.now == 0) }
+{
+    match cycles {
+        CertifiedCycles::Listed(cycles) => cycles.is_empty(),
+        CertifiedCycles::Inferred(inferences) => inferences.is_empty(),
+    }
+}
+
 // Has a certificate of none its one witness and nothing else?
 fn is_bare(certificate: &Certificate) -> bool
-    ensures { result ≡ ((length certificate.now.cycles == 0 && length certificate.now.tree == 0) && length certificate.now.witnesses == 1) }
+    ensures { result ≡ ((count_in certificate.now.cycles == 0 && length certificate.now.tree == 0)
+        && length certificate.now.witnesses == 1) }
 {
-    certificate.cycles.is_empty() && certificate.tree.is_empty() && certificate.witnesses.len() == 1
+    is_empty(&certificate.cycles) && certificate.tree.is_empty() && certificate.witnesses.len() == 1
 }
 
 // Does the first of the witnesses show the outcome with `rw,rw` in every slot?

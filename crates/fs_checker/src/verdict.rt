@@ -2,27 +2,25 @@
 
 ghost use Rattle.std.specs.Prelude.{◌≢◌, All, IfOk, OnOk, IfErr, IsOkUnless};
 ghost use Rattle.std.specs.Arc.{arc_value};
-ghost use Rattle.fs_kinds.specs.declared.fault.Fault.{Fault as CheckFault};
 ghost use Rattle.fs_kinds.specs.declared.fault.Fault.TheVariants.{Memory};
 ghost use Rattle.fs_kinds.specs.PriceTable.{PriceTable};
 ghost use Rattle.fs_model.specs.declared.test.Test.{Test as Tests};
 ghost use Rattle.fs_model.specs.Test.{IsBounded, IsStart};
-ghost use Rattle.fs_answer.specs.CandidateFaults.{IsCandidateFault};
+ghost use Rattle.fs_answer.specs.CandidateFaults.{IsCyclesFault, HasNoCyclesFault};
 ghost use Rattle.fs_answer.specs.Certificate.{Certificate as Said};
-ghost use Rattle.fs_answer.specs.CertificateFile.{IsCertificateFile};
-ghost use Rattle.fs_answer.specs.Listings.{IsListing};
 ghost use Rattle.fs_thin_air.specs.ThinAir.{CanBeListed};
 ghost use Rattle.fs_certificate.specs.Kept.{KeepsCertificate};
-ghost use Rattle.fs_checker.specs.Checks.{IsCheckVerdict, IsCheckFault};
+ghost use Rattle.fs_checker.specs.Checks.{IsCheckVerdict, IsJudged, IsCheckFault};
+ghost use Rattle.fs_checker.specs.inner.Held.{test_in, HasListing, Holds};
 ghost use Rattle.fs_checker.specs.inner.Judgements.{IsJudgement};
 
-use crate::fenced::{Judgement, judge_fenced, test_of};
+use crate::fenced::{Judgement, judge_fenced};
+use crate::held::{Held, hold};
 use crate::laws::valid_is_right;
 use crate::unforbidden::judge_none;
 use fs_certificate::{Certificate, CertifiedAnswer};
 use fs_kinds::{Fault, Placement, Prices, Reason};
 use fs_model::Test;
-use fs_showing::{Showing, showing_of};
 use std::alloc::Global;
 use std::sync::Arc;
 
@@ -35,25 +33,47 @@ pub enum CheckVerdict {
     No(Reason),
 }
 
-// What is said of a certificate.
+// What is said of a certificate whose cycles are held.
 fn judge(
     alloc: Global,
-    showing: &Showing,
+    held: &Held<'_>,
     prices: &Prices,
     certificate: &Certificate,
 ) -> Result<Judgement, Fault>
-    requires test { IsBounded showing.now.test }
-    requires starts { All IsStart showing.now.test.starts }
-    requires listing { IsListing showing.now.test showing.now.candidates }
-    ensures ok { (c : Said) → KeepsCertificate certificate.now c → IfOk result (IsJudgement showing.now.test prices.now c) }
+    requires test { IsBounded (test_in held.now) }
+    requires starts { All IsStart (test_in held.now).starts }
+    requires listing { HasListing held.now }
+    ensures ok { (c : Said) → KeepsCertificate certificate.now c → Holds held.now c.cycles
+        → IfOk result (IsJudgement (test_in held.now) prices.now c) }
     ensures err { IsOkUnless result Memory }
 {
     match &certificate.answer {
         CertifiedAnswer::Fenced { cost, fences } => {
-            judge_fenced(alloc, showing, prices, certificate, *cost, fences)
+            judge_fenced(alloc, held, prices, certificate, *cost, fences)
         }
-        CertifiedAnswer::NoneForbids => judge_none(alloc, test_of(showing), certificate),
+        CertifiedAnswer::NoneForbids => judge_none(alloc, held.test(), certificate),
     }
+}
+
+// What is said of a certificate, or why its cycles can't be judged.
+fn judge_certificate(
+    alloc: Global,
+    test: Arc<Test>,
+    prices: &Prices,
+    certificate: &Certificate,
+) -> Result<Judgement, Fault>
+    requires test { IsBounded (arc_value test) }
+    requires starts { All IsStart (arc_value test).starts }
+    ensures ok { (c : Said) → KeepsCertificate certificate.now c
+        → IfOk result (IsJudgement (arc_value test) prices.now c) }
+    ensures listable { OnOk result (CanBeListed (arc_value test)) }
+    ensures clean { (c : Said) → KeepsCertificate certificate.now c
+        → OnOk result (HasNoCyclesFault c.cycles (arc_value test)) }
+    ensures err { (c : Said) → KeepsCertificate certificate.now c
+        → IfErr result (λ f. f ≢ Memory → IsCyclesFault c.cycles (arc_value test) f) }
+{
+    let held = hold(alloc, test, &certificate.cycles)?;
+    judge(alloc, &held, prices, certificate)
 }
 
 // The verdict on a certificate of which this is said.
@@ -68,7 +88,7 @@ fn verdict_of(certificate: Certificate, judgement: Judgement) -> CheckVerdict
     }
 }
 
-// The verdict on a certificate that was read, or why its test's candidates can't be listed.
+// The verdict on a certificate that was read, or why its cycles can't be judged.
 fn check_certificate(
     alloc: Global,
     test: Arc<Test>,
@@ -78,20 +98,25 @@ fn check_certificate(
     requires test { IsBounded (arc_value test) }
     requires starts { All IsStart (arc_value test).starts }
     ensures ok { (c : Said) → KeepsCertificate certificate c → IfOk result (IsCheckVerdict (arc_value test) prices.now c) }
-    ensures clean { OnOk result ((f : CheckFault) → IsCandidateFault (arc_value test) f → ⊥) }
-    ensures err { IfErr result (λ f. f ≢ Memory → IsCandidateFault (arc_value test) f) }
+    ensures clean { (c : Said) → KeepsCertificate certificate c
+        → OnOk result (HasNoCyclesFault c.cycles (arc_value test)) }
+    ensures err { (c : Said) → KeepsCertificate certificate c
+        → IfErr result (λ f. f ≢ Memory → IsCyclesFault c.cycles (arc_value test) f) }
 {
-    let showing = showing_of(alloc, test)?;
-    let judgement = judge(alloc, &showing, prices, &certificate)?;
+    let judgement = judge_certificate(alloc, test, prices, &certificate)?;
     Ok(verdict_of(certificate, judgement))
 }
 
-/// Whether a certificate is valid for the test and the prices, and then its answer; or the first reason why not. The certificate is a
-/// file's bytes, as `Certificate::from_bytes` reads them. The test is bounded, and its harts start with whole registers. The fault is
-/// `BadCertificate` where the bytes are no certificate file; else `TooManyTraces`, `Astray` or `TooManyCandidates` where the
-/// candidates of the test can't be listed; or `Memory`. The cost: that of listing the candidates; for each link of a cycle one test of
-/// an edge; for each witness that of `check_order` and of its widths, and the slots times the kinds; and for each item of the tree the
-/// slots times the kinds where it is a split, and else the slots times the witnesses that it names. Nothing of the search is called.
+/// Whether a certificate is valid for the test and the prices, and then its answer; or the first reason why not. The
+/// certificate is a file's bytes, as `Certificate::from_bytes` reads them. The test is bounded, and its harts start
+/// with whole registers. The fault is `BadCertificate` where the bytes are no certificate file; else `TooManyTraces` or
+/// `Astray` where the runs of the test can't be listed; else, where the certificate has a list of cycles,
+/// `TooManyCandidates`; or `Memory`. Inferences need no candidates.
+///
+/// The cost: with a list of cycles that of listing the candidates, and for each link one test of an edge; with
+/// inferences that of `Basis::new` and `reason_against` of fs_refute; for each witness that of `check_order` and of its
+/// widths, and the slots times the kinds; and for each item of the tree the slots times the kinds where it is a split,
+/// and else the slots times the witnesses that it names. Nothing of the search is called.
 pub fn check(
     alloc: Global,
     test: Arc<Test>,
@@ -100,8 +125,7 @@ pub fn check(
 ) -> Result<CheckVerdict, Fault>
     requires test { IsBounded (arc_value test) }
     requires starts { All IsStart (arc_value test).starts }
-    ensures ok { IfOk result (λ verdict. (c : Said) × IsCertificateFile certificate.now c × IsCheckVerdict (arc_value test) prices.now c verdict) }
-    ensures clean { OnOk result ((f : CheckFault) → IsCandidateFault (arc_value test) f → ⊥) }
+    ensures ok { IfOk result (IsJudged (arc_value test) prices.now certificate.now) }
     ensures err { IfErr result (λ f. f ≢ Memory → IsCheckFault (arc_value test) certificate.now f) }
 {
     let certificate = Certificate::from_bytes(alloc, certificate)?;

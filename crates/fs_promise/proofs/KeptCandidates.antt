@@ -10,7 +10,8 @@ use Rattle.fs_model.specs.Shows.{holds, is_outcome, final_register}
 use Rattle.fs_model.specs.TooMany.{IsRunFault}
 use Rattle.fs_model.specs.Values.{AreRunsOverValues}
 use Rattle.fs_answer.specs.Candidates.{Candidate, last_word, IsRaw, IsShowing}
-use Rattle.fs_answer.specs.CandidateFaults.{most_candidates, HasTooMany, IsCandidateFault}
+use Rattle.fs_answer.specs.CandidateFaults.{most_candidates, HasTooMany, IsCandidateFault, IsCyclesFault}
+use Rattle.fs_answer.specs.Certificate.{Cycles, Listed, Inferred}
 use Rattle.fs_answer.specs.Listings.{IsListing}
 use Rattle.fs_promise.proofs.Kept.{with_condition_of, Keeps, back, same_whole, carried}
 use Rattle.fs_promise.proofs.KeptRuns.{more, run_fault}
@@ -41,6 +42,10 @@ candidate_fault fault.TooManyCandidates u v e h =
     (λ f x. h.0 f (back (λ t. IsRunFault t f) (run_fault f) u v e x), too_many u v e h.1)
 candidate_fault f u v e h = run_fault f u v e h
 
+cycles_fault : (cycles : Cycles) (f : Fault) → Keeps (λ t. IsCyclesFault cycles t f)
+cycles_fault (Listed cycles) f = candidate_fault f
+cycles_fault (Inferred inferences) f = run_fault f
+
 pub showing : (c : Candidate) → Keeps (λ t. IsShowing t c)
 showing c u v e h =
     record {
@@ -69,6 +74,10 @@ too_many_same = carried HasTooMany too_many
 
 pub candidate_fault_same : (t u : Test) → IsSame t u → (f : Fault) → IsCandidateFault t f ↔ IsCandidateFault u f
 candidate_fault_same t u s f = carried (λ x. IsCandidateFault x f) (candidate_fault f) t u s
+
+pub cycles_fault_same :
+    (cycles : Cycles) (t u : Test) → IsSame t u → (f : Fault) → IsCyclesFault cycles t f ↔ IsCyclesFault cycles u f
+cycles_fault_same cycles t u s f = carried (λ x. IsCyclesFault cycles x f) (cycles_fault cycles f) t u s
 
 pub showing_same : (t u : Test) → IsSame t u → (c : Candidate) → IsShowing t c ↔ IsShowing u c
 showing_same t u s c = carried (λ x. IsShowing x c) (showing c) t u s

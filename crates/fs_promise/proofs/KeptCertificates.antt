@@ -1,5 +1,5 @@
 -- Certificates: when they are valid, and why they are refused.
-use Rattle.std.proofs.Common.{◌↔◌, inl, inr, ℕ, ◌+◌, Option, None, Some, List, [], ◌∷◌, ◌++◌}
+use Rattle.std.proofs.Common.{◌≡◌, ◌↔◌, inl, inr, ℕ, ◌+◌, Option, None, Some, List, [], ◌∷◌, ◌++◌, true, ap, ◌∙◌, filter}
 use Rattle.std.specs.Prelude.{All, take}
 use Rattle.std.specs.List.{AllZip}
 use Rattle.fs_kinds.specs.declared.kind.Kind.TheVariants.{RwRw}
@@ -10,15 +10,20 @@ use Rattle.fs_kinds.specs.Placement.{all_with}
 use Rattle.fs_kinds.specs.PriceTable.{PriceTable}
 use Rattle.fs_model.specs.Slots.{slots}
 use Rattle.fs_model.specs.declared.test.Test.{Test}
+use Rattle.fs_model.specs.declared.step.Step.{Step}
+use Rattle.fs_model.specs.Condition.{condition_of}
+use Rattle.fs_model.specs.Shows.{is_outcome}
 use Rattle.fs_model.specs.Test.{IsSame}
 use Rattle.fs_model.specs.Execution.{Execution}
 use Rattle.fs_model.specs.Witness.{Witness}
 use Rattle.fs_answer.specs.Candidates.{Candidate}
-use Rattle.fs_answer.specs.Certificate.{Certificate, Version, Answer, Fenced, NoneForbids, Item, SplitAt, Costly, Refuted, Bounded, Link, IsAnswered}
+use Rattle.fs_answer.specs.Certificate.{Certificate, Version, Answer, Fenced, NoneForbids, Cycles, Listed, Inferred, Inference, Item, SplitAt, Costly, Refuted, Bounded, Link, IsAnswered}
 use Rattle.fs_answer.specs.Parts.{Part, undecided, floor, filled, child_parts}
-use Rattle.fs_answer.specs.Refusals.{IsBadAnswer, IsFirstBad, IsFirstUnshown, Fails, IsPlacedRefusal, IsRefusal}
+use Rattle.fs_answer.specs.Refusals.{IsBadAnswer, IsFirstBad, IsFirstUnshown, first_wrong, IsListRefusal, IsCyclesRefusal, Fails, IsPlacedRefusal, IsRefusal}
 use Rattle.fs_answer.specs.Cycles.{IsCycle, HasCycles}
-use Rattle.fs_answer.specs.Valid.{RefutesBy, Refutes, Bounds, Covers, IsValid}
+use Rattle.fs_answer.specs.Trees as trees
+use Rattle.fs_answer.specs.Trees.{is_open, roots, root, AreItsRuns, IsRefuted}
+use Rattle.fs_answer.specs.Valid.{Forbid, RefutesBy, Refutes, Bounds, Covers, IsValid}
 use Rattle.fs_promise.proofs.Kept.{with_condition_of, Keeps, back, carried, each, pairwise}
 use Rattle.fs_promise.proofs.KeptCandidates.{listing}
 use Rattle.fs_promise.proofs.KeptPlacements.{placement, refutes_all, of_witness, shows_as}
@@ -38,6 +43,35 @@ all_cycles p cs cycles u v e =
 
 has_cycles : (p : List Entry) (cycles : List (List Link)) → Keeps (λ t. HasCycles t p cycles)
 has_cycles p cycles u v e h = (h.0, listing h.0 u v e h.1, all_cycles p h.0 cycles u v e h.2)
+
+-- ---- refutations
+
+its_runs : (runs : ℕ → List (List Step)) → Keeps (λ t. AreItsRuns t runs)
+its_runs runs u v e h =
+    record {
+      all = λ hart low. record { rising = (h.all hart low).rising; exact = (h.all hart low).exact };
+      others = h.others;
+    }
+
+-- the first region alone looks at the condition
+its_roots :
+    (runs : ℕ → List (List Step)) (u v : Test) → condition_of v.condition ≡ condition_of u.condition
+    → roots (with_condition_of v u) runs ≡ roots u runs
+its_roots runs u v e =
+    ap (λ condition. filter (is_open u)
+    (record (root u runs) { wanted = (condition, is_outcome u.quantifier true) ∷ [] } ∷ [])) e
+
+refuted : (p : List Entry) (inferences : List Inference) → Keeps (λ t. IsRefuted t p inferences)
+refuted p inferences u v e h =
+    record {
+      runs = h.runs;
+      all = its_runs h.runs u v e h.all;
+      refuted = ap (λ regions. trees.refutes u p regions inferences) (its_roots h.runs u v e) ∙ h.refuted;
+    }
+
+forbid : (p : List Entry) (cycles : Cycles) → Keeps (λ t. Forbid t p cycles)
+forbid p (Listed cycles) = has_cycles p cycles
+forbid p (Inferred inferences) = refuted p inferences
 
 -- ---- the tree
 
@@ -109,7 +143,7 @@ valid : (prices : PriceTable) (c : Certificate) (answer : Option (List Entry)) �
 valid prices c (Some p) u v e h =
     record {
       answered = answered prices c.answer p u v e h.answered;
-      cycles = has_cycles p c.cycles u v e h.cycles;
+      cycles = forbid p c.cycles u v e h.cycles;
       tree = covers prices c p c.tree (undecided u ∷ []) u v e h.tree;
     }
 valid prices c None u v e h =
@@ -136,13 +170,28 @@ first_bad p cs cycles index u v e h =
       earlier = all_cycles p (take index cs) (take index cycles) u v e h.earlier;
     }
 
-placed : (prices : PriceTable) (c : Certificate) (p : List Entry) (cs : List Candidate) (why : Reason) → Keeps (λ t. IsPlacedRefusal t prices c p cs why)
-placed prices c p cs reason.Cycles u v e h = h
-placed prices c p cs (reason.Cycle index) u v e h = (h.0, first_bad p cs c.cycles index u v e h.1)
-placed prices c p cs other u v e h =
-    (all_cycles p cs c.cycles u v e h.0, fails prices c p c.tree (undecided u ∷ []) 0 other u v e h.1)
+list_refusal :
+    (p : List Entry) (cs : List Candidate) (cycles : List (List Link)) (why : Reason)
+    → Keeps (λ t. IsListRefusal t p cs cycles why)
+list_refusal p cs cycles reason.Cycles u v e h = h
+list_refusal p cs cycles (reason.Cycle index) u v e h = (h.0, first_bad p cs cycles index u v e h.1)
+list_refusal p cs cycles other u v e h = h
 
-module _ (prices : PriceTable) (version : Version) (cycles : List (List Link)) (tree : List Item) (ws : List Witness) where
+cycles_refusal : (p : List Entry) (cycles : Cycles) (why : Reason) → Keeps (λ t. IsCyclesRefusal t p cycles why)
+cycles_refusal p (Listed cycles) why u v e h =
+    (h.0, listing h.0 u v e h.1, list_refusal p h.0 cycles why u v e h.2)
+cycles_refusal p (Inferred inferences) why u v e h =
+    (h.0, its_runs h.0 u v e h.1, ap (λ regions. first_wrong u p regions inferences 0) (its_roots h.0 u v e) ∙ h.2)
+
+placed :
+    (prices : PriceTable) (c : Certificate) (p : List Entry) (why : Reason)
+    → Keeps (λ t. IsPlacedRefusal t prices c p why)
+placed prices c p reason.Cycles u v e h = cycles_refusal p c.cycles reason.Cycles u v e h
+placed prices c p (reason.Cycle index) u v e h = cycles_refusal p c.cycles (reason.Cycle index) u v e h
+placed prices c p other u v e h =
+    (forbid p c.cycles u v e h.0, fails prices c p c.tree (undecided u ∷ []) 0 other u v e h.1)
+
+module _ (prices : PriceTable) (version : Version) (cycles : Cycles) (tree : List Item) (ws : List Witness) where
   abbrev certificate : Answer → Certificate
   certificate answer = record { version = version; answer = answer; cycles = cycles; tree = tree; witnesses = ws }
 
@@ -156,7 +205,7 @@ module _ (prices : PriceTable) (version : Version) (cycles : List (List Link)) (
   refusal_of other (Fenced cost fences) u v e h = (
     h.0,
     answered prices (Fenced cost fences) h.0 u v e h.1,
-    (h.2.0, listing h.2.0 u v e h.2.1, placed prices (certificate (Fenced cost fences)) h.0 h.2.0 other u v e h.2.2),
+    placed prices (certificate (Fenced cost fences)) h.0 other u v e h.2,
   )
   refusal_of other NoneForbids u v e h = (
     λ x. h.0 (back (λ t. IsBadAnswer t prices (certificate NoneForbids)) (bad_answer NoneForbids) u v e x),

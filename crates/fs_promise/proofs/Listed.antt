@@ -1,14 +1,18 @@
--- A test has one listing of its showing candidates: the order is asymmetric, so two rising lists with the same members are one.
+-- A test has one listing of its showing candidates, and of each hart's runs: the orders are asymmetric, so two rising
+-- lists with the same members are one.
 use Rattle.std.proofs.Common.{◌≡◌, ℕ, zero, suc, ◌<◌, ◌==◌, ◌&&◌, ◌⊎◌, true, List, [], ◌∷◌, length, refl, sym, ap₂, subst, ◌∙◌, arith, inl, inr}
 use Rattle.std.specs.Prelude.{nat_lt}
 use Rattle.std.specs.List.{AllPairs, Contains, slice_index_or}
-use Rattle.std.proofs.lemmas.Bool.{false≢true, and_parts, or_cases, ltb-true, eqb-true}
+use Rattle.std.proofs.Math.Path.{fun_ext}
+use Rattle.std.proofs.lemmas.Bool.{false≢true, and_parts, or_cases, cases_lt, ltb-true, eqb-true}
 use Rattle.fs_model.specs.declared.test.Test.{Test}
 use Rattle.fs_model.specs.declared.step.Step.{Step}
 use Rattle.fs_model.specs.Choices.{choices_of, ComesBefore}
+use Rattle.fs_model.specs.Values.{AreAllRuns}
 use Rattle.fs_model.proofs.ChoiceOrder.{comes_not_itself, not_both}
 use Rattle.fs_answer.specs.Candidates.{Candidate}
 use Rattle.fs_answer.specs.Listings.{AreEarlier, is_less, key, Precedes, IsListing}
+use Rattle.fs_answer.specs.Trees.{AreItsRuns}
 
 -- ---- rising lists
 
@@ -113,3 +117,23 @@ one_listing t cs ds left right =
     same_list (Precedes t) (precedes_once t) cs ds left.rising right.rising
     (λ c there. (right.exact c).1 ((left.exact c).0 there))
     (λ c there. (left.exact c).1 ((right.exact c).0 there))
+
+-- ---- the runs of the harts
+
+one_list : (t : Test) (hart : ℕ) (runs others : List (List Step)) → AreAllRuns t hart runs → AreAllRuns t hart others
+    → runs ≡ others
+one_list t hart runs others left right =
+    same_list (λ a b. ComesBefore (choices_of a) (choices_of b)) (λ a b. not_both (choices_of a) (choices_of b))
+    runs others left.rising right.rising
+    (λ steps there. (right.exact steps).1 ((left.exact steps).0 there))
+    (λ steps there. (left.exact steps).1 ((right.exact steps).0 there))
+
+pub one_family : (t : Test) (runs others : ℕ → List (List Step)) → AreItsRuns t runs → AreItsRuns t others
+    → runs ≡ others
+one_family t runs others left right = fun_ext of
+  where
+    of : (hart : ℕ) → runs hart ≡ others hart
+    of hart = elim (cases_lt hart (length t.codes)) [
+      | inl low ↦ one_list t hart (runs hart) (others hart) (left.all hart low) (right.all hart low)
+      | inr high ↦ left.others hart high ∙ sym (right.others hart high)
+    ]

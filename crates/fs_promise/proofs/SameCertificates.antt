@@ -12,7 +12,7 @@ use Rattle.fs_kinds.specs.Slot.{IsSlot, is_same_slot}
 use Rattle.fs_model.specs.declared.test.Test.{Test}
 use Rattle.fs_model.specs.Slots.{slots}
 use Rattle.fs_model.specs.Test.{IsBounded}
-use Rattle.fs_answer.specs.Certificate.{Certificate, Version, First, Second, Fenced, Item, SplitAt, Costly, Refuted, Bounded, fence_words}
+use Rattle.fs_answer.specs.Certificate.{Certificate, Version, First, Second, Fourth, Fenced, Item, SplitAt, Costly, Refuted, Bounded, fence_words}
 use Rattle.fs_answer.specs.Parts.{Part, Decision, undecided, floor, decide, options, child_parts}
 use Rattle.fs_answer.specs.Pruning.{breaks, breaking_ways, breaking_at, is_empty, is_breakable, least, least_break, share_a_slot, are_apart, sum_of, lower_bound, is_no_better, is_pruned}
 use Rattle.fs_answer.specs.Valid.{is_costly, Covers, IsValid}
@@ -141,6 +141,7 @@ module _ (table other : PriceTable) (same : Agree table other) where
     costly_same : (version : Version) (part : Part) → AreSmall part → is_costly version table p part ≡ is_costly version other p part
     costly_same First part h = ap₂ nat_le (cost_same table other same p over) (floor_same part h)
     costly_same Second part h = pruned_same part [] h
+    costly_same Fourth part h = pruned_same part [] h
 
     covers_same : (t : Test) (c : Certificate) (parts : List Part) (items : List Item) → AllSmall parts
         → Covers t table c p parts items → Covers t other c p parts items

@@ -1,7 +1,8 @@
 -- A certificate has one verdict.
-use Rattle.std.proofs.Common.{◌≡◌, ◌≢◌, ◌⊎◌, ℕ, Option, None, Some, List, [], ◌∷◌, length, refl, sym, ap, subst, ◌∙◌, inl, inr}
-use Rattle.std.specs.Prelude.{slice_get}
+use Rattle.std.proofs.Common.{◌≡◌, ◌⊎◌, ℕ, ◌+◌, true, Option, None, Some, List, [], ◌∷◌, ◌++◌, length, refl, sym, ap, subst, ◌∙◌, inl, inr}
+use Rattle.std.specs.Prelude.{slice_get, if◌then◌else◌}
 use Rattle.std.specs.List.{AllZip}
+use Rattle.std.proofs.lemmas.Bool.{false≢true, and_parts}
 use Rattle.std.proofs.lemmas.Slice.Zip.{AllZip-long}
 use Rattle.fs_kinds.specs.declared.placement.Entry.{Entry}
 use Rattle.fs_kinds.specs.declared.reason.Reason.{Reason}
@@ -10,85 +11,115 @@ use Rattle.fs_kinds.specs.PriceTable.{PriceTable, cost}
 use Rattle.fs_model.specs.declared.test.Test.{Test}
 use Rattle.fs_model.specs.Test.{IsBounded}
 use Rattle.fs_answer.specs.Candidates.{Candidate}
-use Rattle.fs_answer.specs.Certificate.{Certificate, Answer, Fenced, NoneForbids, IsAnswered, fence_words}
+use Rattle.fs_answer.specs.Certificate.{Certificate, Answer, Fenced, NoneForbids, Cycles, Listed, Inferred, Link, Inference, IsAnswered, fence_words}
 use Rattle.fs_answer.specs.Parts.{undecided}
-use Rattle.fs_answer.specs.Refusals.{IsBad, IsBadAnswer, IsFirstBad, Fails, IsPlacedRefusal, IsRefusedAfter, IsRefusal}
+use Rattle.fs_answer.specs.Refusals.{IsBad, IsBadAnswer, IsFirstBad, first_wrong, IsListRefusal, IsCyclesRefusal, Fails, IsPlacedRefusal, IsRefusedAfter, IsRefusal}
 use Rattle.fs_answer.specs.Cycles.{IsCycle}
-use Rattle.fs_answer.specs.Valid.{Covers, IsValidFor, IsValidForNone, IsValid}
-use Rattle.fs_promise.proofs.Firsts.{zip_at, place_once}
-use Rattle.fs_promise.proofs.Listed.{one_listing}
+use Rattle.fs_answer.specs.Regions.{Region}
+use Rattle.fs_answer.specs.Trees.{follows, left_after, refutes, roots}
+use Rattle.fs_answer.specs.Valid.{Forbid, Covers, IsValidFor, IsValidForNone, IsValid}
+use Rattle.fs_promise.proofs.Firsts.{same_Some, zip_at, place_once}
+use Rattle.fs_promise.proofs.Listed.{one_listing, one_family}
 use Rattle.fs_promise.proofs.Walks.{covers_or_fails, fails_once}
 use Rattle.fs_promise.proofs.Worded.{one_answered}
 
+-- ---- the reasons against what is to show that the placement forbids the outcome
+
+-- nothing is wrong with what refutes
+nothing_wrong : (t : Test) (p : List Entry) (regions : List Region) (inferences : List Inference) (k : ℕ)
+    → refutes t p regions inferences ≡ true → first_wrong t p regions inferences k ≡ None
+nothing_wrong t p [] [] k h = refl
+nothing_wrong t p [] (inference ∷ inferences) k h = absurd (false≢true h)
+nothing_wrong t p (region ∷ regions) [] k h = absurd (false≢true h)
+nothing_wrong t p (region ∷ regions) (inference ∷ inferences) k h =
+    let left = left_after t region inference ++ regions in
+    let parts = and_parts (follows t p region inference) (refutes t p left inferences) h in
+    ap (λ drawn. if drawn then first_wrong t p left inferences (k + 1) else Some (reason.Cycle k)) parts.0
+    ∙ nothing_wrong t p left inferences (k + 1) parts.1
+
+module _ (t : Test) (p : List Entry) where
+  module _ (cs : List Candidate) (cycles : List (List Link)) where
+    list_apart : (why : Reason) → AllZip (IsCycle t p) cs cycles → IsListRefusal t p cs cycles why → ⊥
+    list_apart reason.Cycles all h = h (AllZip-long (IsCycle t p) cs cycles all)
+    list_apart (reason.Cycle index) all h =
+        let bad = h.1 in
+        bad.bad (zip_at (IsCycle t p) cs cycles index bad.candidate bad.links all bad.the_candidate bad.the_links)
+    list_apart other all h = h
+
+    bad_once : (i j : ℕ) → IsFirstBad t p cs cycles i → IsFirstBad t p cs cycles j → i ≡ j
+    bad_once i j one two = place_once (IsCycle t p) cs cycles i j one.candidate two.candidate one.links two.links
+        one.the_candidate one.the_links one.bad one.earlier two.the_candidate two.the_links two.bad two.earlier
+
+    list_once : (why other : Reason) → IsListRefusal t p cs cycles why → IsListRefusal t p cs cycles other → why ≡ other
+    list_once reason.Cycles reason.Cycles h k = refl
+    list_once reason.Cycles (reason.Cycle j) h k = absurd (h k.0)
+    list_once reason.Cycles other h k = absurd k
+    list_once (reason.Cycle i) reason.Cycles h k = absurd (k h.0)
+    list_once (reason.Cycle i) (reason.Cycle j) h k = ap reason.Cycle (bad_once i j h.1 k.1)
+    list_once (reason.Cycle i) other h k = absurd k
+    list_once why other h k = absurd h
+
+  -- the one listing of the candidates, or of the runs, serves both
+  cycles_apart : (cycles : Cycles) (why : Reason) → Forbid t p cycles → IsCyclesRefusal t p cycles why → ⊥
+  cycles_apart (Listed cycles) why f h =
+      let same : h.0 ≡ f.0 = one_listing t h.0 f.0 h.1 f.1 in
+      list_apart f.0 cycles why f.2 (subst (λ cs. IsListRefusal t p cs cycles why) same h.2)
+  cycles_apart (Inferred inferences) why f h =
+      let same : h.0 ≡ f.runs = one_family t h.0 f.runs h.1 f.all in
+      let none = nothing_wrong t p (roots t f.runs) inferences 0 f.refuted in
+      let e : None ≡ Some why = sym none ∙ ap (λ runs. first_wrong t p (roots t runs) inferences 0) (sym same) ∙ h.2 in
+      absurd (cc)
+
+  cycles_once : (cycles : Cycles) (why other : Reason) → IsCyclesRefusal t p cycles why
+      → IsCyclesRefusal t p cycles other → why ≡ other
+  cycles_once (Listed cycles) why other h k =
+      let same : k.0 ≡ h.0 = one_listing t k.0 h.0 k.1 h.1 in
+      list_once h.0 cycles why other h.2 (subst (λ cs. IsListRefusal t p cs cycles other) same k.2)
+  cycles_once (Inferred inferences) why other h k =
+      let same : h.0 ≡ k.0 = one_family t h.0 k.0 h.1 k.1 in
+      same_Some why other (sym h.2 ∙ ap (λ runs. first_wrong t p (roots t runs) inferences 0) same ∙ k.2)
+
 -- ---- the reasons against a certificate of a placement
 
-module _ (t : Test) (prices : PriceTable) (c : Certificate) (p : List Entry) (cs : List Candidate) where
-  abbrev AreCycles : Type 0
-  AreCycles = AllZip (IsCycle t p) cs c.cycles
-
+module _ (t : Test) (prices : PriceTable) (c : Certificate) (p : List Entry) where
   abbrev FailsFor : Reason → Type 0
-  FailsFor why = AreCycles × Fails t prices c p (undecided t ∷ []) c.tree 0 why
+  FailsFor why = Forbid t p c.cycles × Fails t prices c p (undecided t ∷ []) c.tree 0 why
 
   abbrev IsFor : Reason → Type 0
-  IsFor why =
-      ((why ≡ reason.Cycles) × (length c.cycles ≢ length cs))
-      ⊎ (((index : ℕ) × (why ≡ reason.Cycle index) × (length c.cycles ≡ length cs) × IsFirstBad t p cs c.cycles index) ⊎ FailsFor why)
+  IsFor why = IsCyclesRefusal t p c.cycles why ⊎ FailsFor why
 
-  is_for : (why : Reason) → IsPlacedRefusal t prices c p cs why → IsFor why
-  is_for (reason.Choices hart) h = inr (inr h)
-  is_for (reason.Astray hart at) h = inr (inr h)
-  is_for reason.Order h = inr (inr h)
-  is_for (reason.Load load) h = inr (inr h)
-  is_for (reason.Rule rule first second) h = inr (inr h)
-  is_for (reason.Atomic load store) h = inr (inr h)
-  is_for reason.Outcome h = inr (inr h)
-  is_for reason.Answer h = inr (inr h)
-  is_for reason.Cycles h = inl (refl, h)
-  is_for (reason.Cycle index) h = inr (inl (index, refl, h.0, h.1))
-  is_for reason.Tree h = inr (inr h)
-  is_for (reason.Node index) h = inr (inr h)
-  is_for (reason.Witness index) h = inr (inr h)
+  is_for : (why : Reason) → IsPlacedRefusal t prices c p why → IsFor why
+  is_for (reason.Choices hart) h = inr h
+  is_for (reason.Astray hart at) h = inr h
+  is_for reason.Order h = inr h
+  is_for (reason.Load load) h = inr h
+  is_for (reason.Rule rule first second) h = inr h
+  is_for (reason.Atomic load store) h = inr h
+  is_for reason.Outcome h = inr h
+  is_for reason.Answer h = inr h
+  is_for reason.Cycles h = inl h
+  is_for (reason.Cycle index) h = inl h
+  is_for reason.Tree h = inr h
+  is_for (reason.Node index) h = inr h
+  is_for (reason.Witness index) h = inr h
 
-  not_bad : (index : ℕ) → AreCycles → IsFirstBad t p cs c.cycles index → ⊥
-  not_bad index all bad = bad.bad (zip_at (IsCycle t p) cs c.cycles index bad.candidate bad.links all bad.the_candidate bad.the_links)
-
-  bad_once : (i j : ℕ) → IsFirstBad t p cs c.cycles i → IsFirstBad t p cs c.cycles j → i ≡ j
-  bad_once i j one two = place_once (IsCycle t p) cs c.cycles i j one.candidate two.candidate one.links two.links
-      one.the_candidate one.the_links one.bad one.earlier two.the_candidate two.the_links two.bad two.earlier
-
-  placed_apart : (why : Reason) → AreCycles → Covers t prices c p (undecided t ∷ []) c.tree → IsPlacedRefusal t prices c p cs why → ⊥
-  placed_apart why all tree h = elim (is_for why h) [
-    | inl many ↦ many.1 (AllZip-long (IsCycle t p) cs c.cycles all)
-    | inr rest ↦ elim rest [
-      | inl cycle ↦ not_bad cycle.0 all cycle.3
-      | inr fails ↦ covers_or_fails t prices c p (undecided t ∷ []) c.tree 0 why tree fails.1
-    ]
+  placed_apart : (why : Reason) → Forbid t p c.cycles → Covers t prices c p (undecided t ∷ []) c.tree
+      → IsPlacedRefusal t prices c p why → ⊥
+  placed_apart why forbid tree h = elim (is_for why h) [
+    | inl against ↦ cycles_apart t p c.cycles why forbid against
+    | inr fails ↦ covers_or_fails t prices c p (undecided t ∷ []) c.tree 0 why tree fails.1
   ]
 
-  placed_once : (why other : Reason) → IsPlacedRefusal t prices c p cs why → IsPlacedRefusal t prices c p cs other → why ≡ other
+  placed_once : (why other : Reason) → IsPlacedRefusal t prices c p why → IsPlacedRefusal t prices c p other
+      → why ≡ other
   placed_once why other h k = elim (is_for why h) [
-    | inl many ↦ elim (is_for other k) [
-      | inl too ↦ many.0 ∙ sym too.0
-      | inr rest ↦ elim rest [
-        | inl cycle ↦ absurd (many.1 cycle.2)
-        | inr fails ↦ absurd (many.1 (AllZip-long (IsCycle t p) cs c.cycles fails.0))
-      ]
+    | inl against ↦ elim (is_for other k) [
+      | inl too ↦ cycles_once t p c.cycles why other against too
+      | inr fails ↦ absurd (cycles_apart t p c.cycles why fails.0 against)
     ]
-    | inr here ↦ elim (is_for other k) [
-      | inl many ↦ elim here [
-        | inl cycle ↦ absurd (many.1 cycle.2)
-        | inr fails ↦ absurd (many.1 (AllZip-long (IsCycle t p) cs c.cycles fails.0))
-      ]
-      | inr there ↦ elim here [
-        | inl cycle ↦ elim there [
-          | inl too ↦ cycle.1 ∙ ap reason.Cycle (bad_once cycle.0 too.0 cycle.3 too.3) ∙ sym too.1
-          | inr fails ↦ absurd (not_bad cycle.0 fails.0 cycle.3)
-        ]
-        | inr fails ↦ elim there [
-          | inl cycle ↦ absurd (not_bad cycle.0 fails.0 cycle.3)
-          | inr too ↦ fails_once t prices c p (undecided t ∷ []) c.tree 0 why other fails.1 too.1
-        ]
-      ]
+    | inr fails ↦ elim (is_for other k) [
+      | inl against ↦ absurd (cycles_apart t p c.cycles other fails.0 against)
+      | inr too ↦ fails_once t prices c p (undecided t ∷ []) c.tree 0 why other fails.1 too.1
     ]
   ]
 
@@ -121,15 +152,15 @@ module _ (t : Test) (prices : PriceTable) (c : Certificate) (bounded : IsBounded
   bad_or_after (Fenced n fences) why e bad h = bad h.0 h.1
   bad_or_after NoneForbids why e bad h = h.0 (subst (IsBad t prices c) e bad)
 
-  -- the same refusal of the one placement with its one listing
-  moved : (why : Reason) (p q : List Entry) (cs ds : List Candidate) → q ≡ p → ds ≡ cs → IsPlacedRefusal t prices c q ds why → IsPlacedRefusal t prices c p cs why
-  moved why p q cs ds same alike h = subst (λ r. IsPlacedRefusal t prices c r cs why) same (subst (λ es. IsPlacedRefusal t prices c q es why) alike h)
+  -- the same refusal of the one placement
+  moved : (why : Reason) (p q : List Entry) → q ≡ p → IsPlacedRefusal t prices c q why
+      → IsPlacedRefusal t prices c p why
+  moved why p q same h = subst (λ r. IsPlacedRefusal t prices c r why) same h
 
   after_once : (answer : Answer) (why other : Reason) → IsAfter why answer → IsAfter other answer → why ≡ other
   after_once (Fenced n fences) why other h k =
       let same : k.0 ≡ h.0 = one_answered t prices (Fenced n fences) k.0 h.0 bounded k.1 h.1 in
-      let alike : k.2.0 ≡ h.2.0 = one_listing t k.2.0 h.2.0 k.2.1 h.2.1 in
-      placed_once t prices c h.0 h.2.0 why other h.2.2 (moved other h.0 k.0 h.2.0 k.2.0 same alike k.2.2)
+      placed_once t prices c h.0 why other h.2 (moved other h.0 k.0 same k.2)
   after_once NoneForbids why other h k = h.2 ∙ sym k.2
 
   one_reason_of : (why other : Reason) → IsRefusal t prices c why → IsRefusal t prices c other → why ≡ other
@@ -158,8 +189,7 @@ module _ (t : Test) (prices : PriceTable) (c : Certificate) (bounded : IsBounded
       against : IsAfter why (Fenced (cost prices p) (fence_words p)) → ⊥
       against k =
           let same : k.0 ≡ p = one_answered t prices (Fenced (cost prices p) (fence_words p)) k.0 p bounded k.1 answered in
-          let alike : k.2.0 ≡ v.cycles.0 = one_listing t k.2.0 v.cycles.0 k.2.1 v.cycles.1 in
-          placed_apart t prices c p v.cycles.0 why v.cycles.2 v.tree (moved why p k.0 v.cycles.0 k.2.0 same alike k.2.2)
+          placed_apart t prices c p why v.cycles v.tree (moved why p k.0 same k.2)
 
   none_apart : (why : Reason) → IsValidForNone t c → IsOf why → ⊥
   none_apart why v h = elim h [

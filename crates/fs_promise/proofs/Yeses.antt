@@ -11,11 +11,12 @@ use Rattle.fs_litmus.specs.Reads.{Reads}
 use Rattle.fs_litmus.proofs.ReadsTest.{is_test}
 use Rattle.fs_litmus.proofs.ReadsOnce.{reads_once}
 use Rattle.fs_promise.proofs.KeptPlacements.{cheapest_same, least_cost_same, of_witness_same, refutes_all_same}
-use Rattle.fs_promise.proofs.KeptCandidates.{candidate_fault_same}
-use Rattle.fs_model.specs.Allows.{RefutesAll}
+use Rattle.fs_promise.proofs.KeptCandidates.{cycles_fault_same}
+use Rattle.fs_model.specs.Allows.{IsCheapest, RefutesAll}
 use Rattle.fs_model.specs.Execution.{Execution}
 use Rattle.fs_model.specs.Witness.{Witness, IsOfWitness}
-use Rattle.fs_answer.specs.Certificate.{Certificate, Version, First, Second, IsBest, IsLeastCost}
+use Rattle.fs_answer.specs.Certificate.{Certificate, Version, First, Second, Fourth, IsBest, IsLeastCost}
+use Rattle.fs_answer.specs.CandidateFaults.{HasNoCyclesFault}
 use Rattle.fs_answer.specs.CertificateFile.{IsCertificateFile}
 use Rattle.fs_answer.specs.Texts.{fenced_lines, none_lines}
 use Rattle.fs_checker.proofs.OneFile.{file_once}
@@ -23,7 +24,7 @@ use Rattle.fs_laws.proofs.Filled.{filled-shows}
 use Rattle.fs_io.specs.declared.status.Status.TheVariants.{Success, Denied}
 use Rattle.fs_place.specs.Place.{ArePricesOf}
 use Rattle.fs_promise.specs.Checked.{LeastRulesOut, IsBestAnswer, IsTrueAnswerBelow, IsTrueYes}
-use Rattle.fs_promise.specs.Headline.{NothingRulesOut}
+use Rattle.fs_promise.specs.Headline.{CheapestRulesOut, NothingRulesOut}
 use Rattle.fs_promise.proofs.Meaning.{cheapest, ruled_out, stays}
 use Rattle.fs_promise.proofs.SamePrices.{Agree, agree, same_placement, same_costs}
 use Rattle.fs_promise.proofs.Witnesses.{given_file}
@@ -46,11 +47,17 @@ module _ (t : Test) (h : IsTest t) where
             stays t h q (a.cheaper q ((moved q).0 over) (subst (λ n. n < cost other p) (costs q over.slots) (subst (λ n. cost table q < n) (costs p a.placement.slots) less)));
       }
 
+  first_cheapest : (table other : PriceTable) (p : List Entry) → Agree table other → IsCheapest t other p
+      → CheapestRulesOut t table (fenced_lines (cost other p) p)
+  first_cheapest table other p same a =
+      cheapest t h table other (fenced_lines (cost other p) p) Success same
+      (record { placement = p; cheapest = a; shown = refl; ends = refl })
+
   best : (version : Version) (table other : PriceTable) (p : List Entry) → Agree table other → IsBest version t other p
       → IsBestAnswer version t table (fenced_lines (cost other p) p)
   best First table other p same a = least table other p same a
-  best Second table other p same a =
-      cheapest t h table other (fenced_lines (cost other p) p) Success same (record { placement = p; cheapest = a; shown = refl; ends = refl })
+  best Second table other p same a = first_cheapest table other p same a
+  best Fourth table other p same a = first_cheapest table other p same a
 
   allows : (w : Witness) (e : Execution) → IsOfWitness t w e → RefutesAll t e → NothingRulesOut t (none_lines w)
   allows w e given refutes = record {
@@ -64,16 +71,19 @@ module _ (t : Test) (h : IsTest t) where
 best_of_same : (version : Version) (t u : Test) → IsSame t u → (prices : PriceTable) (p : List Entry) → IsBest version t prices p → IsBest version u prices p
 best_of_same First t u same prices p a = (least_cost_same t u same prices p).0 a
 best_of_same Second t u same prices p a = (cheapest_same t u same prices p).0 a
+best_of_same Fourth t u same prices p a = (cheapest_same t u same prices p).0 a
 
 -- the yes is true of each test, prices and certificate that the bytes read as
 true_of : (test prices certificate text : List ℕ) → IsChecked test prices certificate text Success → (t : Test) (table : PriceTable) (c : Certificate)
-    → Reads test t → ArePricesOf prices table → IsCertificateFile certificate c → IsTrueAnswerBelow c.version t table text
+    → Reads test t → ArePricesOf prices table → IsCertificateFile certificate c → IsTrueAnswerBelow c t table text
 true_of test prices certificate text s t table c reads priced says =
     let same : IsSame s.the_test t = reads_once test s.the_test t s.reads reads in
     let h : IsTest t = is_test test t reads in
     let one : s.the_certificate ≡ c = file_once certificate s.the_certificate c s.says says in
     let prices_are = agree prices table s.table priced s.priced in (
-      λ f fault. s.listed f ((candidate_fault_same s.the_test t same f).1 fault),
+      λ f fault.
+          subst (λ (d : Certificate). HasNoCyclesFault d.cycles s.the_test) one s.listed f
+          ((cycles_fault_same c.cycles s.the_test t same f).1 fault),
       elim s.verdict [
         | inl a ↦
             let p = a.placement in

@@ -8,10 +8,10 @@ ghost use Rattle.fs_verify.specs.Check.{IsChecked};
 ghost use Rattle.fs_promise.specs.Checked.{IsTrueYes, IsYesTo};
 
 /// A law, the promise of `check`. Where it says `yes`, the bytes read as a test, as prices and as a certificate, and
-/// what it prints below is true of whatever they read as, whoever made the certificate. It means what the same lines
-/// of `solve` mean; but of a certificate of the first version, that the placement rules the outcome out and none that
-/// costs less does, and ties are left open. Where it says `none`, some execution shows the outcome
-/// whatever fences stand in the slots.
+/// what it prints below is true of whatever they read as, whoever made the certificate. Of a certificate of the second
+/// or the fourth version it means what the same lines of `solve` mean. Of one of the first version the placement rules
+/// the outcome out and none that costs less does, and ties are left open. Where it says `none`, some execution shows
+/// the outcome whatever fences stand in the slots.
 pub fn yes_is_true()
     ensures { (test prices certificate text : List ℕ) → IsChecked test prices certificate text Success
         → IsTrueYes test prices certificate text }

@@ -1,18 +1,15 @@
 -- Which fault `check` answers first, and what holds of its answers.
-use Rattle.std.proofs.Common.{◌≡◌, ◌≢◌, inl, inr, ℕ, List, Some, Result, Ok, Err, IfOk, OnOk, sym, subst}
+use Rattle.std.proofs.Common.{◌≡◌, ◌≢◌, inl, inr, ℕ, List, Some, Result, Ok, Err, IfOk, sym, subst}
 use Rattle.fs_kinds.specs.declared.fault.Fault.{Fault}
 use Rattle.fs_kinds.specs.declared.fault.Fault.TheVariants.{Memory}
 use Rattle.fs_kinds.specs.PriceTable.{PriceTable}
 use Rattle.fs_model.specs.declared.test.Test.{Test}
 use Rattle.fs_litmus.specs.Reads.{Reads}
 use Rattle.fs_litmus.specs.Faults.{IsTestFault}
-use Rattle.fs_answer.specs.CandidateFaults.{HasNoCandidateFault}
 use Rattle.fs_place.specs.Place.{IsPricesFault, ArePricesOf}
 use Rattle.fs_place.proofs.Faults.{is_memory}
-use Rattle.fs_answer.specs.Certificate.{Certificate}
-use Rattle.fs_answer.specs.CertificateFile.{IsCertificateFile}
 use Rattle.fs_checker.specs.declared.verdict.CheckVerdict.{CheckVerdict}
-use Rattle.fs_checker.specs.Checks.{IsCheckFault, IsCheckVerdict}
+use Rattle.fs_checker.specs.Checks.{IsCheckFault, IsJudged}
 use Rattle.fs_verify.specs.Check.{IsFirstCheckFault, of_prices, of_test, of_check, of_memory}
 
 module _ (test prices certificate : List ℕ) where
@@ -34,20 +31,11 @@ pub of_test_fault : (asked other : Test) (certificate : List ℕ) (f : Fault) �
     → f ≢ Memory → IsCheckFault other certificate f
 of_test_fault asked other certificate f same h = subst (λ t. f ≢ Memory → IsCheckFault t certificate f) same h
 
--- what holds in any case holds at an answer
-pub on_ok : {T E P : Type 0} (r : Result T E) → P → OnOk r P
-on_ok (Ok x) p = p
-on_ok (Err e) p = tt
-
 -- what follows from what holds of an answer holds of it
 pub if_ok : {T E : Type 0} (P Q : T → Type 0) (r : Result T E) → IfOk r P → ((x : T) → P x → Q x) → IfOk r Q
 if_ok P Q (Ok x) h f = f x h
 if_ok P Q (Err e) h f = tt
 
 pub of_test_verdict : (asked other : Test) (prices : PriceTable) (bytes : List ℕ) (v : CheckVerdict) → asked ≡ other
-    → (c : Certificate) × IsCertificateFile bytes c × IsCheckVerdict asked prices c v
-    → (c : Certificate) × IsCertificateFile bytes c × IsCheckVerdict other prices c v
-of_test_verdict asked other prices bytes v same h = subst (λ t. (c : Certificate) × IsCertificateFile bytes c × IsCheckVerdict t prices c v) same h
-
-pub listed_in : (asked other : Test) → asked ≡ other → HasNoCandidateFault asked → HasNoCandidateFault other
-listed_in asked other same h = subst HasNoCandidateFault same h
+    → IsJudged asked prices bytes v → IsJudged other prices bytes v
+of_test_verdict asked other prices bytes v same h = subst (λ t. IsJudged t prices bytes v) same h

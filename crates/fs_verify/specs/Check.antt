@@ -51,9 +51,10 @@ abbrev pub PrintsVerdict : Test → PriceTable → Certificate → List ℕ → 
 PrintsVerdict t prices c text status =
     PrintsFences t prices c text status ⊎ (PrintsNone t c text status ⊎ PrintsRefusal t prices c text status)
 
--- the bytes are a certificate file, and the verdict on what it says is printed
+-- the bytes are a certificate file, whose cycles can be judged, and the verdict on what it says is printed
 abbrev pub PrintsFileVerdict : Test → PriceTable → (certificate : List ℕ) → List ℕ → Status → Type 0
-PrintsFileVerdict t prices bytes text status = (c : Certificate) × IsCertificateFile bytes c × PrintsVerdict t prices c text status
+PrintsFileVerdict t prices bytes text status =
+    (c : Certificate) × IsCertificateFile bytes c × HasNoCyclesFault c.cycles t × PrintsVerdict t prices c text status
 
 -- the bytes read as a test, hold prices and are a certificate file, and the verdict on it is printed
 pub record IsChecked (test prices certificate text : List ℕ) (status : Status) : Type 0 where

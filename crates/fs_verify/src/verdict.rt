@@ -1,11 +1,10 @@
 //! What `check` answers.
 
-ghost use Rattle.std.specs.Prelude.{◌≡◌, ◌≢◌, ℕ, List, None, Some, IfOk, IfErr, OnOk, IsOkUnless, string_bytes};
+ghost use Rattle.std.specs.Prelude.{◌≡◌, ◌≢◌, ℕ, List, None, Some, IfOk, IfErr, IsOkUnless, string_bytes};
 ghost use Rattle.fs_kinds.specs.PriceTable.{PriceTable};
 ghost use Rattle.fs_model.specs.declared.test.Test.{Test as Tests};
 ghost use Rattle.fs_model.specs.Test.{IsBounded, IsTest};
 ghost use Rattle.fs_answer.specs.Certificate.{Certificate as Said};
-ghost use Rattle.fs_answer.specs.CandidateFaults.{HasNoCandidateFault};
 ghost use Rattle.fs_checker.specs.declared.verdict.CheckVerdict.TheVariants.{Yes, No};
 ghost use Rattle.fs_checker.specs.Checks.{IsCheckVerdict, IsCheckFault};
 ghost use Rattle.fs_place.specs.Place.{ArePricesOf};
@@ -24,9 +23,9 @@ use std::sync::Arc;
 /// answer as `solve` prints it, and status 0; else `no: ` and the first reason against it, and status 1. The files are bytes as they
 /// were read. Nothing of the search is called.
 ///
-/// The first fault in this order: `BadPrices` and `NoTop`; those of a test file by number and then line; `BadCertificate`;
-/// `TooManyTraces` and `Astray`; `TooManyCandidates`. `Memory` may come in place of any answer. The cost is that of `check` of
-/// fs_checker.
+/// The first fault in this order: `BadPrices` and `NoTop`; those of a test file by number and then line;
+/// `BadCertificate`; `TooManyTraces` and `Astray`; and `TooManyCandidates`, but not where the certificate has a
+/// refutation. `Memory` may come in place of any answer. The cost is that of `check` of fs_checker.
 pub fn run_check(
     alloc: Global,
     test: &[u8],
@@ -67,7 +66,6 @@ fn check_test(
     requires { IsTest test }
     ensures answer { IfOk result (λ output.
         PrintsFileVerdict test prices.now certificate.now (string_bytes output.text) output.status) }
-    ensures listed { OnOk result (HasNoCandidateFault test) }
     ensures fault { IfErr result (λ fault. fault ≢ Fault.Memory → IsCheckFault test certificate.now fault) }
 {
     let test = Arc::new(alloc, test)?;

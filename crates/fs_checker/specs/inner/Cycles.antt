@@ -1,21 +1,23 @@
 -- How a cycle is judged: by the numbers of the operations that it names.
-use Rattle.std.specs.Prelude.{◌≡◌, ◌≢◌, ℕ, nat_le, Bool, false, ◌&&◌, Option, None, Some, List, ◌++◌, map, length, take, drop, slice_get, unwrap_or, option_and_then, option_map}
+use Rattle.std.specs.Prelude.{ℕ, nat_le, Bool, false, ◌&&◌, Option, None, Some, List, ◌++◌, map, length, take, drop, slice_get, unwrap_or, option_and_then, option_map}
 use Rattle.std.specs.List.{AllZip}
 use Rattle.fs_kinds.specs.declared.placement.Entry.{Entry}
 use Rattle.fs_kinds.specs.declared.reason.OperationName.{OperationName as Name}
 use Rattle.fs_kinds.specs.declared.reason.Reason.{Reason}
-use Rattle.fs_kinds.specs.declared.reason.Reason.TheVariants as reason
 use Rattle.fs_model.specs.declared.test.Test.{Test}
 use Rattle.fs_model.specs.Operations.{PreExecution, operations}
 use Rattle.fs_hart.specs.Steps.{steps_in}
 use Rattle.fs_answer.specs.Candidates.{Candidate, runs_of}
-use Rattle.fs_answer.specs.Certificate.{Link}
-use Rattle.fs_answer.specs.Refusals.{IsFirstBad}
+use Rattle.fs_answer.specs.Certificate.{Cycles, Link}
+use Rattle.fs_answer.specs.Refusals.{IsListRefusal, IsCyclesRefusal}
 use Rattle.fs_answer.specs.Cycles.{IsCycle, around, are_edges, most_links}
+use Rattle.fs_answer.specs.Valid.{Forbid}
 use Rattle.fs_evidence.specs.Evidence.{cause_of}
 use Rattle.fs_cand.specs.inner.NamedOrder.{name_in, numbers_of}
 use Rattle.fs_cand.specs.declared.candidate.Candidate.{Candidate as Made}
 use Rattle.fs_certificate.specs.declared.certificate.CertificateLink.{CertificateLink}
+use Rattle.fs_certificate.specs.declared.certificate.CertifiedCycles.{CertifiedCycles}
+use Rattle.fs_certificate.specs.declared.certificate.CertifiedCycles.TheVariants.{Listed, Inferred}
 
 -- the names of the candidate's operations, by their numbers
 abbrev pub names_in : Made → List (Option Name)
@@ -49,9 +51,17 @@ abbrev pub is_cycle_at : Test → List Entry → List Candidate → List (List C
 is_cycle_at t p cs cycles k =
     unwrap_or (option_and_then (λ c. option_map (is_cycle (runs_of t c) p c) (slice_get cycles k)) (slice_get cs k)) false
 
--- what is said of a certificate's cycles: nothing against them, or the first reason
-abbrev pub IsCyclesVerdict : Test → List Entry → List Candidate → List (List Link) → Option Reason → Type 0
-IsCyclesVerdict t p cs cycles None = AllZip (IsCycle t p) cs cycles
-IsCyclesVerdict t p cs cycles (Some reason.Cycles) = length cycles ≢ length cs
-IsCyclesVerdict t p cs cycles (Some (reason.Cycle index)) = (length cycles ≡ length cs) × IsFirstBad t p cs cycles index
-IsCyclesVerdict t p cs cycles (Some _) = ⊥
+-- how many cycles or inferences there are
+abbrev pub count_in : CertifiedCycles → ℕ
+count_in (Listed cycles) = length cycles
+count_in (Inferred inferences) = length inferences
+
+-- what is said of a list of cycles: nothing against them, or the first reason
+abbrev pub IsListVerdict : Test → List Entry → List Candidate → List (List Link) → Option Reason → Type 0
+IsListVerdict t p cs cycles None = AllZip (IsCycle t p) cs cycles
+IsListVerdict t p cs cycles (Some why) = IsListRefusal t p cs cycles why
+
+-- and so of either form of cycles
+abbrev pub IsCyclesVerdict : Test → List Entry → Cycles → Option Reason → Type 0
+IsCyclesVerdict t p cycles None = Forbid t p cycles
+IsCyclesVerdict t p cycles (Some why) = IsCyclesRefusal t p cycles why

@@ -1,7 +1,7 @@
 use Rattle.std.proofs.Common.{inr}
-use Rattle.std.proofs.lemmas.Result.{IfOk-weaker, IfErr-weaker}
+use Rattle.std.proofs.lemmas.Result.{IfErr-weaker}
 use Rattle.fs_showing.proofs.Faults.{handed}
-use Rattle.fs_checker.proofs.Faults.{no_certificate}
+use Rattle.fs_checker.proofs.Faults.{no_certificate, judged}
 use Rattle.fs_checker.proofs.verdict.check.Goals as goal
 
 pub returns-in_err-certificate-clause-err : goal.returns-in_err-certificate-clause-err
@@ -12,9 +12,11 @@ returns-in_err-certificate-clause-err c =
 pub returns-clause-ok : goal.returns-clause-ok
 returns-clause-ok c =
     let read = c.in_ok-certificate.ensures.ok in
-    IfOk-weaker c.check_certificate.result _ _ (λ verdict is. (read.0, read.1, is)) (c.check_certificate.ensures.ok read.0 read.2)
+    judged c.args.test.value c.args.prices.now c.args.certificate.now read.0 c.check_certificate.result read.1
+    (c.check_certificate.ensures.clean read.0 read.2) (c.check_certificate.ensures.ok read.0 read.2)
 
 pub returns-clause-err : goal.returns-clause-err
 returns-clause-err c =
     let read = c.in_ok-certificate.ensures.ok in
-    IfErr-weaker c.check_certificate.result _ _ (λ fault due other. inr ((read.0, read.1), due other)) c.check_certificate.ensures.err
+    IfErr-weaker c.check_certificate.result _ _ (λ fault due other. inr (read.0, read.1, due other))
+    (c.check_certificate.ensures.err read.0 read.2)

@@ -6,12 +6,12 @@ use Rattle.fs_checker.specs.inner.Judgements.{IsJudgement}
 use Rattle.fs_checker.proofs.verdict.judge.Goals as goal
 
 pub returns-in-Fenced-clause-ok : goal.returns-in-Fenced-clause-ok
-returns-in-Fenced-clause-ok c said keeps =
-    c.judge_fenced.ensures.ok said keeps (keeps.answer ∙ ap answer_of c.in-Fenced.is
+returns-in-Fenced-clause-ok c said keeps holds =
+    c.judge_fenced.ensures.ok said keeps holds (keeps.answer ∙ ap answer_of c.in-Fenced.is
     ∙ ap (λ texts. Fenced c.in-Fenced.cost (map string_bytes texts)) (sym c.deref.ensures))
 
 pub returns-in-NoneForbids-clause-ok : goal.returns-in-NoneForbids-clause-ok
-returns-in-NoneForbids-clause-ok c said keeps =
+returns-in-NoneForbids-clause-ok c said keeps holds =
     let prices = c.args.prices.now in
-    subst (λ (u : Test). IfOk c.judge_none.result (IsJudgement u prices said)) c.test_of.ensures
+    subst (λ (u : Test). IfOk c.judge_none.result (IsJudgement u prices said)) c.test.ensures
     (c.judge_none.ensures.ok said prices keeps (keeps.answer ∙ ap answer_of c.in-NoneForbids.is))

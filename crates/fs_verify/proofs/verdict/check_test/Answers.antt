@@ -1,5 +1,5 @@
 use Rattle.fs_place.proofs.Faults.{IfErr-handed}
-use Rattle.fs_verify.proofs.CheckFaults.{if_ok, listed_in, of_test_fault, of_test_verdict, on_ok}
+use Rattle.fs_verify.proofs.CheckFaults.{if_ok, of_test_fault, of_test_verdict}
 use Rattle.fs_verify.proofs.verdict.check_test.Goals as goal
 
 pub returns-in_err-verdict-clause-fault : goal.returns-in_err-verdict-clause-fault
@@ -7,11 +7,10 @@ returns-in_err-verdict-clause-fault c =
     IfErr-handed c.from_residual-in_err-verdict.result _ _ c.from_residual-in_err-verdict.ensures.1
     (of_test_fault _ _ c.args.certificate.now _ c.in_ok-test.ensures.ok c.in_err-verdict.ensures.err)
 
-pub returns-clause-listed : goal.returns-clause-listed
-returns-clause-listed c = on_ok c.verdict_output.result (listed_in _ _ c.in_ok-test.ensures.ok c.in_ok-verdict.ensures.clean)
-
 pub returns-clause-answer : goal.returns-clause-answer
 returns-clause-answer c =
     let said = of_test_verdict _ _ c.args.prices.now c.args.certificate.now _ c.in_ok-test.ensures.ok c.in_ok-verdict.ensures.ok in
     if_ok _ _ c.verdict_output.result c.verdict_output.ensures.answer
-    (λ output shown. (said.0, said.1, shown c.args.test c.args.prices.now said.0 c.requires.bounded said.2))
+    (λ output shown.
+    let printed = shown c.args.test c.args.prices.now said.certificate c.requires.bounded said.verdict in
+    (said.certificate, said.says, said.clean, printed))
