@@ -1,10 +1,9 @@
 -- The region of all candidates, and stacks of regions.
 use Rattle.std.proofs.Common.{◌≡◌, ℕ, zero, suc, ◌<◌, true, List, [], ◌∷◌, ◌++◌, map, length, refl, sym, ◌∙◌, ap, subst, arith}
-use Rattle.std.specs.Prelude.{All}
 use Rattle.std.specs.Arc.{arc_value}
 use Rattle.std.specs.Borrow.{Bor}
 use Rattle.std.specs.List.{slice_index_or}
-use Rattle.std.proofs.lemmas.List.{append_assoc, map-append, reverse-append}
+use Rattle.std.proofs.lemmas.List.{append_assoc, append-nil, map-append, reverse-append}
 use Rattle.std.proofs.lemmas.List.Elements.{All-nil, All-cons, All-head, All-tail}
 use Rattle.fs_model.specs.declared.test.Test.{Test}
 use Rattle.fs_model.specs.Condition.{condition_of}
@@ -13,8 +12,8 @@ use Rattle.fs_answer.specs.Regions.{Region}
 use Rattle.fs_answer.specs.Trees.{root}
 use Rattle.fs_alone.specs.Alone.{RunOf}
 use Rattle.fs_refute.specs.declared.region.Region.{Region as CodeRegion}
-use Rattle.fs_refute.specs.Views.{region_of, regions_of, runs_of, at_hart, lists_in, source_in, is_in_order, all_wanted, runs_over, AreRunsOf}
-use Rattle.fs_refute.specs.Verdict.{stacked}
+use Rattle.fs_refute.specs.Runs.{runs_over, AreOfHart, AreOfEach}
+use Rattle.fs_refute.specs.Views.{region_of, regions_of, runs_of, at_hart, lists_in, source_in, is_in_order, all_wanted, stacked, AreRunsOf}
 use Rattle.fs_refute.specs.inner.Asked.{values_in}
 use Rattle.fs_refute.proofs.Regions.{same_region}
 
@@ -35,7 +34,7 @@ all_over lists listed is hart =
     steps_behind (at_hart lists hart)
     ∙ ap (map (λ (run : RunOf). run.steps)) (values_at lists hart ∙ ap (λ (ls : List (List RunOf)). slice_index_or ls hart []) is)
 
-behind : (t : Test) (hart : ℕ) (runs : List (Bor RunOf)) → All (λ run. (run.test ≡ t) × (run.hart ≡ hart)) (values_in runs) → AreRunsOf t hart runs
+behind : (t : Test) (hart : ℕ) (runs : List (Bor RunOf)) → AreOfHart t hart (values_in runs) → AreRunsOf t hart runs
 behind t hart [] all = All-nil (λ run. (run.now.test ≡ t) × (run.now.hart ≡ hart))
 behind t hart (run ∷ runs) all =
     All-cons (λ run. (run.now.test ≡ t) × (run.now.hart ≡ hart)) run runs
@@ -43,10 +42,11 @@ behind t hart (run ∷ runs) all =
     (behind t hart runs (All-tail (λ run. (run.test ≡ t) × (run.hart ≡ hart)) run.now (values_in runs) all))
 
 pub all_of_test : (t : Test) (lists : List (List (Bor RunOf))) (listed : List (List RunOf)) → map values_in lists ≡ listed
-    → ((hart : ℕ) → All (λ run. (run.test ≡ t) × (run.hart ≡ hart)) (slice_index_or listed hart [])) → (hart : ℕ) → AreRunsOf t hart (at_hart lists hart)
+    → AreOfEach t listed → (hart : ℕ) → AreRunsOf t hart (at_hart lists hart)
 all_of_test t lists listed is basis hart =
     behind t hart (at_hart lists hart)
-    (subst (All (λ run. (run.test ≡ t) × (run.hart ≡ hart))) (sym (values_at lists hart ∙ ap (λ (ls : List (List RunOf)). slice_index_or ls hart []) is)) (basis hart))
+    (subst (AreOfHart t hart)
+    (sym (values_at lists hart ∙ ap (λ (ls : List (List RunOf)). slice_index_or ls hart []) is)) (basis hart))
 
 pub root_is : (t : Test) (listed : List (List RunOf)) (region : CodeRegion) → map values_in (lists_in region.runs.items) ≡ listed
     → arc_value region.sources ≡ [] → arc_value region.orders ≡ []
@@ -63,6 +63,12 @@ root_is t listed region runs sources orders wanted =
 
 pub stacked_push : (stack : List CodeRegion) (region : CodeRegion) → stacked (stack ++ region ∷ []) ≡ region_of region ∷ stacked stack
 stacked_push stack region = ap regions_of (reverse-append stack (region ∷ []))
+
+-- a stack of these alone
+pub stacked_all : (all none stack : List CodeRegion) → none ≡ [] → stacked stack ≡ regions_of all ++ stacked none
+    → stacked stack ≡ regions_of all
+stacked_all all none stack empty is =
+    is ∙ ap (λ below. regions_of all ++ stacked below) empty ∙ append-nil (regions_of all)
 
 pub moved : (left rest stack more : List CodeRegion) (region : CodeRegion) → left ≡ rest ++ region ∷ [] → more ≡ stack ++ region ∷ []
     → regions_of rest ++ stacked more ≡ regions_of left ++ stacked stack

@@ -1,3 +1,3 @@
-pub mod Verdict
+pub mod Runs
 pub mod Views
 pub mod inner

@@ -1,5 +1,5 @@
 -- What the code's regions and inferences stand for.
-use Rattle.std.specs.Prelude.{◌≡◌, ℕ, ◌==◌, Bool, ◌&&◌, Option, Some, None, is_some, option_map, List, [], ◌∷◌, map, if◌then◌else◌, All}
+use Rattle.std.specs.Prelude.{◌≡◌, ℕ, ◌==◌, Bool, ◌&&◌, Option, Some, None, is_some, option_map, List, [], ◌∷◌, map, reverse, if◌then◌else◌, All}
 use Rattle.std.specs.List.{list_any, slice_index_or}
 use Rattle.std.specs.Borrow.{Bor}
 use Rattle.std.specs.Arc.{arc_value}
@@ -10,11 +10,9 @@ use Rattle.fs_model.specs.declared.step.Step.{Step}
 use Rattle.fs_model.specs.Condition.{Condition, condition_of}
 use Rattle.fs_model.specs.Numbers.{is_same}
 use Rattle.fs_model.specs.Test.{address_of}
-use Rattle.fs_answer.specs.Regions.{Region, Source, same_name, address_at, loaded_at, stored_at, names}
-use Rattle.fs_answer.specs.Certificate.{Inference}
+use Rattle.fs_answer.specs.Regions.{Region, Source, same_name, address_at, loaded_at, stored_at}
 use Rattle.fs_alone.specs.declared.source.Source.{Source as CodeSource}
 use Rattle.fs_alone.specs.Alone.{RunOf, source_of}
-use Rattle.fs_refute.specs.declared.basis.Basis.{Basis}
 use Rattle.fs_refute.specs.declared.musts.Access.{Access}
 use Rattle.fs_refute.specs.declared.musts.Access.TheVariants.{Load, Store}
 use Rattle.fs_refute.specs.declared.region.Sourced.{Sourced}
@@ -95,20 +93,9 @@ IsOf t region = (hart : ℕ) → AreRunsOf t hart (list_at region hart)
 abbrev pub AreOf : Test → List CodeRegion → Type 0
 AreOf t = All (IsOf t)
 
--- ---- the test
-
--- the names are those of the test
-abbrev pub HasNames : Basis → Type 0
-HasNames basis = basis.names ≡ names basis.test.now
-
--- the runs of each hart, of lists for each hart
-abbrev pub runs_over : List (List RunOf) → ℕ → List (List Step)
-runs_over lists hart = map (λ run. run.steps) (slice_index_or lists hart [])
-
--- each run is one of the test, and of the hart in whose list it stands
-abbrev pub IsBasis : Basis → Type 0
-IsBasis basis =
-    (hart : ℕ) → All (λ run. (run.test ≡ basis.test.now) × (run.hart ≡ hart)) (slice_index_or basis.runs.now hart [])
+-- the regions on a stack, of which the last one is on top
+abbrev pub stacked : List CodeRegion → List Region
+stacked stack = regions_of (reverse stack)
 
 -- ---- accesses
 

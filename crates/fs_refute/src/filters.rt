@@ -2,17 +2,18 @@
 
 ghost use Rattle.std.specs.Prelude.{◌≡◌, ◌==◌, ◌&&◌, not, filter, Some, IfOk};
 ghost use Rattle.std.specs.List.{list_any};
-ghost use Rattle.fs_model.specs.Test.{IsBounded, address_of};
+ghost use Rattle.fs_model.specs.Test.{address_of};
 ghost use Rattle.fs_answer.specs.Regions.{address_at, loaded_at, loads_at};
 ghost use Rattle.fs_answer.specs.Splits.{chosen_at, agree, agrees_initially};
 ghost use Rattle.fs_model.specs.Numbers.{is_same};
 ghost use Rattle.fs_refute.specs.Views.{runs_of};
 
+use crate::basis::Basis;
 use crate::region::Runs;
 use fs_alone::Lone;
 use fs_kinds::OperationName;
 use fs_list::List;
-use fs_model::{Location, Test};
+use fs_model::Location;
 use std::alloc::{AllocError, Global};
 
 // Those that make the choice of this number at the position.
@@ -68,11 +69,10 @@ fn loads_from(run: &Lone, load: OperationName, location: u8, word: u32) -> bool
 }
 
 // Does the run load the word that its location begins with?
-fn agrees_initially(test: &Test, load: OperationName, run: &Lone) -> bool
-    requires { IsBounded test.now }
-    ensures { result ≡ agrees_initially test.now load run.now.steps }
+fn agrees_initially(basis: &Basis, load: OperationName, run: &Lone) -> bool
+    ensures { result ≡ agrees_initially basis.now load run.now.steps }
 {
-    for (number, location) in test.locations.as_slice().iter().enumerate() {
+    for (number, location) in basis.test().locations.as_slice().iter().enumerate() {
         if loads_from(run, load, number as u8, location.word) {
             return true;
         }
@@ -83,17 +83,16 @@ fn agrees_initially(test: &Test, load: OperationName, run: &Lone) -> bool
 // Those that load the word that its location begins with.
 pub(crate) fn loading_initial<'a>(
     alloc: Global,
-    test: &Test,
+    basis: &Basis,
     runs: &[&'a Lone],
     load: OperationName,
 ) -> Result<Runs<'a>, AllocError>
-    requires { IsBounded test.now }
-    ensures { IfOk result (λ kept. kept ≡ filter (λ run. agrees_initially test.now load run.now.steps) runs.now) }
+    ensures { IfOk result (λ kept. kept ≡ filter (λ run. agrees_initially basis.now load run.now.steps) runs.now) }
 {
     let kept = runs
         .iter()
         .copied()
-        .filter(|run| agrees_initially(test, load, run))
+        .filter(|run| agrees_initially(basis, load, run))
         .collect(alloc)?;
     Ok(List::new(kept))
 }

@@ -6,11 +6,9 @@ mod filters;
 pub mod laws;
 mod musts;
 mod outcome;
+mod ready;
 mod region;
 mod splits;
 mod walk;
-mod wrong;
 
 pub use basis::Basis;
-pub use walk::refute;
-pub use wrong::Wrong;

@@ -1,9 +1,8 @@
 //! What must hold in all candidates of a region.
 
-ghost use Rattle.std.specs.Prelude.{◌≡◌, [], length, nat_lt};
+ghost use Rattle.std.specs.Prelude.{◌≡◌};
 ghost use Rattle.std.specs.List.{list_all};
 ghost use Rattle.fs_model.specs.declared.test.Test.{Test};
-ghost use Rattle.fs_model.specs.Test.{IsBounded};
 ghost use Rattle.fs_model.specs.Preserved.{Rule};
 ghost use Rattle.fs_ppo.specs.Rules.{number_of as number_of_rule};
 ghost use Rattle.fs_answer.specs.Judged.{Preserved};
@@ -14,11 +13,12 @@ ghost use Rattle.fs_alone.specs.Alone.{Knows};
 ghost use Rattle.fs_refute.specs.Views.{region_of, known_source, runs_of, access_of, accesses_at, IsOf};
 ghost use Rattle.fs_refute.specs.inner.Asked.{OrdersAll, PairsAll};
 
+use crate::basis::Basis;
 use crate::region::Region;
 use fs_alone::{Lone, Source, Sourced};
 use fs_evidence::Cause;
 use fs_kinds::{OperationName, Placement};
-use fs_model::{Location, Test};
+use fs_model::Location;
 
 // How an operation accesses memory.
 #[derive(Clone, Copy)]
@@ -56,38 +56,31 @@ fn all_access(runs: &[&Lone], access: Access, at: u8, location: u8) -> bool
 
 // Must the operation be executed, and access the location? At most linear in the runs of its hart.
 pub(crate) fn must_be(
-    test: &Test,
+    basis: &Basis,
     region: &Region<'_>,
     access: Access,
     name: OperationName,
     location: u8,
 ) -> bool
-    ensures { result ≡ must_be test.now (region_of region.now) (access_of access) name location }
+    ensures { result ≡ must_be basis.now (region_of region.now) (access_of access) name location }
 {
-    is_hart(test, name.hart) && all_access(region.runs(name.hart), access, name.at, location)
-}
-
-// Is it the number of a hart?
-fn is_hart(test: &Test, hart: u8) -> bool
-    ensures { result ≡ nat_lt hart (length test.now.codes) }
-{
-    usize::from(hart) < test.codes.len()
+    basis.is_hart(name.hart) && all_access(region.runs(name.hart), access, name.at, location)
 }
 
 // Must the two accesses be to one location?
 pub(crate) fn must_meet(
-    test: &Test,
+    basis: &Basis,
     region: &Region<'_>,
     first: (Access, OperationName),
     second: (Access, OperationName),
 ) -> bool
-    requires { IsBounded test.now }
-    ensures { result ≡ must_meet test.now (region_of region.now) (access_of first.0)
+    ensures { result ≡ must_meet basis.now (region_of region.now) (access_of first.0)
         (access_of second.0) first.1 second.1 }
 {
-    (0..test.locations.len() as u8).any(|location| {
-        must_be(test, region, first.0, first.1, location)
-            && must_be(test, region, second.0, second.1, location)
+    let locations = basis.test().locations.len() as u8;
+    (0..locations).any(|location| {
+        must_be(basis, region, first.0, first.1, location)
+            && must_be(basis, region, second.0, second.1, location)
     })
 }
 
@@ -107,19 +100,18 @@ pub(crate) fn is_before_source(
 
 // Must the store be later in coherence order than this source of the load?
 fn is_later_than(
-    test: &Test,
+    basis: &Basis,
     region: &Region<'_>,
     store: OperationName,
     load: OperationName,
     source: Option<Source>,
 ) -> bool
-    requires { IsBounded test.now }
-    ensures { result ≡ is_later_than test.now (region_of region.now) store load (known_source source) }
+    ensures { result ≡ is_later_than basis.now (region_of region.now) store load (known_source source) }
 {
     match source {
         None => false,
         Some(Source::Initial) => must_meet(
-            test,
+            basis,
             region,
             (Access::Load, load),
             (Access::Store, store),
@@ -130,15 +122,14 @@ fn is_later_than(
 
 // Must the store be later than what the load returns from?
 pub(crate) fn overwrites(
-    test: &Test,
+    basis: &Basis,
     region: &Region<'_>,
     store: OperationName,
     load: OperationName,
 ) -> bool
-    requires { IsBounded test.now }
-    ensures { result ≡ overwrites test.now (region_of region.now) store load }
+    ensures { result ≡ overwrites basis.now (region_of region.now) store load }
 {
-    is_later_than(test, region, store, load, region.source(load))
+    is_later_than(basis, region, store, load, region.source(load))
 }
 
 // What is known of the source of the operation.
@@ -187,22 +178,22 @@ fn knows_enough(rule: u8, first: Sourced, second: Sourced) -> bool
 
 // Must the rule of this number order the first operation before the second?
 fn must_by_rule(
-    test: &Test,
+    basis: &Basis,
     placement: &Placement,
     region: &Region<'_>,
     rule: u8,
     a: OperationName,
     b: OperationName,
 ) -> bool
-    requires { IsOf test.now region.now }
+    requires { IsOf basis.now region.now }
     ensures { (r : Rule) → number_of_rule r ≡ rule
-        → result ≡ must test.now (region_of region.now) placement.now (Preserved r) a b }
+        → result ≡ must basis.now (region_of region.now) placement.now (Preserved r) a b }
 {
     let first = sourced(region, a);
     let second = sourced(region, b);
     a.hart == b.hart
         && (knows_enough(rule, first, second)
-            && (is_hart(test, a.hart)
+            && (basis.is_hart(a.hart)
                 && all_order(placement, rule, first, second, region.runs(a.hart))))
 }
 
@@ -217,34 +208,33 @@ fn has_source(source: Option<Source>, store: OperationName) -> bool
 
 // Must the first operation come before the second for this cause? At most linear in the runs of a hart.
 pub(crate) fn must(
-    test: &Test,
+    basis: &Basis,
     placement: &Placement,
     region: &Region<'_>,
     cause: Cause,
     a: OperationName,
     b: OperationName,
 ) -> bool
-    requires test { IsBounded test.now }
-    requires region { IsOf test.now region.now }
-    ensures { result ≡ must test.now (region_of region.now) placement.now (cause_of cause) a b }
+    requires { IsOf basis.now region.now }
+    ensures { result ≡ must basis.now (region_of region.now) placement.now (cause_of cause) a b }
 {
     match cause {
-        Cause::Rule1 => must_by_rule(test, placement, region, 1, a, b),
-        Cause::Rule2 => must_by_rule(test, placement, region, 2, a, b),
-        Cause::Rule3 => must_by_rule(test, placement, region, 3, a, b),
-        Cause::Rule4 => must_by_rule(test, placement, region, 4, a, b),
-        Cause::Rule5 => must_by_rule(test, placement, region, 5, a, b),
-        Cause::Rule6 => must_by_rule(test, placement, region, 6, a, b),
-        Cause::Rule7 => must_by_rule(test, placement, region, 7, a, b),
-        Cause::Rule8 => must_by_rule(test, placement, region, 8, a, b),
-        Cause::Rule9 => must_by_rule(test, placement, region, 9, a, b),
-        Cause::Rule10 => must_by_rule(test, placement, region, 10, a, b),
-        Cause::Rule11 => must_by_rule(test, placement, region, 11, a, b),
-        Cause::Rule12 => must_by_rule(test, placement, region, 12, a, b),
-        Cause::Rule13 => must_by_rule(test, placement, region, 13, a, b),
+        Cause::Rule1 => must_by_rule(basis, placement, region, 1, a, b),
+        Cause::Rule2 => must_by_rule(basis, placement, region, 2, a, b),
+        Cause::Rule3 => must_by_rule(basis, placement, region, 3, a, b),
+        Cause::Rule4 => must_by_rule(basis, placement, region, 4, a, b),
+        Cause::Rule5 => must_by_rule(basis, placement, region, 5, a, b),
+        Cause::Rule6 => must_by_rule(basis, placement, region, 6, a, b),
+        Cause::Rule7 => must_by_rule(basis, placement, region, 7, a, b),
+        Cause::Rule8 => must_by_rule(basis, placement, region, 8, a, b),
+        Cause::Rule9 => must_by_rule(basis, placement, region, 9, a, b),
+        Cause::Rule10 => must_by_rule(basis, placement, region, 10, a, b),
+        Cause::Rule11 => must_by_rule(basis, placement, region, 11, a, b),
+        Cause::Rule12 => must_by_rule(basis, placement, region, 12, a, b),
+        Cause::Rule13 => must_by_rule(basis, placement, region, 13, a, b),
         Cause::ReadsFrom => a.hart != b.hart && has_source(region.source(b), a),
         Cause::Coherence => region.is_before(a, b),
-        Cause::FromReads => !is_same_name(a, b) && overwrites(test, region, b, a),
+        Cause::FromReads => !is_same_name(a, b) && overwrites(basis, region, b, a),
     }
 }
 
@@ -262,14 +252,14 @@ fn all_pair(load: OperationName, store: OperationName, runs: &[&Lone]) -> bool
 
 // Must the two be an lr.w and its sc.w, which succeeds?
 pub(crate) fn must_pair(
-    test: &Test,
+    basis: &Basis,
     region: &Region<'_>,
     load: OperationName,
     store: OperationName,
 ) -> bool
-    requires { IsOf test.now region.now }
-    ensures { result ≡ must_pair test.now (region_of region.now) load store }
+    requires { IsOf basis.now region.now }
+    ensures { result ≡ must_pair basis.now (region_of region.now) load store }
 {
     load.hart == store.hart
-        && (is_hart(test, load.hart) && all_pair(load, store, region.runs(load.hart)))
+        && (basis.is_hart(load.hart) && all_pair(load, store, region.runs(load.hart)))
 }

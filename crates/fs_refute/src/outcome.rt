@@ -1,14 +1,12 @@
 //! What the members of a region may end with.
 
-ghost use Rattle.std.specs.Prelude.{◌≡◌, ◌==◌, ◌&&◌, not, slice_get, unwrap_or, length};
+ghost use Rattle.std.specs.Prelude.{◌≡◌, ◌==◌, ◌&&◌, not, slice_get, unwrap_or};
 ghost use Rattle.std.specs.List.{list_any, list_all};
-ghost use Rattle.fs_model.specs.Test.{IsBounded};
 ghost use Rattle.fs_model.specs.Condition.{condition_of};
 ghost use Rattle.fs_model.specs.Execution.{initial_words};
-ghost use Rattle.fs_model.specs.Shows.{final_register};
 ghost use Rattle.fs_answer.specs.Regions.{names, stored_at};
-ghost use Rattle.fs_answer.specs.Musts.{has_truth, passes, stores_such, must_be, may_end, may, traces_of};
-ghost use Rattle.fs_refute.specs.Views.{region_of, runs_of, all_wanted, IsOf, HasNames};
+ghost use Rattle.fs_answer.specs.Musts.{has_truth, passes, stores_such, must_be, may_end, may};
+ghost use Rattle.fs_refute.specs.Views.{region_of, runs_of, all_wanted, IsOf};
 ghost use Rattle.fs_refute.specs.inner.Asked.{EndsSome};
 
 use crate::basis::Basis;
@@ -17,7 +15,7 @@ use crate::region::{Region, Wanted};
 use fs_alone::Lone;
 use fs_instr::Reg;
 use fs_kinds::OperationName;
-use fs_model::{Location, Outcome, Test};
+use fs_model::{Location, Outcome};
 
 // A word, and whether something is to end with it.
 #[derive(Clone, Copy)]
@@ -68,45 +66,42 @@ fn any_stores_such(runs: &[&Lone], name: OperationName, location: u8, ending: En
 }
 
 // The word that the location begins with.
-fn initial_word(test: &Test, location: u8) -> u32
-    ensures { result ≡ unwrap_or (slice_get (initial_words test.now) location) 0 }
+fn initial_word(basis: &Basis, location: u8) -> u32
+    ensures { result ≡ unwrap_or (slice_get (initial_words basis.now) location) 0 }
 {
-    match test.locations.get(usize::from(location)) {
+    match basis.test().locations.get(usize::from(location)) {
         Some(location) => location.word,
         None => 0,
     }
 }
 
 // Must something be stored at the location?
-fn must_be_stored(basis: &Basis<'_>, region: &Region<'_>, location: u8) -> bool
-    requires { HasNames basis.now }
-    ensures { result ≡ list_any (λ a. must_be basis.now.test.now (region_of region.now) stored_at a location)
-        (names basis.now.test.now) }
+fn must_be_stored(basis: &Basis, region: &Region<'_>, location: u8) -> bool
+    ensures { result ≡ list_any (λ a. must_be basis.now (region_of region.now) stored_at a location)
+        (names basis.now) }
 {
-    basis.names.iter().any(|name| must_be(basis.test, region, Access::Store, *name, location))
+    basis.names().iter().any(|name| must_be(basis, region, Access::Store, *name, location))
 }
 
 // Does the store come before another?
-fn is_overtaken(basis: &Basis<'_>, region: &Region<'_>, name: OperationName) -> bool
-    requires { HasNames basis.now }
-    ensures { result ≡ list_any ((region_of region.now).before name) (names basis.now.test.now) }
+fn is_overtaken(basis: &Basis, region: &Region<'_>, name: OperationName) -> bool
+    ensures { result ≡ list_any ((region_of region.now).before name) (names basis.now) }
 {
     basis
-        .names
+        .names()
         .iter()
         .any(|other| region.is_before(name, *other))
 }
 
 // May the store be the last one of the location, and of such a word?
 fn may_be_last(
-    basis: &Basis<'_>,
+    basis: &Basis,
     region: &Region<'_>,
     name: OperationName,
     location: u8,
     ending: Ending,
 ) -> bool
-    requires { HasNames basis.now }
-    ensures { result ≡ (not (list_any ((region_of region.now).before name) (names basis.now.test.now))
+    ensures { result ≡ (not (list_any ((region_of region.now).before name) (names basis.now))
         && list_any (stores_such location (λ w. has_truth ending.truth (w == ending.word)) name)
         ((region_of region.now).runs name.hart)) }
 {
@@ -115,27 +110,24 @@ fn may_be_last(
 }
 
 // May the location end with such a word that is stored there?
-fn may_end_stored(basis: &Basis<'_>, region: &Region<'_>, location: u8, ending: Ending) -> bool
-    requires { HasNames basis.now }
-    ensures { result ≡ list_any (λ a. not (list_any ((region_of region.now).before a) (names basis.now.test.now))
+fn may_end_stored(basis: &Basis, region: &Region<'_>, location: u8, ending: Ending) -> bool
+    ensures { result ≡ list_any (λ a. not (list_any ((region_of region.now).before a) (names basis.now))
         && list_any (stores_such location (λ w. has_truth ending.truth (w == ending.word)) a)
         ((region_of region.now).runs a.hart))
-        (names basis.now.test.now) }
+        (names basis.now) }
 {
     basis
-        .names
+        .names()
         .iter()
         .any(|name| may_be_last(basis, region, *name, location, ending))
 }
 
 // May the location end with such a word?
-fn may_end(basis: &Basis<'_>, region: &Region<'_>, location: u8, ending: Ending) -> bool
-    requires { HasNames basis.now }
-    ensures { result ≡ may_end basis.now.test.now (region_of region.now) location
+fn may_end(basis: &Basis, region: &Region<'_>, location: u8, ending: Ending) -> bool
+    ensures { result ≡ may_end basis.now (region_of region.now) location
         (λ w. has_truth ending.truth (w == ending.word)) }
 {
-    (is_ending(ending, initial_word(basis.test, location))
-        && !must_be_stored(basis, region, location))
+    (is_ending(ending, initial_word(basis, location)) && !must_be_stored(basis, region, location))
         || may_end_stored(basis, region, location, ending)
 }
 
@@ -148,10 +140,9 @@ fn may_end_register(runs: &[&Lone], register: Reg, ending: Ending) -> bool
 }
 
 // May the condition have this truth value? Its depth is bounded by that of the test's condition.
-pub(crate) fn may(basis: &Basis<'_>, region: &Region<'_>, condition: &Outcome, truth: bool) -> bool
-    requires names { HasNames basis.now }
-    requires region { IsOf basis.now.test.now region.now }
-    ensures { result ≡ may basis.now.test.now (region_of region.now) (condition_of condition.now) truth }
+pub(crate) fn may(basis: &Basis, region: &Region<'_>, condition: &Outcome, truth: bool) -> bool
+    requires { IsOf basis.now region.now }
+    ensures { result ≡ may basis.now (region_of region.now) (condition_of condition.now) truth }
 {
     match condition {
         Outcome::Always => truth,
@@ -181,10 +172,9 @@ pub(crate) fn may(basis: &Basis<'_>, region: &Region<'_>, condition: &Outcome, t
 }
 
 // May each wanted condition have its truth value?
-pub(crate) fn may_all(basis: &Basis<'_>, region: &Region<'_>, wanted: &[Wanted<'_>]) -> bool
-    requires names { HasNames basis.now }
-    requires region { IsOf basis.now.test.now region.now }
-    ensures { result ≡ list_all (λ w. may basis.now.test.now (region_of region.now) w.0 w.1) (all_wanted wanted.now) }
+pub(crate) fn may_all(basis: &Basis, region: &Region<'_>, wanted: &[Wanted<'_>]) -> bool
+    requires { IsOf basis.now region.now }
+    ensures { result ≡ list_all (λ w. may basis.now (region_of region.now) w.0 w.1) (all_wanted wanted.now) }
 {
     wanted.iter().all(|wanted| may(basis, region, wanted.condition, wanted.truth))
 }

@@ -4,14 +4,13 @@ ghost use Rattle.std.specs.Prelude.{◌≡◌, ◌≢◌, ℕ, ◌++◌, ◌+◌
 ghost use Rattle.std.specs.List.{list_all, list_any};
 ghost use Rattle.fs_model.specs.declared.test.Test.{Test};
 ghost use Rattle.fs_model.specs.declared.step.Step.{Step};
-ghost use Rattle.fs_model.specs.Test.{IsBounded};
 ghost use Rattle.fs_model.specs.Condition.{condition_of};
 ghost use Rattle.fs_answer.specs.Regions.{From, same_source};
 ghost use Rattle.fs_answer.specs.Musts.{may};
 ghost use Rattle.fs_answer.specs.Splits.{keep, agree, chosen_at, rising, by_choice, from_store, from_initial, from_nothing, from_source, is_left, can_be_source, sources_for, by_source, by_order, ways, by_cases, by_outcome, with_run, with_source};
 ghost use Rattle.fs_answer.specs.Trees.{is_open};
 ghost use Rattle.fs_alone.specs.Alone.{source_of};
-ghost use Rattle.fs_refute.specs.Views.{region_of, regions_of, all_wanted, list_at, runs_of, known_source, HasNames, IsOf, AreOf};
+ghost use Rattle.fs_refute.specs.Views.{region_of, regions_of, all_wanted, list_at, runs_of, known_source, IsOf, AreOf};
 
 use crate::basis::Basis;
 use crate::filters::{
@@ -23,7 +22,7 @@ use crate::region::{Region, Runs, Wanted};
 use fs_alone::{Lone, Source};
 use fs_kinds::OperationName;
 use fs_list::List;
-use fs_model::{Outcome, Test};
+use fs_model::Outcome;
 use std::alloc::{AllocError, Global};
 
 // The region with these of the hart's runs.
@@ -44,11 +43,11 @@ fn keep<'a>(
 }
 
 // Does each hart have a run left?
-pub(crate) fn is_open(test: &Test, region: &Region<'_>) -> bool
-    requires { IsBounded test.now }
-    ensures { result ≡ is_open test.now (region_of region.now) }
+pub(crate) fn is_open(basis: &Basis, region: &Region<'_>) -> bool
+    ensures { result ≡ is_open basis.now (region_of region.now) }
 {
-    (0..test.codes.len() as u8).all(|hart| has_run(region, hart))
+    let harts = basis.test().codes.len() as u8;
+    (0..harts).all(|hart| has_run(region, hart))
 }
 
 fn has_run(region: &Region<'_>, hart: u8) -> bool
@@ -59,17 +58,16 @@ fn has_run(region: &Region<'_>, hart: u8) -> bool
 
 // Puts the region behind those that are there, if it is open.
 pub(crate) fn add_open<'a>(
-    test: &Test,
+    basis: &Basis,
     regions: &mut Vec<Region<'a>>,
     region: Region<'a>,
 ) -> Result<(), AllocError>
-    requires { IsBounded test.now }
     ensures regions { OnOk result (regions_of regions.new.items
-        ≡ regions_of regions.old.items ++ filter (is_open test.now) (region_of region.entry ∷ [])) }
-    ensures of { OnOk result (AreOf test.now regions.old.items → IsOf test.now region.entry
-        → AreOf test.now regions.new.items) }
+        ≡ regions_of regions.old.items ++ filter (is_open basis.now) (region_of region.entry ∷ [])) }
+    ensures of { OnOk result (AreOf basis.now regions.old.items → IsOf basis.now region.entry
+        → AreOf basis.now regions.new.items) }
 {
-    if is_open(test, &region) {
+    if is_open(basis, &region) {
         regions.push(region)?;
     }
     Ok(())
@@ -95,22 +93,21 @@ fn choices(alloc: Global, runs: &[&Lone], at: u8) -> Result<Vec<u64>, AllocError
 // A region for each choice that some run makes at the name.
 pub(crate) fn by_choice<'a>(
     alloc: Global,
-    test: &Test,
+    basis: &Basis,
     name: OperationName,
     region: &Region<'a>,
 ) -> Result<Vec<Region<'a>>, AllocError>
-    requires test { IsBounded test.now }
-    requires region { IsOf test.now region.now }
+    requires { IsOf basis.now region.now }
     ensures regions { IfOk result (λ left. regions_of left.items
-        ≡ filter (is_open test.now) (by_choice name (region_of region.now))) }
-    ensures of { IfOk result (λ left. AreOf test.now left.items) }
+        ≡ filter (is_open basis.now) (by_choice name (region_of region.now))) }
+    ensures of { IfOk result (λ left. AreOf basis.now left.items) }
 {
     let runs = region.runs(name.hart);
     let numbers = choices(alloc, runs, name.at)?;
     let mut left = Vec::new(alloc);
     for number in &numbers {
         let kept = choosing(alloc, runs, name.at, *number)?;
-        add_open(test, &mut left, keep(alloc, region, name.hart, kept)?)?;
+        add_open(basis, &mut left, keep(alloc, region, name.hart, kept)?)?;
     }
     Ok(left)
 }
@@ -192,15 +189,14 @@ fn from_store<'a>(
 // The load returns from the initial store of its location.
 fn from_initial<'a>(
     alloc: Global,
-    test: &Test,
+    basis: &Basis,
     load: OperationName,
     region: &Region<'a>,
 ) -> Result<Region<'a>, AllocError>
-    requires { IsBounded test.now }
-    ensures region { IfOk result (λ smaller. region_of smaller ≡ from_initial test.now load (region_of region.now)) }
+    ensures region { IfOk result (λ smaller. region_of smaller ≡ from_initial basis.now load (region_of region.now)) }
     ensures of { (t : Test) → IsOf t region.now → IfOk result (IsOf t) }
 {
-    let kept = loading_initial(alloc, test, region.runs(load.hart), load)?;
+    let kept = loading_initial(alloc, basis, region.runs(load.hart), load)?;
     let smaller = keep(alloc, region, load.hart, kept)?;
     let sourced = smaller.with_source(alloc, load, Source::Initial)?;
     Ok(sourced)
@@ -222,18 +218,17 @@ fn from_nothing<'a>(
 
 fn from_source<'a>(
     alloc: Global,
-    test: &Test,
+    basis: &Basis,
     load: OperationName,
     region: &Region<'a>,
     source: &Source,
 ) -> Result<Region<'a>, AllocError>
-    requires { IsBounded test.now }
     ensures region { IfOk result (λ smaller. region_of smaller
-        ≡ from_source test.now load (region_of region.now) (source_of source.now)) }
+        ≡ from_source basis.now load (region_of region.now) (source_of source.now)) }
     ensures of { (t : Test) → IsOf t region.now → IfOk result (IsOf t) }
 {
     match source {
-        Source::Initial => from_initial(alloc, test, load, region),
+        Source::Initial => from_initial(alloc, basis, load, region),
         Source::From(store) => from_store(alloc, load, region, *store),
     }
 }
@@ -299,18 +294,17 @@ fn add_store(
 // The sources from which the load may return.
 fn sources_for(
     alloc: Global,
-    basis: &Basis<'_>,
+    basis: &Basis,
     load: OperationName,
     region: &Region<'_>,
 ) -> Result<Vec<Source>, AllocError>
-    requires { HasNames basis.now }
     ensures { IfOk result (λ sources. map source_of sources.items
-        ≡ sources_for basis.now.test.now load (region_of region.now)) }
+        ≡ sources_for basis.now load (region_of region.now)) }
 {
     let known = region.source(load);
     let mut sources = Vec::new(alloc);
     add_left(&mut sources, known, Source::Initial)?;
-    for store in basis.names.as_slice() {
+    for store in basis.names() {
         add_store(&mut sources, load, known, store)?;
     }
     Ok(sources)
@@ -319,23 +313,21 @@ fn sources_for(
 // A region for each source of the load, and one where it isn't executed.
 pub(crate) fn by_source<'a>(
     alloc: Global,
-    basis: &Basis<'_>,
+    basis: &Basis,
     load: OperationName,
     region: &Region<'a>,
 ) -> Result<Vec<Region<'a>>, AllocError>
-    requires test { IsBounded basis.now.test.now }
-    requires region { IsOf basis.now.test.now region.now }
-    requires names { HasNames basis.now }
+    requires { IsOf basis.now region.now }
     ensures regions { IfOk result (λ left. regions_of left.items
-        ≡ filter (is_open basis.now.test.now) (by_source basis.now.test.now load (region_of region.now))) }
-    ensures of { IfOk result (λ left. AreOf basis.now.test.now left.items) }
+        ≡ filter (is_open basis.now) (by_source basis.now load (region_of region.now))) }
+    ensures of { IfOk result (λ left. AreOf basis.now left.items) }
 {
     let sources = sources_for(alloc, basis, load, region)?;
     let mut left = Vec::new(alloc);
-    add_open(basis.test, &mut left, from_nothing(alloc, load, region)?)?;
+    add_open(basis, &mut left, from_nothing(alloc, load, region)?)?;
     for source in &sources {
-        let smaller = from_source(alloc, basis.test, load, region, source)?;
-        add_open(basis.test, &mut left, smaller)?;
+        let smaller = from_source(alloc, basis, load, region, source)?;
+        add_open(basis, &mut left, smaller)?;
     }
     Ok(left)
 }
@@ -343,20 +335,19 @@ pub(crate) fn by_source<'a>(
 // The first store is the earlier one, or the second is.
 pub(crate) fn by_order<'a>(
     alloc: Global,
-    test: &Test,
+    basis: &Basis,
     first: OperationName,
     second: OperationName,
     region: &Region<'a>,
 ) -> Result<Vec<Region<'a>>, AllocError>
-    requires test { IsBounded test.now }
-    requires region { IsOf test.now region.now }
+    requires { IsOf basis.now region.now }
     ensures regions { IfOk result (λ left. regions_of left.items
-        ≡ filter (is_open test.now) (by_order first second (region_of region.now))) }
-    ensures of { IfOk result (λ left. AreOf test.now left.items) }
+        ≡ filter (is_open basis.now) (by_order first second (region_of region.now))) }
+    ensures of { IfOk result (λ left. AreOf basis.now left.items) }
 {
     let mut left = Vec::new(alloc);
-    add_open(test, &mut left, region.with_order(alloc, first, second)?)?;
-    add_open(test, &mut left, region.with_order(alloc, second, first)?)?;
+    add_open(basis, &mut left, region.with_order(alloc, first, second)?)?;
+    add_open(basis, &mut left, region.with_order(alloc, second, first)?)?;
     Ok(left)
 }
 
@@ -477,15 +468,14 @@ fn replace<'a>(
 // The cases of the wanted condition of this number.
 pub(crate) fn by_cases<'a>(
     alloc: Global,
-    test: &Test,
+    basis: &Basis,
     number: usize,
     region: &Region<'a>,
 ) -> Result<Vec<Region<'a>>, AllocError>
-    requires test { IsBounded test.now }
-    requires region { IsOf test.now region.now }
+    requires { IsOf basis.now region.now }
     ensures regions { IfOk result (λ left. regions_of left.items
-        ≡ filter (is_open test.now) (by_cases number (region_of region.now))) }
-    ensures of { IfOk result (λ left. AreOf test.now left.items) }
+        ≡ filter (is_open basis.now) (by_cases number (region_of region.now))) }
+    ensures of { IfOk result (λ left. AreOf basis.now left.items) }
 {
     let mut left = Vec::new(alloc);
     let wanted = region.wanted.as_slice();
@@ -494,7 +484,7 @@ pub(crate) fn by_cases<'a>(
     };
     for way in &ways(alloc, parted.condition, parted.truth)? {
         let others = replace(alloc, wanted, number, way.as_slice())?;
-        add_open(test, &mut left, region.with_wanted(alloc, others)?)?;
+        add_open(basis, &mut left, region.with_wanted(alloc, others)?)?;
     }
     Ok(left)
 }
@@ -502,18 +492,17 @@ pub(crate) fn by_cases<'a>(
 // May each wanted condition have its truth value, with this run of the hart?
 fn may_with<'a>(
     alloc: Global,
-    basis: &Basis<'_>,
+    basis: &Basis,
     hart: u8,
     region: &Region<'a>,
     run: &'a Lone,
 ) -> Result<bool, AllocError>
-    requires names { HasNames basis.now }
-    requires region { IsOf basis.now.test.now region.now }
+    requires region { IsOf basis.now region.now }
     requires hart { hart < length region.now.runs.items }
-    requires test { run.now.test ≡ basis.now.test.now }
+    requires test { run.now.test ≡ basis.now }
     requires of { run.now.hart ≡ hart }
     ensures { IfOk result (λ may_all. may_all ≡ list_all (λ wanted.
-        may basis.now.test.now (with_run hart run.now.steps (region_of region.now)) wanted.0 wanted.1)
+        may basis.now (with_run hart run.now.steps (region_of region.now)) wanted.0 wanted.1)
         (region_of region.now).wanted) }
 {
     let mut runs = Vec::new(alloc);
@@ -535,16 +524,14 @@ fn push_if<'a>(runs: &mut Vec<&'a Lone>, run: &&'a Lone, passes: bool) -> Result
 // The hart's runs with each of which every wanted condition may have its truth value.
 pub(crate) fn by_outcome<'a>(
     alloc: Global,
-    basis: &Basis<'_>,
+    basis: &Basis,
     hart: u8,
     region: &Region<'a>,
 ) -> Result<Vec<Region<'a>>, AllocError>
-    requires test { IsBounded basis.now.test.now }
-    requires names { HasNames basis.now }
-    requires region { IsOf basis.now.test.now region.now }
+    requires { IsOf basis.now region.now }
     ensures regions { IfOk result (λ left. regions_of left.items
-        ≡ filter (is_open basis.now.test.now) (by_outcome basis.now.test.now hart (region_of region.now))) }
-    ensures of { IfOk result (λ left. AreOf basis.now.test.now left.items) }
+        ≡ filter (is_open basis.now) (by_outcome basis.now hart (region_of region.now))) }
+    ensures of { IfOk result (λ left. AreOf basis.now left.items) }
 {
     let mut kept = Vec::new(alloc);
     for run in region.runs(hart) {
@@ -553,7 +540,7 @@ pub(crate) fn by_outcome<'a>(
     }
     let mut left = Vec::new(alloc);
     add_open(
-        basis.test,
+        basis,
         &mut left,
         keep(alloc, region, hart, List::new(kept))?,
     )?;

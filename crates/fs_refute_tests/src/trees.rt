@@ -1,20 +1,11 @@
 //! Trees of inferences by hand.
-ghost use Rattle.std.specs.Prelude.{◌<◌, All, length, IfOk};
-ghost use Rattle.std.specs.Arc.{arc_value};
-ghost use Rattle.std.specs.List.Sorted.{IsStrictlyIncreasing};
-ghost use Rattle.fs_model.specs.Test.{IsTest};
-ghost use Rattle.fs_alone.specs.Alone.{IsRun};
-ghost use Rattle.fs_refute_tests.specs.Ready.{AreOf, AreAllOf};
 
-use fs_alone::{Lone, listed_are_runs, names};
 use fs_evidence::{Cause, Inference, Link};
 use fs_examples::{LRSC, SB, placement_of};
-use fs_hart::{Trace, Words, traces_over};
 use fs_kinds::{Fault, OperationName};
 use fs_list::List;
-use fs_litmus::{Test, read_test};
-use fs_refute::{Basis, Wrong, refute};
-use fs_values::Values;
+use fs_litmus::read_test;
+use fs_refute::Basis;
 use std::alloc::Global;
 use std::sync::Arc;
 use std::test::Fail;
@@ -24,65 +15,18 @@ const fn name(hart: u8, at: u8) -> OperationName {
     OperationName { hart, at }
 }
 
-/// Each of these runs of the hart made ready.
-fn ready(
-    alloc: Global,
-    test: &Arc<Test>,
-    hart: u8,
-    mut traces: Vec<Trace>,
-) -> Result<List<Lone>, Fault>
-    requires test { IsTest (arc_value test.now) }
-    requires runs { All (IsRun (arc_value test.now) hart) traces.items }
-    ensures { IfOk result (AreOf (arc_value test.now) hart) }
-{
-    let mut made = Vec::new(alloc);
-    while let Some(trace) = traces.pop() {
-        made.push(Lone::new(alloc, test, hart, trace)?)?;
-    }
-    Ok(List::new(made))
-}
-
-/// All runs of the hart.
-fn runs_at(alloc: Global, test: &Arc<Test>, hart: u8, sets: &[Words]) -> Result<List<Lone>, Fault>
-    requires test { IsTest (arc_value test.now) }
-    requires hart { hart < length (arc_value test.now).codes }
-    requires sets { All IsStrictlyIncreasing sets.now }
-    ensures { IfOk result (AreOf (arc_value test.now) hart) }
-{
-    let traces = traces_over(alloc, test, hart, sets)?;
-    let _law = listed_are_runs();
-    ready(alloc, test, hart, traces)
-}
-
-/// All runs of each hart.
-fn runs_of(alloc: Global, test: &Arc<Test>) -> Result<Vec<List<Lone>>, Fault>
-    requires { IsTest (arc_value test.now) }
-    ensures { IfOk result (λ runs. AreAllOf (arc_value test.now) runs.items) }
-{
-    let values = Values::of(alloc, test)?;
-    let mut runs = Vec::new(alloc);
-    for hart in 0..test.codes.len() {
-        runs.push(runs_at(alloc, test, hart as u8, values.as_slice())?)?;
-    }
-    Ok(runs)
-}
-
-/// What is found of the inferences, with the fences that the words name.
+/// The reason against the inferences, with the fences that the words name.
 fn found(
     alloc: Global,
     text: &str,
     fences: &str,
     inferences: &[Inference],
-) -> Result<Result<(), Wrong>, Fault> {
+) -> Result<String, Fault> {
     let test = Arc::new(alloc, read_test(alloc, text.as_bytes())?)?;
     let placement = placement_of(alloc, &test, fences)?;
-    let runs = runs_of(alloc, &test)?;
-    let basis = Basis {
-        test: &test,
-        runs: &runs,
-        names: List::new(names(alloc, &test)?),
-    };
-    refute(alloc, &basis, &placement, inferences)
+    let basis = Basis::new(alloc, &test)?;
+    let why = basis.reason_against(alloc, &placement, inferences)?;
+    Ok(format!(in alloc; "{why:?}")?)
 }
 
 fn link(operation: OperationName, cause: Cause) -> Link {
@@ -129,20 +73,17 @@ fn sb_is_refuted(rt: HostRuntime) -> Result<(), Fail> {
     let tree = sb(alloc)?;
     let fences = "P0:2=rw,rw P1:2=rw,rw";
     let whole = found(alloc, SB, fences, &tree)?;
-    assert_eq!(rt; format!(in alloc; "{whole:?}")?.as_str(), "Ok(())");
+    assert_eq!(rt; whole.as_str(), "None");
     let mut few = sb(alloc)?;
     few.pop();
     let few = found(alloc, SB, fences, &few)?;
-    assert_eq!(rt; format!(in alloc; "{few:?}")?.as_str(), "Err(Tree)");
+    assert_eq!(rt; few.as_str(), "Some(Cycles)");
     let unfenced = found(alloc, SB, "P0:2=rw,rw", &tree)?;
-    assert_eq!(rt;
-        format!(in alloc; "{unfenced:?}")?.as_str(),
-        "Err(Inference(4))"
-    );
+    assert_eq!(rt; unfenced.as_str(), "Some(Cycle { index: 4 })");
     let mut many = sb(alloc)?;
     many.push(Inference::Filter(0))?;
     let many = found(alloc, SB, fences, &many)?;
-    assert_eq!(rt; format!(in alloc; "{many:?}")?.as_str(), "Err(Tree)");
+    assert_eq!(rt; many.as_str(), "Some(Cycles)");
     Ok(())
 }
 
@@ -151,16 +92,13 @@ fn lrsc_is_refuted(rt: HostRuntime) -> Result<(), Fail> {
     let alloc = rt.alloc();
     let tree = lrsc(alloc)?;
     let whole = found(alloc, LRSC, "", &tree)?;
-    assert_eq!(rt; format!(in alloc; "{whole:?}")?.as_str(), "Ok(())");
+    assert_eq!(rt; whole.as_str(), "None");
     let mut early = Vec::new(alloc);
     early.push(Inference::ByOrder {
         first: name(1, 1),
         second: name(0, 1),
     })?;
     let early = found(alloc, LRSC, "", &early)?;
-    assert_eq!(rt;
-        format!(in alloc; "{early:?}")?.as_str(),
-        "Err(Inference(0))"
-    );
+    assert_eq!(rt; early.as_str(), "Some(Cycle { index: 0 })");
     Ok(())
 }

@@ -11,7 +11,7 @@ use Rattle.fs_refute.proofs.musts.must_by_rule.Goals as goal
 
 pub returns-then-is_hart : goal.returns-then-is_hart
 returns-then-is_hart c = λ r n.
-    let t = c.args.test.now in
+    let t = c.args.basis.now in
     let region = region_of c.args.region.now in
     let first = c.sourced-first.result in
     let second = c.sourced-second.result in
@@ -34,7 +34,7 @@ returns-then-is_hart c = λ r n.
 
 pub returns-else-knows_enough : goal.returns-else-knows_enough
 returns-else-knows_enough c = λ r n.
-    let t = c.args.test.now in
+    let t = c.args.basis.now in
     let region = region_of c.args.region.now in
     let second = c.sourced-second.result in
     second_of_two _ _ _ _ (eq-eqb c.args.a.hart c.args.b.hart c.if-a-b.true)

@@ -9,7 +9,7 @@ use Rattle.fs_refute.proofs.musts.must_pair.Goals as goal
 
 pub returns-then-is_hart : goal.returns-then-is_hart
 returns-then-is_hart c =
-    let t = c.args.test.now in
+    let t = c.args.basis.now in
     let region = region_of c.args.region.now in
     let hart = c.args.load.hart in
     let are : AreRunsOf t hart c.runs.result.now = subst (AreRunsOf t hart) (sym c.runs.ensures) (c.requires hart) in

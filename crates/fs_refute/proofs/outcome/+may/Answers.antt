@@ -12,14 +12,14 @@ use Rattle.fs_refute.proofs.outcome.+may.Goals as goal
 
 pub returns-in-RegisterIs : goal.returns-in-RegisterIs
 returns-in-RegisterIs d c =
-    let t = c.args.basis.now.test.now in
+    let t = c.args.basis.now in
     let region = region_of c.args.region.now in
     let hart = c.in-RegisterIs.hart in
-    c.may_end_register.ensures t hart (subst (AreRunsOf t hart) (sym c.runs.ensures) (c.requires.region hart))
+    c.may_end_register.ensures t hart (subst (AreRunsOf t hart) (sym c.runs.ensures) (c.requires hart))
     ∙ ap (λ (runs : List (Bor RunOf)). list_any (λ run. has_truth c.args.truth (final_register t (traces_of t hart run) hart c.in-RegisterIs.reg == c.in-RegisterIs.word)) (runs_of runs)) c.runs.ensures
     ∙ ap (λ (o : Outcome). may t region (condition_of o) c.args.truth) (sym c.in-RegisterIs.is)
 
 pub returns-in-LocationIs : goal.returns-in-LocationIs
 returns-in-LocationIs d c =
     c.may_end.ensures
-    ∙ ap (λ (o : Outcome). may c.args.basis.now.test.now (region_of c.args.region.now) (condition_of o) c.args.truth) (sym c.in-LocationIs.is)
+    ∙ ap (λ (o : Outcome). may c.args.basis.now (region_of c.args.region.now) (condition_of o) c.args.truth) (sym c.in-LocationIs.is)

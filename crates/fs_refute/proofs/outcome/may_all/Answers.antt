@@ -11,7 +11,7 @@ use Rattle.fs_refute.proofs.outcome.may_all.Goals as goal
 
 pub returns : goal.returns
 returns c =
-    let t = c.args.basis.now.test.now in
+    let t = c.args.basis.now in
     let region = region_of c.args.region.now in
     let test : Condition × Bool → Bool = λ w. may t region w.0 w.1 in
     let chain : c.all.result ≡ list_all (λ w. test (wanted_of w)) c.args.wanted.now =

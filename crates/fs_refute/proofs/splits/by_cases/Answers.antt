@@ -12,7 +12,7 @@ use Rattle.fs_refute.proofs.splits.by_cases.Goals as goal
 
 pub loop-way-preserved : goal.loop-way-preserved
 loop-way-preserved c =
-    let t = c.args.test.now in
+    let t = c.args.basis.now in
     let k = c.args.number in
     let region = region_of c.args.region.now in
     let split : List Wanted → Region = λ way. with_wanted (take k region.wanted ++ all_wanted way ++ drop (k + 1) region.wanted) region in (
@@ -22,12 +22,12 @@ loop-way-preserved c =
           ∙ ap (λ wanted. with_wanted wanted region) (ap all_wanted c.in_ok-others.ensures ∙ parts_seen wanted_of k c.as_slice-wanted.result.now c.as_slice.result.now
           ∙ ap (λ ws. take k (all_wanted ws) ++ all_wanted c.as_slice.result.now ++ drop (k + 1) (all_wanted ws)) (c.as_slice-wanted.ensures ∙ c.deref.ensures)
           ∙ ap (λ way. take k region.wanted ++ all_wanted way ++ drop (k + 1) region.wanted) (c.as_slice.ensures ∙ c.way-item.is))),
-      c.in_ok-add_open.ensures.of c.loop-way.invariant.1 (c.in_ok-with_wanted.ensures.of t c.requires.region),
+      c.in_ok-add_open.ensures.of c.loop-way.invariant.1 (c.in_ok-with_wanted.ensures.of t c.requires),
     )
 
 pub returns : goal.returns
 returns c =
-    let t = c.args.test.now in
+    let t = c.args.basis.now in
     let k = c.args.number in
     let region = region_of c.args.region.now in
     let part : List (Condition × Bool) → Region = λ way. with_wanted (take k region.wanted ++ way ++ drop (k + 1) region.wanted) region in

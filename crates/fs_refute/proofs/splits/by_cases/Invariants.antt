@@ -8,7 +8,7 @@ use Rattle.fs_refute.proofs.splits.by_cases.Given as goal
 abbrev pub invariant-loop-way : goal.invariant-loop-way
 invariant-loop-way l =
     (regions_of l.left.items
-    ≡ made_and_kept (is_open l.test)
+    ≡ made_and_kept (is_open l.basis)
     (λ way. with_wanted (take l.number (region_of l.region).wanted ++ all_wanted way ++ drop (l.number + 1) (region_of l.region).wanted) (region_of l.region))
     (take l.way-index l.way-items))
-    × AreOf l.test l.left.items
+    × AreOf l.basis l.left.items

@@ -12,7 +12,7 @@ use Rattle.fs_refute.proofs.splits.by_choice.Goals as goal
 
 pub loop-number-preserved : goal.loop-number-preserved
 loop-number-preserved c =
-    let t = c.args.test.now in
+    let t = c.args.basis.now in
     let old = c.args.region.now in
     let hart = c.args.name.hart in
     let at = c.args.name.at in
@@ -23,12 +23,12 @@ loop-number-preserved c =
     c.in_ok-kept.ensures ∙ ap (filter (λ (run : Bor RunOf). chosen n run.now.steps)) c.runs-runs.ensures in (
       made_more (is_open t) (λ k. keep hart (chosen k) (region_of old)) [] items c.loop-number.number-index 0 _ _ (region_of c.in_ok-keep.field-0)
           c.loop-number-test.true c.loop-number.invariant.0 c.in_ok-add_open.ensures.regions (c.in_ok-keep.ensures.kept (chosen n) is),
-      c.in_ok-add_open.ensures.of c.loop-number.invariant.1 (c.in_ok-keep.ensures.of (chosen n) is t c.requires.region),
+      c.in_ok-add_open.ensures.of c.loop-number.invariant.1 (c.in_ok-keep.ensures.of (chosen n) is t c.requires),
     )
 
 pub returns : goal.returns
 returns c =
-    let t = c.args.test.now in
+    let t = c.args.basis.now in
     let old = c.args.region.now in
     let hart = c.args.name.hart in
     let at = c.args.name.at in

@@ -9,5 +9,5 @@ use Rattle.fs_refute.proofs.splits.by_choice.Given as goal
 abbrev pub invariant-loop-number : goal.invariant-loop-number
 invariant-loop-number l =
     (regions_of l.left.items
-    ≡ made_and_kept (is_open l.test) (λ n. keep l.name.hart (λ run. chosen_at l.name.at run == n) (region_of l.region)) (take l.number-index l.number-items))
-    × AreOf l.test l.left.items
+    ≡ made_and_kept (is_open l.basis) (λ n. keep l.name.hart (λ run. chosen_at l.name.at run == n) (region_of l.region)) (take l.number-index l.number-items))
+    × AreOf l.basis l.left.items

@@ -8,7 +8,7 @@ use Rattle.fs_refute.proofs.splits.by_order.Goals as goal
 
 pub returns : goal.returns
 returns c =
-    let t = c.args.test.now in
+    let t = c.args.basis.now in
     let old = region_of c.args.region.now in
     let none : AreOf t c.new-left.result.items = subst (AreOf t) (sym c.new-left.ensures.items) (All-nil (IsOf t)) in
     record {
@@ -16,6 +16,6 @@ returns c =
           (with_order c.args.first c.args.second old) (with_order c.args.second c.args.first old)
           (ap regions_of c.new-left.ensures.items) c.in_ok-add_open.ensures.regions c.in_ok-add_open-2.ensures.regions
           c.in_ok-with_order.ensures.region c.in_ok-with_order-2.ensures.region;
-      of = c.in_ok-add_open-2.ensures.of (c.in_ok-add_open.ensures.of none (c.in_ok-with_order.ensures.of t c.requires.region))
-          (c.in_ok-with_order-2.ensures.of t c.requires.region);
+      of = c.in_ok-add_open-2.ensures.of (c.in_ok-add_open.ensures.of none (c.in_ok-with_order.ensures.of t c.requires))
+          (c.in_ok-with_order-2.ensures.of t c.requires);
     }

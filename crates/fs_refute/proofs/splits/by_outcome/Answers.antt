@@ -15,7 +15,7 @@ use Rattle.fs_refute.proofs.splits.by_outcome.Goals as goal
 
 pub loop-run-preserved : goal.loop-run-preserved
 loop-run-preserved c =
-    let t = c.args.basis.now.test.now in
+    let t = c.args.basis.now in
     let region = region_of c.args.region.now in
     let test : Bor RunOf → Bool = λ run. list_all (λ wanted. may t (with_run c.args.hart run.now.steps region) wanted.0 wanted.1) region.wanted in
     let runs = c.runs-run-items.result.now in
@@ -29,7 +29,7 @@ loop-run-preserved c =
 
 pub returns : goal.returns
 returns c =
-    let t = c.args.basis.now.test.now in
+    let t = c.args.basis.now in
     let old = c.args.region.now in
     let region = region_of old in
     let test : List Step → Bool = λ run. list_all (λ wanted. may t (with_run c.args.hart run region) wanted.0 wanted.1) region.wanted in
@@ -41,5 +41,5 @@ returns c =
       regions = one_added (is_open t) _ _ (region_of c.in_ok-keep.field-0) (keep c.args.hart test region)
           (ap regions_of c.new-left.ensures.items) c.in_ok-add_open.ensures.regions (c.in_ok-keep.ensures.kept test is);
       of = c.in_ok-add_open.ensures.of (subst (AreOf t) (sym c.new-left.ensures.items) (All-nil (IsOf t)))
-          (c.in_ok-keep.ensures.of test is t c.requires.region);
+          (c.in_ok-keep.ensures.of test is t c.requires);
     }

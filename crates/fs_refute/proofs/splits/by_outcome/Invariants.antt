@@ -8,5 +8,5 @@ use Rattle.fs_refute.proofs.splits.by_outcome.Given as goal
 abbrev pub invariant-loop-run : goal.invariant-loop-run
 invariant-loop-run l =
     l.kept.items
-    ≡ filter (λ run. list_all (λ wanted. may l.basis.test.now (with_run l.hart run.now.steps (region_of l.region)) wanted.0 wanted.1) (region_of l.region).wanted)
+    ≡ filter (λ run. list_all (λ wanted. may l.basis (with_run l.hart run.now.steps (region_of l.region)) wanted.0 wanted.1) (region_of l.region).wanted)
     (take l.run-index l.run-items)

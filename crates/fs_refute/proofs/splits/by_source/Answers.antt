@@ -11,28 +11,28 @@ use Rattle.fs_refute.proofs.splits.by_source.Goals as goal
 
 pub loop-source-init : goal.loop-source-init
 loop-source-init c =
-    let t = c.args.basis.now.test.now in
+    let t = c.args.basis.now in
     let first = from_nothing c.args.load (region_of c.args.region.now) in (
       one_added (is_open t) _ _ (region_of c.in_ok-from_nothing.field-0) first (ap regions_of c.new-left.ensures.items)
           c.in_ok-add_open.ensures.regions c.in_ok-from_nothing.ensures.region
           ∙ none_added (filter (is_open t) (first ∷ [])),
-      c.in_ok-add_open.ensures.of (subst (AreOf t) (sym c.new-left.ensures.items) (All-nil (IsOf t))) (c.in_ok-from_nothing.ensures.of t c.requires.region),
+      c.in_ok-add_open.ensures.of (subst (AreOf t) (sym c.new-left.ensures.items) (All-nil (IsOf t))) (c.in_ok-from_nothing.ensures.of t c.requires),
     )
 
 pub loop-source-preserved : goal.loop-source-preserved
 loop-source-preserved c =
-    let t = c.args.basis.now.test.now in
+    let t = c.args.basis.now in
     let region = region_of c.args.region.now in
     let split : Source → Region = λ source. from_source t c.args.load region (source_of source) in (
       made_more (is_open t) split (filter (is_open t) (from_nothing c.args.load region ∷ [])) c.deref-source-items.result.now c.loop-source.source-index
           _ _ _ (region_of c.in_ok-smaller.smaller) c.loop-source-test.true c.loop-source.invariant.0 c.in_ok-add_open-2.ensures.regions
           c.in_ok-smaller.ensures.region,
-      c.in_ok-add_open-2.ensures.of c.loop-source.invariant.1 (c.in_ok-smaller.ensures.of t c.requires.region),
+      c.in_ok-add_open-2.ensures.of c.loop-source.invariant.1 (c.in_ok-smaller.ensures.of t c.requires),
     )
 
 pub returns : goal.returns
 returns c =
-    let t = c.args.basis.now.test.now in
+    let t = c.args.basis.now in
     let region = region_of c.args.region.now in
     let p = is_open t in
     let split : Source → Region = λ source. from_source t c.args.load region (source_of source) in

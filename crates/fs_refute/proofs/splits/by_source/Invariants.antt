@@ -9,7 +9,7 @@ use Rattle.fs_refute.proofs.splits.by_source.Given as goal
 abbrev pub invariant-loop-source : goal.invariant-loop-source
 invariant-loop-source l =
     (regions_of l.left.items
-    ≡ filter (is_open l.basis.test.now) (from_nothing l.load (region_of l.region) ∷ [])
-    ++ made_and_kept (is_open l.basis.test.now) (λ source. from_source l.basis.test.now l.load (region_of l.region) (source_of source))
+    ≡ filter (is_open l.basis) (from_nothing l.load (region_of l.region) ∷ [])
+    ++ made_and_kept (is_open l.basis) (λ source. from_source l.basis l.load (region_of l.region) (source_of source))
     (take l.source-index l.source-items))
-    × AreOf l.basis.test.now l.left.items
+    × AreOf l.basis l.left.items

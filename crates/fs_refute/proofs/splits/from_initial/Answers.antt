@@ -7,7 +7,7 @@ use Rattle.fs_refute.proofs.splits.from_initial.Goals as goal
 
 pub returns : goal.returns
 returns c =
-    let test : List Step → Bool = agrees_initially c.args.test.now c.args.load in
+    let test : List Step → Bool = agrees_initially c.args.basis.now c.args.load in
     let is : c.in_ok-kept.kept ≡ filter (λ run. test run.now.steps) (list_at c.args.region.now c.args.load.hart) =
     c.in_ok-kept.ensures ∙ ap (filter (λ run. test run.now.steps)) c.runs.ensures in
     record {

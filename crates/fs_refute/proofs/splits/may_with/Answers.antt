@@ -8,9 +8,9 @@ use Rattle.fs_alone.specs.Alone.{RunOf}
 use Rattle.fs_refute.specs.Views.{region_of, runs_of, all_wanted, with_runs, AreRunsOf}
 use Rattle.fs_refute.proofs.splits.may_with.Goals as goal
 
-pub may_all-requires-clause-region : goal.may_all-requires-clause-region
-may_all-requires-clause-region c =
-    let t = c.args.basis.now.test.now in
+pub may_all-requires : goal.may_all-requires
+may_all-requires c =
+    let t = c.args.basis.now in
     let only : c.new.result ≡ c.args.run ∷ [] = c.new.ensures ∙ c.in_ok-push.ensures.items ∙ ap (λ (runs : List (Bor RunOf)). runs ++ c.args.run ∷ []) c.new-runs.ensures.items in
     let are : AreRunsOf t c.args.hart (c.args.run ∷ []) =
     All-cons (λ run. (run.now.test ≡ t) × (run.now.hart ≡ c.args.hart)) c.args.run [] (c.requires.test, c.requires.of)
@@ -19,7 +19,7 @@ may_all-requires-clause-region c =
 
 pub returns : goal.returns
 returns c =
-    let t = c.args.basis.now.test.now in
+    let t = c.args.basis.now in
     let only : c.new.result ≡ c.args.run ∷ [] = c.new.ensures ∙ c.in_ok-push.ensures.items ∙ ap (λ (runs : List (Bor RunOf)). runs ++ c.args.run ∷ []) c.new-runs.ensures.items in
     let all : Region → Bool = λ region. list_all (λ wanted. may t region wanted.0 wanted.1) region.wanted in
     let small = region_of c.in_ok-smaller.smaller in

@@ -19,7 +19,7 @@ pub loop-store-preserved : goal.loop-store-preserved
 loop-store-preserved c =
     let p = is_left (known_source c.source-known.result) in
     let q = can_be_source c.args.load in
-    added (kept_made_kept p From q) (kept_joins p From q) (filter p (Initial ∷ [])) c.as_slice-store-items.result.now c.loop-store.store-index _
+    added (kept_made_kept p From q) (kept_joins p From q) (filter p (Initial ∷ [])) c.names-store-items.result.now c.loop-store.store-index _
     _ _ c.loop-store-test.true c.loop-store.invariant
     c.in_ok-add_store.ensures
 
@@ -29,6 +29,6 @@ returns c =
     let q = can_be_source c.args.load in
     c.loop-store.invariant
     ∙ ap (λ ns. filter p (Initial ∷ []) ++ kept_made_kept p From q ns)
-    (take_all c.loop-store.store-index c.as_slice-store-items.result.now c.loop-store-test.false ∙ c.as_slice-store-items.ensures ∙ c.requires)
-    ∙ sym (filter-append p (Initial ∷ []) (map From (filter q (names c.args.basis.now.test.now))))
-    ∙ ap (λ known. filter (is_left known) (Initial ∷ map From (filter q (names c.args.basis.now.test.now)))) c.source-known.ensures
+    (take_all c.loop-store.store-index c.names-store-items.result.now c.loop-store-test.false ∙ c.names-store-items.ensures)
+    ∙ sym (filter-append p (Initial ∷ []) (map From (filter q (names c.args.basis.now))))
+    ∙ ap (λ known. filter (is_left known) (Initial ∷ map From (filter q (names c.args.basis.now)))) c.source-known.ensures

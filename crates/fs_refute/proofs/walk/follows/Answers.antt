@@ -8,4 +8,4 @@ use Rattle.fs_refute.proofs.walk.follows.Goals as goal
 pub returns-in-ByOrder : goal.returns-in-ByOrder
 returns-in-ByOrder c =
     c.may_order.ensures c.args.placement.now
-    ∙ ap (λ (i : Inference). follows c.args.basis.now.test.now c.args.placement.now (region_of c.args.region.now) (inference_of i)) (sym c.in-ByOrder.is)
+    ∙ ap (λ (i : Inference). follows c.args.basis.now c.args.placement.now (region_of c.args.region.now) (inference_of i)) (sym c.in-ByOrder.is)

@@ -6,5 +6,5 @@ use Rattle.fs_refute.proofs.walk.is_chain.Given as goal
 
 abbrev pub invariant-loop-number : goal.invariant-loop-number
 invariant-loop-number l =
-    list_all (λ pair. must l.test (region_of l.region) l.placement pair.0.cause pair.0.operation pair.1.operation)
+    list_all (λ pair. must l.basis (region_of l.region) l.placement pair.0.cause pair.0.operation pair.1.operation)
     (take l.number (zip l.links (drop 1 l.links ++ l.last ∷ []))) ≡ true
