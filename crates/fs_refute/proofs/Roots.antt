@@ -45,7 +45,8 @@ pub all_of_test : (t : Test) (lists : List (List (Bor RunOf))) (listed : List (L
     → AreOfEach t listed → (hart : ℕ) → AreRunsOf t hart (at_hart lists hart)
 all_of_test t lists listed is basis hart =
     behind t hart (at_hart lists hart)
-    (subst (AreOfHart t hart) (sym (values_at lists hart ∙ ap (λ (ls : List (List RunOf)). slice_index_or ls hart []) is)) (basis hart))
+    (subst (AreOfHart t hart)
+    (sym (values_at lists hart ∙ ap (λ (ls : List (List RunOf)). slice_index_or ls hart []) is)) (basis hart))
 
 pub root_is : (t : Test) (listed : List (List RunOf)) (region : CodeRegion) → map values_in (lists_in region.runs.items) ≡ listed
     → arc_value region.sources ≡ [] → arc_value region.orders ≡ []
@@ -64,8 +65,10 @@ pub stacked_push : (stack : List CodeRegion) (region : CodeRegion) → stacked (
 stacked_push stack region = ap regions_of (reverse-append stack (region ∷ []))
 
 -- a stack of these alone
-pub stacked_all : (all none stack : List CodeRegion) → none ≡ [] → stacked stack ≡ regions_of all ++ stacked none → stacked stack ≡ regions_of all
-stacked_all all none stack empty is = is ∙ ap (λ below. regions_of all ++ stacked below) empty ∙ append-nil (regions_of all)
+pub stacked_all : (all none stack : List CodeRegion) → none ≡ [] → stacked stack ≡ regions_of all ++ stacked none
+    → stacked stack ≡ regions_of all
+stacked_all all none stack empty is =
+    is ∙ ap (λ below. regions_of all ++ stacked below) empty ∙ append-nil (regions_of all)
 
 pub moved : (left rest stack more : List CodeRegion) (region : CodeRegion) → left ≡ rest ++ region ∷ [] → more ≡ stack ++ region ∷ []
     → regions_of rest ++ stacked more ≡ regions_of left ++ stacked stack

@@ -12,7 +12,10 @@ use Rattle.fs_answer.specs.Regions.{Region}
 use Rattle.fs_answer.specs.Certificate.{Inference}
 use Rattle.fs_answer.specs.Trees.{follows, left_after, refutes, roots, AreItsRuns}
 use Rattle.fs_answer.specs.Refusals.{first_wrong}
+use Rattle.fs_refute.specs.declared.region.Region.{Region as CodeRegion}
 use Rattle.fs_refute.specs.Runs.{AreRoots}
+use Rattle.fs_refute.specs.Views.{regions_of, stacked}
+use Rattle.fs_refute.proofs.Roots.{stacked_all}
 
 module _ (t : Test) (p : List Entry) where
   -- the reason, where these regions are open before inference number k
@@ -29,7 +32,8 @@ module _ (t : Test) (p : List Entry) where
           else Some (reason.Cycle k)) (sym holds)
           ∙ ap (λ js. first_wrong t p (region ∷ others) js k) (sym (drop_more is k d low))
 
-      pub wrong_here : follows t p region (get_or is k d) ≡ false → Some (reason.Cycle k) ≡ wrong_from (region ∷ others) is k
+      pub wrong_here : follows t p region (get_or is k d) ≡ false
+          → Some (reason.Cycle k) ≡ wrong_from (region ∷ others) is k
       wrong_here fails =
           ap (λ b. if b
           then wrong_from (left_after t region (get_or is k d) ++ others) is (k + 1)
@@ -41,23 +45,30 @@ module _ (t : Test) (p : List Entry) where
     one_more d low = ap (λ js. first_wrong t p [] js k) (sym (drop_more is k d low))
 
     -- there is none more, and one is open
-    pub one_less : (region : Region) (others : List Region) → length is ≤ k → Some reason.Cycles ≡ wrong_from (region ∷ others) is k
+    pub one_less : (region : Region) (others : List Region) → length is ≤ k
+        → Some reason.Cycles ≡ wrong_from (region ∷ others) is k
     one_less region others high = ap (λ js. first_wrong t p (region ∷ others) js k) (sym (drop_all k is high))
 
     -- there is none more, and no region is open
     pub none_wrong : length is ≤ k → None ≡ wrong_from [] is k
     none_wrong high = ap (λ js. first_wrong t p [] js k) (sym (drop_all k is high))
 
-  -- ---- over the runs that are behind the first regions
+  -- ---- over the runs that are behind the first regions, which are pushed on an empty stack
 
-  pub over_roots : (is : List Inference) (first : List Region) (roots_of : List Region) (why : Option Reason) → first ≡ roots_of → AreRoots t roots_of
-      → why ≡ first_wrong t p first is 0
+  pub over_roots : (is : List Inference) (left none stack : List CodeRegion) (why : Option Reason)
+      → none ≡ [] → stacked stack ≡ regions_of left ++ stacked none → AreRoots t (regions_of left)
+      → why ≡ first_wrong t p (stacked stack) is 0
       → (runs : ℕ → List (List Step)) × AreItsRuns t runs × (why ≡ first_wrong t p (roots t runs) is 0)
-  over_roots is first roots_of why same are e = (are.0, are.1, e ∙ ap (λ rs. first_wrong t p rs is 0) (same ∙ are.2))
+  over_roots is left none stack why empty pushed are e = (
+    are.0,
+    are.1,
+    e ∙ ap (λ rs. first_wrong t p rs is 0) (stacked_all left none stack empty pushed ∙ are.2),
+  )
 
   -- ---- the whole tree
 
-  pub none_to : (rs : List Region) (is : List Inference) (k : ℕ) → first_wrong t p rs is k ≡ None → refutes t p rs is ≡ true
+  pub none_to : (rs : List Region) (is : List Inference) (k : ℕ) → first_wrong t p rs is k ≡ None
+      → refutes t p rs is ≡ true
   none_to [] [] k e = refl
   none_to [] (i ∷ is) k e = cc
   none_to (r ∷ rs) [] k e = cc
@@ -66,7 +77,8 @@ module _ (t : Test) (p : List Entry) where
     | inr fails ↦ (let both : Some (reason.Cycle k) ≡ None = rw fails at e in cc)
   ]
 
-  pub none_from : (rs : List Region) (is : List Inference) (k : ℕ) → refutes t p rs is ≡ true → first_wrong t p rs is k ≡ None
+  pub none_from : (rs : List Region) (is : List Inference) (k : ℕ) → refutes t p rs is ≡ true
+      → first_wrong t p rs is k ≡ None
   none_from [] [] k e = refl
   none_from [] (i ∷ is) k e = absurd (false≢true e)
   none_from (r ∷ rs) [] k e = absurd (false≢true e)

@@ -10,4 +10,5 @@ ready-requires-clause-runs c =
     let hart = c.loop-hart.hart in
     let list = c.index-lists-hart.result in
     subst (All (IsRun (arc_value c.args.test.now) hart))
-    (sym (c.as_slice.ensures ∙ c.index-lists-hart.is ∙ get_or_default lists hart list [] c.loop-hart-test.true)) (c.requires.runs hart)
+    (sym (c.as_slice.ensures ∙ c.index-lists-hart.is ∙ get_or_default lists hart list [] c.loop-hart-test.true))
+    (c.requires.runs hart)

@@ -22,7 +22,8 @@ returns c =
       region = (
         runs_over listed,
         c.runs.ensures.all,
-        root_is t listed region c.in_ok-runs.ensures sources orders (ap all_wanted c.in_ok-wanted-2.ensures.ok ∙ c.in_ok-wanted.ensures),
+        root_is t listed region c.in_ok-runs.ensures sources orders
+            (ap all_wanted c.in_ok-wanted-2.ensures.ok ∙ c.in_ok-wanted.ensures),
       );
       of = all_of_test t (lists_in region.runs.items) listed c.in_ok-runs.ensures c.runs.ensures.of;
     }

@@ -13,7 +13,8 @@ returns c =
       regions = (
         all.0,
         all.1,
-        one_added (is_open t) _ _ (region_of c.in_ok-all.all) (root t all.0) (ap regions_of c.new-left.ensures.items) c.in_ok-add_open.ensures.regions all.2,
+        one_added (is_open t) _ _ (region_of c.in_ok-all.all) (root t all.0) (ap regions_of c.new-left.ensures.items)
+            c.in_ok-add_open.ensures.regions all.2,
       );
       of = c.in_ok-add_open.ensures.of (subst (AreOf t) (sym c.new-left.ensures.items) (All-nil (IsOf t))) c.in_ok-all.ensures.of;
     }

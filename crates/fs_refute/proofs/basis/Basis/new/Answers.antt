@@ -22,8 +22,13 @@ invariant_of-result c =
     let lists = c.in_ok-lists.lists.items in
     let runs = c.in_ok-runs.runs.items in
     let named = c.new.result in
-    let long : length lists ≡ length t.codes = c.in_ok-lists.ensures.harts ∙ ap (λ (u : Test). length u.codes) c.deref.ensures in
-    let all : HasAllRuns t (runs_in lists) = subst (λ (u : Test). HasAllRuns u (runs_in lists)) c.deref.ensures c.in_ok-lists.ensures.ok in
-    let ready : AreReady t lists runs = subst (λ lists. AreReady t lists runs) c.deref-2.ensures.value c.in_ok-runs.ensures.ok in
-    let are : named ≡ names t = c.new.ensures ∙ c.in_ok-names.ensures.ok ∙ ap (λ (u : Test). names u) c.deref-3.ensures in
-    subst (λ (u : Test). IsBasis u runs named) (sym c.in_ok-shared.ensures) (is_basis t lists runs named c.requires.bounded long all ready are)
+    let long : length lists ≡ length t.codes =
+    c.in_ok-lists.ensures.harts ∙ ap (λ (u : Test). length u.codes) c.deref.ensures in
+    let all : HasAllRuns t (runs_in lists) =
+    subst (λ (u : Test). HasAllRuns u (runs_in lists)) c.deref.ensures c.in_ok-lists.ensures.ok in
+    let ready : AreReady t lists runs =
+    subst (λ lists. AreReady t lists runs) c.deref-2.ensures.value c.in_ok-runs.ensures.ok in
+    let are : named ≡ names t =
+    c.new.ensures ∙ c.in_ok-names.ensures.ok ∙ ap (λ (u : Test). names u) c.deref-3.ensures in
+    subst (λ (u : Test). IsBasis u runs named) (sym c.in_ok-shared.ensures)
+    (is_basis t lists runs named c.requires.bounded long all ready are)

@@ -5,15 +5,16 @@ use Rattle.std.proofs.lemmas.List.Elements.{All-nil, All-pop}
 use Rattle.fs_kinds.specs.declared.reason.Reason.TheVariants as reason
 use Rattle.fs_answer.specs.Trees.{follows, left_after}
 use Rattle.fs_evidence.specs.Inferences.{inference_of}
-use Rattle.fs_refute.specs.Views.{region_of, regions_of, stacked, AreOf, IsOf}
-use Rattle.fs_refute.proofs.Roots.{stacked_push, stacked_all, first_of}
+use Rattle.fs_refute.specs.Views.{region_of, stacked, AreOf, IsOf}
+use Rattle.fs_refute.proofs.Roots.{stacked_push, first_of}
 use Rattle.fs_refute.proofs.Walked.{wrong_from, wrong_later, wrong_here, one_more, one_less, none_wrong, over_roots}
 use Rattle.fs_refute.proofs.basis.Basis.reason_against.Goals as goal
 
 pub loop-index-init : goal.loop-index-init
 loop-index-init c =
     let t = c.args.self.now in
-    (refl, c.in_ok-push_all.ensures.of t c.in_ok-roots.ensures.of (subst (AreOf t) (sym c.new-stack.ensures.items) (All-nil (IsOf t))))
+    let none : AreOf t c.new-stack.result.items = subst (AreOf t) (sym c.new-stack.ensures.items) (All-nil (IsOf t)) in
+    (refl, c.in_ok-push_all.ensures.of t c.in_ok-roots.ensures.of none)
 
 pub returns-in_default-clause-exact : goal.returns-in_default-clause-exact
 returns-in_default-clause-exact c =
@@ -25,16 +26,16 @@ returns-in_default-clause-exact c =
     let low = c.loop-index-test.true in
     let empty = c.in_default.ensures.cases.0 in
     let none : c.loop-index.stack.items ≡ [] = nil_from_length c.loop-index.stack.items (omega (arith, empty)) in
-    over_roots t p is (stacked c.push_all.new.stack.items) (regions_of c.in_ok-roots.field-0.items) (Some reason.Cycles)
-    (stacked_all c.in_ok-roots.field-0.items c.new-stack.result.items c.push_all.new.stack.items c.new-stack.ensures.items c.in_ok-push_all.ensures.regions)
-    c.in_ok-roots.ensures.regions
+    over_roots t p is c.in_ok-roots.field-0.items c.new-stack.result.items c.push_all.new.stack.items
+    (Some reason.Cycles) c.new-stack.ensures.items c.in_ok-push_all.ensures.regions c.in_ok-roots.ensures.regions
     (one_more t p is k (inference_of c.index-inferences-index.result) (omega (arith, low, long))
     ∙ ap (λ rs. wrong_from t p rs is k) (sym (ap stacked none)) ∙ c.loop-index.invariant.0)
 
 pub follows-requires : goal.follows-requires
 follows-requires c =
     let t = c.args.self.now in
-    (All-pop (IsOf t) c.loop-index.stack.items c.pop.new.self.items (Some c.in-Some.region) c.in-Some.ensures.items c.loop-index.invariant.1).1
+    (All-pop (IsOf t) c.loop-index.stack.items c.pop.new.self.items (Some c.in-Some.region) c.in-Some.ensures.items
+    c.loop-index.invariant.1).1
 
 pub returns-then-not-follows-clause-exact : goal.returns-then-not-follows-clause-exact
 returns-then-not-follows-clause-exact c =
@@ -47,12 +48,12 @@ returns-then-not-follows-clause-exact c =
     let long = length-map c.args.inferences.now inference_of in
     let low = c.loop-index-test.true in
     let same : get_or is k (inference_of item) ≡ inference_of item =
-    get_or-map inference_of c.args.inferences.now k item (inference_of item) low ∙ ap inference_of (sym c.index-inferences-index.is) in
+    get_or-map inference_of c.args.inferences.now k item (inference_of item) low
+    ∙ ap inference_of (sym c.index-inferences-index.is) in
     let opened : stacked c.loop-index.stack.items ≡ region ∷ stacked c.pop.new.self.items =
     ap stacked c.in-Some.ensures.items ∙ stacked_push c.pop.new.self.items c.in-Some.region in
-    over_roots t p is (stacked c.push_all.new.stack.items) (regions_of c.in_ok-roots.field-0.items) (Some (reason.Cycle k))
-    (stacked_all c.in_ok-roots.field-0.items c.new-stack.result.items c.push_all.new.stack.items c.new-stack.ensures.items c.in_ok-push_all.ensures.regions)
-    c.in_ok-roots.ensures.regions
+    over_roots t p is c.in_ok-roots.field-0.items c.new-stack.result.items c.push_all.new.stack.items
+    (Some (reason.Cycle k)) c.new-stack.ensures.items c.in_ok-push_all.ensures.regions c.in_ok-roots.ensures.regions
     (wrong_here t p is k region (stacked c.pop.new.self.items) (inference_of item) (omega (arith, low, long))
     (ap (follows t p region) same ∙ sym c.follows.ensures ∙ c.if-not-follows.true)
     ∙ ap (λ rs. wrong_from t p rs is k) (sym opened) ∙ c.loop-index.invariant.0)
@@ -60,7 +61,8 @@ returns-then-not-follows-clause-exact c =
 pub left_after-requires : goal.left_after-requires
 left_after-requires c =
     let t = c.args.self.now in
-    (All-pop (IsOf t) c.loop-index.stack.items c.pop.new.self.items (Some c.in-Some.region) c.in-Some.ensures.items c.loop-index.invariant.1).1
+    (All-pop (IsOf t) c.loop-index.stack.items c.pop.new.self.items (Some c.in-Some.region) c.in-Some.ensures.items
+    c.loop-index.invariant.1).1
 
 pub loop-index-preserved : goal.loop-index-preserved
 loop-index-preserved c =
@@ -73,13 +75,17 @@ loop-index-preserved c =
     let long = length-map c.args.inferences.now inference_of in
     let low = c.loop-index-test.true in
     let same : get_or is k (inference_of item) ≡ inference_of item =
-    get_or-map inference_of c.args.inferences.now k item (inference_of item) low ∙ ap inference_of (sym c.index-inferences-index.is) in
+    get_or-map inference_of c.args.inferences.now k item (inference_of item) low
+    ∙ ap inference_of (sym c.index-inferences-index.is) in
     let opened : stacked c.loop-index.stack.items ≡ region ∷ stacked c.pop.new.self.items =
     ap stacked c.in-Some.ensures.items ∙ stacked_push c.pop.new.self.items c.in-Some.region in
-    let left : stacked c.push_all-in-loop-index.new.stack.items ≡ left_after t region (get_or is k (inference_of item)) ++ stacked c.pop.new.self.items =
+    let below = stacked c.pop.new.self.items in
+    let left : stacked c.push_all-in-loop-index.new.stack.items ≡ left_after t region (get_or is k (inference_of item)) ++ below =
     c.in_ok-push_all-2.ensures.regions
-    ∙ ap (λ regions. regions ++ stacked c.pop.new.self.items) (c.in_ok-left_after.ensures.regions ∙ ap (left_after t region) (sym same)) in
-    let parts = All-pop (IsOf t) c.loop-index.stack.items c.pop.new.self.items (Some c.in-Some.region) c.in-Some.ensures.items c.loop-index.invariant.1 in (
+    ∙ ap (λ regions. regions ++ below) (c.in_ok-left_after.ensures.regions ∙ ap (left_after t region) (sym same)) in
+    let parts =
+    All-pop (IsOf t) c.loop-index.stack.items c.pop.new.self.items (Some c.in-Some.region) c.in-Some.ensures.items
+    c.loop-index.invariant.1 in (
       ap (λ rs. wrong_from t p rs is (k + 1)) left
           ∙ wrong_later t p is k region (stacked c.pop.new.self.items) (inference_of item) (omega (arith, low, long))
           (ap (follows t p region) same ∙ sym c.follows.ensures ∙ c.if-not-follows.false)
@@ -97,10 +103,10 @@ returns-then-is_empty-clause-exact c =
     let high = c.loop-index-test.false in
     let empty = eqb-true _ 0 (sym c.is_empty.ensures ∙ c.if-is_empty.true) in
     let none : c.loop-index.stack.items ≡ [] = nil_from_length c.loop-index.stack.items (omega (arith, empty)) in
-    over_roots t p is (stacked c.push_all.new.stack.items) (regions_of c.in_ok-roots.field-0.items) None
-    (stacked_all c.in_ok-roots.field-0.items c.new-stack.result.items c.push_all.new.stack.items c.new-stack.ensures.items c.in_ok-push_all.ensures.regions)
-    c.in_ok-roots.ensures.regions
-    (none_wrong t p is k (omega (arith, long, high)) ∙ ap (λ rs. wrong_from t p rs is k) (sym (ap stacked none)) ∙ c.loop-index.invariant.0)
+    over_roots t p is c.in_ok-roots.field-0.items c.new-stack.result.items c.push_all.new.stack.items
+    None c.new-stack.ensures.items c.in_ok-push_all.ensures.regions c.in_ok-roots.ensures.regions
+    (none_wrong t p is k (omega (arith, long, high))
+    ∙ ap (λ rs. wrong_from t p rs is k) (sym (ap stacked none)) ∙ c.loop-index.invariant.0)
 
 pub returns-clause-exact : goal.returns-clause-exact
 returns-clause-exact c =
@@ -116,8 +122,7 @@ returns-clause-exact c =
     let turned = length-reverse stack in
     let seen = length-map (reverse stack) region_of in
     let first = first_of (stacked stack) (omega (arith, differ, turned, seen)) in
-    over_roots t p is (stacked c.push_all.new.stack.items) (regions_of c.in_ok-roots.field-0.items) (Some reason.Cycles)
-    (stacked_all c.in_ok-roots.field-0.items c.new-stack.result.items c.push_all.new.stack.items c.new-stack.ensures.items c.in_ok-push_all.ensures.regions)
-    c.in_ok-roots.ensures.regions
+    over_roots t p is c.in_ok-roots.field-0.items c.new-stack.result.items c.push_all.new.stack.items
+    (Some reason.Cycles) c.new-stack.ensures.items c.in_ok-push_all.ensures.regions c.in_ok-roots.ensures.regions
     (one_less t p is k first.region first.others (omega (arith, long, high, within))
     ∙ ap (λ rs. wrong_from t p rs is k) (sym first.is) ∙ c.loop-index.invariant.0)
