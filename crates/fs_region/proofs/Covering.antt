@@ -1,5 +1,5 @@
 -- What refutes a test covers its showing candidates, and so forbids the outcome.
-use Rattle.std.proofs.Common.{◌≡◌, ℕ, Bool, true, None, Some, List, [], ◌∷◌, length, inl, inr, refl, subst}
+use Rattle.std.proofs.Common.{◌≡◌, ℕ, ◌≤◌, Bool, true, None, Some, List, [], ◌∷◌, length, inl, inr, refl, subst}
 use Rattle.std.specs.List.{AllZip, Contains}
 use Rattle.std.proofs.lemmas.Bool.{false≢true, not-true}
 use Rattle.fs_kinds.specs.declared.placement.Entry.{Entry}
@@ -9,18 +9,20 @@ use Rattle.fs_model.specs.declared.test.Quantifier.TheVariants.{Exists, NotExist
 use Rattle.fs_model.specs.Condition.{Condition, SpeaksOf, condition_of}
 use Rattle.fs_model.specs.Test.{IsBounded}
 use Rattle.fs_model.specs.declared.step.Step.{Step}
-use Rattle.fs_model.specs.Operations.{steps_of}
+use Rattle.fs_model.specs.Operations.{operations, steps_of}
 use Rattle.fs_model.specs.Allows.{Allows, no_fences}
 use Rattle.fs_model.specs.Fenced.{fenced}
 use Rattle.fs_model.specs.Shows.{is_outcome}
-use Rattle.fs_answer.specs.Candidates.{Candidate, IsShowing}
+use Rattle.fs_answer.specs.Candidates.{Candidate, IsShowing, runs_of}
 use Rattle.fs_answer.specs.Certificate.{Link}
-use Rattle.fs_answer.specs.Cycles.{IsCycle, HasCycles}
+use Rattle.fs_answer.specs.Cycles.{IsCycle, HasCycles, most_links}
+use Rattle.fs_answer.specs.Listings.{IsListing}
 use Rattle.fs_thin_air.specs.ThinAir.{CanBeListed}
 use Rattle.fs_laws.proofs.FencedLaw.{allows_alike}
 use Rattle.fs_decide.specs.Decide.{candidate_of}
 use Rattle.fs_decide.proofs.Back.{showing, ordered}
 use Rattle.fs_decide.proofs.Edges.{cycle_excludes}
+use Rattle.fs_decide.proofs.Links.{cycles_exist}
 use Rattle.fs_values.proofs.Contained.{none_in, later_in}
 use Rattle.fs_answer.specs.Regions.{truth}
 use Rattle.fs_model.specs.Values.{HasAllRuns}
@@ -70,6 +72,12 @@ beside R (v ∷ vs) (w ∷ ws) x all has = elim (in_cases v vs x has) [
 
 pub listed_covers : (t : Test) (p : List Entry) (cycles : List (List Link)) → HasCycles t p cycles → Covers t p cycles
 listed_covers t p cycles (cs, listing, each) c shows = beside (IsCycle t p) cs cycles c each ((listing.exact c).1 shows)
+
+pub covers_exist : (t : Test) (p : List Entry) (cs : List Candidate) → IsListing t cs
+    → ((c : Candidate) → IsShowing t c → length (operations (runs_of t c)) ≤ most_links) → (Allows t p → ⊥)
+    → (cycles : List (List Link)) × Covers t p cycles
+covers_exist t p cs listing few forbidden =
+    let found = cycles_exist t p cs listing few forbidden in (found.0, listed_covers t p found.0 found.1)
 
 pub covered_forbids : (t : Test) → CanBeListed t → (p : List Entry) (cycles : List (List Link)) → Covers t p cycles → Allows t p → ⊥
 covered_forbids t listed p cycles all (e, shows) =

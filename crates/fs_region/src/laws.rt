@@ -1,6 +1,6 @@
 //! What a refutation shows.
 
-ghost use Rattle.std.specs.Prelude.{◌≡◌, List, [], All, true};
+ghost use Rattle.std.specs.Prelude.{◌≡◌, ◌≤◌, List, [], All, true, length};
 ghost use Rattle.fs_kinds.specs.declared.placement.Entry.{Entry};
 ghost use Rattle.fs_kinds.specs.Placement.{slots_of, is_weaker};
 ghost use Rattle.fs_kinds.specs.declared.reason.OperationName.{OperationName as Name};
@@ -8,10 +8,12 @@ ghost use Rattle.fs_model.specs.declared.test.Test.{Test};
 ghost use Rattle.fs_model.specs.Test.{GoesForward, IsBounded};
 ghost use Rattle.fs_model.specs.Allows.{Allows, no_fences};
 ghost use Rattle.fs_model.specs.Fenced.{fenced};
-ghost use Rattle.fs_answer.specs.Candidates.{Candidate, IsRaw};
+ghost use Rattle.fs_answer.specs.Candidates.{Candidate, IsRaw, IsShowing, runs_of};
 ghost use Rattle.fs_answer.specs.Certificate.{Link};
 ghost use Rattle.fs_answer.specs.Judged.{Cause};
-ghost use Rattle.fs_answer.specs.Cycles.{HasCycles};
+ghost use Rattle.fs_answer.specs.Cycles.{HasCycles, most_links};
+ghost use Rattle.fs_answer.specs.Listings.{IsListing};
+ghost use Rattle.fs_model.specs.Operations.{operations};
 ghost use Rattle.fs_laws.specs.Strength.{KeepsNoMore};
 ghost use Rattle.fs_thin_air.specs.ThinAir.{CanBeListed};
 ghost use Rattle.fs_local.specs.Local.{HasLink};
@@ -29,7 +31,8 @@ pub fn musts_hold()
 
 /// A law: where a tree of inferences refutes a test under a placement, each showing candidate has one of the tree's
 /// cycles. So no execution shows the outcome, where the test's runs can be listed, and none of the fenced test, whose
-/// fences are instructions, does. A cycle for each showing candidate does the same.
+/// fences are instructions, does. A cycle for each showing candidate does the same. Where the outcome is forbidden, and
+/// no showing candidate has more than 64 operations, there are such cycles.
 pub fn covers_forbid()
     ensures covers { (t : Test) (p : List Entry) (inferences : List Inference) → IsBounded t → IsRefuted t p inferences
         → Covers t p (cycles_in inferences) }
@@ -41,6 +44,9 @@ pub fn covers_forbid()
         → IsRefuted t p inferences → Allows t p → ⊥ }
     ensures fenced { (t : Test) → CanBeListed t → (p : List Entry) (inferences : List Inference)
         → IsRefuted t p inferences → Allows (fenced t p) (no_fences (fenced t p)) → ⊥ }
+    ensures exist { (t : Test) (p : List Entry) (cs : List Candidate) → IsListing t cs
+        → ((c : Candidate) → IsShowing t c → length (operations (runs_of t c)) ≤ most_links) → (Allows t p → ⊥)
+        → (cycles : List (List Link)) × Covers t p cycles }
 {}
 
 /// A law: what refutes under weaker fences refutes under stronger ones, by the same tree. So it is for two placements

@@ -1,4 +1,4 @@
-use Rattle.fs_region.proofs.Covering.{covers, listed_covers, covered_forbids, forbids, fenced_forbids}
+use Rattle.fs_region.proofs.Covering.{covers, listed_covers, covers_exist, covered_forbids, forbids, fenced_forbids}
 use Rattle.fs_region.proofs.laws.covers_forbid.Goals as goal
 
 pub returns-clause-covers : goal.returns-clause-covers
@@ -15,3 +15,6 @@ returns-clause-refuted c = forbids
 
 pub returns-clause-fenced : goal.returns-clause-fenced
 returns-clause-fenced c = fenced_forbids
+
+pub returns-clause-exist : goal.returns-clause-exist
+returns-clause-exist c = covers_exist
