@@ -1,5 +1,5 @@
 -- What the first reason against inferences says of them.
-use Rattle.std.proofs.Common.{◌≡◌, ℕ, ◌+◌, Bool, true, false, ◌&&◌, Option, None, Some, List, [], ◌∷◌, ◌++◌, map, Result, IfOk, refl, sym, subst, ap}
+use Rattle.std.proofs.Common.{◌≡◌, ℕ, ◌+◌, Bool, true, false, Option, None, Some, List, [], ◌∷◌, ◌++◌, map, Result, IfOk, refl, sym, subst, ap}
 use Rattle.std.specs.Prelude.{if◌then◌else◌}
 use Rattle.std.specs.Borrow.{Bor}
 use Rattle.std.proofs.lemmas.Result.{IfOk-weaker}
@@ -13,11 +13,12 @@ use Rattle.fs_answer.specs.Candidates.{Candidate}
 use Rattle.fs_answer.specs.Certificate.{Cycles, Listed, Inferred, Link, Inference}
 use Rattle.fs_answer.specs.Refusals.{first_wrong, IsListRefusal, IsCyclesRefusal}
 use Rattle.fs_answer.specs.Regions.{Region}
-use Rattle.fs_answer.specs.Trees.{follows, left_after, refutes, roots, AreItsRuns}
+use Rattle.fs_answer.specs.Trees.{follows, left_after, roots, AreItsRuns}
 use Rattle.fs_evidence.specs.Inferences.{inference_of}
 use Rattle.fs_evidence.specs.declared.inference.Inference.{Inference as CodeInference}
 use Rattle.fs_certificate.specs.declared.certificate.CertifiedCycles.TheVariants.{Inferred as KeptInferences}
 use Rattle.fs_certificate.specs.Kept.{KeepsCycles}
+use Rattle.fs_refute.proofs.Walked.{none_to}
 use Rattle.fs_checker.specs.declared.held.Held.{Held}
 use Rattle.fs_checker.specs.declared.held.Held.TheVariants.{Inferred as HeldInferences}
 use Rattle.fs_checker.specs.inner.Cycles.{IsCyclesVerdict}
@@ -26,28 +27,13 @@ use Rattle.fs_checker.specs.inner.Held.{test_in, Holds}
 same_Some : {X : Type 0} (x y : X) → Some x ≡ Some y → x ≡ y
 same_Some x y e = cc
 
--- ---- where there is none, they refute
-
-drawn : (b rest : Bool) (later : Option Reason) (k : ℕ) → (later ≡ None → rest ≡ true)
-    → (if b then later else Some (reason.Cycle k)) ≡ None → (b && rest) ≡ true
-drawn true rest later k so e = so e
-drawn false rest later k so e = absurd (let some : Some (reason.Cycle k) ≡ None = e in cc)
-
-refuting : (t : Test) (p : List Entry) (regions : List Region) (inferences : List Inference) (k : ℕ)
-    → first_wrong t p regions inferences k ≡ None → refutes t p regions inferences ≡ true
-refuting t p [] [] k e = refl
-refuting t p [] (inference ∷ inferences) k e = absurd (let some : Some reason.Cycles ≡ None = e in cc)
-refuting t p (region ∷ regions) [] k e = absurd (let some : Some reason.Cycles ≡ None = e in cc)
-refuting t p (region ∷ regions) (inference ∷ inferences) k e =
-    let left = left_after t region inference ++ regions in
-    drawn (follows t p region inference) (refutes t p left inferences) (first_wrong t p left inferences (k + 1)) k
-    (λ none. refuting t p left inferences (k + 1) none) e
+-- ---- what the walk finds: where there is no reason, the inferences refute
 
 -- what is said of inferences, over the one list of all runs of each hart
 judged : (t : Test) (p : List Entry) (runs : ℕ → List (List Step)) (is : List Inference) (why : Option Reason)
     → AreItsRuns t runs → why ≡ first_wrong t p (roots t runs) is 0 → IsCyclesVerdict t p (Inferred is) why
 judged t p runs is None all e =
-    record { runs = runs; all = all; refuted = refuting t p (roots t runs) is 0 (sym e) }
+    record { runs = runs; all = all; refuted = none_to t p (roots t runs) is 0 (sym e) }
 judged t p runs is (Some why) all e = (runs, all, sym e)
 
 -- what the walk finds, over some runs that are all runs of each hart
