@@ -1,6 +1,5 @@
 -- Runs of one hart of a test: what is asked of each by its own hart and test, and by that hart and test.
-use Rattle.std.proofs.Common.{◌≡◌, ℕ, ◌+◌, ◌<◌, ◌≤◌, Bool, true, false, length, get_or, take, ◌&&◌, ◌||◌, List, [], ◌∷◌, refl, sym, ◌∙◌, ap}
-use Rattle.std.specs.Prelude.{◌==◌}
+use Rattle.std.proofs.Common.{◌≡◌, ℕ, ◌+◌, ◌<◌, ◌≤◌, Bool, true, false, length, get_or, take, ◌&&◌, ◌||◌, List, [], ◌∷◌, map, refl, sym, ◌∙◌, ap}
 use Rattle.std.specs.Borrow.{Bor}
 use Rattle.std.specs.List.{list_all, list_any}
 use Rattle.std.proofs.lemmas.Bool.{and_from}
@@ -14,11 +13,12 @@ use Rattle.fs_model.specs.declared.step.Step.{Step}
 use Rattle.fs_model.specs.Preserved.{Rule}
 use Rattle.fs_model.specs.Shows.{final_register}
 use Rattle.fs_answer.specs.Regions.{Region}
-use Rattle.fs_answer.specs.Musts.{alone, traces_of, is_rule, has_truth}
+use Rattle.fs_answer.specs.Musts.{alone, traces_of, is_rule}
 use Rattle.fs_alone.specs.Alone.{RunOf}
 use Rattle.fs_refute.specs.declared.outcome.Ending.{Ending}
 use Rattle.fs_refute.specs.Views.{runs_of, AreRunsOf}
 use Rattle.fs_refute.specs.inner.Asked.{is_ordered_in, ends_so}
+use Rattle.fs_refute.specs.inner.Each.{is_ending}
 
 module _ (t : Test) (hart : ℕ) (f : Bor RunOf → Bool) (g : List Step → Bool)
     (same : (run : Bor RunOf) → run.now.test ≡ t → run.now.hart ≡ hart → f run ≡ g run.now.steps) where
@@ -36,6 +36,13 @@ module _ (t : Test) (hart : ℕ) (f : Bor RunOf → Bool) (g : List Step → Boo
       let rest = any_alike runs (All-tail (λ run. (run.now.test ≡ t) × (run.now.hart ≡ hart)) run runs are) in
       ap (λ b. b || list_any f runs) (same run here.0 here.1) ∙ ap (λ b. g run.now.steps || b) rest
 
+  pub each_alike : (runs : List (Bor RunOf)) → AreRunsOf t hart runs → map f runs ≡ map g (runs_of runs)
+  each_alike [] are = refl
+  each_alike (run ∷ runs) are =
+      let here = All-head (λ run. (run.now.test ≡ t) × (run.now.hart ≡ hart)) run runs are in
+      let rest = each_alike runs (All-tail (λ run. (run.now.test ≡ t) × (run.now.hart ≡ hart)) run runs are) in
+      ap (λ b. b ∷ map f runs) (same run here.0 here.1) ∙ ap (λ bs. g run.now.steps ∷ bs) rest
+
 -- ---- a loop over runs
 
 module _ (f : Bor RunOf → Bool) (runs : List (Bor RunOf)) (i : ℕ) where
@@ -51,16 +58,21 @@ module _ (f : Bor RunOf → Bool) (runs : List (Bor RunOf)) (i : ℕ) where
 
 -- ---- what is asked
 
-pub ends_alike : (t : Test) (hart register : ℕ) (ending : Ending) (runs : List (Bor RunOf)) → AreRunsOf t hart runs
-    → list_any (ends_so register ending) runs
-    ≡ list_any (λ run. has_truth ending.truth (final_register t (traces_of t hart run) hart register == ending.word)) (runs_of runs)
-ends_alike t hart register ending runs are =
-    any_alike t hart (ends_so register ending)
-    (λ run. has_truth ending.truth (final_register t (traces_of t hart run) hart register == ending.word))
-    (λ run test at.
-    ap (λ (u : Test). has_truth ending.truth (final_register u (traces_of u run.now.hart run.now.steps) run.now.hart register == ending.word)) test
-    ∙ ap (λ h. has_truth ending.truth (final_register t (traces_of t h run.now.steps) h register == ending.word)) at)
-    runs are
+module _ (t : Test) (hart register : ℕ) (ending : Ending) where
+  -- the register ends so in a run of the hart
+  abbrev pub own_ends : List Step → Bool
+  own_ends run = is_ending ending (final_register t (traces_of t hart run) hart register)
+
+  own_ends_so : (run : Bor RunOf) → run.now.test ≡ t → run.now.hart ≡ hart → ends_so register ending run ≡ own_ends run.now.steps
+  own_ends_so run test at =
+      ap (λ (u : Test). is_ending ending (final_register u (traces_of u run.now.hart run.now.steps) run.now.hart register)) test
+      ∙ ap (λ h. is_ending ending (final_register t (traces_of t h run.now.steps) h register)) at
+
+  pub ends_alike : (runs : List (Bor RunOf)) → AreRunsOf t hart runs → list_any (ends_so register ending) runs ≡ list_any own_ends (runs_of runs)
+  ends_alike = any_alike t hart (ends_so register ending) own_ends own_ends_so
+
+  pub each_ends_alike : (runs : List (Bor RunOf)) → AreRunsOf t hart runs → map (ends_so register ending) runs ≡ map own_ends (runs_of runs)
+  each_ends_alike = each_alike t hart (ends_so register ending) own_ends own_ends_so
 
 pub rules_alike : (t : Test) (region : Region) (p : List Entry) (r : Rule) (a b : Name) (runs : List (Bor RunOf)) → AreRunsOf t a.hart runs
     → list_all (is_ordered_in region p r a b) runs ≡ list_all (λ run. is_rule t region p r a b (alone t a.hart run)) (runs_of runs)

@@ -1,5 +1,6 @@
 pub mod Alike
 pub mod Chains
+pub mod Each
 pub mod Listed
 pub mod Lists
 pub mod Regions

@@ -1,12 +1,12 @@
 -- What a region in code stands for, where it is made of another.
-use Rattle.std.proofs.Common.{◌≡◌, ◌≢◌, ℕ, ◌<◌, ◌≤◌, Bool, true, false, Some, Option, List, [], ◌∷◌, length, filter, cond, get_or-set_same, get_or-set_other, inl, inr, refl, sym, ◌∙◌, ap, subst, arith}
+use Rattle.std.proofs.Common.{◌≡◌, ◌≢◌, ℕ, ◌<◌, ◌≤◌, Bool, true, false, Some, Option, List, [], ◌∷◌, length, filter, cond, get_or-set_same, get_or-set_other, inl, inr, refl, sym, ◌∙◌, ap, subst}
 use Rattle.std.specs.Prelude.{if◌then◌else◌, ◌==◌, not}
 use Rattle.std.specs.Arc.{arc_value}
 use Rattle.std.specs.Borrow.{Bor}
 use Rattle.std.proofs.Math.ListN.{set}
 use Rattle.std.proofs.Math.Path.{fun_ext}
 use Rattle.std.proofs.lemmas.Bool.{false≢true, cases_lt, eqb-true, eq-eqb}
-use Rattle.std.proofs.lemmas.List.{get_or_past, length-map, set_past}
+use Rattle.std.proofs.lemmas.List.{get_or_past, set_past}
 use Rattle.std.proofs.lemmas.List.Elements.{All-filter}
 use Rattle.fs_kinds.specs.declared.reason.OperationName.{OperationName as Name}
 use Rattle.fs_model.specs.declared.test.Test.{Test}
@@ -202,14 +202,3 @@ wanted_is old new wanted runs sources orders same =
     (λ n. ap (λ known. source_in known n) sources)
     (λ a b. ap (λ known. is_in_order known a b) orders)
     same
-
--- ---- of a hart with a run
-
-pub hart_low : (region : CodeRegion) (hart i : ℕ) → i < length (list_at region hart) → hart < length region.runs.items
-hart_low region hart i low = elim (cases_lt hart (length region.runs.items)) [
-  | inl there ↦ there
-  | inr past ↦ (
-      let long = length-map region.runs.items arc_value in
-      let none : list_at region hart ≡ [] = get_or_past (lists_in region.runs.items) hart [] (omega (arith, past, long)) in
-      let short = ap length none in absurd (omega (arith, low, short)))
-]

@@ -6,6 +6,7 @@ mod filters;
 pub mod laws;
 mod musts;
 mod outcome;
+mod parted;
 mod ready;
 mod region;
 mod splits;

@@ -38,7 +38,7 @@ fn accessed(run: &Lone, access: Access, at: u8) -> Option<u32>
 }
 
 // Does the run access the location there?
-fn accesses(run: &Lone, access: Access, at: u8, location: u8) -> bool
+pub(crate) fn accesses(run: &Lone, access: Access, at: u8, location: u8) -> bool
     ensures { result ≡ accesses_at (access_of access) at location run.now.steps }
 {
     accessed(run, access, at).is_some()

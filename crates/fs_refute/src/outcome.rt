@@ -1,21 +1,26 @@
-//! What the members of a region may end with.
+//! What the members of a region may end with where one hart has this run or that: asked for all of its runs at once, so
+//! that what the other harts may do is looked at once.
 
-ghost use Rattle.std.specs.Prelude.{◌≡◌, ◌==◌, ◌&&◌, not, slice_get, unwrap_or};
-ghost use Rattle.std.specs.List.{list_any, list_all};
+ghost use Rattle.std.specs.Prelude.{◌≡◌, ◌&&◌, not, map, slice_get, unwrap_or, IfOk};
+ghost use Rattle.std.specs.List.{list_any, zip};
 ghost use Rattle.fs_model.specs.Condition.{condition_of};
+ghost use Rattle.fs_model.specs.declared.test.Test.{Test};
 ghost use Rattle.fs_model.specs.Execution.{initial_words};
-ghost use Rattle.fs_answer.specs.Regions.{names, stored_at};
-ghost use Rattle.fs_answer.specs.Musts.{has_truth, passes, stores_such, must_be, may_end, may};
-ghost use Rattle.fs_refute.specs.Views.{region_of, runs_of, all_wanted, IsOf};
-ghost use Rattle.fs_refute.specs.inner.Asked.{EndsSome};
+ghost use Rattle.fs_answer.specs.Regions.{stored_at};
+ghost use Rattle.fs_answer.specs.Musts.{has_truth, passes, stores_such, must_be};
+ghost use Rattle.fs_refute.specs.Views.{region_of, runs_of, IsOf};
+ghost use Rattle.fs_refute.specs.inner.Asked.{ends_so, EndsSome};
+ghost use Rattle.fs_refute.specs.inner.Each.{AreNames, is_ending, stores_under, ends_with, joins, may_each, may_all_with, registers_each, ends_each};
 
 use crate::basis::Basis;
-use crate::musts::{Access, must_be};
-use crate::region::{Region, Wanted};
+use crate::musts::{Access, accesses, must_be};
+use crate::parted::{Names, parted_names};
+use crate::region::Region;
 use fs_alone::Lone;
 use fs_instr::Reg;
 use fs_kinds::OperationName;
 use fs_model::{Location, Outcome};
+use std::alloc::{AllocError, Global};
 
 // A word, and whether something is to end with it.
 #[derive(Clone, Copy)]
@@ -33,13 +38,13 @@ fn has_truth(truth: bool, given: bool) -> bool
 
 // Is the word as wanted?
 fn is_ending(ending: Ending, word: u32) -> bool
-    ensures { result ≡ has_truth ending.truth (word == ending.word) }
+    ensures { result ≡ is_ending ending word }
 {
     has_truth(ending.truth, word == ending.word)
 }
 
 fn passes(ending: Ending, word: Option<u32>) -> bool
-    ensures { result ≡ passes (λ w. has_truth ending.truth (w == ending.word)) word }
+    ensures { result ≡ passes (is_ending ending) word }
 {
     match word {
         Some(word) => is_ending(ending, word),
@@ -49,7 +54,7 @@ fn passes(ending: Ending, word: Option<u32>) -> bool
 
 // Does the run store such a word at the location?
 fn stores_such(run: &Lone, name: OperationName, location: u8, ending: Ending) -> bool
-    ensures { result ≡ stores_such location (λ w. has_truth ending.truth (w == ending.word)) name run.now.steps }
+    ensures { result ≡ stores_such location (is_ending ending) name run.now.steps }
 {
     run.address_at(name.at)
         .is_some_and(|address| address == Location::address(location))
@@ -58,7 +63,7 @@ fn stores_such(run: &Lone, name: OperationName, location: u8, ending: Ending) ->
 
 // Does one of the runs?
 fn any_stores_such(runs: &[&Lone], name: OperationName, location: u8, ending: Ending) -> bool
-    ensures { result ≡ list_any (stores_such location (λ w. has_truth ending.truth (w == ending.word)) name)
+    ensures { result ≡ list_any (stores_such location (is_ending ending) name)
         (runs_of runs.now) }
 {
     runs.iter()
@@ -75,60 +80,108 @@ fn initial_word(basis: &Basis, location: u8) -> u32
     }
 }
 
-// Must something be stored at the location?
-fn must_be_stored(basis: &Basis, region: &Region<'_>, location: u8) -> bool
-    ensures { result ≡ list_any (λ a. must_be basis.now (region_of region.now) stored_at a location)
-        (names basis.now) }
+// Must something be stored at the location under one of the names?
+fn must_be_stored(basis: &Basis, region: &Region<'_>, names: &[OperationName], location: u8) -> bool
+    ensures { result ≡ list_any (λ a. must_be basis.now (region_of region.now) stored_at a location) names.now }
 {
-    basis.names().iter().any(|name| must_be(basis, region, Access::Store, *name, location))
+    names.iter().any(|name| must_be(basis, region, Access::Store, *name, location))
 }
 
-// Does the store come before another?
-fn is_overtaken(basis: &Basis, region: &Region<'_>, name: OperationName) -> bool
-    ensures { result ≡ list_any ((region_of region.now).before name) (names basis.now) }
-{
-    basis
-        .names()
-        .iter()
-        .any(|other| region.is_before(name, *other))
-}
-
-// May the store be the last one of the location, and of such a word?
-fn may_be_last(
+// May the location keep such a word from its beginning, whatever is stored under other names than these?
+fn may_stay(
     basis: &Basis,
     region: &Region<'_>,
-    name: OperationName,
+    names: &[OperationName],
     location: u8,
     ending: Ending,
 ) -> bool
-    ensures { result ≡ (not (list_any ((region_of region.now).before name) (names basis.now))
-        && list_any (stores_such location (λ w. has_truth ending.truth (w == ending.word)) name)
-        ((region_of region.now).runs name.hart)) }
+    ensures { result ≡ (is_ending ending (unwrap_or (slice_get (initial_words basis.now) location) 0)
+        && not (list_any (λ a. must_be basis.now (region_of region.now) stored_at a location) names.now)) }
 {
-    !is_overtaken(basis, region, name)
-        && any_stores_such(region.runs(name.hart), name, location, ending)
+    is_ending(ending, initial_word(basis, location))
+        && !must_be_stored(basis, region, names, location)
 }
 
-// May the location end with such a word that is stored there?
-fn may_end_stored(basis: &Basis, region: &Region<'_>, location: u8, ending: Ending) -> bool
-    ensures { result ≡ list_any (λ a. not (list_any ((region_of region.now).before a) (names basis.now))
-        && list_any (stores_such location (λ w. has_truth ending.truth (w == ending.word)) a)
-        ((region_of region.now).runs a.hart))
-        (names basis.now) }
+// May such a word be stored at the location under one of the names?
+fn may_be_stored(region: &Region<'_>, names: &[OperationName], location: u8, ending: Ending) -> bool
+    ensures { result ≡ list_any (λ a. list_any (stores_such location (is_ending ending) a)
+        ((region_of region.now).runs a.hart)) names.now }
 {
-    basis
-        .names()
+    names.iter().any(|name| any_stores_such(region.runs(name.hart), *name, location, ending))
+}
+
+// Does the run store at the location under the name, which is a hart's?
+fn stores_under(basis: &Basis, run: &Lone, name: OperationName, location: u8) -> bool
+    ensures { result ≡ stores_under basis.now location run.now.steps name }
+{
+    basis.is_hart(name.hart) && accesses(run, Access::Store, name.at, location)
+}
+
+// Does it under one of the names?
+fn stores_at(basis: &Basis, run: &Lone, names: &[OperationName], location: u8) -> bool
+    ensures { result ≡ list_any (stores_under basis.now location run.now.steps) names.now }
+{
+    names
         .iter()
-        .any(|name| may_be_last(basis, region, *name, location, ending))
+        .any(|name| stores_under(basis, run, *name, location))
 }
 
-// May the location end with such a word?
-fn may_end(basis: &Basis, region: &Region<'_>, location: u8, ending: Ending) -> bool
-    ensures { result ≡ may_end basis.now (region_of region.now) location
-        (λ w. has_truth ending.truth (w == ending.word)) }
+// Does it store such a word there under one of the names?
+fn stores_some(run: &Lone, names: &[OperationName], location: u8, ending: Ending) -> bool
+    ensures { result ≡ list_any (λ a. stores_such location (is_ending ending) a run.now.steps) names.now }
 {
-    (is_ending(ending, initial_word(basis, location)) && !must_be_stored(basis, region, location))
-        || may_end_stored(basis, region, location, ending)
+    names
+        .iter()
+        .any(|name| stores_such(run, *name, location, ending))
+}
+
+// May the location end with such a word by what the run does?
+fn ends_with(
+    basis: &Basis,
+    names: &Names,
+    location: u8,
+    ending: Ending,
+    begins: bool,
+    run: &Lone,
+) -> bool
+    ensures { result ≡ ends_with basis.now location ending begins names.now.all.own names.now.last.own run.now.steps }
+{
+    (begins && !stores_at(basis, run, names.all.own.as_slice(), location))
+        || stores_some(run, names.last.own.as_slice(), location, ending)
+}
+
+// The same for each of the runs.
+fn same_each(alloc: Global, runs: &[&Lone], mark: bool) -> Result<Vec<bool>, AllocError>
+    ensures { IfOk result (λ marks. marks.items ≡ map (λ run. mark) runs.now) }
+{
+    runs.iter().map(|_run| mark).collect(alloc)
+}
+
+// With which runs of the hart may the location end with such a word?
+fn ends_each(
+    alloc: Global,
+    basis: &Basis,
+    region: &Region<'_>,
+    names: &Names,
+    location: u8,
+    ending: Ending,
+) -> Result<Vec<bool>, AllocError>
+    requires { AreNames basis.now (region_of region.now) names.now }
+    ensures { IfOk result (λ marks. marks.items
+        ≡ ends_each basis.now names.now.hart (region_of region.now) location ending) }
+{
+    let runs = region.runs(names.hart);
+    let stored = may_be_stored(region, names.last.others.as_slice(), location, ending);
+    if stored {
+        let marks = same_each(alloc, runs, true)?;
+        return Ok(marks);
+    }
+    let begins = may_stay(basis, region, names.all.others.as_slice(), location, ending);
+    let marks = runs
+        .iter()
+        .map(|run| ends_with(basis, names, location, ending, begins, run))
+        .collect(alloc)?;
+    Ok(marks)
 }
 
 // May the register end with such a word in one of the runs, which are of the hart?
@@ -139,42 +192,126 @@ fn may_end_register(runs: &[&Lone], register: Reg, ending: Ending) -> bool
         .any(|run| is_ending(ending, run.final_register(register)))
 }
 
-// May the condition have this truth value? Its depth is bounded by that of the test's condition.
-pub(crate) fn may(basis: &Basis, region: &Region<'_>, condition: &Outcome, truth: bool) -> bool
-    requires { IsOf basis.now region.now }
-    ensures { result ≡ may basis.now (region_of region.now) (condition_of condition.now) truth }
+// With which of the runs does it?
+fn register_each(
+    alloc: Global,
+    runs: &[&Lone],
+    register: Reg,
+    ending: Ending,
+) -> Result<Vec<bool>, AllocError>
+    ensures { IfOk result (λ marks. marks.items ≡ map (ends_so register ending) runs.now) }
+{
+    runs.iter()
+        .map(|run| is_ending(ending, run.final_register(register)))
+        .collect(alloc)
+}
+
+// With which runs of the hart may a register of this or of another one end with such a word?
+fn registers_each(
+    alloc: Global,
+    region: &Region<'_>,
+    hart: u8,
+    own: u8,
+    register: Reg,
+    ending: Ending,
+) -> Result<Vec<bool>, AllocError>
+    ensures { (t : Test) → IsOf t region.now → IfOk result (λ marks. marks.items
+        ≡ registers_each t hart (region_of region.now) own register ending) }
+{
+    if own == hart {
+        let marks = register_each(alloc, region.runs(hart), register, ending)?;
+        Ok(marks)
+    } else {
+        let ends = may_end_register(region.runs(own), register, ending);
+        let marks = same_each(alloc, region.runs(hart), ends)?;
+        Ok(marks)
+    }
+}
+
+fn joins(at_once: bool, first: bool, second: bool) -> bool
+    ensures { result ≡ joins at_once first second }
+{
+    if at_once {
+        first && second
+    } else {
+        first || second
+    }
+}
+
+// For each run both at once, or one or the other.
+fn joined(
+    alloc: Global,
+    first: &[bool],
+    second: &[bool],
+    at_once: bool,
+) -> Result<Vec<bool>, AllocError>
+    ensures { IfOk result (λ marks. marks.items
+        ≡ map (λ pair. joins at_once pair.0 pair.1) (zip first.now second.now)) }
+{
+    first
+        .iter()
+        .zip(second)
+        .map(|(first, second)| joins(at_once, *first, *second))
+        .collect(alloc)
+}
+
+// With which runs of the hart may the condition have this truth value? Its depth is bounded by that of the test's
+// condition. An atom takes the runs of a hart times its names, for each of the harts once.
+fn may_each(
+    alloc: Global,
+    basis: &Basis,
+    region: &Region<'_>,
+    names: &Names,
+    condition: &Outcome,
+    truth: bool,
+) -> Result<Vec<bool>, AllocError>
+    requires of { IsOf basis.now region.now }
+    requires names { AreNames basis.now (region_of region.now) names.now }
+    ensures { IfOk result (λ marks. marks.items
+        ≡ may_each basis.now names.now.hart (region_of region.now) (condition_of condition.now) truth) }
 {
     match condition {
-        Outcome::Always => truth,
-        Outcome::Never => !truth,
+        Outcome::Always => same_each(alloc, region.runs(names.hart), truth),
+        Outcome::Never => same_each(alloc, region.runs(names.hart), !truth),
         Outcome::RegisterIs { hart, reg, word } => {
-            may_end_register(region.runs(*hart), *reg, Ending { word: *word, truth })
+            let ending = Ending { word: *word, truth };
+            registers_each(alloc, region, names.hart, *hart, *reg, ending)
         }
         Outcome::LocationIs { location, word } => {
-            may_end(basis, region, *location, Ending { word: *word, truth })
+            let ending = Ending { word: *word, truth };
+            ends_each(alloc, basis, region, names, *location, ending)
         }
-        Outcome::Deny(denied) => may(basis, region, denied, !truth),
+        Outcome::Deny(denied) => may_each(alloc, basis, region, names, denied, !truth),
         Outcome::Both(left, right) => {
-            if truth {
-                may(basis, region, left, true) && may(basis, region, right, true)
-            } else {
-                may(basis, region, left, false) || may(basis, region, right, false)
-            }
+            let first = may_each(alloc, basis, region, names, left, truth)?;
+            let second = may_each(alloc, basis, region, names, right, truth)?;
+            joined(alloc, &first, &second, truth)
         }
         Outcome::Either(left, right) => {
-            if truth {
-                may(basis, region, left, true) || may(basis, region, right, true)
-            } else {
-                may(basis, region, left, false) && may(basis, region, right, false)
-            }
+            let first = may_each(alloc, basis, region, names, left, truth)?;
+            let second = may_each(alloc, basis, region, names, right, truth)?;
+            joined(alloc, &first, &second, !truth)
         }
     }
 }
 
-// May each wanted condition have its truth value?
-pub(crate) fn may_all(basis: &Basis, region: &Region<'_>, wanted: &[Wanted<'_>]) -> bool
+// With which runs of the hart may each wanted condition have its truth value?
+pub(crate) fn may_all_each(
+    alloc: Global,
+    basis: &Basis,
+    region: &Region<'_>,
+    hart: u8,
+) -> Result<Vec<bool>, AllocError>
     requires { IsOf basis.now region.now }
-    ensures { result ≡ list_all (λ w. may basis.now (region_of region.now) w.0 w.1) (all_wanted wanted.now) }
+    ensures { IfOk result (λ marks. marks.items
+        ≡ map (may_all_with basis.now hart (region_of region.now) (region_of region.now).wanted)
+        ((region_of region.now).runs hart)) }
 {
-    wanted.iter().all(|wanted| may(basis, region, wanted.condition, wanted.truth))
+    let names = parted_names(alloc, basis, region, hart)?;
+    let mut marks = same_each(alloc, region.runs(hart), true)?;
+    for wanted in region.wanted.iter() {
+        let more = may_each(alloc, basis, region, &names, wanted.condition, wanted.truth)?;
+        marks = joined(alloc, &marks, &more, true)?;
+    }
+    Ok(marks)
 }

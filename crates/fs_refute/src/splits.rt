@@ -1,13 +1,12 @@
 //! How a region is split into smaller ones.
 
-ghost use Rattle.std.specs.Prelude.{◌≡◌, ◌≢◌, ℕ, ◌++◌, ◌+◌, ◌∷◌, ◌<◌, [], List, Bool, map, filter, length, nat_lt, take, drop, if◌then◌else◌, IfOk, OnOk};
-ghost use Rattle.std.specs.List.{list_all, list_any};
+ghost use Rattle.std.specs.Prelude.{◌≡◌, ◌≢◌, ℕ, ◌++◌, ◌+◌, ◌∷◌, ◌<◌, [], List, Bool, map, filter, length, nat_lt, take, drop, false, slice_get, unwrap_or, if◌then◌else◌, IfOk, OnOk};
+ghost use Rattle.std.specs.List.{list_any};
 ghost use Rattle.fs_model.specs.declared.test.Test.{Test};
 ghost use Rattle.fs_model.specs.declared.step.Step.{Step};
 ghost use Rattle.fs_model.specs.Condition.{condition_of};
 ghost use Rattle.fs_answer.specs.Regions.{From, same_source};
-ghost use Rattle.fs_answer.specs.Musts.{may};
-ghost use Rattle.fs_answer.specs.Splits.{keep, agree, chosen_at, rising, by_choice, from_store, from_initial, from_nothing, from_source, is_left, can_be_source, sources_for, by_source, by_order, ways, by_cases, by_outcome, with_run, with_source};
+ghost use Rattle.fs_answer.specs.Splits.{keep, agree, chosen_at, rising, by_choice, from_store, from_initial, from_nothing, from_source, is_left, can_be_source, sources_for, by_source, by_order, ways, by_cases, by_outcome, with_source};
 ghost use Rattle.fs_answer.specs.Trees.{is_open};
 ghost use Rattle.fs_alone.specs.Alone.{source_of};
 ghost use Rattle.fs_refute.specs.Views.{region_of, regions_of, all_wanted, list_at, runs_of, known_source, IsOf, AreOf};
@@ -17,7 +16,7 @@ use crate::filters::{
     agreeing_alone, agreeing_loads, agreeing_stores, choosing, loading_initial, not_loading,
 };
 use crate::musts::is_same_name;
-use crate::outcome::may_all;
+use crate::outcome::may_all_each;
 use crate::region::{Region, Runs, Wanted};
 use fs_alone::{Lone, Source};
 use fs_kinds::OperationName;
@@ -489,28 +488,6 @@ pub(crate) fn by_cases<'a>(
     Ok(left)
 }
 
-// May each wanted condition have its truth value, with this run of the hart?
-fn may_with<'a>(
-    alloc: Global,
-    basis: &Basis,
-    hart: u8,
-    region: &Region<'a>,
-    run: &'a Lone,
-) -> Result<bool, AllocError>
-    requires region { IsOf basis.now region.now }
-    requires hart { hart < length region.now.runs.items }
-    requires test { run.now.test ≡ basis.now }
-    requires of { run.now.hart ≡ hart }
-    ensures { IfOk result (λ may_all. may_all ≡ list_all (λ wanted.
-        may basis.now (with_run hart run.now.steps (region_of region.now)) wanted.0 wanted.1)
-        (region_of region.now).wanted) }
-{
-    let mut runs = Vec::new(alloc);
-    runs.push(run)?;
-    let smaller = region.with_runs(alloc, hart, List::new(runs))?;
-    Ok(may_all(basis, &smaller, smaller.wanted.as_slice()))
-}
-
 // Puts the run behind those that are there, if it passes.
 fn push_if<'a>(runs: &mut Vec<&'a Lone>, run: &&'a Lone, passes: bool) -> Result<(), AllocError>
     ensures { OnOk result (runs.new.items ≡ runs.old.items ++ (if passes then run.now ∷ [] else [])) }
@@ -519,6 +496,25 @@ fn push_if<'a>(runs: &mut Vec<&'a Lone>, run: &&'a Lone, passes: bool) -> Result
         runs.push(*run)?;
     }
     Ok(())
+}
+
+// Is the run of this number marked?
+fn mark_at(marks: &[bool], number: usize) -> bool
+    ensures { result ≡ unwrap_or (slice_get marks.now number) false }
+{
+    marks.get(number).copied().unwrap_or(false)
+}
+
+// Those of the runs that are marked.
+fn marked<'a>(alloc: Global, runs: &[&'a Lone], marks: &[bool]) -> Result<Runs<'a>, AllocError>
+    ensures { (test : List Step → Bool) → marks.now ≡ map test (runs_of runs.now)
+        → IfOk result (λ kept. kept ≡ filter (λ run. test run.now.steps) runs.now) }
+{
+    let mut kept = Vec::new(alloc);
+    for (number, run) in runs.iter().enumerate() {
+        push_if(&mut kept, run, mark_at(marks, number))?;
+    }
+    Ok(List::new(kept))
 }
 
 // The hart's runs with each of which every wanted condition may have its truth value.
@@ -533,16 +529,9 @@ pub(crate) fn by_outcome<'a>(
         ≡ filter (is_open basis.now) (by_outcome basis.now hart (region_of region.now))) }
     ensures of { IfOk result (λ left. AreOf basis.now left.items) }
 {
-    let mut kept = Vec::new(alloc);
-    for run in region.runs(hart) {
-        let passes = may_with(alloc, basis, hart, region, run)?;
-        push_if(&mut kept, run, passes)?;
-    }
+    let marks = may_all_each(alloc, basis, region, hart)?;
+    let kept = marked(alloc, region.runs(hart), &marks)?;
     let mut left = Vec::new(alloc);
-    add_open(
-        basis,
-        &mut left,
-        keep(alloc, region, hart, List::new(kept))?,
-    )?;
+    add_open(basis, &mut left, keep(alloc, region, hart, kept)?)?;
     Ok(left)
 }
