@@ -1,5 +1,5 @@
 -- All runs of store buffering, and of a pair and a store: so what refutes these by their runs refutes them.
-use Rattle.std.proofs.Common.{◌≡◌, ◌⊎◌, ℕ, zero, suc, ◌<◌, None, Some, List, [], ◌∷◌, All, length, inl, inr, refl, sym, ◌∙◌, ap, subst, arith, lit<, lit≤, pos}
+use Rattle.std.proofs.Common.{◌≡◌, ◌⊎◌, ℕ, zero, suc, ◌<◌, ◌≤◌, None, Some, List, [], ◌∷◌, All, length, inl, inr, refl, sym, ◌∙◌, ap, subst, arith, lit<, lit≤, pos}
 use Rattle.std.specs.Prelude.{slice_get}
 use Rattle.std.specs.List.{AllPairs, Contains}
 use Rattle.std.proofs.lemmas.List.Kept.{AllPairs-cons}
