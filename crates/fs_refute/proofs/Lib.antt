@@ -2,6 +2,7 @@ pub mod Alike
 pub mod Chains
 pub mod Listed
 pub mod Lists
+pub mod Pairs
 pub mod Regions
 pub mod Rises
 pub mod Roots
