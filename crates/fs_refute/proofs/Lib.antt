@@ -3,6 +3,7 @@ pub mod Chains
 pub mod Each
 pub mod Listed
 pub mod Lists
+pub mod Pairs
 pub mod Regions
 pub mod Rises
 pub mod Roots

@@ -1,14 +1,17 @@
 //! Runs of a hart that pass a test.
 
-ghost use Rattle.std.specs.Prelude.{◌≡◌, ◌==◌, ◌&&◌, not, filter, Some, IfOk};
-ghost use Rattle.std.specs.List.{list_any};
+ghost use Rattle.std.specs.Prelude.{◌≡◌, ℕ, ◌==◌, ◌&&◌, not, filter, Option, Some, IfOk};
+ghost use Rattle.std.specs.List.{list_any, filter_map};
+ghost use Rattle.std.specs.List.Sorted.{IsSorted};
 ghost use Rattle.fs_model.specs.Test.{address_of};
 ghost use Rattle.fs_answer.specs.Regions.{address_at, loaded_at, loads_at};
 ghost use Rattle.fs_answer.specs.Splits.{chosen_at, agree, agrees_initially};
 ghost use Rattle.fs_model.specs.Numbers.{is_same};
 ghost use Rattle.fs_refute.specs.Views.{runs_of};
+ghost use Rattle.fs_refute.specs.inner.Pairs.{both, pair_at, pairs_of, is_among, by_pair};
 
 use crate::basis::Basis;
+use crate::musts::{Access, accessed};
 use crate::region::Runs;
 use fs_alone::Lone;
 use fs_kinds::OperationName;
@@ -105,23 +108,79 @@ fn agree(run: &Lone, load: OperationName, other: &Lone, store: OperationName) ->
         && is_same(run.loaded_at(load.at), other.stored_at(store.at))
 }
 
-// Does the load of the run agree with the store of some of the others?
-fn agrees_with_store(
-    run: &Lone,
-    load: OperationName,
-    others: &[&Lone],
-    store: OperationName,
-) -> bool
-    ensures { result ≡ list_any (λ other. agree run.now.steps load other store) (runs_of others.now) }
+// An address and a word, if both are there.
+fn both(address: Option<u32>, word: Option<u32>) -> Option<(u32, u32)>
+    ensures { result ≡ both address word }
 {
-    others.iter().any(|other| agree(run, load, other, store))
+    Some((address?, word?))
 }
 
-// Does the store of the run agree with the load of some of the others?
-fn agrees_with_load(run: &Lone, store: OperationName, others: &[&Lone], load: OperationName) -> bool
-    ensures { result ≡ list_any (λ other. agree other load run.now.steps store) (runs_of others.now) }
+// The address and the word of the run's access at the position.
+fn pair_at(run: &Lone, access: Access, at: u8) -> Option<(u32, u32)>
+    ensures { result ≡ pair_at access at run.now.steps }
 {
-    others.iter().any(|other| agree(other, load, run, store))
+    both(run.address_at(at), accessed(run, access, at))
+}
+
+// The addresses and words of the runs' accesses at the position.
+fn listed(
+    alloc: Global,
+    runs: &[&Lone],
+    access: Access,
+    at: u8,
+) -> Result<Vec<(u32, u32)>, AllocError>
+    ensures { IfOk result (λ pairs. pairs.items ≡ filter_map (λ run. pair_at access at run.now.steps) runs.now) }
+{
+    runs.iter()
+        .filter_map(|run| pair_at(run, access, at))
+        .collect(alloc)
+}
+
+// The same, each once and in order.
+fn pairs(
+    alloc: Global,
+    runs: &[&Lone],
+    access: Access,
+    at: u8,
+) -> Result<Vec<(u32, u32)>, AllocError>
+    ensures has { IfOk result (λ pairs. (pair : Option (ℕ × ℕ))
+        → is_among pairs.items pair ≡ is_among (pairs_of access at (runs_of runs.now)) pair) }
+    ensures sorted { IfOk result (λ pairs. IsSorted by_pair pairs.items) }
+{
+    let mut pairs = listed(alloc, runs, access, at)?;
+    pairs.sort()?;
+    pairs.dedup();
+    Ok(pairs)
+}
+
+// Is the pair there, and among these? By halving.
+fn is_among(pairs: &[(u32, u32)], pair: Option<(u32, u32)>) -> bool
+    ensures { IsSorted by_pair pairs.now → result ≡ is_among pairs.now pair }
+{
+    match pair {
+        Some(pair) => pairs.binary_search(&pair).is_ok(),
+        None => false,
+    }
+}
+
+// Those whose access at the position has one of the pairs.
+fn keep_among<'a>(
+    alloc: Global,
+    runs: &[&'a Lone],
+    access: Access,
+    at: u8,
+    pairs: &[(u32, u32)],
+) -> Result<Runs<'a>, AllocError>
+    requires { IsSorted by_pair pairs.now }
+    ensures { IfOk result (λ kept.
+        kept ≡ filter (λ run. is_among pairs.now (pair_at access at run.now.steps)) runs.now) }
+{
+    let kept = runs
+        .iter()
+        .copied()
+        .filter(|run| is_among(pairs, pair_at(run, access, at)))
+        .collect(alloc)?;
+    Ok(List::new(kept))
 }
 
 // Those whose load agrees with their own store.
@@ -152,12 +211,9 @@ pub(crate) fn agreeing_loads<'a>(
     ensures { IfOk result (λ kept.
         kept ≡ filter (λ run. list_any (λ other. agree run.now.steps load other store) (runs_of others.now)) runs.now) }
 {
-    let kept = runs
-        .iter()
-        .copied()
-        .filter(|run| agrees_with_store(run, load, others, store))
-        .collect(alloc)?;
-    Ok(List::new(kept))
+    let pairs = pairs(alloc, others, Access::Store, store.at)?;
+    let kept = keep_among(alloc, runs, Access::Load, load.at, &pairs)?;
+    Ok(kept)
 }
 
 // Those whose store agrees with the load of some of the others.
@@ -171,10 +227,7 @@ pub(crate) fn agreeing_stores<'a>(
     ensures { IfOk result (λ kept.
         kept ≡ filter (λ run. list_any (λ other. agree other load run.now.steps store) (runs_of others.now)) runs.now) }
 {
-    let kept = runs
-        .iter()
-        .copied()
-        .filter(|run| agrees_with_load(run, store, others, load))
-        .collect(alloc)?;
-    Ok(List::new(kept))
+    let pairs = pairs(alloc, others, Access::Load, load.at)?;
+    let kept = keep_among(alloc, runs, Access::Store, store.at, &pairs)?;
+    Ok(kept)
 }

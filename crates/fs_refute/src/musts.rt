@@ -28,7 +28,7 @@ pub(crate) enum Access {
 }
 
 // The word that the run loads or stores at the position.
-fn accessed(run: &Lone, access: Access, at: u8) -> Option<u32>
+pub(crate) fn accessed(run: &Lone, access: Access, at: u8) -> Option<u32>
     ensures { result ≡ access_of access run.now.steps at }
 {
     match access {

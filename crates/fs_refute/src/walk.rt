@@ -258,9 +258,10 @@ impl Basis {
     /// else that one is missing. Without a reason the placement forbids the outcome.
     ///
     /// Each inference is looked at once. The cost: of a split, the tests that it makes of the runs of its harts, for
-    /// each region that it gives; of a source in another hart, a test for each two runs; of an end, the runs of the
-    /// harts that it speaks of. The memory is that of the regions that are open at once. A region shares the lists of
-    /// the one that it is split from, and takes besides the runs of the harts whose runs it drops. The error is F19.
+    /// each region that it gives; of a source in another hart, besides a sort of the runs of both; of an end, the runs
+    /// of the harts that it speaks of. The memory is that of the regions that are open at once. A region shares the
+    /// lists of the one that it is split from, and takes besides the runs of the harts whose runs it drops. The error
+    /// is F19.
     pub fn reason_against(
         &self,
         alloc: Global,

@@ -1,17 +1,24 @@
-use Rattle.std.proofs.Common.{◌∙◌, ℕ, Bool, Ok, rules, tests}
+use Rattle.std.proofs.Common.{◌≡◌, ◌∙◌, ap}
 use Rattle.std.specs.Borrow.{Bor}
 use Rattle.std.specs.List.{list_any}
-use Rattle.std.proofs.lemmas.Iterator.{YieldsList-from_slice, items_from_collect}
-use Rattle.std.proofs.lemmas.Iterator.Consumers.{YieldsList-from_copied, YieldsList-from_filter}
+use Rattle.fs_answer.specs.Regions.{address_at, loaded_at, stored_at}
 use Rattle.fs_answer.specs.Splits.{agree}
 use Rattle.fs_alone.specs.Alone.{RunOf}
+use Rattle.fs_refute.specs.declared.musts.Access.TheVariants.{Store}
 use Rattle.fs_refute.specs.Views.{runs_of}
+use Rattle.fs_refute.specs.inner.Pairs.{is_among, pair_at}
+use Rattle.fs_refute.proofs.Pairs.{among_others, filter_alike}
 use Rattle.fs_refute.proofs.filters.agreeing_stores.Goals as goal
 
 pub returns : goal.returns
 returns c =
-    let test : Bor RunOf → Bool = λ run. list_any (λ other. agree other c.args.load run.now.steps c.args.store) (runs_of c.args.others.now) in
-    c.new.ensures
-    ∙ items_from_collect {E = ℕ} (Ok c.in_ok-kept.kept) c.in_ok-kept.ensures.ran
-    (YieldsList-from_filter _ test (YieldsList-from_copied (YieldsList-from_slice c.args.runs.now cc)) c.filter.ensures.closure
-    (λ x r q k. search (rules, tests)))
+    let at = c.args.store.at in
+    let there = c.args.load.at in
+    let others = runs_of c.args.others.now in
+    c.in_ok-kept.ensures
+    ∙ filter_alike _ (λ (run : Bor RunOf). list_any (λ other. agree other c.args.load run.now.steps c.args.store) others)
+    (λ run.
+    ap (λ pairs. is_among pairs (pair_at Store at run.now.steps)) c.deref.ensures.value
+    ∙ c.in_ok-pairs.ensures.has (pair_at Store at run.now.steps)
+    ∙ among_others (λ other. address_at other there) (λ other. loaded_at other there) (address_at run.now.steps at) (stored_at run.now.steps at) others)
+    c.args.runs.now
