@@ -89,15 +89,15 @@ impl Basis {
         usize::from(hart) < self.test.codes.len()
     }
 
-    // The names of the test's memory instructions.
-    pub(crate) fn names(&self) -> &[OperationName]
+    /// The names of the test's memory instructions, hart by hart, in the order of the code.
+    pub fn names(&self) -> &[OperationName]
         ensures { result.now ≡ names self.now }
     {
         self.names.as_slice()
     }
 
-    // For each hart all of its runs.
-    pub(crate) fn runs(&self) -> &[List<Lone>]
+    /// For each hart all of its runs, in choice order.
+    pub fn runs(&self) -> &[List<Lone>]
         ensures all { AreItsRuns self.now (runs_over result.now) }
         ensures of { AreOfEach self.now result.now }
     {

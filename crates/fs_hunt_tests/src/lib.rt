@@ -1,0 +1,5 @@
+//! Tests of hunts, on litmus tests as text.
+#![tactic(auto)]
+
+#[cfg(test)]
+mod hunts;
