@@ -1,6 +1,7 @@
 //! Which way a region is split.
 
 use crate::access::Takes;
+use crate::cases::is_at_once;
 use crate::condition::{Node, Part, Wanted, within};
 use crate::facts::Facts;
 use crate::names::{Origin, Relation, bit, has};
@@ -8,7 +9,7 @@ use crate::outcome::Outlook;
 use crate::region::{Field, Region};
 use crate::rows::{do_meet, has_several, is_within};
 use crate::saturate::{Looked, saturate};
-use crate::splits::{Decision, Splitter, is_at_once};
+use crate::splits::{Decision, Splitter};
 use crate::uses::of_filter;
 use std::alloc::{AllocError, Global};
 
@@ -73,7 +74,10 @@ impl Chooser<'_> {
             used: self.used_by(decision),
             live: 0,
         };
-        while let Some(region) = regions.pop() {
+        for _ in 0..regions.len() {
+            let Some(region) = regions.pop() else {
+                break;
+            };
             let looked = saturate(self.alloc, self.field, region)?;
             if looked.ending.is_none() {
                 split.live = split.live.saturating_add(1);

@@ -44,7 +44,10 @@ struct Search<'a> {
 impl Search<'_> {
     /// Writes, before what was written of a region, what followed in it and is used.
     fn write_steps(&mut self, mut steps: Vec<Step>, used: &mut Relation) -> Result<(), AllocError> {
-        while let Some(step) = steps.pop() {
+        for _ in 0..steps.len() {
+            let Some(step) = steps.pop() else {
+                break;
+            };
             let Step {
                 first,
                 second,

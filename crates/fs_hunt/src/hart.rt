@@ -1,5 +1,8 @@
 //! What the runs of one hart do, as rows.
 
+ghost use Rattle.std.specs.Prelude.{IsOkUnless};
+ghost use Rattle.fs_kinds.specs.declared.fault.Fault.TheVariants.{Memory};
+
 use crate::access::{Doing, doing_at, own_stores};
 use crate::condition::{Node, Part};
 use crate::fences::{Barrier, written};
@@ -113,7 +116,9 @@ fn rules(
     runs: &[Lone],
     forms: &[Form],
     names: &[Numbered],
-) -> Result<(Vec<Rule>, Vec<Forwarded>), Fault> {
+) -> Result<(Vec<Rule>, Vec<Forwarded>), Fault>
+    ensures err { IsOkUnless result Memory }
+{
     let bottom = no_fence(alloc)?;
     let asked = Asked {
         words,
@@ -133,7 +138,9 @@ pub(crate) fn hart_of(
     nodes: &[Node],
     hart: u8,
     runs: &[Lone],
-) -> Result<Hart, Fault> {
+) -> Result<Hart, Fault>
+    ensures err { IsOkUnless result Memory }
+{
     let words = words_for(runs.len());
     let names = names_of(alloc, basis.names(), hart)?;
     let doings = doings(alloc, basis.test(), words, runs, &names)?;

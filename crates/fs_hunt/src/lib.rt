@@ -4,6 +4,7 @@
 #![tactic(auto)]
 
 mod access;
+mod cases;
 mod choose;
 mod condition;
 mod facts;
@@ -14,8 +15,11 @@ mod frames;
 mod hart;
 mod hunter;
 mod links;
+mod loads;
+mod marks;
 mod names;
 mod outcome;
+mod pairs;
 mod paths;
 mod region;
 mod rows;

@@ -1,5 +1,8 @@
 //! In which runs of a hart a rule of preserved program order holds.
 
+ghost use Rattle.std.specs.Prelude.{IsOkUnless};
+ghost use Rattle.fs_kinds.specs.declared.fault.Fault.TheVariants.{Memory};
+
 use crate::forms::Form;
 use crate::rows::{Row, is_empty, join, no_run};
 use fs_alone::{Lone, Source, Sourced};
@@ -43,7 +46,9 @@ pub(crate) struct Asked<'a> {
 }
 
 /// No fence anywhere.
-pub(crate) fn no_fence(alloc: Global) -> Result<Placement, Fault> {
+pub(crate) fn no_fence(alloc: Global) -> Result<Placement, Fault>
+    ensures err { IsOkUnless result Memory }
+{
     Placement::bottom(alloc, &[])
 }
 

@@ -1,9 +1,8 @@
 //! What follows in a region by itself: which stores come before others, until it ends or nothing more follows.
 
-use crate::access::NOWHERE;
 use crate::facts::Facts;
 use crate::links::{Edge, inference_of};
-use crate::names::{MOST_NAMES, Origin, Relation, bit, has};
+use crate::names::{MOST_NAMES, Relation, bit, has};
 use crate::outcome::Outlook;
 use crate::paths::{cycle, way};
 use crate::region::{Field, Region};
@@ -39,24 +38,10 @@ pub(crate) struct Looked {
 
 /// What must hold in a region at some time.
 #[derive(Drop)]
-struct View {
-    facts: Facts,
+pub(crate) struct View {
+    pub(crate) facts: Facts,
     edges: Relation,
-    closure: Relation,
-}
-
-/// A load, and a store at its location.
-#[derive(Clone, Copy)]
-struct Meeting {
-    load: u8,
-    store: u8,
-}
-
-/// An lr.w and its sc.w.
-#[derive(Clone, Copy)]
-struct Pair {
-    load: u8,
-    store: u8,
+    pub(crate) closure: Relation,
 }
 
 /// What follows in the region.
@@ -94,19 +79,24 @@ pub(crate) fn saturate(
 
 /// One round.
 #[derive(Clone, Copy)]
-struct Round<'a> {
+pub(crate) struct Round<'a> {
     alloc: Global,
-    field: Field<'a>,
-    view: &'a View,
+    pub(crate) field: Field<'a>,
+    pub(crate) view: &'a View,
 }
 
 impl Looked {
-    fn end(&mut self, ending: Ending) {
+    pub(crate) fn end(&mut self, ending: Ending) {
         self.ending = Some(ending);
     }
 
     /// The first store comes before the second.
-    fn order(&mut self, first: u8, second: u8, ending: Ending) -> Result<(), AllocError> {
+    pub(crate) fn order(
+        &mut self,
+        first: u8,
+        second: u8,
+        ending: Ending,
+    ) -> Result<(), AllocError> {
         self.region.before.add(first, second);
         self.steps.push(Step {
             first,
@@ -116,7 +106,7 @@ impl Looked {
         Ok(())
     }
 
-    fn is_before(&self, first: u8, second: u8) -> bool {
+    pub(crate) fn is_before(&self, first: u8, second: u8) -> bool {
         self.region.before.has(first, second)
     }
 }
@@ -199,98 +189,8 @@ impl Round<'_> {
         Ok(())
     }
 
-    /// What follows from loads: an earlier store isn't later in coherence order than what the load returns from.
-    fn follow_loads(self, looked: &mut Looked) -> Result<(), AllocError> {
-        for load in 0..self.field.count {
-            let stores = self.view.facts.stored(self.view.facts.load_at(load));
-            if looked.region.origin(load) == Origin::Unknown || stores & !bit(load) == 0 {
-                continue;
-            }
-            for store in 0..self.field.count {
-                if store != load && has(stores, store) && looked.ending.is_none() {
-                    self.follow_load(looked, Meeting { load, store })?;
-                }
-            }
-        }
-        Ok(())
-    }
-
-    fn follow_load(self, looked: &mut Looked, meeting: Meeting) -> Result<(), AllocError> {
-        let Meeting { load, store } = meeting;
-        let is_own = self.field.owner(load) == self.field.owner(store) && store < load;
-        match looked.region.origin(load) {
-            Origin::Unknown => {}
-            Origin::Initial => {
-                if is_own {
-                    looked.end(self.stale(&looked.region, meeting));
-                }
-            }
-            Origin::From(source) => {
-                if source == store
-                    || looked.is_before(store, source)
-                    || !self.view.facts.do_meet(store, source)
-                {
-                    return Ok(());
-                }
-                if is_own {
-                    self.follow_own(looked, meeting, source)?;
-                } else {
-                    self.follow_other(looked, meeting, source)?;
-                }
-            }
-        }
-        Ok(())
-    }
-
-    /// The load would return from a store that the own one overwrites.
-    fn stale(self, region: &Region, meeting: Meeting) -> Ending {
-        let Meeting { load, store } = meeting;
-        let mut used = Relation::new();
-        if let Origin::From(source) = region.origin(load) {
-            used.add(source, store);
-        }
-        Ending {
-            inference: Inference::Stale {
-                load: self.field.name(load),
-                store: self.field.name(store),
-            },
-            used,
-        }
-    }
-
-    /// An own store comes before what the load returns from.
-    fn follow_own(
-        self,
-        looked: &mut Looked,
-        meeting: Meeting,
-        source: u8,
-    ) -> Result<(), AllocError> {
-        let ending = self.stale(&looked.region, meeting);
-        if looked.is_before(source, meeting.store) {
-            looked.end(ending);
-        } else {
-            looked.order(meeting.store, source, ending)?;
-        }
-        Ok(())
-    }
-
-    /// And another one, where it must come before the load.
-    fn follow_other(
-        self,
-        looked: &mut Looked,
-        meeting: Meeting,
-        source: u8,
-    ) -> Result<(), AllocError> {
-        let Meeting { load, store } = meeting;
-        if self.view.closure.has(store, load) && !looked.is_before(source, store) {
-            let ending = self.cycle_by(&looked.region, store, load, Cause::FromReads)?;
-            looked.order(store, source, ending)?;
-        }
-        Ok(())
-    }
-
     /// The way from the first to the last, and back to the first for this cause.
-    fn cycle_by(
+    pub(crate) fn cycle_by(
         self,
         region: &Region,
         first: u8,
@@ -300,113 +200,6 @@ impl Round<'_> {
         let mut names = way(self.alloc, &self.view.edges, first, last, self.field.count)?;
         names.push(last)?;
         self.cycle_of(region, &names, Some(closing))
-    }
-
-    /// What follows from pairs of an lr.w and its sc.w.
-    fn follow_pairs(self, looked: &mut Looked) -> Result<(), AllocError> {
-        for load in 0..self.field.count {
-            let paired = self.view.facts.pairs.row(load);
-            if paired == 0 {
-                continue;
-            }
-            for store in 0..self.field.count {
-                if has(paired, store) && looked.ending.is_none() {
-                    self.follow_pair(looked, Pair { load, store })?;
-                }
-            }
-        }
-        Ok(())
-    }
-
-    fn follow_pair(self, looked: &mut Looked, pair: Pair) -> Result<(), AllocError> {
-        let location = self.view.facts.store_at(pair.store);
-        let origin = looked.region.origin(pair.load);
-        if location == NOWHERE || origin == Origin::Unknown {
-            return Ok(());
-        }
-        if let Origin::From(source) = origin {
-            self.follow_source(looked, pair, source)?;
-        }
-        let others = self.view.facts.stored(location);
-        for other in 0..self.field.count {
-            let is_other = self.field.owner(other) != self.field.owner(pair.load);
-            if has(others, other)
-                && is_other
-                && origin != Origin::From(other)
-                && looked.ending.is_none()
-            {
-                self.follow_between(looked, pair, other)?;
-            }
-        }
-        Ok(())
-    }
-
-    /// What the lr.w returns from comes before the sc.w.
-    fn follow_source(self, looked: &mut Looked, pair: Pair, source: u8) -> Result<(), AllocError> {
-        let Pair { load, store } = pair;
-        if source == store
-            || looked.is_before(source, store)
-            || !self.view.facts.do_meet(source, store)
-        {
-            return Ok(());
-        }
-        let mut used = Relation::new();
-        used.add(store, source);
-        let ending = Ending {
-            inference: Inference::Reversed {
-                load: self.field.name(load),
-                store: self.field.name(store),
-            },
-            used,
-        };
-        if looked.is_before(store, source) {
-            looked.end(ending);
-        } else {
-            looked.order(source, store, ending)?;
-        }
-        Ok(())
-    }
-
-    /// The other store would be between the two.
-    fn parted(self, region: &Region, pair: Pair, other: u8) -> Ending {
-        let Pair { load, store } = pair;
-        let mut used = Relation::new();
-        used.add(other, store);
-        if let Origin::From(source) = region.origin(load) {
-            used.add(source, other);
-        }
-        Ending {
-            inference: Inference::Parted {
-                load: self.field.name(load),
-                store: self.field.name(store),
-                other: self.field.name(other),
-            },
-            used,
-        }
-    }
-
-    /// No store of another hart is between the two.
-    fn follow_between(self, looked: &mut Looked, pair: Pair, other: u8) -> Result<(), AllocError> {
-        let Pair { load, store } = pair;
-        let is_after = has(self.view.facts.overwriting(&looked.region, load), other);
-        let is_ahead = looked.is_before(other, store);
-        if is_after && is_ahead {
-            looked.end(self.parted(&looked.region, pair, other));
-            return Ok(());
-        }
-        if is_after && !looked.is_before(store, other) {
-            let ending = self.parted(&looked.region, pair, other);
-            looked.order(store, other, ending)?;
-        }
-        if let Origin::From(source) = looked.region.origin(load) {
-            let is_open = !looked.is_before(other, source)
-                && self.view.facts.do_meet(other, source);
-            if is_ahead && is_open {
-                let ending = self.parted(&looked.region, pair, other);
-                looked.order(other, source, ending)?;
-            }
-        }
-        Ok(())
     }
 
     /// Of two stores of a location the one with a way to the other comes first.

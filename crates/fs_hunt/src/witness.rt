@@ -17,7 +17,7 @@ fn choice(doing: &Doing, run: usize) -> Option<Choice> {
         (Takes::Nothing, _) | (_, 0) => None,
         (Takes::Success, 1) => Some(Choice::Success),
         (Takes::Success, _) => Some(Choice::Failure),
-        (Takes::Word, key) => Some(Choice::Word(u32::try_from(key - 1).unwrap_or(0))),
+        (Takes::Word, key) => Some(Choice::Word(u32::try_from(key.wrapping_sub(1)).unwrap_or(0))),
     }
 }
 

@@ -3,3 +3,5 @@
 
 #[cfg(test)]
 mod hunts;
+#[cfg(test)]
+mod texts;
