@@ -1,6 +1,7 @@
 //! What hunts find is right: trees by the check of trees, executions by the check of executions.
 
 use crate::texts::{ALWAYS, CASES, LOCK, LOCK3};
+use fs_answer::WitnessFile;
 use fs_check::shown_by;
 use fs_examples::{
     CO_RR, FORWARDED, LB, LRSC, LRSCF, MP, MP11, MPA, MPB, POINTER, SB, SBXA, TWO_WRITES,
@@ -10,7 +11,7 @@ use fs_hunt::{Found, Hunter};
 use fs_kinds::{Fault, Placement};
 use fs_litmus::read_test;
 use fs_refute::Basis;
-use std::alloc::Global;
+use std::alloc::{AllocError, Global};
 use std::sync::Arc;
 use std::test::Fail;
 
@@ -31,12 +32,28 @@ const FIRST: Way = Way {
     most: 1000000,
 };
 
+/// Writes the choices of each hart, and the operations in their order.
+fn write_execution(file: &WitnessFile, text: &mut String) -> Result<(), AllocError> {
+    for choices in file.choices.iter() {
+        text.push_str(";")?;
+        for choice in choices.iter() {
+            write!(text, " {choice:?}")?;
+        }
+    }
+    text.push_str(" |")?;
+    for name in file.order.iter().flatten() {
+        write!(text, " {name}")?;
+    }
+    Ok(())
+}
+
 /// What was found, in words.
 fn told(
     alloc: Global,
     basis: &Basis,
     placement: &Placement,
     found: &Found,
+    way: Way,
 ) -> Result<String, Fault> {
     let mut text = String::new(alloc);
     match found {
@@ -48,10 +65,9 @@ fn told(
         Found::Shown(file) => {
             let shown = shown_by(alloc, basis.test(), placement, file)?;
             let is_right = shown.is_some();
-            let choices = &file.choices;
-            write!(text, "shown {is_right}: {choices:?}")?;
-            for name in file.order.iter().flatten() {
-                write!(text, " {name}")?;
+            write!(text, "shown {is_right}")?;
+            if way.is_first {
+                write_execution(file, &mut text)?;
             }
         }
         Found::GaveUp => text.push_str("gave up")?,
@@ -70,7 +86,7 @@ fn hunted(alloc: Global, text: &str, fences: &str, way: Way) -> Result<String, F
     } else {
         hunter.hunt(alloc, &placement, way.most)?
     };
-    told(alloc, &basis, &placement, &found)
+    told(alloc, &basis, &placement, &found, way)
 }
 
 /// The same for each of the tests, a line for each.
@@ -100,7 +116,19 @@ const PLAIN: [(&str, &str); 12] = [
     (CO_RR, ""),
 ];
 
-const PLAIN_FOUND: &str = "";
+const PLAIN_FOUND: &str = "shown true
+shown true
+tree of 5, None
+shown true
+tree of 4, None
+tree of 4, None
+tree of 4, None
+shown true
+tree of 5, None
+shown true
+tree of 5, None
+tree of 4, None
+";
 
 /// Pairs, AMOs, forwarding, and conditions of other forms.
 const OTHERS: [(&str, &str); 12] = [
@@ -118,7 +146,19 @@ const OTHERS: [(&str, &str); 12] = [
     (LOCK, "P0:3=r,r P0:7=w,w P1:7=w,w"),
 ];
 
-const OTHERS_FOUND: &str = "";
+const OTHERS_FOUND: &str = "tree of 5, None
+shown true
+tree of 7, None
+shown true
+shown true
+shown true
+tree of 5, None
+shown true
+tree of 9, None
+shown true
+tree of 17, None
+shown true
+";
 
 #[test]
 fn plain_ones(rt: HostRuntime) -> Result<(), Fail> {
@@ -134,10 +174,19 @@ fn others(rt: HostRuntime) -> Result<(), Fail> {
     Ok(())
 }
 
-/// Executions by their choices and orders, where the first one is asked for.
-const FIRSTS: [(&str, &str); 3] = [(MP11, ""), (SB, ""), (LOCK, "P0:7=w,w P1:3=r,r")];
+/// Tests of which the first execution is asked for, which is told by its choices and order.
+const FIRSTS: [(&str, &str); 4] = [
+    (MP11, ""),
+    (MP11, "P0:3=rw,rw P1:1=rw,rw"),
+    (SB, ""),
+    (LOCK, "P0:7=w,w P1:3=r,r"),
+];
 
-const FIRSTS_FOUND: &str = "";
+const FIRSTS_FOUND: &str = "shown true;; Word(1) Word(1) | P0:1 P0:3 P1:0 P1:1
+shown true;; Word(1) Word(1) | P0:1 P0:3 P1:0 P1:1
+shown true; Word(0); Word(0) | P0:2 P1:1 P1:2 P0:1
+shown true; Word(0) Word(0) Word(1); Word(0) Word(0) Word(1) | P0:3 P1:1 P1:3 P1:7 P0:1 P0:5 P0:7 P1:5
+";
 
 #[test]
 fn first_ones(rt: HostRuntime) -> Result<(), Fail> {
