@@ -160,7 +160,7 @@ pub(crate) fn hart_of(
     })
 }
 
-/// The names and what the runs do there.
+/// The most stores to the location in one run of the hart.
 fn most_stores(hart: &Hart, location: u8) -> usize {
     hart.forms
         .iter()
