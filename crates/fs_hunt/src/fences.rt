@@ -1,0 +1,203 @@
+//! Rule 4: fences between two operations of a run.
+
+use crate::forms::{Form, Outline};
+use crate::hart::Hart;
+use crate::rows::{Row, is_empty, join, no_run};
+use crate::rules::{Numbered, Rule};
+use fs_instr::Instr;
+use fs_kinds::{Classes, Kind, Placement};
+use fs_model::Test;
+use std::alloc::{AllocError, Global};
+
+const READ: Classes = Classes {
+    reads: true,
+    writes: false,
+};
+
+const WRITE: Classes = Classes {
+    reads: false,
+    writes: true,
+};
+
+/// A fence before the instruction at this position of the code, or in its place, with the pairs that it orders: a bit
+/// for each.
+#[derive(Clone, Copy)]
+pub(crate) struct Barrier {
+    at: u8,
+    pairs: u8,
+}
+
+fn pair_bits(read_read: bool, read_write: bool, write_read: bool, write_write: bool) -> u8 {
+    u8::from(read_read)
+        | u8::from(read_write).wrapping_shl(1)
+        | u8::from(write_read).wrapping_shl(2)
+        | u8::from(write_write).wrapping_shl(3)
+}
+
+fn bits_of(kind: Kind) -> u8 {
+    pair_bits(
+        kind.orders(READ, READ),
+        kind.orders(READ, WRITE),
+        kind.orders(WRITE, READ),
+        kind.orders(WRITE, WRITE),
+    )
+}
+
+/// What the instruction orders.
+fn bits_in(instr: &Instr) -> u8 {
+    match *instr {
+        Instr::Fence { before, after } => pair_bits(
+            before.reads && after.reads,
+            before.reads && after.writes,
+            before.writes && after.reads,
+            before.writes && after.writes,
+        ),
+        Instr::FenceTso => bits_of(Kind::Tso),
+        _ => 0,
+    }
+}
+
+/// The fences that the hart's code has.
+pub(crate) fn written(alloc: Global, test: &Test, hart: u8) -> Result<Vec<Barrier>, AllocError> {
+    let mut barriers = Vec::new(alloc);
+    let Some(code) = test.codes.as_slice().get(usize::from(hart)) else {
+        return Ok(barriers);
+    };
+    let mut at: u8 = 0;
+    for instr in code {
+        let pairs = bits_in(instr);
+        if pairs != 0 {
+            barriers.push(Barrier { at, pairs })?;
+        }
+        at = at.saturating_add(1);
+    }
+    Ok(barriers)
+}
+
+/// These, and those that the placement puts into the hart's code.
+fn barriers(
+    alloc: Global,
+    hart: u8,
+    written: &[Barrier],
+    placement: &Placement,
+) -> Result<Vec<Barrier>, AllocError> {
+    let mut barriers = Vec::new(alloc);
+    barriers.extend_from_slice(written)?;
+    for entry in placement.as_slice() {
+        if let Some(kind) = entry.kind {
+            if entry.slot.hart == hart {
+                barriers.push(Barrier {
+                    at: entry.slot.at,
+                    pairs: bits_of(kind),
+                })?;
+            }
+        }
+    }
+    Ok(barriers)
+}
+
+/// The pairs that order the two, a bit for each.
+fn wanted(outline: &Outline, first: u8, second: u8) -> u8 {
+    let (first_reads, first_writes) = (outline.loads_at(first), outline.stores_at(first));
+    let (second_reads, second_writes) = (outline.loads_at(second), outline.stores_at(second));
+    pair_bits(
+        first_reads && second_reads,
+        first_reads && second_writes,
+        first_writes && second_reads,
+        first_writes && second_writes,
+    )
+}
+
+/// Does one of the fences order the two operations in runs of this outline?
+fn are_fenced(outline: &Outline, barriers: &[Barrier], first: u8, second: u8) -> bool {
+    let wanted = wanted(outline, first, second);
+    wanted != 0
+        && barriers.iter().any(|barrier| {
+            first < barrier.at
+                && barrier.at <= second
+                && barrier.pairs & wanted != 0
+                && outline.executes(barrier.at)
+        })
+}
+
+/// The runs in which a fence orders the two.
+fn row(
+    alloc: Global,
+    words: usize,
+    forms: &[Form],
+    barriers: &[Barrier],
+    first: u8,
+    second: u8,
+) -> Result<Row, AllocError> {
+    let mut row = no_run(alloc, words)?;
+    for form in forms {
+        if are_fenced(&form.outline, barriers, first, second) {
+            join(&mut row, &form.row);
+        }
+    }
+    Ok(row)
+}
+
+fn add_pair(
+    alloc: Global,
+    found: &mut Vec<Rule>,
+    hart: &Hart,
+    barriers: &[Barrier],
+    first: &Numbered,
+    second: &Numbered,
+) -> Result<(), AllocError> {
+    let row = row(
+        alloc,
+        hart.words,
+        &hart.forms,
+        barriers,
+        first.name.at,
+        second.name.at,
+    )?;
+    if !is_empty(&row) {
+        found.push(Rule {
+            first: first.number,
+            second: second.number,
+            number: 4,
+            row,
+        })?;
+    }
+    Ok(())
+}
+
+/// The pairs of the hart's names between which rule 4 holds with the placement, each with the runs.
+fn fenced(
+    alloc: Global,
+    number: u8,
+    hart: &Hart,
+    placement: &Placement,
+) -> Result<Vec<Rule>, AllocError> {
+    let barriers = barriers(alloc, number, &hart.written, placement)?;
+    let mut found = Vec::new(alloc);
+    if barriers.is_empty() {
+        return Ok(found);
+    }
+    for first in &hart.names {
+        for second in &hart.names {
+            if first.number < second.number {
+                add_pair(alloc, &mut found, hart, &barriers, first, second)?;
+            }
+        }
+    }
+    Ok(found)
+}
+
+/// The same for each hart.
+pub(crate) fn all_fenced(
+    alloc: Global,
+    harts: &[Hart],
+    placement: &Placement,
+) -> Result<Vec<Vec<Rule>>, AllocError> {
+    let mut all = Vec::new(alloc);
+    let mut number: u8 = 0;
+    for hart in harts {
+        all.push(fenced(alloc, number, hart, placement)?)?;
+        number = number.saturating_add(1);
+    }
+    Ok(all)
+}

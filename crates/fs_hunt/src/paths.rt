@@ -1,0 +1,133 @@
+//! Shortest ways and cycles in a relation.
+
+use crate::names::{MOST_NAMES, Relation, bit, has};
+use std::alloc::{AllocError, Global};
+
+/// A search for a way, layer by layer: for each name that was met the one before it.
+#[derive(Drop)]
+struct Walk {
+    parents: [u8; MOST_NAMES],
+    met: u64,
+}
+
+impl Walk {
+    fn parent(&self, name: u8) -> u8 {
+        self.parents.get(usize::from(name)).copied().unwrap_or(0)
+    }
+
+    /// Takes the names that come after this one, and gives those that weren't met before.
+    fn extend(&mut self, name: u8, later: u64, count: u8) -> u64 {
+        let fresh = later & !self.met;
+        self.met |= fresh;
+        for next in 0..count {
+            if has(fresh, next) {
+                if let Some(parent) = self.parents.get_mut(usize::from(next)) {
+                    *parent = name;
+                }
+            }
+        }
+        fresh
+    }
+
+    /// The names from the first to the last.
+    fn back(&self, alloc: Global, first: u8, last: u8) -> Result<Vec<u8>, AllocError> {
+        let mut way = Vec::new(alloc);
+        let mut name = last;
+        for _ in 0..MOST_NAMES {
+            way.push(name)?;
+            if name == first {
+                break;
+            }
+            name = self.parent(name);
+        }
+        way.reverse();
+        Ok(way)
+    }
+}
+
+/// One of the names that comes right before the last one.
+fn before(relation: &Relation, layer: u64, last: u8, count: u8) -> Option<u8> {
+    (0..count).find(|name| has(layer, *name) && relation.has(*name, last))
+}
+
+/// The next layer.
+fn next_layer(walk: &mut Walk, relation: &Relation, layer: u64, count: u8) -> u64 {
+    let mut next = 0;
+    for name in 0..count {
+        if has(layer, name) {
+            next |= walk.extend(name, relation.row(name), count);
+        }
+    }
+    next
+}
+
+/// A shortest way from the first to the last, which is left out, in a relation of so many names. It may be a cycle.
+pub(crate) fn way(
+    alloc: Global,
+    relation: &Relation,
+    first: u8,
+    last: u8,
+    count: u8,
+) -> Result<Vec<u8>, AllocError> {
+    let mut walk = Walk {
+        parents: [0; MOST_NAMES],
+        met: bit(first),
+    };
+    let mut layer = bit(first);
+    for _ in 0..count {
+        if let Some(name) = before(relation, layer, last, count) {
+            return walk.back(alloc, first, name);
+        }
+        layer = next_layer(&mut walk, relation, layer, count);
+    }
+    Ok(Vec::new(alloc))
+}
+
+/// A shortest cycle, from its least name on; none where the closure has none.
+pub(crate) fn cycle(
+    alloc: Global,
+    relation: &Relation,
+    closure: &Relation,
+    count: u8,
+) -> Result<Option<Vec<u8>>, AllocError> {
+    let mut best: Option<Vec<u8>> = None;
+    for name in 0..count {
+        if closure.has(name, name) {
+            let found = way(alloc, relation, name, name, count)?;
+            let is_better = match &best {
+                Some(known) => found.len() < known.len(),
+                None => true,
+            };
+            if is_better && !found.is_empty() {
+                best = Some(found);
+            }
+        }
+    }
+    Ok(best)
+}
+
+/// The names of the set in an order in which each comes after what the closure has before it.
+pub(crate) fn sorted(
+    alloc: Global,
+    closure: &Relation,
+    names: u64,
+    count: u8,
+) -> Result<Vec<u8>, AllocError> {
+    let mut order = Vec::new(alloc);
+    let mut left = names;
+    for _ in 0..count {
+        let next = (0..count).find(|name| has(left, *name)
+            && !is_behind(closure, left, *name, count));
+        let Some(next) = next else {
+            break;
+        };
+        order.push(next)?;
+        left &= !bit(next);
+    }
+    Ok(order)
+}
+
+/// Does one of the names come before this one?
+fn is_behind(closure: &Relation, names: u64, last: u8, count: u8) -> bool {
+    (0..count).any(|name| has(names, name) && closure.has(name, last))
+}
