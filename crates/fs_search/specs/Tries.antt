@@ -12,9 +12,9 @@ use Rattle.fs_board.specs.declared.event.Event.TheVariants as event
 use Rattle.fs_board.specs.Asking.{IsMade}
 use Rattle.fs_board.specs.View.{event_of}
 
--- the placement forbids the outcome, as its cycles show
-abbrev pub IsForbidden : Test → Refuted → Type 0
-IsForbidden t f = HasCycles t f.placement f.cycles × (Allows t f.placement → ⊥)
+-- it may be posted: the placement forbids the outcome, as its cycles show
+abbrev pub IsPostable : Test → Refuted → Type 0
+IsPostable t f = HasCycles t f.placement f.cycles × (Allows t f.placement → ⊥)
 
 -- the event would close or split a node
 abbrev pub is_try : Event → Bool

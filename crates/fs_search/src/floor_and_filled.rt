@@ -9,7 +9,7 @@ ghost use Rattle.fs_answer.specs.CandidateFaults.{IsCandidateFault};
 ghost use Rattle.fs_bound.specs.Bounds.{slots_in_part};
 ghost use Rattle.fs_board.specs.Growth.{AreWitnesses};
 ghost use Rattle.fs_evidence.specs.Evidence.{IsWitnessFor};
-ghost use Rattle.fs_search.specs.Tries.{IsForbidden};
+ghost use Rattle.fs_search.specs.Tries.{IsPostable};
 
 use crate::store::Store;
 use fs_board::Part;
@@ -91,7 +91,7 @@ pub(crate) fn judge_placement(
     requires slots { slots_of placement.now ≡ slots judge.old.test }
     ensures judge { judge.new ≡ judge.old }
     ensures known { AreWitnesses judge.old.test store.new }
-    ensures ok { IfOk result (λ found. IfSome found (IsForbidden judge.old.test)) }
+    ensures ok { IfOk result (λ found. IfSome found (IsPostable judge.old.test)) }
     ensures err { IfErr result (λ f. f ≢ Fault.Memory → IsCandidateFault judge.old.test f) }
 {
     let verdict = judge.verdict(alloc, placement, first)?;
@@ -115,7 +115,7 @@ pub(crate) fn judge_floor(
     requires slots { slots_in_part part.now ≡ slots judge.old.test }
     ensures judge { judge.new ≡ judge.old }
     ensures known { AreWitnesses judge.old.test store.new }
-    ensures ok { IfOk result (λ found. IfSome found (IsForbidden judge.old.test)) }
+    ensures ok { IfOk result (λ found. IfSome found (IsPostable judge.old.test)) }
     ensures err { IfErr result (λ f. f ≢ Fault.Memory → IsCandidateFault judge.old.test f) }
 {
     let floor = part.floor(alloc)?;

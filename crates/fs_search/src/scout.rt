@@ -11,7 +11,7 @@ ghost use Rattle.fs_model.specs.Execution.{Execution};
 ghost use Rattle.fs_evidence.specs.Evidence.{IsWitnessFor, placement_in};
 ghost use Rattle.fs_board.specs.Growth.{AreWitnesses};
 ghost use Rattle.fs_board.specs.Asking.{Tells};
-ghost use Rattle.fs_search.specs.Tries.{IsForbidden, IsTry, IsLast};
+ghost use Rattle.fs_search.specs.Tries.{IsPostable, IsTry, IsLast};
 
 use crate::floor_and_filled::{
     is_filled_new, is_floor_new, judge_floor, judge_placement, look_at_filled, stored_over_filled,
@@ -84,7 +84,7 @@ impl Model for Scout {
     ghost use Rattle.std.specs.Prelude.{IfSome};
     ghost use Rattle.std.specs.Arc.{arc_value};
     ghost use Rattle.fs_board.specs.Growth.{AreWitnesses};
-    ghost use Rattle.fs_search.specs.Tries.{IsForbidden};
+    ghost use Rattle.fs_search.specs.Tries.{IsPostable};
 
     ghost Value = { Asked };
 
@@ -92,7 +92,7 @@ impl Model for Scout {
 
     ghost coded = { Prim.hlevel (codes, outcome.the_row.coded) };
 
-    ghost invariant = { λ s. AreWitnesses s.judge.test s.store × IfSome s.planned (λ f. IsForbidden s.judge.test (arc_value f)) };
+    ghost invariant = { λ s. AreWitnesses s.judge.test s.store × IfSome s.planned (λ f. IsPostable s.judge.test (arc_value f)) };
 }
 
 /// Stores the witness, unless a stored one has the same widths.
@@ -145,10 +145,9 @@ fn number_of(prices: &Prices, kind: Option<Kind>) -> usize {
 
 /// Has the placement all that is decided?
 fn is_under(part: &Part, placement: &Placement) -> bool {
-    part.as_slice()
-        .iter()
-        .zip(placement.as_slice())
-        .all(|(decision, entry)| decision.decided.is_none_or(|kind| kind == entry.kind))
+    part.as_slice().iter().zip(placement.as_slice()).all(|(decision, entry)| decision
+        .decided
+        .is_none_or(|kind| kind == entry.kind))
 }
 
 /// The placement posted, shared.
@@ -241,7 +240,7 @@ impl Scout {
         alloc: Global,
         part: &Part,
     ) -> Result<Option<Arc<Forbidden>>, AllocError>
-        ensures { IfOk result (λ found. IfSome found (λ f. IsForbidden self.now.test (arc_value f) × (placement_in f ≡ floor part.now))) }
+        ensures { IfOk result (λ found. IfSome found (λ f. IsPostable self.now.test (arc_value f) × (placement_in f ≡ floor part.now))) }
     {
         let Some(planned) = &self.planned else {
             return Ok(None);
