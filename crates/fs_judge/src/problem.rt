@@ -7,6 +7,7 @@ ghost use Rattle.fs_kinds.specs.declared.fault.Fault.TheVariants.{Memory};
 ghost use Rattle.fs_kinds.specs.Placement.{slots_of};
 ghost use Rattle.fs_model.specs.Slots.{slots};
 ghost use Rattle.fs_model.specs.Test.{IsBounded, IsStart};
+ghost use Rattle.fs_model.specs.TooMany.{IsRunFault};
 ghost use Rattle.fs_answer.specs.CandidateFaults.{IsCandidateFault};
 ghost use Rattle.fs_judge.specs.Verdicts.{IsShownWith, IsVerdict};
 ghost use Rattle.fs_judge.specs.inner.Findings.{IsSurvey};
@@ -59,7 +60,7 @@ impl Problem {
         requires test { IsBounded (arc_value question).test }
         requires starts { All IsStart (arc_value question).test.starts }
         ensures value { IfOk result (λ p. p ≡ arc_value question) }
-        ensures clean { OnOk result ((f : Fault) → IsCandidateFault (arc_value question).test f → ⊥) }
+        ensures clean { OnOk result ((f : Fault) → IsRunFault (arc_value question).test f → ⊥) }
         ensures err { IfErr result (λ f. f ≢ Memory → IsCandidateFault (arc_value question).test f) }
     {
         let showing = showing_of(alloc, &question)?;
@@ -78,7 +79,7 @@ impl Problem {
         requires test { IsBounded (arc_value question).test }
         requires starts { All IsStart (arc_value question).test.starts }
         ensures value { IfOk result (λ p. arc_value p ≡ arc_value question) }
-        ensures clean { OnOk result ((f : Fault) → IsCandidateFault (arc_value question).test f → ⊥) }
+        ensures clean { OnOk result ((f : Fault) → IsRunFault (arc_value question).test f → ⊥) }
         ensures err { IfErr result (λ f. f ≢ Memory → IsCandidateFault (arc_value question).test f) }
     {
         let problem = Problem::new(alloc, question)?;

@@ -12,7 +12,7 @@ ghost use Rattle.fs_judge.specs.inner.Findings.{IsFinding, IsSurvey};
 use crate::base::Base;
 use crate::judging::{Finding, judged};
 use crate::prejudged::Prejudged;
-use fs_evidence::{Cycles, Link, Witness};
+use fs_evidence::{Link, Witness};
 use fs_kinds::{Fault, Placement, Slot};
 use fs_list::List;
 use fs_model::Test;
@@ -34,7 +34,7 @@ pub(crate) enum Survey {
     /// This one has no cycle.
     Survives(Survivor),
     /// Each one has a cycle.
-    Cycles(Cycles),
+    Cycles(List<List<Link>>),
 }
 
 impl Survey {

@@ -7,7 +7,7 @@ ghost use Rattle.fs_judge.specs.Verdicts.{IsVerdict};
 ghost use Rattle.fs_judge.specs.inner.Findings.{IsSurvey};
 
 use crate::survey::Survey;
-use fs_evidence::{Forbidden, Witness};
+use fs_evidence::{Cycles, Forbidden, Witness};
 use fs_kinds::{Fault, Placement};
 
 /// Whether a placement forbids the outcome.
@@ -15,7 +15,7 @@ use fs_kinds::{Fault, Placement};
 pub enum Verdict {
     /// It allows the outcome, as the witness shows.
     Allowed(Witness),
-    /// It forbids the outcome, as a cycle for each showing candidate shows.
+    /// It forbids the outcome, as what it holds shows.
     Forbids(Forbidden),
 }
 
@@ -28,6 +28,7 @@ pub(crate) fn verdict_of(survey: Survey, placement: &Placement) -> Result<Verdic
         Survey::Survives(survivor) => Ok(Verdict::Allowed(survivor.witness)),
         Survey::Cycles(cycles) => {
             let placement = placement.copy()?;
+            let cycles = Cycles::Listed(cycles);
             Ok(Verdict::Forbids(Forbidden { placement, cycles }))
         }
     }

@@ -4,6 +4,7 @@ use Rattle.std.specs.List.{list_any}
 use Rattle.fs_kinds.specs.declared.placement.Entry.{Entry}
 use Rattle.fs_model.specs.declared.test.Test.{Test}
 use Rattle.fs_model.specs.Operations.{operations}
+use Rattle.fs_answer.specs.CandidateFaults.{HasNoCandidateFault}
 use Rattle.fs_answer.specs.Candidates.{Candidate, runs_of}
 use Rattle.fs_answer.specs.Judged.{is_judged}
 use Rattle.fs_answer.specs.Listings.{IsListing}
@@ -33,9 +34,10 @@ pub record ArePrejudged (t : Test) (cs : List Candidate) (firsts : List Prejudge
   pub within : length firsts ≤ length cs
   pub each : (k : ℕ) (first : Prejudged) → slice_get firsts k ≡ Some first → (c : Candidate) → slice_get cs k ≡ Some c → IsPrejudged t c first
 
--- all showing candidates of a test whose runs can be listed, the first ones prejudged
+-- all showing candidates of a test whose candidates can be listed, the first ones prejudged
 pub record IsReady (t : Test) (s : Listed) (prejudged : List Prejudged) : Type 0 where
   pub listable : CanBeListed t
+  pub clean : HasNoCandidateFault t
   pub same : s.test ≡ t
   pub listing : IsListing t s.candidates
   pub firsts : ArePrejudged t s.candidates prejudged
