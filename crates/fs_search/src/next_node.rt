@@ -32,8 +32,8 @@ pub struct Taken {
     pub slot: Option<Slot>,
 }
 
-/// Puts the children that a reply gives to the node on the stack, the first one last: or after it the one of this number among them,
-/// where there is one.
+/// Puts the children that a reply gives to the node on the stack, the first one last, but for the one that comes next, which is on top.
+/// That one is named by its number among them.
 pub fn push_children(
     children: &mut Vec<Child>,
     taken: &Taken,
