@@ -168,6 +168,7 @@ fn best_entries(
 }
 
 /// Puts the kind, or none, at the slot in place of what is there.
+#[tactic(auto, using(crate::proofs::Parts::slots_with))]
 fn put_at(placement: &mut Placement, entry: &Entry)
     ensures { slots_of placement.new ≡ slots_of placement.old }
 {
