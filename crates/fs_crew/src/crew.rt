@@ -73,7 +73,7 @@ fn work_together<A: Asked + Send + Sync, R: Threads + Wait + Sync, G: Gate + Syn
                 desk,
                 gate,
             };
-            let (pass, _) = place.work(pass, hand, usize::MAX, problem);
+            let (pass, _) = place.work(pass, hand, None, problem);
             pass
         },
     )?;
@@ -104,7 +104,7 @@ fn work_all<A: Asked + Send + Sync, R: Threads + Wait + Sync, G: Gate + Sync>(
         return Ok(passes);
     }
     let pass = passes.remove(0);
-    let (pass, goes_on) = place.work(pass, hand, nodes, problem);
+    let (pass, goes_on) = place.work(pass, hand, Some(nodes), problem);
     passes.push(pass)?;
     if !goes_on {
         return Ok(passes);

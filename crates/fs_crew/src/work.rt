@@ -77,11 +77,27 @@ fn own_or_stolen(hand: &mut Hand, children: &mut Vec<Child>) -> Option<(usize, O
     Some((node, None))
 }
 
-/// Puts the children that the desk made last on the stack. False where memory lacks.
-fn keep_children<A: Asked>(pass: &Pass<A>, children: &mut Vec<Child>, taken: &Taken) -> bool {
+/// Puts the children that the desk made last on the stack, the one of this number among them on top. False where memory lacks.
+fn keep_children<A: Asked>(
+    pass: &Pass<A>,
+    children: &mut Vec<Child>,
+    taken: &Taken,
+    next: Option<usize>,
+) -> bool {
     match pass.reply() {
-        Some(reply) => push_children(children, taken, reply).is_ok(),
+        Some(reply) => push_children(children, taken, reply, next).is_ok(),
         None => true,
+    }
+}
+
+/// The scout of a worker, which makes a plan where it is alone.
+fn scout_of(alloc: Global, problem: Arc<Problem>, is_alone: bool) -> Scout
+    ensures { result ≡ arc_value problem }
+{
+    if is_alone {
+        Scout::planner(alloc, problem)
+    } else {
+        Scout::new(alloc, problem)
     }
 }
 
@@ -207,15 +223,32 @@ impl<A: Asked, R: Wait, G: Gate> Workplace<'_, A, R, G> {
         (pass, is_learned)
     }
 
-    /// Sees what the others have found, where the worker hasn't looked round yet. False where memory lacks.
-    fn look_first(&self, pass: Pass<A>, scout: &mut Scout, part: &Part) -> (Pass<A>, bool)
-        requires { scout.old ≡ A.question }
+    /// Makes the plan, where one is still to be made. False where this fails.
+    fn prepare(&self, pass: &Pass<A>, scout: &mut Scout, taken: &Taken) -> bool
+        requires question { scout.old ≡ A.question }
+        requires slots { slots_in_part (arc_value taken.now.part) ≡ slots A.question.test }
+        ensures value { scout.new ≡ scout.old }
+    {
+        if scout.will_plan() {
+            self.gate.judging(pass.worker(), taken.node);
+        }
+        scout.prepare(self.alloc, taken).is_ok()
+    }
+
+    /// Sees what the others have found, and makes its plan, where the worker hasn't yet. False where memory lacks, or a verdict can't be
+    /// made.
+    fn look_first(&self, pass: Pass<A>, scout: &mut Scout, taken: &Taken) -> (Pass<A>, bool)
+        requires question { scout.old ≡ A.question }
+        requires slots { slots_in_part (arc_value taken.now.part) ≡ slots A.question.test }
         ensures value { scout.new ≡ scout.old }
     {
         if scout.has_looked() {
             return (pass, true);
         }
-        self.look_round(pass, scout, part)
+        if !self.prepare(&pass, scout, taken) {
+            return (pass, false);
+        }
+        self.look_round(pass, scout, &taken.part)
     }
 
     /// Is done with a node, and sees what the others have found where it was split or posted, and before its first node. False where the
@@ -231,7 +264,7 @@ impl<A: Asked, R: Wait, G: Gate> Workplace<'_, A, R, G> {
         requires slots { slots_in_part (arc_value taken.now.part) ≡ slots A.question.test }
         ensures value { scout.new ≡ scout.old }
     {
-        let (pass, is_learned) = self.look_first(pass, scout, &taken.part);
+        let (pass, is_learned) = self.look_first(pass, scout, taken);
         if !is_learned {
             return (pass, false);
         }
@@ -239,7 +272,7 @@ impl<A: Asked, R: Wait, G: Gate> Workplace<'_, A, R, G> {
         if step != Step::Moved {
             return (pass, step == Step::Closed);
         }
-        if !keep_children(&pass, children, taken) {
+        if !keep_children(&pass, children, taken, scout.planned_child(taken)) {
             return (pass, false);
         }
         self.look_round(pass, scout, &taken.part)
@@ -269,21 +302,22 @@ impl<A: Asked, R: Wait, G: Gate> Workplace<'_, A, R, G> {
         (pass, true)
     }
 
-    /// Works until there is nothing to do or memory lacks, and leaves; a node that it isn't done with stays held. Or it comes back when it
-    /// is done with so many nodes, and holds none: then the answer is true, and it may be sent to work again.
+    /// Works until there is nothing to do or something fails, and leaves; a node that it isn't done with stays held. A worker that is
+    /// alone, with so many nodes to do, plans, and comes back when it is done with these, and holds none: then the answer is true, and it
+    /// may be sent to work again.
     pub(crate) fn work(
         &self,
         pass: Pass<A>,
         hand: Hand,
-        nodes: usize,
+        alone: Option<usize>,
         problem: &Arc<Problem>,
     ) -> (Pass<A>, bool)
         requires { arc_value problem.now ≡ A.question }
     {
         let (pass, goes_on) = match Arc::try_clone(problem) {
             Ok(shared) => {
-                let scout = Scout::new(self.alloc, shared);
-                self.rounds(pass, hand, scout, nodes)
+                let scout = scout_of(self.alloc, shared, alone.is_some());
+                self.rounds(pass, hand, scout, alone.unwrap_or(usize::MAX))
             }
             Err(_) => (pass, false),
         };

@@ -1,5 +1,5 @@
 -- The least and the greatest placement as answers, what a finished board's bound says, and which fault is handed on.
-use Rattle.std.proofs.Common.{◌≡◌, ◌≢◌, ℕ, ◌<◌, true, Some, None, Result, Ok, Err, IfErr, List, [], ◌∷◌, map, length, refl, sym, ap, subst, ◌∙◌, inr}
+use Rattle.std.proofs.Common.{◌≡◌, ◌≢◌, ℕ, ◌<◌, true, Some, None, Result, Ok, Err, IfErr, List, [], ◌∷◌, map, length, refl, sym, ap, subst, ◌∙◌, inl, inr}
 use Rattle.std.specs.Result.{IsErrAnd}
 use Rattle.std.proofs.lemmas.Bool.{and_from, false≢true}
 use Rattle.fs_kinds.specs.declared.fault.Fault.{Fault}
@@ -13,6 +13,7 @@ use Rattle.fs_kinds.proofs.Entries.{slots_of-all_with}
 use Rattle.fs_model.specs.declared.test.Test.{Test}
 use Rattle.fs_model.specs.Slots.{slots}
 use Rattle.fs_model.specs.Allows.{Allows, IsCheapest, is_better}
+use Rattle.fs_answer.specs.CandidateFaults.{IsCandidateFault}
 use Rattle.fs_answer.specs.Parts.{floor, undecided}
 use Rattle.fs_history.specs.Board.{is_finished}
 use Rattle.fs_history.specs.Histories.{IsHistory}
@@ -23,7 +24,8 @@ use Rattle.fs_tree.proofs.Final.{final}
 use Rattle.fs_bound.proofs.Floors.{floor-best}
 use Rattle.fs_evidence.specs.Evidence.{Question}
 use Rattle.fs_board.specs.View.{Search}
-use Rattle.fs_search.specs.Answers.{IsSolveFault}
+use Rattle.fs_search.specs.Answers.{IsEndFault, IsSearchFault, IsSolveFault}
+use Rattle.fs_search.specs.Histories.{GoesOn}
 
 -- ---- no fence at all
 
@@ -81,14 +83,67 @@ pub handed : {T : Type 0} (r : Result T Fault) (fault : Fault) (P : Fault → Ty
 handed (Ok x) fault P h p = tt
 handed (Err f) fault P h p = subst P (sym h) p
 
+-- so does a fault of the candidates of what is equal
+pub candidates-handed : {T : Type 0} (r : Result T Fault) (fault : Fault) (p q : Question) → p ≡ q → IsErrAnd r (λ f. f ≡ fault)
+    → (fault ≢ Memory → IsCandidateFault p.test fault) → IfErr r (λ f. f ≢ Memory → IsCandidateFault q.test f)
+candidates-handed r fault p q same is why =
+    handed r fault (λ f. f ≢ Memory → IsCandidateFault q.test f) is
+    (λ other. subst (λ (x : Question). IsCandidateFault x.test fault) same (why other))
+
+-- it is one of a search
+pub search-handed : {T : Type 0} (r : Result T Fault) (fault : Fault) (s : Search) (q : Question) → s.question ≡ q → IsErrAnd r (λ f. f ≡ fault)
+    → (fault ≢ Memory → IsCandidateFault q.test fault) → IfErr r (λ f. f ≢ Memory → IsSearchFault s f)
+search-handed r fault s q same is why =
+    handed r fault (λ f. f ≢ Memory → IsSearchFault s f) is
+    (λ other. inr (subst (λ (x : Question). IsCandidateFault x.test fault) (sym same) (why other)))
+
+-- and one of a search at the ends
+pub ends-handed : {T : Type 0} (r : Result T Fault) (fault : Fault) (t : Test) → IsErrAnd r (λ f. f ≡ fault)
+    → (fault ≢ Memory → IsCandidateFault t fault) → IfErr r (λ f. f ≢ Memory → IsEndFault t f)
+ends-handed r fault t is why = handed r fault (λ f. f ≢ Memory → IsEndFault t f) is (λ other. inr (why other))
+
+-- and of a question that isn't answered
+pub solve-handed : {T : Type 0} (r : Result T Fault) (fault : Fault) (p q : Question) (limit : ℕ) → p ≡ q → IsErrAnd r (λ f. f ≡ fault)
+    → (fault ≢ Memory → IsCandidateFault p.test fault) → IfErr r (λ f. f ≢ Memory → IsSolveFault q limit f)
+solve-handed r fault p q limit same is why =
+    handed r fault (λ f. f ≢ Memory → IsSolveFault q limit f) is
+    (λ other. inl (subst (λ (x : Question). IsCandidateFault x.test fault) same (why other)))
+
+-- the fault of a search that goes on
+pub later-fault : (a b : Search) (f : Fault) → GoesOn a b → IsSearchFault b f → IsSearchFault a f
+later-fault a b f goes fault = elim fault [
+  | inl large ↦ inl (large.0,
+      subst (λ (n : ℕ). n < tree_size a.question.prices (length (slots a.question.test))) goes.limit
+          (subst (λ (x : Question). b.board.limit < tree_size x.prices (length (slots x.test))) goes.question large.1))
+  | inr other ↦ inr (subst (λ (x : Question). IsCandidateFault x.test f) goes.question other)
+]
+
+-- where the runs can be listed the limit is none of the candidates' faults
+pub limit-met : (s : Search) (q : Question) (f : Fault) → s.question ≡ q → f ≡ NodeLimit → HasNoRunFault q.test → IsSearchFault s f
+    → s.board.limit < tree_size q.prices (length (slots q.test))
+limit-met s q f same is clean fault = elim fault [
+  | inl large ↦ subst (λ (x : Question). s.board.limit < tree_size x.prices (length (slots x.test))) same large.1
+  | inr other ↦ absurd (clean NodeLimit (subst (λ (x : Question). IsCandidateFault x.test NodeLimit) same
+      (subst (λ (g : Fault). IsCandidateFault s.question.test g) is other)))
+]
+
+-- any other fault is
+pub not-limit : (s : Search) (q : Question) (limit : ℕ) (f : Fault) → s.question ≡ q → (f ≡ NodeLimit → ⊥) → IsSearchFault s f → IsSolveFault q limit f
+not-limit s q limit f same no fault = elim fault [
+  | inl large ↦ absurd (no large.0)
+  | inr other ↦ inl (subst (λ (x : Question). IsCandidateFault x.test f) same other)
+]
+
 -- the limit is due where the runs can be listed, and the least and the greatest placement don't have the answer
 pub limit-fault : (q p : Question) (limit : ℕ) (f : Fault) → p ≡ q → HasNoRunFault q.test
-    → limit < tree_size q.prices (length (slots q.test)) → (f ≡ NodeLimit) × Allows p.test (all_with None (slots p.test))
-    × (Allows p.test (all_with (Some RwRw) (slots p.test)) → ⊥) → IsSolveFault q limit f
-limit-fault q p limit f same clean large ends =
-    let needed = subst (λ (x : Question). Allows x.test (all_with None (slots x.test))) same ends.1 in
-    let enough = subst (λ (x : Question). Allows x.test (all_with (Some RwRw) (slots x.test)) → ⊥) same ends.2 in
-    inr (ends.0, record { needed = needed; enough = enough; large = large }, clean)
+    → limit < tree_size q.prices (length (slots q.test)) → IsEndFault p.test f → IsSolveFault q limit f
+limit-fault q p limit f same clean large fault = elim fault [
+  | inl ends ↦
+      let needed = subst (λ (x : Question). Allows x.test (all_with None (slots x.test))) same ends.1 in
+      let enough = subst (λ (x : Question). Allows x.test (all_with (Some RwRw) (slots x.test)) → ⊥) same ends.2 in
+      inr (ends.0, record { needed = needed; enough = enough; large = large }, clean)
+  | inr other ↦ inl (subst (λ (x : Question). IsCandidateFault x.test f) same other)
+]
 
 -- no fence at all, which forbids the outcome, with its cost
 pub none-answer : (q : Question) (p : List Entry) (prices : PriceTable) → prices ≡ q.prices → p ≡ all_with None (slots q.test)

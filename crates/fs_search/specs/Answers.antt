@@ -2,12 +2,14 @@
 use Rattle.std.specs.Prelude.{◌≡◌, ◌<◌, ◌⊎◌, ℕ, true, List, Option, None, Some, MatchOption, length}
 use Rattle.std.specs.Arc.{arc_value}
 use Rattle.fs_kinds.specs.declared.fault.Fault.{Fault}
+use Rattle.fs_kinds.specs.declared.fault.Fault.TheVariants.{NodeLimit}
 use Rattle.fs_kinds.specs.declared.placement.Entry.{Entry}
 use Rattle.fs_kinds.specs.PriceTable.{PriceTable, cost}
 use Rattle.fs_model.specs.declared.test.Test.{Test}
 use Rattle.fs_model.specs.Execution.{Execution}
 use Rattle.fs_model.specs.Slots.{slots}
-use Rattle.fs_model.specs.Allows.{IsCheapest, RefutesAll, no_fences}
+use Rattle.fs_model.specs.Allows.{Allows, IsCheapest, RefutesAll, no_fences, full_fences}
+use Rattle.fs_answer.specs.CandidateFaults.{IsCandidateFault}
 use Rattle.fs_history.specs.Board.{is_finished}
 use Rattle.fs_history.specs.Sizes.{IsUnanswered, tree_size}
 use Rattle.fs_evidence.specs.Evidence.{Question, IsWitnessFor, ShowsForbidden, placement_in}
@@ -52,3 +54,12 @@ Rests q limit s = MatchOption s.board (IsAtLimit q limit s.answer) (IsBoardOf q 
 -- the fault of a question that the search can't answer
 abbrev pub IsSolveFault : Question → (limit : ℕ) → Fault → Type 0
 IsSolveFault q limit f = IsUnanswered q.test q.prices limit f
+
+-- the fault of the search of a board: its limit, where the tree of all placements has more nodes below its root, or that of the candidates
+abbrev pub IsSearchFault : Search → Fault → Type 0
+IsSearchFault s f = ((f ≡ NodeLimit) × (s.board.limit < tree_size s.question.prices (length (slots s.question.test))))
+    ⊎ IsCandidateFault s.question.test f
+
+-- the fault where the answer is looked for at an end: it is at none, or the candidates can't be listed
+abbrev pub IsEndFault : Test → Fault → Type 0
+IsEndFault t f = ((f ≡ NodeLimit) × Allows t (no_fences t) × (Allows t (full_fences t) → ⊥)) ⊎ IsCandidateFault t f

@@ -1,14 +1,19 @@
 -- What a search asks of the board to be done with a node.
 use Rattle.std.specs.Prelude.{◌≡◌, ℕ, Bool, true, false}
 use Rattle.fs_model.specs.declared.test.Test.{Test}
+use Rattle.fs_model.specs.Allows.{Allows}
 use Rattle.fs_answer.specs.Parts.{Part, floor, filled, is_undecided}
 use Rattle.fs_answer.specs.Shown.{IsShownBy}
 use Rattle.fs_history.specs.Board.{Event, SplitAt, CutCost, CutWitness, CutBound, Post}
-use Rattle.fs_evidence.specs.Evidence.{Question, witness_in, placement_in}
+use Rattle.fs_evidence.specs.Evidence.{Question, Refuted, ShowsForbidden, witness_in, placement_in}
 use Rattle.fs_board.specs.declared.event.Event.{Event as CodeEvent}
 use Rattle.fs_board.specs.declared.event.Event.TheVariants as event
 use Rattle.fs_board.specs.Asking.{IsMade}
 use Rattle.fs_board.specs.View.{event_of}
+
+-- it may be posted: the placement forbids the outcome, and what it has shows so
+abbrev pub IsPostable : Test → Refuted → Type 0
+IsPostable t f = ShowsForbidden t f × (Allows t f.placement → ⊥)
 
 -- the event would close or split a node
 abbrev pub is_try : Event → Bool

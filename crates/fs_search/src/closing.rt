@@ -1,11 +1,12 @@
 //! What the board's replies mean to a search by one worker.
 
-ghost use Rattle.std.specs.Prelude.{◌≡◌, ◌≢◌, ◌<◌, IfOk, IfErr, OnOk, IsOkUnless, length};
+ghost use Rattle.std.specs.Prelude.{◌≡◌, ◌≢◌, IfOk, IfErr, OnOk};
 ghost use Rattle.std.specs.Arc.{arc_value};
 ghost use Rattle.fs_model.specs.Slots.{slots};
+ghost use Rattle.fs_answer.specs.CandidateFaults.{IsCandidateFault};
 ghost use Rattle.fs_bound.specs.Bounds.{slots_in_part};
-ghost use Rattle.fs_history.specs.Sizes.{tree_size};
 ghost use Rattle.fs_board.specs.View.{reply_of};
+ghost use Rattle.fs_search.specs.Answers.{IsSearchFault};
 ghost use Rattle.fs_search.specs.Histories.{GoesOn};
 ghost use Rattle.fs_search.specs.inner.Steps.{IsTried, MovesOn, IsTaken, is_end};
 
@@ -35,7 +36,7 @@ pub(crate) fn try_way(
     ensures scout { scout.new ≡ scout.old }
     ensures ok { IfOk result (λ ended. IsTried board.old board.new ended) }
     ensures goes { GoesOn board.old board.new }
-    ensures err { IsOkUnless result Fault.Memory }
+    ensures err { IfErr result (λ f. f ≢ Fault.Memory → IsCandidateFault scout.old.test f) }
 {
     let found = scout.propose(alloc, way, taken)?;
     let Some(event) = found else {
@@ -58,15 +59,15 @@ pub(crate) fn close_or_split(
     ensures scout { scout.new ≡ scout.old }
     ensures goes { GoesOn board.old board.new }
     ensures ok { OnOk result (MovesOn board.old board.new) }
-    ensures err { IfErr result (λ f. f ≢ Fault.Memory → (f ≡ Fault.NodeLimit)
-        × (board.old.board.limit < tree_size board.old.question.prices (length (slots board.old.question.test)))) }
+    ensures err { IfErr result (λ f. f ≢ Fault.Memory → IsSearchFault board.old f) }
 {
     let _legal = board.log();
+    let next = scout.planned_child(taken);
     let event = scout.last(alloc, taken)?;
     let reply = board.ask(alloc, WORKER, &event)?;
     if !is_end(&reply) {
         return Err(Fault::NodeLimit);
     }
-    push_children(children, taken, &reply)?;
+    push_children(children, taken, &reply, next)?;
     Ok(())
 }

@@ -1,19 +1,21 @@
 //! What to try at a node, its least placement (the floor) and the one filled with `rw,rw`, apart from the event that tries it.
 
-ghost use Rattle.std.specs.Prelude.{◌≡◌, ℕ, Some, IfOk, IfSome, IsOkUnless, slice_get};
+ghost use Rattle.std.specs.Prelude.{◌≡◌, ◌≢◌, ℕ, Some, IfOk, IfErr, IfSome, IsOkUnless, slice_get};
 ghost use Rattle.std.specs.Arc.{arc_value};
+ghost use Rattle.fs_kinds.specs.Placement.{slots_of};
 ghost use Rattle.fs_model.specs.Slots.{slots};
 ghost use Rattle.fs_model.specs.Execution.{Execution};
-ghost use Rattle.fs_model.specs.Allows.{Allows};
+ghost use Rattle.fs_answer.specs.CandidateFaults.{IsCandidateFault};
 ghost use Rattle.fs_bound.specs.Bounds.{slots_in_part};
 ghost use Rattle.fs_board.specs.Growth.{AreWitnesses};
-ghost use Rattle.fs_evidence.specs.Evidence.{IsWitnessFor, ShowsForbidden};
+ghost use Rattle.fs_evidence.specs.Evidence.{IsWitnessFor};
+ghost use Rattle.fs_search.specs.Tries.{IsPostable};
 
 use crate::store::Store;
 use fs_board::Part;
 use fs_evidence::{Forbidden, Witness};
 use fs_judge::{Judge, Verdict};
-use fs_kinds::{Fault, Kind, Slot};
+use fs_kinds::{Fault, Kind, Placement, Slot};
 use std::alloc::{AllocError, Global};
 use std::sync::Arc;
 
@@ -75,6 +77,33 @@ pub(crate) fn look_at_filled(
     Ok(Some(witness))
 }
 
+/// Judges a placement. Where it allows the outcome a witness is stored, which is widened at the first slots before the others. The
+/// decisions of the part are those of any node.
+pub(crate) fn judge_placement(
+    alloc: Global,
+    judge: &mut Judge,
+    store: &mut Store,
+    part: &Part,
+    placement: &Placement,
+    first: &[Slot],
+) -> Result<Option<Forbidden>, Fault>
+    requires known { AreWitnesses judge.old.test store.old }
+    requires slots { slots_of placement.now ≡ slots judge.old.test }
+    ensures judge { judge.new ≡ judge.old }
+    ensures known { AreWitnesses judge.old.test store.new }
+    ensures ok { IfOk result (λ found. IfSome found (IsPostable judge.old.test)) }
+    ensures err { IfErr result (λ f. f ≢ Fault.Memory → IsCandidateFault judge.old.test f) }
+{
+    let verdict = judge.verdict(alloc, placement, first)?;
+    match verdict {
+        Verdict::Allowed(found) => {
+            store.add(alloc, &judge.question().prices, part.as_slice(), found)?;
+            Ok(None)
+        }
+        Verdict::Forbids(forbidden) => Ok(Some(forbidden)),
+    }
+}
+
 /// Judges the least placement, unless a stored witness shows the outcome with it. Where it allows the outcome a witness is stored.
 pub(crate) fn judge_floor(
     alloc: Global,
@@ -86,21 +115,13 @@ pub(crate) fn judge_floor(
     requires slots { slots_in_part part.now ≡ slots judge.old.test }
     ensures judge { judge.new ≡ judge.old }
     ensures known { AreWitnesses judge.old.test store.new }
-    ensures ok { IfOk result (λ found. IfSome found (λ f. ShowsForbidden judge.old.test f
-        × (Allows judge.old.test f.placement → ⊥))) }
-    ensures err { IsOkUnless result Fault.Memory }
+    ensures ok { IfOk result (λ found. IfSome found (IsPostable judge.old.test)) }
+    ensures err { IfErr result (λ f. f ≢ Fault.Memory → IsCandidateFault judge.old.test f) }
 {
     let floor = part.floor(alloc)?;
     if store.newest_over(floor.as_slice()).is_some() {
         return Ok(None);
     }
     let open = part.undecided_slots(alloc)?;
-    let verdict = judge.verdict(alloc, &floor, &open)?;
-    match verdict {
-        Verdict::Allowed(found) => {
-            store.add(alloc, &judge.question().prices, part.as_slice(), found)?;
-            Ok(None)
-        }
-        Verdict::Forbids(forbidden) => Ok(Some(forbidden)),
-    }
+    judge_placement(alloc, judge, store, part, &floor, &open)
 }

@@ -7,6 +7,7 @@ mod closing;
 mod codes;
 mod floor_and_filled;
 mod next_node;
+mod plan;
 mod scout;
 mod solving;
 mod store;

@@ -32,11 +32,13 @@ pub struct Taken {
     pub slot: Option<Slot>,
 }
 
-/// Puts the children that a reply gives to the node on the stack, the first one last.
+/// Puts the children that a reply gives to the node on the stack, the first one last, but for the one that comes next, which is on top.
+/// That one is named by its number among them.
 pub fn push_children(
     children: &mut Vec<Child>,
     taken: &Taken,
     reply: &Reply,
+    next: Option<usize>,
 ) -> Result<(), AllocError> {
     let Reply::Children(first, count) = reply else {
         return Ok(());
@@ -44,7 +46,8 @@ pub fn push_children(
     let Some(slot) = taken.part.first_undecided() else {
         return Ok(());
     };
-    for k in (0..*count).rev() {
+    let next = next.filter(|k| k < count);
+    for k in (0..*count).rev().filter(|k| Some(*k) != next).chain(next) {
         let node = first.saturating_add(k);
         children.push(Child { node, slot })?;
     }

@@ -1,26 +1,30 @@
 //! What a searcher knows, and what it tries at a node. It asks nothing of the board, so it needs no lock.
 
-ghost use Rattle.std.specs.Prelude.{◌≡◌, IfOk, IfSome, IsOkUnless, map};
+ghost use Rattle.std.specs.Prelude.{◌≡◌, ◌≢◌, IfOk, IfErr, IfSome, IsOkUnless, map};
 ghost use Rattle.std.specs.Arc.{arc_value};
 ghost use Rattle.fs_model.specs.Slots.{slots};
 ghost use Rattle.fs_model.specs.declared.test.Test.{Test};
+ghost use Rattle.fs_answer.specs.CandidateFaults.{IsCandidateFault};
+ghost use Rattle.fs_answer.specs.Parts.{floor};
 ghost use Rattle.fs_bound.specs.Bounds.{slots_in_part};
 ghost use Rattle.fs_model.specs.Execution.{Execution};
-ghost use Rattle.fs_evidence.specs.Evidence.{IsWitnessFor};
+ghost use Rattle.fs_evidence.specs.Evidence.{IsWitnessFor, placement_in};
 ghost use Rattle.fs_board.specs.Growth.{AreWitnesses};
 ghost use Rattle.fs_board.specs.Asking.{Tells};
-ghost use Rattle.fs_search.specs.Tries.{IsTry, IsLast};
+ghost use Rattle.fs_search.specs.Tries.{IsPostable, IsTry, IsLast};
 
 use crate::floor_and_filled::{
-    is_filled_new, is_floor_new, judge_floor, look_at_filled, stored_over_filled,
+    is_filled_new, is_floor_new, judge_floor, judge_placement, look_at_filled, stored_over_filled,
 };
 use crate::next_node::Taken;
+use crate::plan::cheapest_breaking;
 use crate::store::Store;
-use fs_board::{Decision, Event, Reply};
+use fs_board::{Decision, Event, Part, Reply};
 use fs_evidence::{Forbidden, Question, Witness};
 use fs_judge::{Judge, Problem, Verdict};
-use fs_kinds::{Fault, Prices};
+use fs_kinds::{Fault, Kind, Placement, Prices};
 use fs_list::List;
+use fs_parts::is_same;
 use std::alloc::{AllocError, Global};
 use std::marker::Model;
 use std::sync::Arc;
@@ -57,12 +61,17 @@ impl Way {
 /// The ways that are tried before the last one, in this order: what costs nothing first.
 pub const TRIES: [Way; 5] = [Way::Cost, Way::Bound, Way::Stored, Way::Looked, Way::Judged];
 
-/// A judge of the question, the witnesses that were met, and what was seen of the board: the best placement posted, and where a peek was
-/// learned, how many witnesses there were. Contracts see the question.
+/// A plan may ask for so many verdicts.
+const MOST_ROUNDS: usize = 1_000;
+
+/// A judge of the question, the witnesses that were met, whether a plan is still to be made, the planned placement, and what was seen of
+/// the board: the best placement posted, and where a peek was learned, how many witnesses there were. Contracts see the question.
 #[derive(Drop)]
 pub struct Scout {
     judge: Judge,
     store: Store,
+    will_plan: bool,
+    planned: Option<Arc<Forbidden>>,
     bound: Option<Arc<Forbidden>>,
     seen: usize,
     has_looked: bool,
@@ -72,7 +81,10 @@ impl Model for Scout {
     ghost use Rattle.std.specs.Coded.{codes};
     ghost use Rattle.fs_model.specs.contracts.outcome.Outcome as outcome;
     ghost use Rattle.fs_evidence.specs.Evidence.{Question as Asked};
+    ghost use Rattle.std.specs.Prelude.{IfSome};
+    ghost use Rattle.std.specs.Arc.{arc_value};
     ghost use Rattle.fs_board.specs.Growth.{AreWitnesses};
+    ghost use Rattle.fs_search.specs.Tries.{IsPostable};
 
     ghost Value = { Asked };
 
@@ -80,7 +92,7 @@ impl Model for Scout {
 
     ghost coded = { Prim.hlevel (codes, outcome.the_row.coded) };
 
-    ghost invariant = { λ s. AreWitnesses s.judge.test s.store };
+    ghost invariant = { λ s. AreWitnesses s.judge.test s.store × IfSome s.planned (λ f. IsPostable s.judge.test (arc_value f)) };
 }
 
 /// Stores the witness, unless a stored one has the same widths.
@@ -117,6 +129,27 @@ fn keep_all(
     Ok(())
 }
 
+/// The number of the kind, or none, among the ways to decide a slot: none first, then the offered kinds in their order.
+fn number_of(prices: &Prices, kind: Option<Kind>) -> usize {
+    let Some(kind) = kind else {
+        return 0;
+    };
+    let mut number: usize = 1;
+    for other in Kind::ALL {
+        if other < kind && prices.of(other).is_some() {
+            number = number.saturating_add(1);
+        }
+    }
+    number
+}
+
+/// Has the placement all that is decided?
+fn is_under(part: &Part, placement: &Placement) -> bool {
+    part.as_slice().iter().zip(placement.as_slice()).all(|(decision, entry)| decision
+        .decided
+        .is_none_or(|kind| kind == entry.kind))
+}
+
 /// The placement posted, shared.
 fn share(bound: Option<&Arc<Forbidden>>) -> Result<Option<Arc<Forbidden>>, AllocError> {
     match bound {
@@ -126,17 +159,108 @@ fn share(bound: Option<&Arc<Forbidden>>) -> Result<Option<Arc<Forbidden>>, Alloc
 }
 
 impl Scout {
-    /// A scout that has met no witness yet. Others may share the problem.
+    /// A scout that has met no witness yet, and makes no plan. Others may share the problem.
     pub fn new(alloc: Global, problem: Arc<Problem>) -> Scout
         ensures { result ≡ arc_value problem }
     {
         Scout {
             judge: Judge::new(problem),
             store: Store::new(alloc),
+            will_plan: false,
+            planned: None,
             bound: None,
             seen: 0,
             has_looked: false,
         }
+    }
+
+    /// A scout that has met no witness yet, and makes a plan where it is told to prepare.
+    pub fn planner(alloc: Global, problem: Arc<Problem>) -> Scout
+        ensures { result ≡ arc_value problem }
+    {
+        let mut scout = Scout::new(alloc, problem);
+        scout.will_plan = true;
+        scout
+    }
+
+    /// Is a plan still to be made?
+    pub fn will_plan(&self) -> bool {
+        self.will_plan
+    }
+
+    /// Makes the plan, where one is still to be made: the cheapest placement that breaks all stored witnesses is judged, and where it
+    /// allows the outcome, a witness is stored, and so on. One that forbids it is the plan. The node is any of the board. There is no
+    /// plan where no placement breaks all witnesses, and where it takes too long.
+    pub fn prepare(&mut self, alloc: Global, taken: &Taken) -> Result<(), Fault>
+        requires { slots_in_part (arc_value taken.now.part) ≡ slots self.old.test }
+        ensures value { self.new ≡ self.old }
+        ensures err { IfErr result (λ f. f ≢ Fault.Memory → IsCandidateFault self.old.test f) }
+    {
+        if !self.will_plan {
+            return Ok(());
+        }
+        self.will_plan = false;
+        for _ in 0..MOST_ROUNDS {
+            if self.plan(alloc, &taken.part)? {
+                return Ok(());
+            }
+        }
+        Ok(())
+    }
+
+    /// One round of the plan. True where it was the last one.
+    fn plan(&mut self, alloc: Global, part: &Part) -> Result<bool, Fault>
+        requires { slots_in_part part.now ≡ slots self.old.test }
+        ensures value { self.new ≡ self.old }
+        ensures err { IfErr result (λ f. f ≢ Fault.Memory → IsCandidateFault self.old.test f) }
+    {
+        let prices = &self.judge.question().prices;
+        let cheapest = cheapest_breaking(alloc, &self.store, prices, part)?;
+        let Some(placement) = cheapest else {
+            return Ok(true);
+        };
+        let found = judge_placement(
+            alloc,
+            &mut self.judge,
+            &mut self.store,
+            part,
+            &placement,
+            &[],
+        )?;
+        let Some(forbidden) = found else {
+            return Ok(false);
+        };
+        self.planned = Some(Arc::new(alloc, forbidden)?);
+        Ok(true)
+    }
+
+    /// The planned placement, where it is the least one of the part.
+    fn planned_floor(
+        &self,
+        alloc: Global,
+        part: &Part,
+    ) -> Result<Option<Arc<Forbidden>>, AllocError>
+        ensures { IfOk result (λ found. IfSome found (λ f. IsPostable self.now.test (arc_value f) × (placement_in f ≡ floor part.now))) }
+    {
+        let Some(planned) = &self.planned else {
+            return Ok(None);
+        };
+        let floor = part.floor(alloc)?;
+        if !is_same(planned.placement.as_slice(), floor.as_slice()) {
+            return Ok(None);
+        }
+        Ok(Some(Arc::try_clone(planned)?))
+    }
+
+    /// The number among the children of the node, once it is split, of that under which the planned placement stands.
+    pub fn planned_child(&self, taken: &Taken) -> Option<usize> {
+        let planned = self.planned.as_ref()?;
+        let slot = taken.part.first_undecided()?;
+        if !is_under(&taken.part, &planned.placement) {
+            return None;
+        }
+        let prices = &self.judge.question().prices;
+        Some(number_of(prices, planned.placement.get(slot)))
     }
 
     /// Was the board looked at?
@@ -204,8 +328,11 @@ impl Scout {
         requires { slots_in_part (arc_value taken.now.part) ≡ slots self.old.test }
         ensures value { self.new ≡ self.old }
         ensures made { IfOk result (λ found. IfSome found (IsTry self.old)) }
-        ensures err { IsOkUnless result Fault.Memory }
+        ensures err { IfErr result (λ f. f ≢ Fault.Memory → IsCandidateFault self.old.test f) }
     {
+        if let Some(planned) = self.planned_floor(alloc, &taken.part)? {
+            return Ok(Some(Event::Post(taken.node, planned)));
+        }
         let found = judge_floor(alloc, &mut self.judge, &mut self.store, &taken.part)?;
         let Some(forbidden) = found else {
             return Ok(None);
@@ -220,10 +347,13 @@ impl Scout {
         ensures value { self.new ≡ self.old }
         ensures made { IfOk result (IsTry self.old) }
         ensures last { IfOk result (IsLast self.old.test taken.now.node (arc_value taken.now.part)) }
-        ensures err { IsOkUnless result Fault.Memory }
+        ensures err { IfErr result (λ f. f ≢ Fault.Memory → IsCandidateFault self.old.test f) }
     {
         if let Some(slot) = taken.part.first_undecided() {
             return Ok(Event::Split(taken.node, slot));
+        }
+        if let Some(planned) = self.planned_floor(alloc, &taken.part)? {
+            return Ok(Event::Post(taken.node, planned));
         }
         let floor = taken.part.floor(alloc)?;
         let verdict = self.judge.verdict(alloc, &floor, &[])?;
@@ -246,7 +376,7 @@ impl Scout {
         requires { slots_in_part (arc_value taken.now.part) ≡ slots self.old.test }
         ensures value { self.new ≡ self.old }
         ensures made { IfOk result (λ found. IfSome found (IsTry self.old)) }
-        ensures err { IsOkUnless result Fault.Memory }
+        ensures err { IfErr result (λ f. f ≢ Fault.Memory → IsCandidateFault self.old.test f) }
     {
         match way {
             Way::Cost => Ok(Some(Event::CutCost(taken.node))),

@@ -7,11 +7,12 @@ ghost use Rattle.fs_kinds.specs.PriceTable.{IsPriceTable, are_offered, cost};
 ghost use Rattle.fs_model.specs.Test.{IsBounded, IsStart};
 ghost use Rattle.fs_model.specs.Slots.{slots};
 ghost use Rattle.fs_model.specs.Allows.{Allows};
+ghost use Rattle.fs_answer.specs.CandidateFaults.{IsCandidateFault};
 ghost use Rattle.fs_history.specs.Board.{is_finished};
 ghost use Rattle.fs_history.specs.Sizes.{HasNoRunFault};
 ghost use Rattle.fs_evidence.specs.Evidence.{placement_in};
 ghost use Rattle.fs_judge.specs.Verdicts.{IsVerdict};
-ghost use Rattle.fs_search.specs.Answers.{IsAnswer, IsAtAnEnd, IsSolveFault, Rests, placement_of};
+ghost use Rattle.fs_search.specs.Answers.{IsAnswer, IsAtAnEnd, IsEndFault, IsSolveFault, Rests, placement_of};
 ghost use Rattle.fs_search.specs.Histories.{GoesOn};
 
 use crate::answer::{Answer, Solved};
@@ -37,7 +38,7 @@ fn fenced(prices: &Prices, forbidden: Arc<Forbidden>) -> Answer
 fn verdict_on_none(alloc: Global, problem: &Problem) -> Result<Verdict, Fault>
     requires { IsBounded problem.now.test }
     ensures ok { IfOk result (λ v. IsVerdict problem.now.test (all_with None (slots problem.now.test)) v) }
-    ensures err { IsOkUnless result Fault.Memory }
+    ensures err { IfErr result (λ f. f ≢ Fault.Memory → IsCandidateFault problem.now.test f) }
 {
     let places = slots(alloc, &problem.question().test)?;
     let placement = Placement::bottom(alloc, &places)?;
@@ -48,7 +49,7 @@ fn verdict_on_none(alloc: Global, problem: &Problem) -> Result<Verdict, Fault>
 fn verdict_on_all(alloc: Global, problem: &Problem) -> Result<Verdict, Fault>
     requires { IsBounded problem.now.test }
     ensures ok { IfOk result (λ v. IsVerdict problem.now.test (all_with (Some Kind.RwRw) (slots problem.now.test)) v) }
-    ensures err { IsOkUnless result Fault.Memory }
+    ensures err { IfErr result (λ f. f ≢ Fault.Memory → IsCandidateFault problem.now.test f) }
 {
     let places = slots(alloc, &problem.question().test)?;
     let placement = Placement::top(alloc, &places)?;
@@ -81,7 +82,7 @@ fn answer_of(alloc: Global, problem: &Problem, board: &Board) -> Result<Answer, 
     requires finished { is_finished board.now.board ≡ true }
     ensures ok { IfOk result (λ a. IsAnswer problem.now.test problem.now.prices a) }
     ensures bound { IfOk result (λ a. board.now.board.bound ≡ placement_of a) }
-    ensures err { IsOkUnless result Fault.Memory }
+    ensures err { IfErr result (λ f. f ≢ Fault.Memory → IsCandidateFault problem.now.test f) }
 {
     let _legal = board.log();
     if let Some(answer) = posted_answer(board)? {
@@ -102,9 +103,7 @@ fn answer_by_ends(alloc: Global, problem: &Problem) -> Result<Solved, Fault>
     ensures ok { IfOk result (λ s. IsAnswer problem.now.test problem.now.prices s.answer) }
     ensures board { IfOk result (λ s. s.board ≡ None) }
     ensures ends { IfOk result (λ s. IsAtAnEnd problem.now.test s.answer) }
-    ensures err { IfErr result (λ f. f ≢ Fault.Memory → (f ≡ Fault.NodeLimit)
-        × Allows problem.now.test (all_with None (slots problem.now.test))
-        × (Allows problem.now.test (all_with (Some Kind.RwRw) (slots problem.now.test)) → ⊥)) }
+    ensures err { IfErr result (λ f. f ≢ Fault.Memory → IsEndFault problem.now.test f) }
 {
     let on_all = verdict_on_all(alloc, problem)?;
     if let Verdict::Allowed(witness) = on_all {

@@ -51,11 +51,18 @@ impl Model for Store {
 /// A stored witness that shows the outcome under a node's least placement: how many slots of the node are breakable for it, what its
 /// least break lacks to the greatest number, its number, and the breakable slots as bits. The least one is tried first.
 #[derive(Clone, Copy, PartialEq, Eq, PartialOrd, Ord)]
-struct Offer {
+pub(crate) struct Offer {
     slots: u32,
     lack: u64,
     number: usize,
     places: u64,
+}
+
+impl Offer {
+    /// The number of the first slot that is breakable.
+    pub(crate) fn first_place(&self) -> usize {
+        self.places.trailing_zeros() as usize
+    }
 }
 
 /// What the cheapest offered kind costs that orders a pair at the slot which isn't among these.
@@ -74,7 +81,7 @@ fn least_break(prices: &Prices, slot: Slot, kept: Pairs) -> u64 {
 }
 
 /// What the placement costs, as far as numbers go.
-fn cost(prices: &Prices, placement: &[Entry]) -> u64 {
+pub(crate) fn cost(prices: &Prices, placement: &[Entry]) -> u64 {
     let mut total: u64 = 0;
     for entry in placement {
         if let Some(kind) = entry.kind {
@@ -210,7 +217,7 @@ impl Store {
     ) -> Result<(), AllocError>
         ensures { (t : Test) → AreWitnesses t self.now → AreWitnesses t (map arc_value picked.old.items) → AreWitnesses t (map arc_value picked.new.items) }
     {
-        if offer.places & sum.places != 0 {
+        if !sum.is_apart(offer) {
             return Ok(());
         }
         let Some(witness) = self.get(offer.number) else {
@@ -224,7 +231,7 @@ impl Store {
 
     /// What the witnesses offer that show the outcome under a node's least placement: those first that are breakable at the fewest slots,
     /// and of these those whose least break is the highest.
-    fn offers(
+    pub(crate) fn offers(
         &self,
         alloc: Global,
         floor: &Codes,
@@ -254,15 +261,13 @@ impl Store {
         let floor = part.floor(alloc)?;
         let codes = Codes::of_placement(floor.as_slice());
         let offers = self.offers(alloc, &codes, part.as_slice())?;
-        let limit = Limit::of(prices, bound, floor.as_slice());
-        let mut sum = Sum {
-            total: cost(prices, floor.as_slice()),
-            places: 0,
-        };
+        let best = bound.map(|bound| bound.placement.as_slice());
+        let limit = Limit::of(prices, best, floor.as_slice());
+        let mut sum = Sum::of(cost(prices, floor.as_slice()));
         let mut picked = Vec::new(alloc);
         for offer in &offers {
             self.take(&mut picked, &mut sum, offer)?;
-            if limit.is_passed(sum.total) {
+            if sum.passes(&limit) {
                 return Ok(picked);
             }
         }
@@ -286,47 +291,57 @@ fn breaks_of(
 
 /// What breaking the witnesses that were taken costs, with the node's least placement, and where they are breakable.
 #[derive(Clone, Copy)]
-struct Sum {
+pub(crate) struct Sum {
     total: u64,
     places: u64,
 }
 
 impl Sum {
+    /// A least placement of this cost, and no witness yet.
+    pub(crate) fn of(cost: u64) -> Sum {
+        Sum {
+            total: cost,
+            places: 0,
+        }
+    }
+
+    /// Does the witness share no breakable slot with those that were taken?
+    pub(crate) fn is_apart(&self, offer: &Offer) -> bool {
+        offer.places & self.places == 0
+    }
+
     /// Takes one more.
-    fn add(&mut self, offer: &Offer) {
+    pub(crate) fn add(&mut self, offer: &Offer) {
         self.total = self.total.saturating_add(NEVER.saturating_sub(offer.lack));
         self.places |= offer.places;
+    }
+
+    /// Does so much close the node?
+    pub(crate) fn passes(&self, limit: &Limit) -> bool {
+        limit.cost < self.total || limit.is_enough && limit.cost == self.total
     }
 }
 
 /// What a node must cost to be closed: at least so much, or more.
 #[derive(Clone, Copy)]
-struct Limit {
+pub(crate) struct Limit {
     cost: u64,
     is_enough: bool,
 }
 
 impl Limit {
-    /// The limit at a node of this floor: at equal cost the bound wins where the floor isn't before it. With no bound it is what can't be
-    /// had at all.
-    fn of(prices: &Prices, bound: Option<&Arc<Forbidden>>, floor: &[Entry]) -> Limit {
-        match bound {
+    /// The limit at a node of this floor: at equal cost the best placement so far wins where the floor isn't before it. Where there is
+    /// none it is what can't be had at all.
+    pub(crate) fn of(prices: &Prices, best: Option<&[Entry]>, floor: &[Entry]) -> Limit {
+        match best {
             None => Limit {
                 cost: NEVER,
                 is_enough: true,
             },
-            Some(bound) => {
-                let best = bound.placement.as_slice();
-                Limit {
-                    cost: cost(prices, best),
-                    is_enough: !is_before(floor, best),
-                }
-            }
+            Some(best) => Limit {
+                cost: cost(prices, best),
+                is_enough: !is_before(floor, best),
+            },
         }
-    }
-
-    /// Does so much close the node?
-    fn is_passed(self, total: u64) -> bool {
-        self.cost < total || self.is_enough && self.cost == total
     }
 }

@@ -1,10 +1,9 @@
-//! The search: depth first, none first, at the first undecided slot.
+//! The search: depth first, the planned child first and then none, at the first undecided slot.
 
-ghost use Rattle.std.specs.Prelude.{◌≡◌, ◌≢◌, ◌<◌, IfErr, OnOk, length, true};
+ghost use Rattle.std.specs.Prelude.{◌≡◌, ◌≢◌, IfErr, OnOk, true};
 ghost use Rattle.std.specs.Arc.{arc_value};
-ghost use Rattle.fs_model.specs.Slots.{slots};
 ghost use Rattle.fs_history.specs.Board.{is_finished};
-ghost use Rattle.fs_history.specs.Sizes.{tree_size};
+ghost use Rattle.fs_search.specs.Answers.{IsSearchFault};
 ghost use Rattle.fs_search.specs.Histories.{GoesOn};
 ghost use Rattle.fs_search.specs.inner.Steps.{MovesOn, IsTaken};
 
@@ -30,9 +29,9 @@ fn finish_node(
     ensures scout { scout.new ≡ scout.old }
     ensures goes { GoesOn board.old board.new }
     ensures ok { OnOk result (MovesOn board.old board.new) }
-    ensures err { IfErr result (λ f. f ≢ Fault.Memory → (f ≡ Fault.NodeLimit)
-        × (board.old.board.limit < tree_size board.old.question.prices (length (slots board.old.question.test)))) }
+    ensures err { IfErr result (λ f. f ≢ Fault.Memory → IsSearchFault board.old f) }
 {
+    scout.prepare(alloc, taken)?;
     scout.see_bound(board.bound())?;
     for way in TRIES {
         if try_way(alloc, board, scout, way, taken)? {
@@ -43,20 +42,20 @@ fn finish_node(
 }
 
 /// Searches until the board is finished, whatever open and held nodes it has: a child of its own first, then any open node, then any that
-/// is held, whoever holds it. It works as worker 0. F16 where a split is refused for want of nodes, and then the tree of all placements
-/// has more nodes below its root than the limit; else F19.
+/// is held, whoever holds it. It works as worker 0, and makes a plan before the first node. F16 where a split is refused for want of
+/// nodes, and then the tree of all placements has more nodes below its root than the limit; F13 to F15 where a verdict can't be made for
+/// the candidates; else F19.
 ///
 /// There are no more nodes than the board's limit allows. At each one, the stored witnesses are held against it by four bits a slot, and
 /// those that show the outcome under its least placement are sorted. Where they don't close it, the judge is asked for a look, and where
-/// that finds nothing for a verdict, which makes and judges every candidate anew.
+/// that finds nothing for a verdict, unless the plan has it.
 pub fn search(alloc: Global, problem: Arc<Problem>, board: &mut Board) -> Result<(), Fault>
     requires { board.old.question ≡ arc_value problem }
     ensures goes { GoesOn board.old board.new }
     ensures ok { OnOk result (is_finished board.new.board ≡ true) }
-    ensures err { IfErr result (λ f. f ≢ Fault.Memory → (f ≡ Fault.NodeLimit)
-        × (board.old.board.limit < tree_size board.old.question.prices (length (slots board.old.question.test)))) }
+    ensures err { IfErr result (λ f. f ≢ Fault.Memory → IsSearchFault board.old f) }
 {
-    let mut scout = Scout::new(alloc, problem);
+    let mut scout = Scout::planner(alloc, problem);
     let mut children = Vec::new(alloc);
     while let Some(taken) = next_node(board, &mut children)? {
         finish_node(alloc, board, &mut scout, &mut children, &taken)?;

@@ -5,13 +5,8 @@ use Rattle.fs_evidence.specs.Evidence.{Question}
 use Rattle.fs_board.specs.View.{Search}
 use Rattle.fs_search.specs.Answers.{IsAnswer, IsAtAnEnd, IsAtLimit, IsBoardOf}
 use Rattle.fs_search.specs.Histories.{GoesOn}
-use Rattle.fs_search.proofs.Ends.{handed, limit-fault, limit-not-memory}
+use Rattle.fs_search.proofs.Ends.{handed, limit-fault, limit-met, limit-not-memory}
 use Rattle.fs_search.proofs.solving.conclude.Goals as goal
-
--- the tree of what is asked is larger than the limit
-large-tree : (s : Search) (q : Question) → s.question ≡ q → s.board.limit < tree_size s.question.prices (length (slots s.question.test))
-    → s.board.limit < tree_size q.prices (length (slots q.test))
-large-tree s q same large = subst (λ (x : Question). s.board.limit < tree_size x.prices (length (slots x.test))) same large
 
 pub returns-in_err-solved-in-Err-NodeLimit-clause-err : goal.returns-in_err-solved-in-Err-NodeLimit-clause-err
 returns-in_err-solved-in-Err-NodeLimit-clause-err c =
@@ -19,7 +14,7 @@ returns-in_err-solved-in-Err-NodeLimit-clause-err c =
     let there = c.in-Err-NodeLimit.ensures.err (limit-not-memory c.in-Err-NodeLimit.field-0 c.in-Err-NodeLimit.field-0-is) in
     handed c.from_residual-in_err-solved-in-Err-NodeLimit.result _ _ c.from_residual-in_err-solved-in-Err-NodeLimit.ensures.1
     (λ other. limit-fault q c.deref-in-Err-NodeLimit.result.now c.args.board.board.limit _ c.deref-in-Err-NodeLimit.ensures c.requires.clean
-    (large-tree c.args.board q c.requires.same there.1) (c.in_err-solved-in-Err-NodeLimit.ensures.err other))
+    (limit-met c.args.board q c.in-Err-NodeLimit.field-0 c.requires.same c.in-Err-NodeLimit.field-0-is c.requires.clean there) (c.in_err-solved-in-Err-NodeLimit.ensures.err other))
 
 pub returns-in-Err-NodeLimit-clause-ok : goal.returns-in-Err-NodeLimit-clause-ok
 returns-in-Err-NodeLimit-clause-ok c =
@@ -34,7 +29,7 @@ returns-in-Err-NodeLimit-clause-rests c =
     let there = c.in-Err-NodeLimit.ensures.err (limit-not-memory c.in-Err-NodeLimit.field-0 c.in-Err-NodeLimit.field-0-is) in
     subst (λ (b : Option Search). MatchOption b (IsAtLimit q limit solved.answer) (IsBoardOf q limit solved.answer))
     (sym c.in_ok-solved-in-Err-NodeLimit.ensures.board) (record {
-      large = large-tree c.args.board q c.requires.same there.1;
+      large = limit-met c.args.board q c.in-Err-NodeLimit.field-0 c.requires.same c.in-Err-NodeLimit.field-0-is c.requires.clean there;
       ends = subst (λ (x : Question). IsAtAnEnd x.test solved.answer) c.deref-in-Err-NodeLimit.ensures c.in_ok-solved-in-Err-NodeLimit.ensures.ends;
     })
 

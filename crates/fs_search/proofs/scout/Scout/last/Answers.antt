@@ -8,12 +8,13 @@ use Rattle.fs_bound.specs.Bounds.{slots_in_part}
 use Rattle.fs_evidence.specs.Evidence.{Question}
 use Rattle.fs_judge.specs.Verdicts.{IsVerdict}
 use Rattle.fs_search.proofs.Parts.{floor-slots, leaf-shown}
+use Rattle.fs_search.proofs.Scouts.{known-still}
 use Rattle.fs_search.proofs.scout.Scout.last.Goals as goal
 
 pub verdict-requires : goal.verdict-requires
 verdict-requires c =
-    floor-slots c.deref-2.result.now c.in_ok-floor.floor _ c.in_ok-floor.ensures
-    (ap slots_in_part c.deref-2.ensures ∙ (c.requires ∙ ap (λ (q : Question). slots q.test) (sym c.self.view_is)))
+    floor-slots c.deref-3.result.now c.in_ok-floor.floor _ c.in_ok-floor.ensures
+    (ap slots_in_part c.deref-3.ensures ∙ (c.requires ∙ ap (λ (q : Question). slots q.test) (sym c.self.view_is)))
 
 pub returns-in-Allowed-clause-last : goal.returns-in-Allowed-clause-last
 returns-in-Allowed-clause-last c =
@@ -25,6 +26,16 @@ returns-in-Allowed-clause-last c =
     let shown = subst (IsVerdict c.self.inside.judge.test c.in_ok-floor.floor) c.in-Allowed.is c.in_ok-verdict.ensures.ok in (
       refl,
       subst (λ (q : Question). IsShownBy q.test (filled part) v.witness) c.self.view_is
-          (leaf-shown c.self.inside.judge.test part c.in_ok-floor.floor w v none (c.in_ok-floor.ensures ∙ ap floor c.deref-2.ensures)
+          (leaf-shown c.self.inside.judge.test part c.in_ok-floor.floor w v none (c.in_ok-floor.ensures ∙ ap floor c.deref-3.ensures)
           c.in_ok-shared-in-Allowed.ensures.ok shown),
     )
+
+pub invariant_of-self-in_err-new-in-Forbids : goal.invariant_of-self-in_err-new-in-Forbids
+invariant_of-self-in_err-new-in-Forbids c =
+    known-still c.verdict.new.self c.self.inside.judge c.self.inside.store c.self.inside.planned c.in_ok-verdict.ensures.value c.self.invariant.0
+    c.self.invariant.1
+
+pub invariant_of-self-2 : goal.invariant_of-self-2
+invariant_of-self-2 c =
+    known-still c.verdict.new.self c.self.inside.judge c.self.inside.store c.self.inside.planned c.in_ok-verdict.ensures.value c.self.invariant.0
+    c.self.invariant.1
