@@ -17,5 +17,5 @@ mod runs;
 mod showing;
 mod total;
 
-pub use candidates::showing_of;
+pub use candidates::{check_number, showing_of};
 pub use showing::Showing;

@@ -3,7 +3,7 @@ use Rattle.fs_model.specs.declared.test.Test.{Test}
 use Rattle.fs_model.specs.Execution.{initial_words}
 use Rattle.fs_cand.specs.Candidates.{candidate_of, IsMade}
 use Rattle.fs_judge.proofs.Prepared.{showing_at}
-use Rattle.fs_judge.proofs.survey.judged_anew.Goals as goal
+use Rattle.fs_judge.proofs.listed.judged_at.Goals as goal
 
 pub judged-requires-clause-showing : goal.judged-requires-clause-showing
 judged-requires-clause-showing c =

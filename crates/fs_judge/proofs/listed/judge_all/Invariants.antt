@@ -3,7 +3,7 @@ use Rattle.std.specs.Prelude.{slice_get}
 use Rattle.fs_answer.specs.Candidates.{Candidate}
 use Rattle.fs_answer.specs.Certificate.{Link}
 use Rattle.fs_answer.specs.Cycles.{IsCycle}
-use Rattle.fs_judge.proofs.survey.judge_all.Given as goal
+use Rattle.fs_judge.proofs.listed.judge_all.Given as goal
 
 -- a cycle for each candidate so far
 abbrev pub invariant-loop-number : goal.invariant-loop-number

@@ -8,7 +8,7 @@ use Rattle.fs_decide.proofs.Deciding.{cycles_forbid_all}
 use Rattle.fs_judge.specs.inner.Findings.{IsFinding}
 use Rattle.fs_judge.proofs.Linked.{longer, more}
 use Rattle.fs_judge.proofs.Prepared.{item_at, zipped}
-use Rattle.fs_judge.proofs.survey.judge_all.Goals as goal
+use Rattle.fs_judge.proofs.listed.judge_all.Goals as goal
 
 pub loop-number-preserved : goal.loop-number-preserved
 loop-number-preserved c =
