@@ -10,9 +10,11 @@ use Rattle.fs_model.specs.Slots.{slots}
 use Rattle.fs_model.specs.Execution.{Execution}
 use Rattle.fs_model.specs.Preserved.{Rule1, Rule2, Rule3, Rule4, Rule5, Rule6, Rule7, Rule8, Rule9, Rule10, Rule11, Rule12, Rule13}
 use Rattle.fs_model.specs.Witness.{Witness}
-use Rattle.fs_answer.specs.Certificate.{Link}
+use Rattle.fs_answer.specs.CandidateFaults.{HasNoCyclesFault}
+use Rattle.fs_answer.specs.Certificate.{Cycles}
 use Rattle.fs_answer.specs.Judged.{Cause, Preserved, ReadsFrom, Coherence, FromReads}
 use Rattle.fs_answer.specs.Shown.{ShowsAs}
+use Rattle.fs_answer.specs.Valid.{Forbid}
 use Rattle.fs_answer.specs.Widths.{Width, width}
 use Rattle.fs_evidence.specs.declared.evidence.Pairs.{Pairs}
 use Rattle.fs_evidence.specs.declared.evidence.Cause.{Cause as CodeCause}
@@ -28,10 +30,10 @@ pub record Shown : Type 0 where
   pub witness : Witness
   pub widths : List Pairs
 
--- a placement, with a cycle for each showing candidate
+-- a placement, with a cycle for each showing candidate, or with a refutation
 pub record Refuted : Type 0 where
   pub placement : List Entry
-  pub cycles : List (List Link)
+  pub cycles : Cycles
 
 -- the set of pairs, as a test of pairs
 abbrev pub keeps : Pairs → Pair → Bool
@@ -57,6 +59,11 @@ pub record IsWitnessFor (t : Test) (shown : Shown) (e : Execution) : Type 0 wher
   pub shows : ShowsAs t [] shown.witness e
   pub only : (other : Execution) → ShowsAs t [] shown.witness other → other ≡ e
   pub widths : shown.widths ≡ widths_of (width t e) (slots t)
+
+-- what comes with the placement shows that it forbids the outcome, and no fault is in the way of judging that
+pub record ShowsForbidden (t : Test) (f : Refuted) : Type 0 where
+  pub forbid : Forbid t f.placement f.cycles
+  pub judged : HasNoCyclesFault f.cycles t
 
 -- what is behind an `Arc`
 module _ {A : Type 0} where

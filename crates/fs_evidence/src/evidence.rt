@@ -1,5 +1,6 @@
 //! What shows that a placement allows the outcome, or that it forbids it.
 
+use crate::inference::Inference;
 use fs_answer::ChoiceLists;
 use fs_kinds::{OperationName, Placement};
 use fs_list::List;
@@ -69,10 +70,16 @@ impl Model for Link {
     ghost view = { λ link. record { operation = link.operation; cause = cause_of link.cause } };
 }
 
-/// A cycle for each showing candidate execution, in their order.
-pub type Cycles = List<List<Link>>;
+/// What shows that a placement forbids the outcome.
+#[derive(Drop)]
+pub enum Cycles {
+    /// A cycle for each showing candidate execution, in their order.
+    Listed(List<List<Link>>),
+    /// The steps of a refutation.
+    Inferred(List<Inference>),
+}
 
-/// A placement that forbids the outcome, with a cycle for each showing candidate execution.
+/// A placement that forbids the outcome, with what shows it.
 #[derive(Drop)]
 pub struct Forbidden {
     pub placement: Placement,
@@ -81,8 +88,9 @@ pub struct Forbidden {
 
 impl Model for Forbidden {
     ghost use Rattle.fs_evidence.specs.Evidence.{Refuted};
+    ghost use Rattle.fs_evidence.specs.Inferences.{cycles_of};
 
     ghost Value = { Refuted };
 
-    ghost view = { λ f. record { placement = f.placement; cycles = f.cycles } };
+    ghost view = { λ f. record { placement = f.placement; cycles = cycles_of f.cycles } };
 }
