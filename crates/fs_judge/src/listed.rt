@@ -94,6 +94,6 @@ pub(crate) fn verdict_by_list(
     let showing = showing_of(alloc, Arc::try_clone(test)?)?;
     match judge_all(alloc, test, &showing, placement, first)? {
         Survey::Survives(witness) => Ok(Verdict::Allowed(witness)),
-        Survey::Cycles(cycles) => Ok(forbidden(placement, Cycles::Listed(cycles))?),
+        Survey::Cycles(cycles) => forbidden(placement, Cycles::Listed(cycles)),
     }
 }

@@ -124,7 +124,7 @@ impl Problem {
         ensures ok { IfOk result (IsVerdict self.now.test placement.now) }
         ensures err { IsOkUnless result Memory }
     {
-        Ok(forbidden(placement, Cycles::Inferred(inferences))?)
+        forbidden(placement, Cycles::Inferred(inferences))
     }
 
     // The verdict where the candidate has no cycle with the placed fences; else that by the list of candidates.

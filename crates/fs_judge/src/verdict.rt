@@ -4,12 +4,12 @@ ghost use Rattle.std.specs.Prelude.{IfOk, IsOkUnless};
 ghost use Rattle.fs_kinds.specs.declared.fault.Fault.TheVariants.{Memory};
 ghost use Rattle.fs_model.specs.declared.test.Test.{Test};
 ghost use Rattle.fs_model.specs.Allows.{Allows};
-ghost use Rattle.fs_evidence.specs.Evidence.{IsForbidden};
+ghost use Rattle.fs_evidence.specs.Evidence.{ShowsForbidden};
+ghost use Rattle.fs_evidence.specs.Inferences.{cycles_of};
 ghost use Rattle.fs_judge.specs.Verdicts.{IsVerdict};
 
 use fs_evidence::{Cycles, Forbidden, Witness};
 use fs_kinds::{Fault, Placement};
-use std::alloc::AllocError;
 
 /// Whether a placement forbids the outcome.
 #[derive(Drop)]
@@ -20,10 +20,11 @@ pub enum Verdict {
     Forbids(Forbidden),
 }
 
-// The placement forbids the outcome, as this shows.
-pub(crate) fn forbidden(placement: &Placement, cycles: Cycles) -> Result<Verdict, AllocError>
-    ensures { (t : Test) → IsForbidden t (record { placement = placement.now; cycles = cycles }) → (Allows t placement.now → ⊥)
+// The placement forbids the outcome, as this shows. The error is F19.
+pub(crate) fn forbidden(placement: &Placement, cycles: Cycles) -> Result<Verdict, Fault>
+    ensures ok { (t : Test) → ShowsForbidden t (record { placement = placement.now; cycles = cycles_of cycles }) → (Allows t placement.now → ⊥)
         → IfOk result (IsVerdict t placement.now) }
+    ensures err { IsOkUnless result Memory }
 {
     let placement = placement.copy()?;
     Ok(Verdict::Forbids(Forbidden { placement, cycles }))

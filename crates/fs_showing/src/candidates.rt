@@ -39,6 +39,7 @@ pub fn showing_of(alloc: Global, test: Arc<Test>) -> Result<Showing, Fault>
 // Checks that there are neither too many candidates of the test nor too many lists of runs, where these are its value sets.
 fn check_over(alloc: Global, test: &Test, values: &Values) -> Result<(), Fault>
     requires test { IsBounded test.now }
+    requires starts { All IsStart test.now.starts }
     requires sets { AreValues test.now values.now }
     requires clean { HasNoFault test.now (IsOffered values.now) }
     ensures clean { OnOk result (HasTooMany test.now → ⊥) }
