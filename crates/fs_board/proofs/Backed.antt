@@ -4,16 +4,16 @@ use Rattle.std.specs.Prelude.{Result, Ok, Err, IfOk, if◌then◌else◌, option
 use Rattle.fs_model.specs.declared.test.Test.{Test}
 use Rattle.std.specs.declared.sync.Arc.{Arc}
 use Rattle.std.specs.Arc.{arc_value}
-use Rattle.fs_evidence.specs.Evidence.{Shown, Refuted, witness_in, placement_in}
+use Rattle.fs_evidence.specs.Evidence.{Shown, Refuted, ShowsForbidden, witness_in, placement_in}
 use Rattle.fs_tree.proofs.Places.{at-append}
-use Rattle.fs_board.specs.Growth.{IsBound, AreWitnesses, IsBacked}
+use Rattle.fs_board.specs.Growth.{AreWitnesses, IsBacked}
 
 pub best_kept : (better : Bool) (f : Refuted) (bound : Option Refuted)
     → option_map (λ g. g.placement) (if better then Some f else bound) ≡ (if better then Some f.placement else option_map (λ g. g.placement) bound)
 best_kept true f bound = refl
 best_kept false f bound = refl
 
-pub backed_bound : (t : Test) (f : Refuted) (bound : Option Refuted) (ws : List Shown) (better : Bool) → IsBound t f → IsBacked t bound ws
+pub backed_bound : (t : Test) (f : Refuted) (bound : Option Refuted) (ws : List Shown) (better : Bool) → ShowsForbidden t f → IsBacked t bound ws
     → IsBacked t (if better then Some f else bound) ws
 backed_bound t f bound ws true is was = record { bound = is; witnesses = was.witnesses }
 backed_bound t f bound ws false is was = was

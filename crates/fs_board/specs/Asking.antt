@@ -3,9 +3,8 @@ use Rattle.std.specs.Prelude.{option_map, map}
 use Rattle.std.specs.Arc.{arc_value}
 use Rattle.fs_model.specs.Allows.{Allows}
 use Rattle.fs_model.specs.Execution.{Execution}
-use Rattle.fs_answer.specs.Cycles.{HasCycles}
 use Rattle.fs_tree.specs.Trees.{IsPart}
-use Rattle.fs_evidence.specs.Evidence.{Question, IsWitnessFor, placement_in}
+use Rattle.fs_evidence.specs.Evidence.{Question, IsWitnessFor, ShowsForbidden, placement_in}
 use Rattle.fs_board.specs.declared.event.Event.{Event}
 use Rattle.fs_board.specs.declared.event.Event.TheVariants as event
 use Rattle.fs_board.specs.declared.event.Reply.{Reply}
@@ -16,7 +15,7 @@ use Rattle.fs_board.specs.Growth.{IsBacked, AreWitnesses}
 abbrev pub IsMade : Question → Event → Type 0
 IsMade q (event.CutWitness k w) = (e : Execution) × IsWitnessFor q.test (arc_value w) e
 IsMade q (event.CutBound k ws) = AreWitnesses q.test (map arc_value ws)
-IsMade q (event.Post k f) = HasCycles q.test (placement_in f) (arc_value f).cycles × (Allows q.test (placement_in f) → ⊥)
+IsMade q (event.Post k f) = ShowsForbidden q.test (arc_value f) × (Allows q.test (placement_in f) → ⊥)
 IsMade q event = Unit {0}
 
 -- The part of a node that is handed out is one of the question. What a peek shows is witnesses with their widths, and a placement with its

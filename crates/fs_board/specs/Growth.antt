@@ -6,9 +6,8 @@ use Rattle.fs_model.specs.declared.test.Test.{Test}
 use Rattle.fs_model.specs.Allows.{is_better}
 use Rattle.fs_model.specs.Execution.{Execution}
 use Rattle.fs_answer.specs.Parts.{Part}
-use Rattle.fs_answer.specs.Cycles.{HasCycles}
 use Rattle.fs_history.specs.Board.{Board, Node, Status, Open}
-use Rattle.fs_evidence.specs.Evidence.{Shown, Refuted, IsWitnessFor}
+use Rattle.fs_evidence.specs.Evidence.{Shown, Refuted, IsWitnessFor, ShowsForbidden}
 
 -- the nodes, the bound with its cycles, the witnesses with their widths, and the greatest number that a node may have
 pub record Tree : Type 0 where
@@ -26,17 +25,13 @@ board_of t = record {
   limit = t.limit;
 }
 
--- the bound has a cycle for each showing candidate
-abbrev pub IsBound : Test → Refuted → Type 0
-IsBound t f = HasCycles t f.placement f.cycles
-
 -- each of them is the witness of an execution, with its widths
 abbrev pub AreWitnesses : Test → List Shown → Type 0
 AreWitnesses t shown = (k : ℕ) (w : Shown) → slice_get shown k ≡ Some w → (e : Execution) × IsWitnessFor t w e
 
 -- the bound and the witnesses are what they are taken for
 pub record IsBacked (t : Test) (best : Option Refuted) (shown : List Shown) : Type 0 where
-  pub bound : IfSome best (IsBound t)
+  pub bound : IfSome best (ShowsForbidden t)
   pub witnesses : AreWitnesses t shown
 
 abbrev pub open_node : Part → Node

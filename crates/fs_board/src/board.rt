@@ -8,12 +8,11 @@ ghost use Rattle.fs_model.specs.Allows.{Allows};
 ghost use Rattle.fs_model.specs.Execution.{Execution};
 ghost use Rattle.fs_answer.specs.Parts.{Part as PartValue, floor};
 ghost use Rattle.fs_answer.specs.Pruning.{is_no_better};
-ghost use Rattle.fs_answer.specs.Cycles.{HasCycles};
 ghost use Rattle.fs_history.specs.Board.{Node as NodeValue, Event as EventValue, Reply as ReplyValue, Take, Claim, Adopt, SplitAt, CutCost, CutWitness, CutBound, Post, Peek, Given, Seen, Closed, Held, is_open, is_held, has_node, part_at, opening, with_status};
 ghost use Rattle.fs_history.specs.Histories.{Steps, IsHistory, with_witnesses};
 ghost use Rattle.fs_board.specs.Counts.{count_of};
-ghost use Rattle.fs_evidence.specs.Evidence.{Shown, IsWitnessFor, witness_in, placement_in};
-ghost use Rattle.fs_board.specs.Growth.{IsBound, AreWitnesses, is_best};
+ghost use Rattle.fs_evidence.specs.Evidence.{Shown, IsWitnessFor, ShowsForbidden, witness_in, placement_in};
+ghost use Rattle.fs_board.specs.Growth.{AreWitnesses, is_best};
 ghost use Rattle.fs_board.specs.View.{Answers, status_of, event_of, reply_of};
 ghost use Rattle.fs_board.specs.Asking.{IsMade, Tells};
 ghost use Rattle.fs_board.specs.inner.Breaks.{is_bounded, widths_in};
@@ -32,8 +31,8 @@ use std::alloc::{AllocError, Global};
 use std::marker::Model;
 use std::sync::Arc;
 
-/// The nodes of a search, with the log of all events. The log is a legal history, and leads to the nodes as they are. The bound has a
-/// cycle for each showing candidate, and each witness is one of an execution of the test, with its widths.
+/// The nodes of a search, with the log of all events. The log is a legal history, and leads to the nodes as they are. The bound has what
+/// shows that it forbids the outcome, and each witness is one of an execution of the test, with its widths.
 #[derive(Drop)]
 pub struct Board {
     question: Arc<Question>,
@@ -130,10 +129,10 @@ impl Board {
         self.tree.any_held()
     }
 
-    /// The best placement posted, with a cycle for each showing candidate.
+    /// The best placement posted, with what shows that it forbids the outcome.
     pub fn bound(&self) -> Option<&Arc<Forbidden>>
         ensures value { option_map (λ f. placement_in f.now) result ≡ self.now.board.bound }
-        ensures cycles { IfSome result (λ f. IsBound self.now.question.test (arc_value f.now)) }
+        ensures cycles { IfSome result (λ f. ShowsForbidden self.now.question.test (arc_value f.now)) }
     {
         self.tree.bound()
     }
@@ -448,7 +447,7 @@ impl Board {
         node: usize,
         forbidden: Arc<Forbidden>,
     ) -> Result<Reply, AllocError>
-        requires cycles { HasCycles self.old.question.test (placement_in forbidden) (arc_value forbidden).cycles }
+        requires cycles { ShowsForbidden self.old.question.test (arc_value forbidden) }
         requires forbids { Allows self.old.question.test (placement_in forbidden) → ⊥ }
         ensures step { IfOk result (λ r. Answers self.old self.new worker (Post node (placement_in forbidden)) (reply_of r)) }
         ensures err { OnErr result (self.new ≡ self.old) }

@@ -1,6 +1,7 @@
 pub mod Copying
 pub mod Least
 pub mod Made
+pub mod Refutations
 pub mod Runs
 pub mod Sayable
 pub mod Turning

@@ -1,5 +1,5 @@
 -- What is put together is a valid certificate.
-use Rattle.std.proofs.Common.{◌≡◌, ◌≤◌, true, false, not, Some, None, List, [], ◌∷◌, map, length, refl, ap, sym, subst, ◌∙◌, arith}
+use Rattle.std.proofs.Common.{◌≡◌, ◌≢◌, ◌≤◌, true, false, not, Some, None, List, [], ◌∷◌, map, refl, ap, sym, subst, ◌∙◌, arith}
 use Rattle.std.specs.Prelude.{All}
 use Rattle.std.specs.List.{AllZip, AllByRecursion, list_all}
 use Rattle.std.proofs.lemmas.Bool.{and_from}
@@ -18,32 +18,42 @@ use Rattle.fs_answer.specs.declared.witness.WitnessFile.{WitnessFile}
 use Rattle.fs_answer.specs.Parts.{undecided, floor}
 use Rattle.fs_answer.specs.Pruning.{is_pruned}
 use Rattle.fs_answer.specs.Certificate as said
-use Rattle.fs_answer.specs.Certificate.{Certificate, Version, Second, NoneForbids, Listed, Link, Item, fence_words}
+use Rattle.fs_answer.specs.Certificate.{Certificate, First, Second, Fourth, NoneForbids, Cycles, Listed, Inferred, Item, fence_words}
 use Rattle.fs_answer.specs.CertificateFile.{is_sayable, numbers_in, most_number}
-use Rattle.fs_answer.specs.Cycles.{HasCycles, IsCycle, most_links}
-use Rattle.fs_answer.specs.Valid.{Covers, is_costly}
+use Rattle.fs_answer.specs.Valid.{Covers}
 use Rattle.fs_certificate.specs.declared.certificate.Certificate.{Certificate as Kept}
 use Rattle.fs_certificate.specs.declared.certificate.Item.{Item as CodeItem}
-use Rattle.fs_certificate.specs.declared.certificate.CertifiedCycles.TheVariants.{Listed as KeptList}
+use Rattle.fs_certificate.specs.declared.certificate.CertifiedCycles.TheVariants.{Inferred as KeptInferences}
 use Rattle.fs_certificate.specs.Kept.{KeepsCycles, answer_of, version_of, item_of}
 use Rattle.fs_answer.specs.WitnessFile.{KeepsWitness}
 use Rattle.fs_bound.proofs.Floors.{cost-alone}
 use Rattle.fs_bound.proofs.Ranked.{better-irreflexive}
-use Rattle.fs_evidence.specs.Evidence.{Question, Refuted}
-use Rattle.fs_cert.specs.Certified.{Certifies, CertifiesNone}
+use Rattle.fs_evidence.specs.Evidence.{Question, Refuted, ShowsForbidden}
+use Rattle.fs_history.specs.Sizes.{HasNoRunFault}
+use Rattle.fs_cert.specs.Certified.{Certifies, CertifiesNone, version_for}
 use Rattle.fs_cert.specs.inner.Copies.{AreCopiedWitnesses}
 use Rattle.fs_cert.specs.inner.Fenced.{IsFenced}
 use Rattle.fs_cert.specs.inner.Items.{AreSayable}
-use Rattle.fs_cert.proofs.Copying.{zip_all, copies_keep, copies_named, copies_worded}
-use Rattle.fs_cert.proofs.Turning.{are_said}
+use Rattle.fs_cert.proofs.Copying.{copies_keep, copies_named, copies_worded}
+use Rattle.fs_cert.proofs.Refutations.{are_certified}
+use Rattle.fs_cert.proofs.Walk.{pruned_in}
 
 all_from : {X : Type 0} (P : X → Type 0) (xs : List X) → AllByRecursion P xs → All P xs
 all_from P [] each = All-nil P
 all_from P (x ∷ xs) each = All-cons P x xs each.0 (all_from P xs each.1)
 
-items_said : (items : List Item) → AreSayable items → list_all (is_sayable Second) items ≡ true
-items_said [] each = refl
-items_said (item ∷ items) each = and_from _ _ each.0.0 (items_said items each.1)
+-- the fourth version can say the items of the second
+item_said : (cycles : Cycles) (item : Item) → is_sayable Second item ≡ true → is_sayable (version_for cycles) item ≡ true
+item_said (Listed cycles) item is = is
+item_said (Inferred inferences) (said.SplitAt slot) is = is
+item_said (Inferred inferences) said.Costly is = is
+item_said (Inferred inferences) (said.Refuted j) is = is
+item_said (Inferred inferences) (said.Bounded []) is = is
+item_said (Inferred inferences) (said.Bounded (j ∷ js)) is = is
+
+items_said : (cycles : Cycles) (items : List Item) → AreSayable items → list_all (is_sayable (version_for cycles)) items ≡ true
+items_said cycles [] each = refl
+items_said cycles (item ∷ items) each = and_from _ _ (item_said cycles item each.0.0) (items_said cycles items each.1)
 
 numbers_said : (items : List Item) → AreSayable items → All (λ leaf. All (λ n. n ≤ most_number) (numbers_in leaf)) items
 numbers_said [] each = All-nil _
@@ -52,44 +62,48 @@ numbers_said (item ∷ items) each =
 
 -- ---- certificates of fences
 
-abbrev certificate_of : Question → Refuted → List (List Link) → List CodeItem → List Witness → Certificate
+abbrev certificate_of : Question → Refuted → Cycles → List CodeItem → List Witness → Certificate
 certificate_of q f cycles tree ws = record {
-  version = Second;
+  version = version_for cycles;
   answer = said.Fenced (cost q.prices f.placement) (fence_words f.placement);
-  cycles = Listed cycles;
+  cycles = cycles;
   tree = map item_of tree;
   witnesses = ws;
 }
 
+not_first : (cycles : Cycles) → version_for cycles ≢ First
+not_first (Listed cycles) is = cc
+not_first (Inferred inferences) is = cc
+
 pub fenced_certifies : (q : Question) (f : Refuted) (tree : List CodeItem) (files : List WitnessFile) (made : Kept) (ws : List Witness)
-    → IsFenced q f tree files made → AreCopiedWitnesses files ws → HasCycles q.test f.placement f.cycles → IsPlacement q.test q.prices f.placement
+    → IsFenced q f tree files made → AreCopiedWitnesses files ws → ShowsForbidden q.test f → IsPlacement q.test q.prices f.placement
     → AreSayable (map item_of tree)
-    → ((c : Certificate) → c.version ≡ Second → c.witnesses ≡ ws → Covers q.test q.prices c f.placement (undecided q.test ∷ []) (map item_of tree))
+    → ((c : Certificate) → c.version ≢ First → c.witnesses ≡ ws → Covers q.test q.prices c f.placement (undecided q.test ∷ []) (map item_of tree))
     → Certifies q.test q.prices (Some f.placement) made
-fenced_certifies q f tree files made ws is copied cycles placement sayable covers = let said = are_said is.copies f.cycles is.cycles in record {
+fenced_certifies q f tree files made ws is copied shows placement sayable covers = let said = are_certified made.cycles f.cycles is.cycles in record {
   certificate = certificate_of q f said.said tree ws;
   keeps = record {
-    version = sym is.version;
+    version = said.version ∙ sym is.version;
     answer = sym is.answer;
-    cycles = subst (λ kept. KeepsCycles kept (Listed said.said)) (sym is.listed) said.keeps;
+    cycles = said.keeps;
     tree = ap (map item_of) (sym is.tree_is);
     witnesses = subst (λ l. AllZip KeepsWitness l ws) (sym is.witnesses_are) (copies_keep files ws copied);
   };
-  second = refl;
+  version = refl;
   valid = record {
     answered = record { placement = placement; answered = refl };
-    cycles = (cycles.0, cycles.1, said.cycle q.test f.placement cycles.0 cycles.2);
-    tree = covers (certificate_of q f said.said tree ws) refl refl;
+    cycles = said.forbid q.test f.placement shows.forbid;
+    tree = covers (certificate_of q f said.said tree ws) (not_first said.said) refl;
   };
+  judged = said.judged q.test shows.judged;
   in_range = record {
     cycles = said.named;
     witnesses = copies_named files ws copied;
   };
   sayable = record {
     cost = is.most;
-    cycles = zip_all (IsCycle q.test f.placement) (λ links. (1 ≤ length links) × (length links ≤ most_links)) (λ c links cycle. (cycle.some, cycle.most))
-        cycles.0 said.said (said.cycle q.test f.placement cycles.0 cycles.2);
-    items = items_said (map item_of tree) sayable;
+    cycles = said.sayable q.test f.placement shows.forbid;
+    items = items_said said.said (map item_of tree) sayable;
     numbers = numbers_said (map item_of tree) sayable;
     words = copies_worded files ws copied;
   };
@@ -113,33 +127,33 @@ least-placement t prices p is = record {
 }
 
 -- the root alone is a tree for it
-pub least-covers : (t : Test) (prices : PriceTable) (c : Certificate) (p : List Entry) → p ≡ all_with None (slots t) → c.version ≡ Second
+pub least-covers : (t : Test) (prices : PriceTable) (c : Certificate) (p : List Entry) → p ≡ all_with None (slots t) → c.version ≢ First
     → Covers t prices c p (undecided t ∷ []) (said.Costly ∷ [])
-least-covers t prices c p is second =
+least-covers t prices c p is later =
     let same : floor (undecided t) ≡ p = floor-undecided (slots t) ∙ sym is in
     let no_better : is_better prices (floor (undecided t)) p ≡ false = ap (λ q. is_better prices q p) same ∙ better-irreflexive prices p in
     let pruned : is_pruned prices (Some p) (undecided t) [] ≡ true = cost-alone prices p (undecided t) ∙ ap not no_better in
-    (ap (λ (v : Version). is_costly v prices p (undecided t)) second ∙ pruned, tt)
+    (pruned_in c.version prices p (undecided t) later ∙ pruned, tt)
 
 -- ---- certificates of none
 
 abbrev certificate_by : Witness → Certificate
-certificate_by w = record { version = Second; answer = NoneForbids; cycles = Listed []; tree = []; witnesses = w ∷ [] }
+certificate_by w = record { version = Fourth; answer = NoneForbids; cycles = Inferred []; tree = []; witnesses = w ∷ [] }
 
-pub none_certifies : (t : Test) (prices : PriceTable) (made : Kept) (w : Witness) (e : Execution) → version_of made.version ≡ Second
-    → answer_of made.answer ≡ NoneForbids → made.cycles ≡ KeptList [] → made.tree ≡ [] → AreCopiedWitnesses made.witnesses (w ∷ []) → IsOfWitness t w e
-    → RefutesAll t e → CertifiesNone t prices w made
-none_certifies t prices made w e version answer cycles tree copied given refutes = record {
+pub none_certifies : (t : Test) (prices : PriceTable) (made : Kept) (w : Witness) (e : Execution) → version_of made.version ≡ Fourth
+    → answer_of made.answer ≡ NoneForbids → made.cycles ≡ KeptInferences [] → made.tree ≡ [] → AreCopiedWitnesses made.witnesses (w ∷ []) → IsOfWitness t w e
+    → HasNoRunFault t → RefutesAll t e → CertifiesNone t prices w made
+none_certifies t prices made w e version answer cycles tree copied given listed refutes = record {
   certifies = record {
     certificate = certificate_by w;
     keeps = record {
       version = sym version;
       answer = sym answer;
-      cycles = subst (λ kept. KeepsCycles kept (Listed [])) (sym cycles) tt;
+      cycles = subst (λ kept. KeepsCycles kept (Inferred [])) (sym cycles) refl;
       tree = ap (map item_of) (sym tree);
       witnesses = copies_keep made.witnesses (w ∷ []) copied;
     };
-    second = refl;
+    version = refl;
     valid = record {
       answered = refl;
       cycles = refl;
@@ -150,6 +164,7 @@ none_certifies t prices made w e version answer cycles tree copied given refutes
       given = given;
       refutes = refutes;
     };
+    judged = listed;
     in_range = record {
       cycles = All-nil _;
       witnesses = copies_named made.witnesses (w ∷ []) copied;

@@ -1,5 +1,5 @@
 -- The walk over a finished board: each node is split or closed, and its item with the trees of its children covers its part.
-use Rattle.std.proofs.Common.{◌≡◌, ℕ, zero, suc, ◌+◌, ◌<◌, ◌≤◌, Bool, true, false, cond, ◌&&◌, ◌||◌, not, Option, Some, None, unwrap_or, option_map, List, [], ◌∷◌, ◌++◌, map, length, take, drop, refl, ap, ap₂, sym, subst, ◌∙◌, arith}
+use Rattle.std.proofs.Common.{◌≡◌, ◌≢◌, ℕ, zero, suc, ◌+◌, ◌<◌, ◌≤◌, Bool, true, false, cond, ◌&&◌, ◌||◌, not, Option, Some, None, unwrap_or, option_map, List, [], ◌∷◌, ◌++◌, map, length, take, drop, refl, ap, ap₂, sym, subst, ◌∙◌, arith}
 use Rattle.std.specs.Prelude.{slice_get, slice_set, is_none, nat_lt}
 use Rattle.std.specs.List.{AllZip, AllByRecursion, range_with_len, list_any, find, position_or_len}
 use Rattle.std.proofs.lemmas.Bool.{and_parts, false≢true, true≢false}
@@ -20,7 +20,7 @@ use Rattle.fs_answer.specs.Widths.{width}
 use Rattle.fs_answer.specs.Parts.{Part, undecided, is_undecided, child_parts, decide, floor, filled, options}
 use Rattle.fs_answer.specs.Pruning.{is_pruned}
 use Rattle.fs_answer.specs.Certificate as said
-use Rattle.fs_answer.specs.Certificate.{Certificate, Second, Item, Version}
+use Rattle.fs_answer.specs.Certificate.{Certificate, First, Second, Fourth, Item, Version}
 use Rattle.fs_answer.specs.Valid.{Covers, Refutes, RefutesBy, is_costly}
 use Rattle.fs_bound.specs.Bounds.{slots_in_part}
 use Rattle.fs_history.specs.Board.{Board, Node, Status, Open, Held, Split, Costly, Witnessed, Bounded, Posted, is_open, is_held, is_finished, has_node, opening}
@@ -119,7 +119,7 @@ run_parts nodes first (child ∷ children) at =
 
 -- what a certificate must share with the board
 pub record IsFor (s : Search) (numbers : List ℕ) (c : Certificate) (p : List Entry) : Type 0 where
-  pub second : c.version ≡ Second
+  pub later : c.version ≢ First
   pub bound : s.board.bound ≡ Some p
   pub numbered : AreNumbered c.witnesses s.board.witnesses numbers
 
@@ -131,10 +131,17 @@ abbrev pub LeadsTo : Search → List ℕ → List ℕ → List Item → Type 0
 LeadsTo s numbers pending items = (c : Certificate) (p : List Entry) → IsFor s numbers c p → (rest : List Item)
     → Whole s c p (map (part_of s.board.nodes) pending) rest → Whole s c p (undecided s.question.test ∷ []) (items ++ rest)
 
+-- but for the first version a leaf that costs too much is one of cost and order
+pub pruned_in : (version : Version) (prices : PriceTable) (p : List Entry) (part : Part) → version ≢ First
+    → is_costly version prices p part ≡ is_pruned prices (Some p) part []
+pruned_in First prices p part later = absurd (later refl)
+pruned_in Second prices p part later = refl
+pruned_in Fourth prices p part later = refl
+
 module _ (s : Search) (numbers : List ℕ) (c : Certificate) (p : List Entry) (is : IsFor s numbers c p) where
   costly : (part : Part) → is_pruned s.question.prices s.board.bound part [] ≡ true → is_costly c.version s.question.prices p part ≡ true
   costly part pruned =
-      ap (λ (v : Version). is_costly v s.question.prices p part) is.second
+      pruned_in c.version s.question.prices p part is.later
       ∙ (ap (λ b. is_pruned s.question.prices b part []) (sym is.bound) ∙ pruned)
 
   none_shown : (part : Part) (es : List Execution) → AllZip (RefutesBy s.question.test s.board.witnesses (floor part)) [] es
@@ -402,9 +409,9 @@ module _ (s : Search) (final : IsFinal s) (ways : ℕ) (counted : ways ≡ lengt
 
 -- at last no part is left
 pub ends : (s : Search) (numbers : List ℕ) (items : List Item) → LeadsTo s numbers [] items → IsTreeOf s numbers items
-ends s numbers items leads = λ c p second bound numbered.
+ends s numbers items leads = λ c p later bound numbered.
     subst (Whole s c p (undecided s.question.test ∷ [])) (append-nil items)
-    (leads c p (record { second = second; bound = bound; numbered = numbered }) [] tt)
+    (leads c p (record { later = later; bound = bound; numbered = numbered }) [] tt)
 
 -- a node weighs more than what it leaves to be visited
 pub lighter : (s : Search) (ways k : ℕ) (ks : List ℕ) (status : Status) → IsFinal s → k < length s.board.nodes → IsVisited s ways k status

@@ -1,5 +1,5 @@
 -- Lists that are copied item by item.
-use Rattle.std.proofs.Common.{◌≡◌, ℕ, ◌+◌, ◌<◌, ◌≤◌, List, [], ◌∷◌, ◌++◌, length, get_or, take, ap, sym, subst, ◌∙◌}
+use Rattle.std.proofs.Common.{◌≡◌, ℕ, ◌+◌, ◌<◌, ◌≤◌, List, [], ◌∷◌, ◌++◌, map, length, get_or, take, ap, sym, subst, ◌∙◌}
 use Rattle.std.proofs.lemmas.List.{append_assoc, take_more, take_all}
 use Rattle.std.specs.List.{AllZip}
 
@@ -38,3 +38,11 @@ zip_on R all ys y before xs i x pushed so_far low here holds =
     ap (λ l. before ++ l) more ∙ sym (append_assoc before (take i xs) (x ∷ [])) in
     subst (λ l. AllZip R l (before ++ take (i + 1) xs)) (sym pushed)
     (subst (AllZip R (ys ++ y ∷ [])) (sym joined) (zip_push R ys (before ++ take i xs) y x so_far holds))
+
+-- where the second ones are made of others
+pub zip_made : {W X Y : Type 0} (R : Y → X → Type 0) (f : W → X) (ys : List Y) (ws : List W) → AllZip (λ y w. R y (f w)) ys ws
+    → AllZip R ys (map f ws)
+zip_made R f [] [] each = tt
+zip_made R f [] (w ∷ ws) each = absurd each
+zip_made R f (y ∷ ys) [] each = absurd each
+zip_made R f (y ∷ ys) (w ∷ ws) each = (each.0, zip_made R f ys ws each.1)

@@ -4,6 +4,7 @@ use Rattle.fs_kinds.specs.declared.placement.Entry.{Entry}
 use Rattle.fs_kinds.specs.PriceTable.{PriceTable}
 use Rattle.fs_model.specs.declared.test.Test.{Test}
 use Rattle.fs_model.specs.Witness.{Witness}
+use Rattle.fs_answer.specs.CandidateFaults.{HasNoCyclesFault}
 use Rattle.fs_answer.specs.Certificate as said
 use Rattle.fs_answer.specs.CertificateFile.{CanBeSaid}
 use Rattle.fs_answer.specs.Valid.{IsValid}
@@ -12,13 +13,19 @@ use Rattle.fs_certificate.specs.declared.certificate.Certificate.{Certificate}
 use Rattle.fs_certificate.specs.Kept.{AreInRange, KeepsCertificate}
 use Rattle.fs_cert.specs.Cycles.{BeginsAtLeast}
 
--- It is a certificate of the second version, which is valid with this placement as its answer, or with none; a file can say it; and each
--- of its cycles begins at its least operation.
+-- the version that is written: the second where cycles are listed, the fourth where there are inferences
+abbrev pub version_for : said.Cycles → said.Version
+version_for (said.Listed cycles) = said.Second
+version_for (said.Inferred inferences) = said.Fourth
+
+-- It is a certificate of the version that goes with its cycles, which is valid with this placement as its answer, or with none; no fault is
+-- in the way of judging that; a file can say it; and each cycle that it lists begins at its least operation.
 pub record Certifies (t : Test) (prices : PriceTable) (answer : Option (List Entry)) (kept : Certificate) : Type 0 where
   pub certificate : said.Certificate
   pub keeps : KeepsCertificate kept certificate
-  pub second : certificate.version ≡ said.Second
+  pub version : certificate.version ≡ version_for certificate.cycles
   pub valid : IsValid t prices certificate answer
+  pub judged : HasNoCyclesFault certificate.cycles t
   pub in_range : AreInRange certificate
   pub sayable : CanBeSaid certificate
   pub least : All BeginsAtLeast (said.listed_in certificate.cycles)

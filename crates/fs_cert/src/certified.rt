@@ -8,15 +8,15 @@ ghost use Rattle.fs_model.specs.Test.{IsBounded};
 ghost use Rattle.fs_model.specs.Slots.{slots};
 ghost use Rattle.fs_model.specs.Allows.{RefutesAll};
 ghost use Rattle.fs_model.specs.Execution.{Execution};
-ghost use Rattle.fs_answer.specs.Cycles.{HasCycles};
-ghost use Rattle.fs_evidence.specs.Evidence.{IsWitnessFor};
+ghost use Rattle.fs_evidence.specs.Evidence.{IsWitnessFor, ShowsForbidden};
 ghost use Rattle.fs_history.specs.Board.{is_finished};
+ghost use Rattle.fs_history.specs.Sizes.{HasNoRunFault};
 ghost use Rattle.fs_cert.specs.Certified.{Certifies, CertifiesNone, HasEachOnce};
 ghost use Rattle.fs_cert.specs.inner.Fenced.{IsFenced};
 
 use crate::answered::answer_of;
 use crate::copied::witness_of;
-use crate::cycles::cycles_of;
+use crate::cycles::{cycles_of, version_of};
 use crate::numbered::number_all;
 use crate::preorder::tree_of;
 use fs_answer::WitnessFile;
@@ -40,9 +40,9 @@ fn fenced(
     ensures { IfOk result (IsFenced question.now forbidden.now tree witnesses) }
 {
     Ok(Certificate {
-        version: Version::Second,
+        version: version_of(&forbidden.cycles),
         answer: answer_of(alloc, &question.prices, &forbidden.placement)?,
-        cycles: CertifiedCycles::Listed(cycles_of(alloc, forbidden.cycles.as_slice())?),
+        cycles: cycles_of(alloc, &forbidden.cycles)?,
         tree,
         witnesses,
     })
@@ -55,7 +55,7 @@ pub fn from_board(alloc: Global, board: &Board, bound: &Forbidden) -> Result<Cer
     requires bounded { IsBounded board.now.question.test }
     requires finished { is_finished board.now.board ≡ true }
     requires posted { board.now.board.bound ≡ Some bound.now.placement }
-    requires cycles { HasCycles board.now.question.test bound.now.placement bound.now.cycles }
+    requires cycles { ShowsForbidden board.now.question.test bound.now }
     ensures ok { IfOk result (Certifies board.now.question.test board.now.question.prices board.now.board.bound) }
     ensures once { IfOk result HasEachOnce }
     ensures err { IsOkUnless result Fault.Memory }
@@ -69,15 +69,15 @@ pub fn from_board(alloc: Global, board: &Board, bound: &Forbidden) -> Result<Cer
     Ok(fenced(alloc, question, bound, tree, witnesses)?)
 }
 
-/// The certificate of no fence at all, where that forbids the outcome, as the cycles show: nothing is better, whatever the prices. The
-/// error is want of memory.
+/// The certificate of no fence at all, where that is shown to forbid the outcome: nothing is better, whatever the prices. The error is
+/// want of memory.
 pub fn from_least(
     alloc: Global,
     question: &Question,
     forbidden: &Forbidden,
 ) -> Result<Certificate, AllocError>
     requires least { forbidden.now.placement ≡ all_with None (slots question.now.test) }
-    requires cycles { HasCycles question.now.test forbidden.now.placement forbidden.now.cycles }
+    requires cycles { ShowsForbidden question.now.test forbidden.now }
     ensures { IfOk result (Certifies question.now.test question.now.prices (Some forbidden.now.placement)) }
 {
     let mut tree = Vec::new(alloc);
@@ -91,18 +91,18 @@ pub fn from_least(
     )
 }
 
-/// The certificate of the answer none, by this witness, of a test that shows the outcome even with `rw,rw` in every slot. The error is want
-/// of memory.
+/// The certificate of the answer none, by this witness, of a test that shows the outcome even with `rw,rw` in every slot. It is of the
+/// fourth version, as nothing is listed. The error is want of memory.
 pub fn from_witness(alloc: Global, witness: &Witness) -> Result<Certificate, AllocError>
     ensures { IfOk result (λ made. (t : Test) (prices : PriceTable) (e : Execution)
-        → IsWitnessFor t witness.now e → RefutesAll t e → CertifiesNone t prices witness.now.witness made) }
+        → HasNoRunFault t → IsWitnessFor t witness.now e → RefutesAll t e → CertifiesNone t prices witness.now.witness made) }
 {
     let mut witnesses = Vec::new(alloc);
     witnesses.push(witness_of(alloc, witness)?)?;
     Ok(Certificate {
-        version: Version::Second,
+        version: Version::Fourth,
         answer: CertifiedAnswer::NoneForbids,
-        cycles: CertifiedCycles::Listed(List::new(Vec::new(alloc))),
+        cycles: CertifiedCycles::Inferred(List::new(Vec::new(alloc))),
         tree: List::new(Vec::new(alloc)),
         witnesses: List::new(witnesses),
     })

@@ -3,12 +3,16 @@
 ghost use Rattle.std.specs.Prelude.{◌≡◌, ◌≤◌, ◌++◌, IfOk, List, length, false, true};
 ghost use Rattle.std.specs.List.{AllZip};
 ghost use Rattle.fs_answer.specs.Certificate.{Link as LinkValue};
+ghost use Rattle.fs_evidence.specs.Inferences.{cycles_of};
+ghost use Rattle.fs_certificate.specs.Kept.{version_of};
+ghost use Rattle.fs_cert.specs.Certified.{version_for};
 ghost use Rattle.fs_cert.specs.Cycles.{BeginsAtLeast, IsNotAfter};
-ghost use Rattle.fs_cert.specs.inner.Copies.{IsCopiedLink, IsCopiedCycle, turned};
+ghost use Rattle.fs_cert.specs.inner.Copies.{AreCopiedCycles, IsCopiedLink, IsCopiedCycle, turned};
 
 use crate::copied::name_of;
-use fs_certificate::CertificateLink;
-use fs_evidence::Link;
+use crate::inferences::inferences_of;
+use fs_certificate::{CertificateLink, CertifiedCycles, Version};
+use fs_evidence::{Cycles, Link};
 use fs_list::List;
 use std::alloc::{AllocError, Global};
 
@@ -69,7 +73,7 @@ fn cycle_of(alloc: Global, links: &[Link]) -> Result<List<CertificateLink>, Allo
 }
 
 /// The cycles, each with its links.
-pub(crate) fn cycles_of(
+fn listed_of(
     alloc: Global,
     cycles: &[List<Link>],
 ) -> Result<List<List<CertificateLink>>, AllocError>
@@ -80,4 +84,27 @@ pub(crate) fn cycles_of(
         copy.push(cycle_of(alloc, links.as_slice())?)?;
     }
     Ok(List::new(copy))
+}
+
+/// What shows that a placement forbids the outcome, as a certificate has it.
+pub(crate) fn cycles_of(alloc: Global, cycles: &Cycles) -> Result<CertifiedCycles, AllocError>
+    ensures { IfOk result (λ copy. AreCopiedCycles copy (cycles_of cycles.now)) }
+{
+    match cycles {
+        Cycles::Listed(cycles) => Ok(CertifiedCycles::Listed(listed_of(alloc, cycles.as_slice())?)),
+        Cycles::Inferred(inferences) => Ok(CertifiedCycles::Inferred(inferences_of(
+            alloc,
+            inferences.as_slice(),
+        )?)),
+    }
+}
+
+/// The version of a certificate that has this.
+pub(crate) fn version_of(cycles: &Cycles) -> Version
+    ensures { version_of result ≡ version_for (cycles_of cycles.now) }
+{
+    match cycles {
+        Cycles::Listed(_) => Version::Second,
+        Cycles::Inferred(_) => Version::Fourth,
+    }
 }

@@ -5,6 +5,7 @@ mod answered;
 mod certified;
 mod copied;
 mod cycles;
+mod inferences;
 mod items;
 mod numbered;
 mod pending;

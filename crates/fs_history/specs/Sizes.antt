@@ -6,7 +6,8 @@ use Rattle.fs_kinds.specs.PriceTable.{PriceTable}
 use Rattle.fs_model.specs.declared.test.Test.{Test}
 use Rattle.fs_model.specs.Slots.{slots}
 use Rattle.fs_model.specs.Allows.{Allows, full_fences, no_fences}
-use Rattle.fs_answer.specs.CandidateFaults.{HasNoCandidateFault, IsCandidateFault}
+use Rattle.fs_model.specs.TooMany.{IsRunFault}
+use Rattle.fs_answer.specs.CandidateFaults.{IsCandidateFault}
 use Rattle.fs_answer.specs.Parts.{options}
 
 -- the nodes below one with so many undecided slots, where each of them is split
@@ -20,8 +21,12 @@ pub record IsNodeLimit (t : Test) (prices : PriceTable) (limit : ℕ) : Type 0 w
   pub enough : Allows t (full_fences t) → ⊥
   pub large : limit < tree_size prices (length (slots t))
 
--- Why a search has no answer: the candidates can't be listed. Or they can, fences are needed, some are enough, and the tree of all
+-- the test's runs can be listed: of those whose loads take words of the rounds of value sets none goes astray, and no hart's are too many
+abbrev pub HasNoRunFault : Test → Type 0
+HasNoRunFault t = (f : Fault) → IsRunFault t f → ⊥
+
+-- Why a search has no answer: the candidates can't be listed. Or the runs can, fences are needed, some are enough, and the tree of all
 -- placements has more nodes than the limit.
 abbrev pub IsUnanswered : Test → PriceTable → (limit : ℕ) → Fault → Type 0
 IsUnanswered t prices limit f =
-    IsCandidateFault t f ⊎ ((f ≡ NodeLimit) × IsNodeLimit t prices limit × HasNoCandidateFault t)
+    IsCandidateFault t f ⊎ ((f ≡ NodeLimit) × IsNodeLimit t prices limit × HasNoRunFault t)

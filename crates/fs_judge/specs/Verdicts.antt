@@ -4,8 +4,7 @@ use Rattle.fs_kinds.specs.declared.placement.Entry.{Entry}
 use Rattle.fs_model.specs.declared.test.Test.{Test}
 use Rattle.fs_model.specs.Execution.{Execution}
 use Rattle.fs_model.specs.Allows.{Shows, Allows}
-use Rattle.fs_answer.specs.Cycles.{HasCycles}
-use Rattle.fs_evidence.specs.Evidence.{Shown, IsWitnessFor}
+use Rattle.fs_evidence.specs.Evidence.{Shown, IsWitnessFor, ShowsForbidden}
 use Rattle.fs_judge.specs.declared.verdict.Verdict.{Verdict}
 use Rattle.fs_judge.specs.declared.verdict.Verdict.TheVariants.{Allowed, Forbids}
 
@@ -13,7 +12,7 @@ use Rattle.fs_judge.specs.declared.verdict.Verdict.TheVariants.{Allowed, Forbids
 abbrev pub IsShownWith : Test → List Entry → Shown → Type 0
 IsShownWith t p witness = (e : Execution) × IsWitnessFor t witness e × Shows t p e
 
--- a witness that the outcome is allowed; or the placement, with a cycle for each showing candidate, and the outcome is forbidden
+-- a witness that the outcome is allowed; or the placement, with what shows that it forbids the outcome, and the outcome is forbidden
 abbrev pub IsVerdict : Test → List Entry → Verdict → Type 0
 IsVerdict t p (Allowed witness) = IsShownWith t p witness
-IsVerdict t p (Forbids f) = (f.placement ≡ p) × HasCycles t p f.cycles × (Allows t p → ⊥)
+IsVerdict t p (Forbids f) = (f.placement ≡ p) × ShowsForbidden t f × (Allows t p → ⊥)

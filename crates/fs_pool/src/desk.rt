@@ -6,9 +6,8 @@ ghost use Rattle.std.specs.Arc.{arc_value};
 ghost use Rattle.fs_kinds.specs.declared.fault.Fault.TheVariants.{Memory};
 ghost use Rattle.fs_model.specs.Allows.{Allows};
 ghost use Rattle.fs_model.specs.Execution.{Execution};
-ghost use Rattle.fs_answer.specs.Cycles.{HasCycles};
 ghost use Rattle.fs_history.specs.Board.{Take, Claim, Adopt, SplitAt, CutCost, CutWitness, CutBound, Post, Peek};
-ghost use Rattle.fs_evidence.specs.Evidence.{Shown, IsWitnessFor, witness_in, placement_in};
+ghost use Rattle.fs_evidence.specs.Evidence.{Shown, IsWitnessFor, ShowsForbidden, witness_in, placement_in};
 ghost use Rattle.fs_board.specs.Growth.{AreWitnesses};
 ghost use Rattle.fs_board.specs.View.{event_of, reply_of};
 ghost use Rattle.fs_board.specs.Asking.{IsMade, Tells};
@@ -248,7 +247,7 @@ impl<A: Asked> Desk<A> {
         node: usize,
         forbidden: Arc<Forbidden>,
     ) -> Result<Pass<A>, (Pass<A>, Fault)>
-        requires cycles { HasCycles A.question.test (placement_in forbidden) (arc_value forbidden).cycles }
+        requires cycles { ShowsForbidden A.question.test (arc_value forbidden) }
         requires forbids { Allows A.question.test (placement_in forbidden) → ⊥ }
         ensures ok { IfOk result (λ p. IsReceived pass p (Post node (placement_in forbidden))) }
         ensures err { IfErr result (λ e. (e.0 ≡ pass) × (e.1 ≡ Memory)) }

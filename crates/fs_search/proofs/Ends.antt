@@ -13,17 +13,15 @@ use Rattle.fs_kinds.proofs.Entries.{slots_of-all_with}
 use Rattle.fs_model.specs.declared.test.Test.{Test}
 use Rattle.fs_model.specs.Slots.{slots}
 use Rattle.fs_model.specs.Allows.{Allows, IsCheapest, is_better}
-use Rattle.fs_answer.specs.CandidateFaults.{IsCandidateFault}
 use Rattle.fs_answer.specs.Parts.{floor, undecided}
-use Rattle.fs_answer.specs.Cycles.{HasCycles}
 use Rattle.fs_history.specs.Board.{is_finished}
 use Rattle.fs_history.specs.Histories.{IsHistory}
-use Rattle.fs_history.specs.Sizes.{tree_size}
+use Rattle.fs_history.specs.Sizes.{HasNoRunFault, tree_size}
 use Rattle.fs_tree.specs.Closing.{IsFinalAnswer}
 use Rattle.fs_tree.proofs.PartsOfTests.{under-root}
 use Rattle.fs_tree.proofs.Final.{final}
 use Rattle.fs_bound.proofs.Floors.{floor-best}
-use Rattle.fs_evidence.specs.Evidence.{Question, Refuted}
+use Rattle.fs_evidence.specs.Evidence.{Question}
 use Rattle.fs_board.specs.View.{Search}
 use Rattle.fs_search.specs.Answers.{IsSolveFault}
 
@@ -83,8 +81,8 @@ pub handed : {T : Type 0} (r : Result T Fault) (fault : Fault) (P : Fault → Ty
 handed (Ok x) fault P h p = tt
 handed (Err f) fault P h p = subst P (sym h) p
 
--- the limit is due where the candidates can be listed, and the least and the greatest placement don't have the answer
-pub limit-fault : (q p : Question) (limit : ℕ) (f : Fault) → p ≡ q → ((other : Fault) → IsCandidateFault q.test other → ⊥)
+-- the limit is due where the runs can be listed, and the least and the greatest placement don't have the answer
+pub limit-fault : (q p : Question) (limit : ℕ) (f : Fault) → p ≡ q → HasNoRunFault q.test
     → limit < tree_size q.prices (length (slots q.test)) → (f ≡ NodeLimit) × Allows p.test (all_with None (slots p.test))
     × (Allows p.test (all_with (Some RwRw) (slots p.test)) → ⊥) → IsSolveFault q limit f
 limit-fault q p limit f same clean large ends =
@@ -101,8 +99,3 @@ none-answer q p prices priced is forbids =
 
 pub limit-not-memory : (f : Fault) → f ≡ NodeLimit → f ≢ Memory
 limit-not-memory f is other = let e : NodeLimit ≡ Memory = sym is ∙ other in absurd (cc)
-
--- the cycles of no fence at all, as its placement has them
-pub least-cycles : (t : Test) (f : Refuted) → f.placement ≡ all_with None (slots t) → HasCycles t (all_with None (slots t)) f.cycles
-    → HasCycles t f.placement f.cycles
-least-cycles t f is cycles = subst (λ (q : List Entry). HasCycles t q f.cycles) (sym is) cycles

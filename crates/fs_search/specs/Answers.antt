@@ -1,5 +1,6 @@
 -- The answer to a question, and why there may be none.
 use Rattle.std.specs.Prelude.{◌≡◌, ◌<◌, ◌⊎◌, ℕ, true, List, Option, None, Some, MatchOption, length}
+use Rattle.std.specs.Arc.{arc_value}
 use Rattle.fs_kinds.specs.declared.fault.Fault.{Fault}
 use Rattle.fs_kinds.specs.declared.placement.Entry.{Entry}
 use Rattle.fs_kinds.specs.PriceTable.{PriceTable, cost}
@@ -7,20 +8,19 @@ use Rattle.fs_model.specs.declared.test.Test.{Test}
 use Rattle.fs_model.specs.Execution.{Execution}
 use Rattle.fs_model.specs.Slots.{slots}
 use Rattle.fs_model.specs.Allows.{IsCheapest, RefutesAll, no_fences}
-use Rattle.fs_answer.specs.Cycles.{HasCycles}
 use Rattle.fs_history.specs.Board.{is_finished}
 use Rattle.fs_history.specs.Sizes.{IsUnanswered, tree_size}
-use Rattle.fs_evidence.specs.Evidence.{Question, IsWitnessFor, placement_in}
+use Rattle.fs_evidence.specs.Evidence.{Question, IsWitnessFor, ShowsForbidden, placement_in}
 use Rattle.fs_board.specs.View.{Search}
 use Rattle.fs_search.specs.declared.answer.Answer.{Answer}
 use Rattle.fs_search.specs.declared.answer.Answer.TheVariants as answer
 use Rattle.fs_search.specs.declared.answer.Solved.{Solved}
 
--- The cheapest placement that forbids the outcome, and of those the first, with its cost, and a cycle for each showing candidate; or a
+-- The cheapest placement that forbids the outcome, and of those the first, with its cost, and with what shows that it does; or a
 -- witness, with its widths, of an execution that shows the outcome even with rw,rw in every slot.
 abbrev pub IsAnswer : Test → PriceTable → Answer → Type 0
 IsAnswer t prices (answer.Fenced f n) =
-    IsCheapest t prices (placement_in f) × (n ≡ cost prices (placement_in f)) × HasCycles t (placement_in f) f.value.cycles
+    IsCheapest t prices (placement_in f) × (n ≡ cost prices (placement_in f)) × ShowsForbidden t (arc_value f)
 IsAnswer t prices (answer.None w) = (e : Execution) × IsWitnessFor t w e × RefutesAll t e
 
 -- the placement of an answer, where it has one

@@ -9,7 +9,7 @@ use std::sync::Arc;
 /// The answer to a question.
 #[derive(Drop)]
 pub enum Answer {
-    /// The cheapest placement that forbids the outcome, of several the first, as the cycles show, and what it costs.
+    /// The cheapest placement that forbids the outcome, of several the first, with what shows that it does, and what it costs.
     Fenced {
         forbidden: Arc<Forbidden>,
         cost: u64,

@@ -5,10 +5,9 @@ ghost use Rattle.std.specs.Arc.{arc_value};
 ghost use Rattle.fs_model.specs.Slots.{slots};
 ghost use Rattle.fs_model.specs.Execution.{Execution};
 ghost use Rattle.fs_model.specs.Allows.{Allows};
-ghost use Rattle.fs_answer.specs.Cycles.{HasCycles};
 ghost use Rattle.fs_bound.specs.Bounds.{slots_in_part};
 ghost use Rattle.fs_board.specs.Growth.{AreWitnesses};
-ghost use Rattle.fs_evidence.specs.Evidence.{IsWitnessFor};
+ghost use Rattle.fs_evidence.specs.Evidence.{IsWitnessFor, ShowsForbidden};
 
 use crate::store::Store;
 use fs_board::Part;
@@ -87,7 +86,7 @@ pub(crate) fn judge_floor(
     requires slots { slots_in_part part.now ≡ slots judge.old.test }
     ensures judge { judge.new ≡ judge.old }
     ensures known { AreWitnesses judge.old.test store.new }
-    ensures ok { IfOk result (λ found. IfSome found (λ f. HasCycles judge.old.test f.placement f.cycles
+    ensures ok { IfOk result (λ found. IfSome found (λ f. ShowsForbidden judge.old.test f
         × (Allows judge.old.test f.placement → ⊥))) }
     ensures err { IsOkUnless result Fault.Memory }
 {

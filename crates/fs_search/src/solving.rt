@@ -7,8 +7,8 @@ ghost use Rattle.fs_kinds.specs.PriceTable.{IsPriceTable, are_offered, cost};
 ghost use Rattle.fs_model.specs.Test.{IsBounded, IsStart};
 ghost use Rattle.fs_model.specs.Slots.{slots};
 ghost use Rattle.fs_model.specs.Allows.{Allows};
-ghost use Rattle.fs_answer.specs.CandidateFaults.{IsCandidateFault};
 ghost use Rattle.fs_history.specs.Board.{is_finished};
+ghost use Rattle.fs_history.specs.Sizes.{HasNoRunFault};
 ghost use Rattle.fs_evidence.specs.Evidence.{placement_in};
 ghost use Rattle.fs_judge.specs.Verdicts.{IsVerdict};
 ghost use Rattle.fs_search.specs.Answers.{IsAnswer, IsAtAnEnd, IsSolveFault, Rests, placement_of};
@@ -135,7 +135,7 @@ pub fn conclude(alloc: Global, problem: Arc<Problem>, board: Board) -> Result<So
     requires bounded { IsBounded (arc_value problem).test }
     requires prices { IsPriceTable (arc_value problem).prices }
     requires same { board.question ≡ arc_value problem }
-    requires clean { (f : Fault) → IsCandidateFault (arc_value problem).test f → ⊥ }
+    requires clean { HasNoRunFault (arc_value problem).test }
     ensures ok { IfOk result (λ s. IsAnswer (arc_value problem).test (arc_value problem).prices s.answer) }
     ensures rests { IfOk result (Rests (arc_value problem) board.board.limit) }
     ensures goes { IfOk result (λ s. IfSome s.board (GoesOn board)) }
@@ -165,7 +165,7 @@ pub fn conclude(alloc: Global, problem: Arc<Problem>, board: Board) -> Result<So
 ///
 /// The finished board is handed out with the answer, and its bound is the answer's placement. There is none only where the tree of all
 /// placements has more nodes below its root than the limit, and then the answer is none or no fence at all. An answer that
-/// is a placement comes with a cycle for each showing candidate.
+/// is a placement comes with what shows that it forbids the outcome.
 ///
 /// To list the candidates takes time by how many lists of runs and how many raw candidates there are, times the square of the
 /// operations. What the search takes after that, `search` says.
@@ -176,7 +176,7 @@ pub fn solve(alloc: Global, question: Arc<Question>, limit: usize) -> Result<Sol
     requires some { 1 ≤ limit }
     requires limit { limit ≤ 1000000 }
     ensures ok { IfOk result (λ s. IsAnswer (arc_value question).test (arc_value question).prices s.answer) }
-    ensures clean { OnOk result ((f : Fault) → IsCandidateFault (arc_value question).test f → ⊥) }
+    ensures clean { OnOk result (HasNoRunFault (arc_value question).test) }
     ensures rests { IfOk result (Rests (arc_value question) limit) }
     ensures err { IfErr result (λ f. f ≢ Fault.Memory → IsSolveFault (arc_value question) limit f) }
 {

@@ -1,16 +1,21 @@
 -- Parts of a certificate that are copied, each within the range of its type.
-use Rattle.std.specs.Prelude.{◌≡◌, ℕ, ◌≤◌, Some, Option, List, ◌++◌, take, drop, slice_get}
+use Rattle.std.specs.Prelude.{◌≡◌, ℕ, ◌≤◌, Some, Option, List, ◌++◌, All, take, drop, slice_get}
 use Rattle.std.specs.List.{AllZip}
 use Rattle.fs_kinds.specs.declared.reason.OperationName.{OperationName as Name}
 use Rattle.fs_model.specs.declared.step.Choice.{Choice}
 use Rattle.fs_model.specs.Witness.{Witness}
 use Rattle.fs_answer.specs.declared.witness.WitnessFile.{WitnessFile}
-use Rattle.fs_answer.specs.Certificate.{Link}
-use Rattle.fs_answer.specs.CertificateFile.{IsChoiceOfWord, most_number}
-use Rattle.fs_answer.specs.WitnessFile.{in_range}
+use Rattle.fs_answer.specs.Certificate as said
+use Rattle.fs_answer.specs.Certificate.{Cycles, Inference, Link}
+use Rattle.fs_answer.specs.CertificateFile.{IsChoiceOfWord, IsSayableCycle, IsSayableInference, most_number}
+use Rattle.fs_answer.specs.Trees.{cycle_in}
+use Rattle.fs_answer.specs.WitnessFile.{in_range, IsInRange}
 use Rattle.fs_certificate.specs.declared.certificate.CertificateLink.{CertificateLink}
-use Rattle.fs_answer.specs.WitnessFile.{IsInRange}
+use Rattle.fs_certificate.specs.declared.certificate.CertifiedCycles.{CertifiedCycles}
+use Rattle.fs_certificate.specs.declared.certificate.CertifiedCycles.TheVariants.{Listed, Inferred}
 use Rattle.fs_certificate.specs.Kept.{KeepsLink}
+use Rattle.fs_evidence.specs.Inferences.{inference_of}
+use Rattle.fs_evidence.specs.declared.inference.Inference.{Inference as CodeInference}
 use Rattle.fs_cert.specs.Cycles.{BeginsAtLeast}
 
 abbrev pub IsCopiedLink : CertificateLink → Link → Type 0
@@ -25,6 +30,23 @@ pub record IsCopiedCycle (copy : List CertificateLink) (links : List Link) : Typ
   pub first : ℕ
   pub copied : AllZip IsCopiedLink copy (turned first links)
   pub least : BeginsAtLeast (turned first links)
+
+-- the name, which is in range
+abbrev pub IsNamed : Name → Name → Type 0
+IsNamed copy name = (copy ≡ name) × IsInRange name
+
+abbrev pub IsSameLink : Link → Link → Type 0
+IsSameLink copy link = (copy ≡ link) × IsInRange link.operation
+
+-- the inference, which a file can say if it can say the cycle in it
+abbrev pub IsCopiedInference : CodeInference → Inference → Type 0
+IsCopiedInference copy inference = (inference_of copy ≡ inference) × (All IsSayableCycle (cycle_in inference) → IsSayableInference inference)
+
+-- copies of the cycles of a list, or of the inferences
+abbrev pub AreCopiedCycles : CertifiedCycles → Cycles → Type 0
+AreCopiedCycles (Listed copies) (said.Listed cycles) = AllZip IsCopiedCycle copies cycles
+AreCopiedCycles (Inferred copies) (said.Inferred inferences) = AllZip IsCopiedInference copies inferences
+AreCopiedCycles copies other = ⊥
 
 abbrev pub IsCopiedChoice : Choice → Choice → Type 0
 IsCopiedChoice copy choice = (copy ≡ choice) × IsChoiceOfWord choice

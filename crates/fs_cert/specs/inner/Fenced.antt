@@ -1,25 +1,21 @@
 -- A certificate of fences, as it is put together.
 use Rattle.std.specs.Prelude.{◌≡◌, ◌≤◌, List}
-use Rattle.std.specs.List.{AllZip}
 use Rattle.fs_kinds.specs.PriceTable.{cost}
 use Rattle.fs_answer.specs.declared.witness.WitnessFile.{WitnessFile}
 use Rattle.fs_answer.specs.Certificate as said
 use Rattle.fs_answer.specs.Certificate.{fence_words}
 use Rattle.fs_answer.specs.CertificateFile.{most_number}
 use Rattle.fs_certificate.specs.declared.certificate.Certificate.{Certificate}
-use Rattle.fs_certificate.specs.declared.certificate.CertificateLink.{CertificateLink}
-use Rattle.fs_certificate.specs.declared.certificate.CertifiedCycles.TheVariants.{Listed}
 use Rattle.fs_certificate.specs.declared.certificate.Item.{Item}
 use Rattle.fs_certificate.specs.Kept.{answer_of, version_of}
 use Rattle.fs_evidence.specs.Evidence.{Question, Refuted}
-use Rattle.fs_cert.specs.inner.Copies.{IsCopiedCycle}
+use Rattle.fs_cert.specs.Certified.{version_for}
+use Rattle.fs_cert.specs.inner.Copies.{AreCopiedCycles}
 
 pub record IsFenced (q : Question) (f : Refuted) (tree : List Item) (witnesses : List WitnessFile) (made : Certificate) : Type 0 where
-  pub version : version_of made.version ≡ said.Second
+  pub version : version_of made.version ≡ version_for f.cycles
   pub answer : answer_of made.answer ≡ said.Fenced (cost q.prices f.placement) (fence_words f.placement)
   pub most : cost q.prices f.placement ≤ most_number
-  pub copies : List (List CertificateLink)
-  pub listed : made.cycles ≡ Listed copies
-  pub cycles : AllZip IsCopiedCycle copies f.cycles
+  pub cycles : AreCopiedCycles made.cycles f.cycles
   pub tree_is : made.tree ≡ tree
   pub witnesses_are : made.witnesses ≡ witnesses

@@ -1,12 +1,12 @@
 -- What a certificate's tree says of the nodes of a board.
-use Rattle.std.specs.Prelude.{◌≡◌, ℕ, zero, suc, ◌+◌, ◌≤◌, ◌<◌, true, Some, unwrap_or, List, [], ◌∷◌, length, take, drop, slice_get, position}
+use Rattle.std.specs.Prelude.{◌≡◌, ◌≢◌, ℕ, zero, suc, ◌+◌, ◌≤◌, ◌<◌, true, Some, unwrap_or, List, [], ◌∷◌, length, take, drop, slice_get, position}
 use Rattle.std.specs.List.{AllByRecursion, range_with_len}
 use Rattle.fs_kinds.specs.declared.placement.Entry.{Entry}
 use Rattle.fs_kinds.specs.declared.slot.Slot.{Slot}
 use Rattle.fs_kinds.specs.Slot.{is_same_slot}
 use Rattle.fs_answer.specs.Parts.{undecided}
 use Rattle.fs_answer.specs.Certificate as said
-use Rattle.fs_answer.specs.Certificate.{Certificate, Second, Item}
+use Rattle.fs_answer.specs.Certificate.{Certificate, First, Second, Item}
 use Rattle.fs_answer.specs.CertificateFile.{is_sayable, numbers_in, most_number}
 use Rattle.fs_answer.specs.Valid.{Covers}
 use Rattle.fs_history.specs.Board.{Status, Open, Held, Split, Costly, Witnessed, Bounded, Posted}
@@ -54,8 +54,8 @@ IsSayable item = (is_sayable Second item ≡ true) × AreSmall (numbers_in item)
 abbrev pub AreSayable : List Item → Type 0
 AreSayable = AllByRecursion IsSayable
 
--- the items are a tree for the board's bound, where its witnesses have these numbers in the certificate
+-- the items are a tree for the board's bound, where its witnesses have these numbers in the certificate, in each version but the first
 abbrev pub IsTreeOf : Search → (numbers : List ℕ) → List Item → Type 0
-IsTreeOf s numbers items = (c : Certificate) (p : List Entry) → c.version ≡ Second → s.board.bound ≡ Some p
+IsTreeOf s numbers items = (c : Certificate) (p : List Entry) → c.version ≢ First → s.board.bound ≡ Some p
     → AreNumbered c.witnesses s.board.witnesses numbers
     → Covers s.question.test s.question.prices c p (undecided s.question.test ∷ []) items

@@ -55,7 +55,7 @@ returns-clause-ok c =
     (subst (λ ws. AreNumbered numbering.0 ws ns) c.witnesses.ensures.value numbering.2) in
     subst (λ bound. Certifies s.question.test s.question.prices bound made) (sym c.requires.posted)
     (fenced_certifies s.question f tree files made numbering.0 is copied c.requires.cycles forbidden.placement c.in_ok-tree.ensures.small
-    (λ certificate second witnesses. c.in_ok-tree.ensures.tree certificate f.placement second c.requires.posted
+    (λ certificate later witnesses. c.in_ok-tree.ensures.tree certificate f.placement later c.requires.posted
     (subst (λ ws. AreNumbered ws s.board.witnesses c.deref-4.result.now) (sym witnesses) numbered)))
 
 pub returns-clause-once : goal.returns-clause-once

@@ -27,7 +27,7 @@ returns c =
     (λ made is. fenced_certifies q f tree files made [] is (subst (λ l. AreCopiedWitnesses l []) (sym none) tt) c.requires.cycles
     (least-placement q.test q.prices f.placement c.requires.least)
     (subst (λ (l : _). AreSayable (map item_of l)) (sym only) ((refl, tt), tt))
-    (λ certificate second witnesses.
+    (λ certificate later witnesses.
     subst (λ (l : _). Covers q.test q.prices certificate f.placement (undecided q.test ∷ []) (map item_of l)) (sym only)
-    (least-covers q.test q.prices certificate f.placement c.requires.least second)))
+    (least-covers q.test q.prices certificate f.placement c.requires.least later)))
     c.fenced.ensures

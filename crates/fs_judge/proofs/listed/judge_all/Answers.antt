@@ -2,9 +2,10 @@ use Rattle.std.proofs.Common.{◌≡◌, ℕ, Some, List, length, sym, ◌∙◌
 use Rattle.std.specs.Prelude.{slice_get}
 use Rattle.fs_model.specs.Allows.{Allows}
 use Rattle.fs_answer.specs.Candidates.{Candidate}
-use Rattle.fs_answer.specs.Certificate.{Link}
+use Rattle.fs_answer.specs.Certificate.{Link, Listed}
 use Rattle.fs_answer.specs.Cycles.{IsCycle, HasCycles}
 use Rattle.fs_decide.proofs.Deciding.{cycles_forbid_all}
+use Rattle.fs_evidence.specs.Evidence.{ShowsForbidden}
 use Rattle.fs_judge.specs.inner.Findings.{IsFinding}
 use Rattle.fs_judge.proofs.Linked.{longer, more}
 use Rattle.fs_judge.proofs.Prepared.{item_at, zipped}
@@ -39,4 +40,6 @@ returns-clause-ok c =
       c.requires.listing,
       zipped (IsCycle t p) cs c.loop-number.cycles.items (c.loop-number.invariant.long ∙ whole) c.loop-number.invariant.each,
     ) in
-    subst (λ (cycles : List (List Link)). HasCycles t p cycles × (Allows t p → ⊥)) (sym c.new.ensures) (has, cycles_forbid_all t c.requires.listable p _ has)
+    let shows : ShowsForbidden t (record { placement = p; cycles = Listed c.loop-number.cycles.items }) = record { forbid = has; judged = c.requires.clean } in
+    subst (λ (cycles : List (List Link)). ShowsForbidden t (record { placement = p; cycles = Listed cycles }) × (Allows t p → ⊥)) (sym c.new.ensures)
+    (shows, cycles_forbid_all t c.requires.listable p _ has)

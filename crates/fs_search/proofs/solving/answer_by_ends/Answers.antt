@@ -1,11 +1,10 @@
 use Rattle.std.proofs.Common.{◌≡◌, None, Some, inr, sym, subst, ap, ◌∙◌}
 use Rattle.fs_kinds.specs.Placement.{all_with}
 use Rattle.fs_model.specs.Slots.{slots}
-use Rattle.fs_answer.specs.Cycles.{HasCycles}
-use Rattle.fs_evidence.specs.Evidence.{Question, Refuted, placement_in}
+use Rattle.fs_evidence.specs.Evidence.{Question, Refuted, ShowsForbidden, placement_in}
 use Rattle.fs_judge.specs.Verdicts.{IsVerdict}
 use Rattle.fs_search.specs.Answers.{IsAnswer, placement_of}
-use Rattle.fs_search.proofs.Ends.{none-offered, none-answer, least-cycles}
+use Rattle.fs_search.proofs.Ends.{none-offered, none-answer}
 use Rattle.fs_search.proofs.solving.answer_by_ends.Goals as goal
 
 pub fenced-requires : goal.fenced-requires
@@ -27,10 +26,8 @@ returns-in-Forbids-clause-ok c =
     let priced : c.behind-question.inside.prices ≡ r.prices =
     ap (λ (q : Question). q.prices) (c.behind-question.view_is ∙ (c.deref.ensures ∙ c.question.ensures)) in
     let answer = none-answer r (placement_in least) c.behind-question.inside.prices priced placed refuted.2 in
-    let cycles : HasCycles t (placement_in least) least.value.cycles =
-    subst (λ (f : Refuted). HasCycles t f.placement f.cycles) (sym c.in_ok-least-in-Forbids.ensures.ok)
-    (least-cycles t c.in-Forbids.forbidden refuted.0 refuted.1) in
-    subst (IsAnswer t r.prices) (sym c.fenced.ensures) (answer.0, answer.1, cycles)
+    let shows : ShowsForbidden t least.value = subst (ShowsForbidden t) (sym c.in_ok-least-in-Forbids.ensures.ok) refuted.1 in
+    subst (IsAnswer t r.prices) (sym c.fenced.ensures) (answer.0, answer.1, shows)
 
 pub returns-in-Forbids-clause-ends : goal.returns-in-Forbids-clause-ends
 returns-in-Forbids-clause-ends c =

@@ -1,7 +1,6 @@
 use Rattle.std.proofs.Common.{◌≡◌, Some, refl, sym, subst, ap, ◌∙◌}
 use Rattle.fs_kinds.specs.PriceTable.{PriceTable, are_offered, cost}
-use Rattle.fs_answer.specs.Cycles.{HasCycles}
-use Rattle.fs_evidence.specs.Evidence.{Question, Refuted, placement_in}
+use Rattle.fs_evidence.specs.Evidence.{Question, Refuted, ShowsForbidden, placement_in}
 use Rattle.fs_search.specs.Answers.{IsAnswer, placement_of}
 use Rattle.fs_search.proofs.Ends.{bound-cheapest}
 use Rattle.fs_search.proofs.solving.posted_answer.Goals as goal
@@ -26,8 +25,8 @@ returns-clause-ok c =
     let cheapest = bound-cheapest s s.question placement refl c.requires.prices c.log-legal.ensures.legal c.requires.finished posted in
     let prices : c.behind-question.inside.prices ≡ s.question.prices =
     ap (λ (q : Question). q.prices) (c.behind-question.view_is ∙ (c.deref.ensures ∙ c.question.ensures)) in
-    let cycles = subst (λ (f : Refuted). HasCycles s.question.test f.placement f.cycles) (sym c.in_ok-forbidden.ensures) c.in-Some.ensures.cycles in (
+    let shows = subst (ShowsForbidden s.question.test) (sym c.in_ok-forbidden.ensures) c.in-Some.ensures.cycles in (
       subst (IsAnswer s.question.test s.question.prices) (sym c.fenced-answer.ensures)
-          (cheapest, ap (λ (x : PriceTable). cost x placement) prices, cycles),
+          (cheapest, ap (λ (x : PriceTable). cost x placement) prices, shows),
       sym posted ∙ ap placement_of (sym c.fenced-answer.ensures),
     )

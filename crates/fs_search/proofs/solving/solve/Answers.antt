@@ -1,6 +1,7 @@
 use Rattle.std.proofs.Common.{◌≡◌, ℕ, inl, sym, ap, subst, ◌∙◌}
 use Rattle.fs_kinds.specs.declared.fault.Fault.{Fault}
 use Rattle.fs_answer.specs.CandidateFaults.{IsCandidateFault}
+use Rattle.fs_history.specs.Sizes.{HasNoRunFault}
 use Rattle.fs_evidence.specs.Evidence.{Question}
 use Rattle.fs_board.specs.View.{Search}
 use Rattle.fs_search.specs.Answers.{IsSolveFault}
@@ -23,7 +24,7 @@ returns-in_err-problem-clause-err c =
 
 pub conclude-requires-clause-clean : goal.conclude-requires-clause-clean
 conclude-requires-clause-clean c =
-    subst (λ (x : Question). (f : Fault) → IsCandidateFault x.test f → ⊥) (sym c.in_ok-problem.ensures.value) c.in_ok-problem.ensures.clean
+    subst (λ (x : Question). HasNoRunFault x.test) (sym c.in_ok-problem.ensures.value) c.in_ok-problem.ensures.clean
 
 pub returns-in_err-solved-clause-err : goal.returns-in_err-solved-clause-err
 returns-in_err-solved-clause-err c =
@@ -33,4 +34,4 @@ returns-in_err-solved-clause-err c =
     (c.in_err-solved.ensures.err other))
 
 pub returns-clause-clean : goal.returns-clause-clean
-returns-clause-clean c = subst (λ (x : Question). (f : Fault) → IsCandidateFault x.test f → ⊥) c.in_ok-asked.ensures c.in_ok-problem.ensures.clean
+returns-clause-clean c = subst (λ (x : Question). HasNoRunFault x.test) c.in_ok-asked.ensures c.in_ok-problem.ensures.clean

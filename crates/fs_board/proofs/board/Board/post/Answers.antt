@@ -4,8 +4,8 @@ use Rattle.std.proofs.lemmas.Option.{slice_get_within}
 use Rattle.fs_model.specs.Allows.{Allows}
 use Rattle.fs_answer.specs.Parts.{Part, floor}
 use Rattle.fs_history.specs.Board.{Board, Posted, Post, Closed, is_held_by, part_at, better_of, with_status}
-use Rattle.fs_evidence.specs.Evidence.{Refuted}
-use Rattle.fs_board.specs.Growth.{Tree, IsBound, is_best, board_of, marked, with_bound}
+use Rattle.fs_evidence.specs.Evidence.{Refuted, ShowsForbidden}
+use Rattle.fs_board.specs.Growth.{Tree, is_best, board_of, marked, with_bound}
 use Rattle.fs_board.specs.View.{Search, IsReplay, Answers, entry_of}
 use Rattle.fs_board.proofs.Backed.{best_kept, backed_bound}
 use Rattle.fs_board.proofs.Bests.{best_is_bound}
@@ -41,7 +41,7 @@ invariant_of-self-2 c =
     let bound : (board_of now).bound ≡ better_of prices s.board.bound p =
     best_kept better f tree.bound ∙ (ap (λ b. if b then Some p else s.board.bound) best ∙ best_is_bound prices s.board.bound p) in
     let made : board_of now ≡ new = ap (λ b. let x : Board = record (with_status Posted c.args.node part s.board) { bound = b } in x) bound in
-    let cycles : IsBound s.question.test f = subst (λ (x : Search). IsBound x.question.test f) (sym c.self.view_is) c.requires.cycles in
+    let cycles : ShowsForbidden s.question.test f = subst (λ (x : Search). ShowsForbidden x.question.test f) (sym c.self.view_is) c.requires.cycles in
     rw posted (record {
       replay = subst (λ (b : Board). IsReplay (with_log s b c.push_within.new.list.items)) (sym made) (replays s new c.push_within.new.list.items c.args.worker (Post c.args.node p) Closed was step refl (room_marked s Posted c.args.node part was) log);
       backed = backed_bound s.question.test f tree.bound tree.witnesses better cycles c.self.invariant.backed;

@@ -2,7 +2,7 @@ use Rattle.std.proofs.Common.{subst, sym, arith}
 use Rattle.std.specs.List.{AllZip}
 use Rattle.fs_cert.specs.inner.Copies.{IsCopiedCycle}
 use Rattle.fs_cert.proofs.Zips.{zip_next, zip_whole}
-use Rattle.fs_cert.proofs.cycles.cycles_of.Goals as goal
+use Rattle.fs_cert.proofs.cycles.listed_of.Goals as goal
 
 pub loop-links-preserved : goal.loop-links-preserved
 loop-links-preserved c =

@@ -1,7 +1,7 @@
 use Rattle.std.proofs.Common.{take}
 use Rattle.std.specs.List.{AllZip}
 use Rattle.fs_cert.specs.inner.Copies.{IsCopiedCycle}
-use Rattle.fs_cert.proofs.cycles.cycles_of.Given as goal
+use Rattle.fs_cert.proofs.cycles.listed_of.Given as goal
 
 -- those so far are copied
 abbrev pub invariant-loop-links : goal.invariant-loop-links
