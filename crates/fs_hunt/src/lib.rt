@@ -4,18 +4,25 @@
 ghost use Rattle.std.specs.Prelude.{IsOkUnless};
 ghost use Rattle.fs_kinds.specs.declared.fault.Fault.TheVariants.{Memory};
 
-use fs_answer::WitnessFile;
+use fs_answer::ChoiceLists;
 use fs_evidence::Inference;
-use fs_kinds::{Fault, Placement};
+use fs_kinds::{Fault, OperationName, Placement};
 use fs_list::List;
 use fs_refute::Basis;
 use std::alloc::Global;
+
+/// Execution.
+#[derive(Drop)]
+pub struct Execution {
+    pub choices: ChoiceLists,
+    pub order: List<OperationName>,
+}
 
 /// Found.
 #[derive(Drop)]
 pub enum Found {
     Refuted(List<Inference>),
-    Shown(WitnessFile),
+    Shown(Execution),
     GaveUp,
 }
 

@@ -13,7 +13,7 @@ ghost use Rattle.fs_check.specs.Ordered.{IsOrdered, execution_in};
 ghost use Rattle.fs_decide.specs.Decide.{candidate_of as candidate_in};
 
 use fs_axioms::source_at;
-use fs_cand::{Candidate, Sources, StoreOrder, Stores};
+use fs_cand::{Candidate, StoreOrder, Stores};
 use fs_check::OrderedCandidate;
 use fs_kinds::Fault;
 use fs_list::List;
@@ -79,15 +79,14 @@ fn sources_of(
     alloc: Global,
     operations: &[Operation],
     sources: &[Option<u8>],
-) -> Result<Sources, AllocError>
-    ensures { IfOk result (λ made. made
+) -> Result<Vec<Option<u8>>, AllocError>
+    ensures { IfOk result (λ made. made.items
         ≡ map (λ a. if is_some (at operations.now a).loaded then source_at sources.now a else None)
         (numbers_below (length operations.now))) }
 {
-    let made = (0..operations.len())
+    (0..operations.len())
         .map(|a| source_of(operations, sources, a))
-        .collect(alloc)?;
-    Ok(List::new(made))
+        .collect(alloc)
 }
 
 // The candidate of the execution that the runs and the order are. The stores of each location are looked for among all
@@ -109,7 +108,7 @@ pub(crate) fn candidate_of(
     let source = sources_of(alloc, operations, candidate.source.as_slice())?;
     let store_order = store_order(alloc, operations, order.order().as_slice(), locations)?;
     let mut candidate = candidate;
-    candidate.source = source;
+    candidate.source = List::new(source);
     candidate.store_order = store_order;
     Ok(candidate)
 }

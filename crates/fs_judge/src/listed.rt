@@ -4,7 +4,7 @@ ghost use Rattle.std.specs.Prelude.{◌≡◌, ◌≢◌, ◌<◌, Some, All, le
 ghost use Rattle.std.specs.Arc.{arc_value};
 ghost use Rattle.fs_kinds.specs.declared.fault.Fault.TheVariants.{Memory};
 ghost use Rattle.fs_model.specs.Test.{IsBounded, IsStart};
-ghost use Rattle.fs_answer.specs.CandidateFaults.{IsCandidateFault};
+ghost use Rattle.fs_answer.specs.CandidateFaults.{HasNoCandidateFault, IsCandidateFault};
 ghost use Rattle.fs_answer.specs.Candidates.{Candidate as Defined};
 ghost use Rattle.fs_answer.specs.Listings.{IsListing};
 ghost use Rattle.fs_thin_air.specs.ThinAir.{CanBeListed};
@@ -63,6 +63,7 @@ fn judge_all(
     requires listable { CanBeListed test.now }
     requires test { showing.now.test ≡ test.now }
     requires listing { IsListing test.now showing.now.candidates }
+    requires clean { HasNoCandidateFault test.now }
     ensures ok { IfOk result (IsSurvey test.now placement.now) }
     ensures err { IsOkUnless result Memory }
 {

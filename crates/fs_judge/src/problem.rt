@@ -9,6 +9,7 @@ ghost use Rattle.fs_model.specs.Slots.{slots};
 ghost use Rattle.fs_model.specs.Test.{IsBounded, IsStart};
 ghost use Rattle.fs_model.specs.TooMany.{IsRunFault};
 ghost use Rattle.fs_answer.specs.CandidateFaults.{IsCandidateFault};
+ghost use Rattle.fs_thin_air.specs.ThinAir.{CanBeListed};
 ghost use Rattle.fs_judge.specs.Verdicts.{IsVerdict};
 ghost use Rattle.fs_judge.specs.inner.Findings.{IsSought};
 
@@ -55,6 +56,23 @@ impl Model for Problem {
     ghost invariant = { λ p. IsReady (arc_value p.question).test p.basis };
 }
 
+// All runs of the test, made ready, and what hunts over them need. F15 where some location may get 11 stores or more, and there are too
+// many candidates or lists of runs.
+fn made_ready(alloc: Global, test: &Arc<Test>) -> Result<(Basis, Hunter), Fault>
+    requires test { IsBounded (arc_value test.now) }
+    requires starts { All IsStart (arc_value test.now).starts }
+    ensures basis { IfOk result (λ made. made.0 ≡ arc_value test.now) }
+    ensures listable { OnOk result (CanBeListed (arc_value test.now)) }
+    ensures err { IfErr result (λ f. f ≢ Memory → IsCandidateFault (arc_value test.now) f) }
+{
+    let basis = Basis::new(alloc, test)?;
+    let hunter = Hunter::new(alloc, &basis)?;
+    if hunter.has_many_stores() {
+        check_number(alloc, test)?;
+    }
+    Ok((basis, hunter))
+}
+
 impl Problem {
     /// Finds all runs of the test's harts, and makes them ready. The test is bounded, and its harts start with whole registers. The
     /// fault is F13 or F14 where a hart's runs can't be listed; else F15 where some location may get 11 stores or more, and there are
@@ -67,11 +85,7 @@ impl Problem {
         ensures clean { OnOk result ((f : Fault) → IsRunFault (arc_value question).test f → ⊥) }
         ensures err { IfErr result (λ f. f ≢ Memory → IsCandidateFault (arc_value question).test f) }
     {
-        let basis = Basis::new(alloc, &question.test)?;
-        let hunter = Hunter::new(alloc, &basis)?;
-        if hunter.has_many_stores() {
-            check_number(alloc, &question.test)?;
-        }
+        let (basis, hunter) = made_ready(alloc, &question.test)?;
         Ok(Problem {
             question,
             basis,
@@ -100,7 +114,8 @@ impl Problem {
 
     // The test.
     pub(crate) fn test(&self) -> &Test
-        ensures { result.now ≡ self.now.test }
+        ensures value { result.now ≡ self.now.test }
+        ensures bounded { IsBounded self.now.test }
     {
         &self.question.test
     }
@@ -124,6 +139,7 @@ impl Problem {
         ensures ok { IfOk result (IsVerdict self.now.test placement.now) }
         ensures err { IsOkUnless result Memory }
     {
+        let _ = &self.question;
         forbidden(placement, Cycles::Inferred(inferences))
     }
 
@@ -139,6 +155,7 @@ impl Problem {
         ensures ok { IfOk result (IsVerdict self.now.test placement.now) }
         ensures err { IfErr result (λ f. f ≢ Memory → IsCandidateFault self.now.test f) }
     {
+        let _ = &self.question;
         match known.witness(alloc, self.test(), placement, first)? {
             Some(witness) => Ok(Verdict::Allowed(witness)),
             None => self.by_list(alloc, placement, first),
@@ -156,6 +173,7 @@ impl Problem {
         ensures ok { IfOk result (IsVerdict self.now.test placement.now) }
         ensures err { IfErr result (λ f. f ≢ Memory → IsCandidateFault self.now.test f) }
     {
+        let _ = &self.question;
         verdict_by_list(alloc, &self.question.test, placement, first)
     }
 

@@ -1,21 +1,22 @@
 //! What a hunt finds, once it is checked: nothing of a hunt is believed.
 
-ghost use Rattle.std.specs.Prelude.{All, IfOk, IsOkUnless};
+ghost use Rattle.std.specs.Prelude.{◌≡◌, All, map, IfOk, IsOkUnless};
 ghost use Rattle.fs_kinds.specs.declared.fault.Fault.TheVariants.{Memory};
 ghost use Rattle.fs_model.specs.Test.{IsStart};
+ghost use Rattle.fs_answer.specs.WitnessFile.{KeepsWitness, in_range};
 ghost use Rattle.fs_thin_air.specs.ThinAir.{CanBeListed};
 ghost use Rattle.fs_judge.specs.inner.Findings.{IsSought};
 
 use crate::known::Known;
-use fs_answer::WitnessFile;
+use fs_answer::{Names, WitnessFile};
 use fs_check::shown_by;
 use fs_evidence::Inference;
-use fs_hunt::Found;
-use fs_kinds::{Fault, Placement};
+use fs_hunt::{Execution, Found};
+use fs_kinds::{Fault, OperationName, Placement};
 use fs_list::List;
 use fs_model::Test;
 use fs_refute::Basis;
-use std::alloc::Global;
+use std::alloc::{AllocError, Global};
 
 /// What was found for a placement.
 #[derive(Drop)]
@@ -44,12 +45,40 @@ fn refuted(
     }
 }
 
-// The candidate of the execution, where the witness gives one that shows the outcome.
+// The name, which each byte can be part of.
+fn named(name: OperationName) -> Option<OperationName>
+    ensures { result ≡ in_range name }
+{
+    Some(name)
+}
+
+// The names, as a witness has them.
+fn all_named(
+    alloc: Global,
+    order: &[OperationName],
+) -> Result<Vec<Option<OperationName>>, AllocError>
+    ensures { IfOk result (λ names. names.items ≡ map in_range order.now) }
+{
+    order.iter().map(|name| named(*name)).collect(alloc)
+}
+
+// The execution as a witness.
+fn witness_of(alloc: Global, execution: Execution) -> Result<WitnessFile, AllocError>
+    ensures { IfOk result (λ file. KeepsWitness file (record { choices = execution.choices; order = execution.order })) }
+{
+    let order = all_named(alloc, execution.order.as_slice())?;
+    Ok(WitnessFile {
+        choices: execution.choices,
+        order: Names::new(order),
+    })
+}
+
+// The candidate of the execution, where it is one that shows the outcome.
 fn shown(
     alloc: Global,
     basis: &Basis,
     placement: &Placement,
-    file: &WitnessFile,
+    execution: Execution,
 ) -> Result<Sought, Fault>
     requires listable { CanBeListed basis.now }
     requires starts { All IsStart basis.now.starts }
@@ -57,7 +86,8 @@ fn shown(
     ensures err { IsOkUnless result Memory }
 {
     let test = basis.test();
-    let Some(ordered) = shown_by(alloc, test, placement, file)? else {
+    let file = witness_of(alloc, execution)?;
+    let Some(ordered) = shown_by(alloc, test, placement, &file)? else {
         return Ok(Sought::Nothing);
     };
     match Known::of(alloc, test, ordered)? {
@@ -81,7 +111,7 @@ pub(crate) fn checked(
 {
     match found {
         Found::Refuted(inferences) => refuted(alloc, basis, placement, inferences),
-        Found::Shown(file) => shown(alloc, basis, placement, &file),
+        Found::Shown(execution) => shown(alloc, basis, placement, execution),
         Found::GaveUp => Ok(Sought::Nothing),
     }
 }
