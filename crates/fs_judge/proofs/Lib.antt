@@ -1,4 +1,4 @@
 pub mod Caused
+pub mod ByOrder
 pub mod Linked
 pub mod Prepared
-pub mod Unfenced

@@ -1,47 +1,83 @@
 //! Judging placements one after the other.
 
-ghost use Rattle.std.specs.Prelude.{◌≡◌, IfOk, IfSome, IsOkUnless};
+ghost use Rattle.std.specs.Prelude.{◌≡◌, ◌≢◌, All, IfOk, IfErr, IfSome, IsOkUnless};
 ghost use Rattle.std.specs.Arc.{arc_value};
 ghost use Rattle.fs_kinds.specs.declared.fault.Fault.TheVariants.{Memory};
 ghost use Rattle.fs_kinds.specs.Placement.{slots_of};
 ghost use Rattle.fs_model.specs.Slots.{slots};
+ghost use Rattle.fs_model.specs.Test.{IsBounded};
+ghost use Rattle.fs_answer.specs.CandidateFaults.{IsCandidateFault};
 ghost use Rattle.fs_judge.specs.Verdicts.{IsShownWith, IsVerdict};
+ghost use Rattle.fs_judge.specs.inner.Bases.{IsKnown};
 
+use crate::known::Known;
 use crate::problem::Problem;
-use crate::verdict::{Verdict, verdict_of};
+use crate::sought::Sought;
+use crate::verdict::Verdict;
 use fs_evidence::{Question, Witness};
 use fs_kinds::{Fault, Placement, Slot};
+use fs_model::Test;
 use std::alloc::Global;
 use std::marker::Model;
 use std::sync::Arc;
 
-/// A problem, which several judges may share, and the number of the candidate that survived last: it is likely to survive again, and so
-/// is judged first. Which witness a judge finds depends on what it judged before. Contracts see the question.
+/// A problem, which several judges may share, and the candidates that this judge's hunts have found: one of them may have no cycle
+/// with the next placement either. Which witness a judge finds depends on what it judged before. Contracts see the question.
 #[derive(Drop)]
 pub struct Judge {
     problem: Arc<Problem>,
-    last: usize,
+    // The newest last.
+    known: Vec<Known>,
 }
 
 impl Model for Judge {
+    ghost use Rattle.std.specs.Prelude.{All};
     ghost use Rattle.std.specs.Arc.{arc_value};
     ghost use Rattle.std.specs.Coded.{codes};
     ghost use Rattle.fs_model.specs.contracts.outcome.Outcome as outcome;
     ghost use Rattle.fs_evidence.specs.Evidence.{Question as Asked};
+    ghost use Rattle.fs_judge.specs.inner.Bases.{IsKnown};
 
     ghost Value = { Asked };
 
     ghost view = { λ j. arc_value j.problem };
 
     ghost coded = { Prim.hlevel (codes, outcome.the_row.coded) };
+
+    ghost invariant = { λ j. All (IsKnown (arc_value j.problem).test) j.known.items };
+}
+
+// The witness of the newest of these candidates that has no cycle with the placed fences.
+fn witness_among(
+    alloc: Global,
+    test: &Test,
+    known: &[Known],
+    placement: &Placement,
+    first: &[Slot],
+) -> Result<Option<Witness>, Fault>
+    requires bounded { IsBounded test.now }
+    requires known { All (IsKnown test.now) known.now }
+    ensures ok { IfOk result (λ found. IfSome found (IsShownWith test.now placement.now)) }
+    ensures err { IsOkUnless result Memory }
+{
+    for one in known.iter().rev() {
+        let found = one.witness(alloc, test, placement, first)?;
+        if found.is_some() {
+            return Ok(found);
+        }
+    }
+    Ok(None)
 }
 
 impl Judge {
     /// A judge of the problem, which has judged nothing yet.
-    pub fn new(problem: Arc<Problem>) -> Judge
+    pub fn new(alloc: Global, problem: Arc<Problem>) -> Judge
         ensures { result ≡ arc_value problem }
     {
-        Judge { problem, last: 0 }
+        Judge {
+            problem,
+            known: Vec::new(alloc),
+        }
     }
 
     /// The problem, whose own verdicts don't depend on what was judged before.
@@ -58,9 +94,9 @@ impl Judge {
         self.problem.question()
     }
 
-    /// A quick look for an execution that shows the outcome with the placed fences: among the live candidates that are kept, the
-    /// last one found first. Its witness is widened at the first slots before the others. No witness promises nothing. The cost: for
-    /// each candidate the steps of its runs times the slots, and for the witness that of `widest_witness`. The error is F19.
+    /// A quick look for an execution that shows the outcome with the placed fences, among those that were found before. Its witness is
+    /// widened at the first slots before the others. No witness promises nothing. The cost: for each candidate that was found the steps
+    /// of its runs times the slots, and for the witness that of `widest_witness`. The error is F19.
     pub fn look(
         &mut self,
         alloc: Global,
@@ -71,19 +107,13 @@ impl Judge {
         ensures ok { IfOk result (λ found. IfSome found (IsShownWith self.old.test placement.now)) }
         ensures err { IsOkUnless result Memory }
     {
-        let last = [self.last];
-        let found = self.problem.found(alloc, &last, placement, first)?;
-        match found {
-            Some(survivor) => {
-                self.last = survivor.number;
-                Ok(Some(survivor.witness))
-            }
-            None => Ok(None),
-        }
+        witness_among(alloc, self.problem.test(), &self.known, placement, first)
     }
 
-    /// Whether the placement, one of the test's slots, forbids the outcome, as `Problem::verdict` says: but the candidate that was
-    /// found last is judged before the others. The cost is that of `Problem::verdict`. The error is F19.
+    /// Whether the placement, one of the test's slots, forbids the outcome: the executions that were found before are tried first, and
+    /// then a hunt finds a refutation or a new execution. Where it gives up, after 1,000,000 inferences, all candidates are judged in
+    /// turn, and F15 comes where they are too many; else the error is F19. The cost is that of `look`, of the hunt, and of checking
+    /// what it finds, as of `Problem::verdict`.
     pub fn verdict(
         &mut self,
         alloc: Global,
@@ -93,11 +123,19 @@ impl Judge {
         requires { slots_of placement.now ≡ slots self.old.test }
         ensures value { self.new ≡ self.old }
         ensures ok { IfOk result (IsVerdict self.old.test placement.now) }
-        ensures err { IsOkUnless result Memory }
+        ensures err { IfErr result (λ f. f ≢ Memory → IsCandidateFault self.old.test f) }
     {
-        let last = [self.last];
-        let survey = self.problem.surveyed(alloc, &last, placement, first)?;
-        self.last = survey.survivor().unwrap_or(self.last);
-        verdict_of(survey, placement)
+        if let Some(witness) = self.look(alloc, placement, first)? {
+            return Ok(Verdict::Allowed(witness));
+        }
+        match self.problem.sought(alloc, placement)? {
+            Sought::Refuted(inferences) => self.problem.refuted(placement, inferences),
+            Sought::Shown(known) => {
+                let verdict = self.problem.shown(alloc, &known, placement, first)?;
+                self.known.push(known)?;
+                Ok(verdict)
+            }
+            Sought::Nothing => self.problem.by_list(alloc, placement, first),
+        }
     }
 }

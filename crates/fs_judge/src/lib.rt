@@ -1,15 +1,16 @@
-//! Judging placements: which candidates a placement leaves, with a witness or with a cycle for each.
+//! Judging placements: whether one forbids the outcome, by a refutation, or allows it, by an execution.
 #![tactic(auto)]
 
 mod base;
 mod causes;
+mod executed;
 mod judge;
 mod judging;
+mod known;
 mod links;
-mod prejudged;
-mod prepare;
+mod listed;
 mod problem;
-mod survey;
+mod sought;
 mod verdict;
 
 pub use judge::Judge;

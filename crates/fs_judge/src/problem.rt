@@ -1,6 +1,6 @@
 //! A question that is ready to be judged.
 
-ghost use Rattle.std.specs.Prelude.{◌≡◌, ◌≢◌, All, IfOk, OnOk, IfErr, IfSome, IsOkUnless};
+ghost use Rattle.std.specs.Prelude.{◌≡◌, ◌≢◌, All, IfOk, OnOk, IfErr, IsOkUnless};
 ghost use Rattle.std.specs.Arc.{arc_value};
 ghost use Rattle.fs_kinds.specs.declared.fault.Fault.{Fault};
 ghost use Rattle.fs_kinds.specs.declared.fault.Fault.TheVariants.{Memory};
@@ -9,30 +9,35 @@ ghost use Rattle.fs_model.specs.Slots.{slots};
 ghost use Rattle.fs_model.specs.Test.{IsBounded, IsStart};
 ghost use Rattle.fs_model.specs.TooMany.{IsRunFault};
 ghost use Rattle.fs_answer.specs.CandidateFaults.{IsCandidateFault};
-ghost use Rattle.fs_judge.specs.Verdicts.{IsShownWith, IsVerdict};
-ghost use Rattle.fs_judge.specs.inner.Findings.{IsSurvey};
+ghost use Rattle.fs_thin_air.specs.ThinAir.{CanBeListed};
+ghost use Rattle.fs_judge.specs.Verdicts.{IsVerdict};
+ghost use Rattle.fs_judge.specs.inner.Findings.{IsSought};
 
-use crate::prejudged::Prejudged;
-use crate::prepare::{firsts_of, live_among, showing_of, test_of};
-use crate::survey::{Survey, Survivor, first_survivor, judge_all};
-use crate::verdict::{Verdict, verdict_of};
-use fs_evidence::Question;
+use crate::known::Known;
+use crate::listed::verdict_by_list;
+use crate::sought::{Sought, checked};
+use crate::verdict::{Verdict, forbidden};
+use fs_evidence::{Cycles, Inference, Question};
+use fs_hunt::Hunter;
 use fs_kinds::{Fault, Placement, Slot};
-use fs_showing::Showing;
+use fs_list::List;
+use fs_model::Test;
+use fs_refute::Basis;
+use fs_showing::check_number;
 use std::alloc::Global;
 use std::marker::Model;
 use std::sync::Arc;
 
-/// A test and prices, with all that judging a placement takes: the showing candidates, and the first 65,536 of them, or fewer where
-/// the harts have many instructions, judged without placed fences. Of those that have a cycle then, and so with any fences, it keeps
-/// this cycle; of the others, the live ones, the judged relation without placed fences and the places where fences may stand.
-/// No call changes it, so several workers may share one. Contracts see the question.
+/// How many inferences a hunt may make before it gives up.
+const MOST_INFERENCES: usize = 1_000_000;
+
+/// A test and prices, with all that judging a placement takes: all runs of each hart, and what hunts over them need. No call changes
+/// it, so several workers may share one. Contracts see the question.
 #[derive(Drop)]
 pub struct Problem {
     question: Arc<Question>,
-    showing: Showing,
-    firsts: Vec<Prejudged>,
-    live: Vec<usize>,
+    basis: Basis,
+    hunter: Hunter,
 }
 
 impl Model for Problem {
@@ -48,14 +53,31 @@ impl Model for Problem {
 
     ghost coded = { Prim.hlevel (codes, outcome.the_row.coded) };
 
-    ghost invariant = { λ p. IsReady (arc_value p.question).test p.showing p.firsts.items };
+    ghost invariant = { λ p. IsReady (arc_value p.question).test p.basis };
+}
+
+// All runs of the test, made ready, and what hunts over them need. F15 where some location may get 11 stores or more, and there are too
+// many candidates or lists of runs.
+fn made_ready(alloc: Global, test: &Arc<Test>) -> Result<(Basis, Hunter), Fault>
+    requires test { IsBounded (arc_value test.now) }
+    requires starts { All IsStart (arc_value test.now).starts }
+    ensures basis { IfOk result (λ made. made.0 ≡ arc_value test.now) }
+    ensures listable { OnOk result (CanBeListed (arc_value test.now)) }
+    ensures err { IfErr result (λ f. f ≢ Memory → IsCandidateFault (arc_value test.now) f) }
+{
+    let basis = Basis::new(alloc, test)?;
+    let hunter = Hunter::new(alloc, &basis)?;
+    if hunter.has_many_stores() {
+        check_number(alloc, test)?;
+    }
+    Ok((basis, hunter))
 }
 
 impl Problem {
-    /// Finds the value sets of the test and its showing candidates, and judges the first ones without placed fences. The test is
-    /// bounded, and its harts start with whole registers. The fault is F13 or F14 where a hart's runs can't be listed, else F15 where
-    /// there are too many candidates or lists of runs; or F19. The cost is that of `Values::of` and `Showing::of`, and for each of
-    /// the first candidates the square of its operations, each pair by all rules of preserved program order.
+    /// Finds all runs of the test's harts, and makes them ready. The test is bounded, and its harts start with whole registers. The
+    /// fault is F13 or F14 where a hart's runs can't be listed; else F15 where some location may get 11 stores or more, and there are
+    /// too many candidates or lists of runs; or F19. The cost is that of `Basis::new` and `Hunter::new`, and where so many stores are
+    /// possible that of `check_number`.
     pub fn new(alloc: Global, question: Arc<Question>) -> Result<Problem, Fault>
         requires test { IsBounded (arc_value question).test }
         requires starts { All IsStart (arc_value question).test.starts }
@@ -63,14 +85,11 @@ impl Problem {
         ensures clean { OnOk result ((f : Fault) → IsRunFault (arc_value question).test f → ⊥) }
         ensures err { IfErr result (λ f. f ≢ Memory → IsCandidateFault (arc_value question).test f) }
     {
-        let showing = showing_of(alloc, &question)?;
-        let firsts = firsts_of(alloc, &showing)?;
-        let live = live_among(alloc, &firsts)?;
+        let (basis, hunter) = made_ready(alloc, &question.test)?;
         Ok(Problem {
             question,
-            showing,
-            firsts,
-            live,
+            basis,
+            hunter,
         })
     }
 
@@ -93,19 +112,76 @@ impl Problem {
         &self.question
     }
 
-    /// How many showing candidates there are: a verdict that forbids has judged each of them. No contract says so; only how
-    /// many workers search depends on it.
-    pub fn candidates(&self) -> usize {
-        self.showing.len()
+    // The test.
+    pub(crate) fn test(&self) -> &Test
+        ensures value { result.now ≡ self.now.test }
+        ensures bounded { IsBounded self.now.test }
+    {
+        &self.question.test
     }
 
-    /// Whether the placement, one of the test's slots, forbids the outcome. The live candidates that are kept are judged first, and
-    /// where each has a cycle all showing candidates in their order. One without a cycle has a witness, widened at the first slots
-    /// before the others; where there is none, there is a cycle for each. What is answered doesn't depend on earlier calls, unlike what
-    /// a `Judge` answers. The cost: for each live candidate the steps of its runs times the slots, and for the witness that of
-    /// `widest_witness`. Where each has a cycle also: for each candidate that is prejudged with a cycle the links of this; for each
-    /// other one what it takes to make it, the steps of its runs times the slots, and its operations times the tests for causes; past
-    /// the first 65,536 also what judging it without fences takes. The error is F19.
+    // What a hunt finds for the placement, as far as it holds. The error is F19.
+    pub(crate) fn sought(&self, alloc: Global, placement: &Placement) -> Result<Sought, Fault>
+        ensures ok { IfOk result (IsSought self.now.test placement.now) }
+        ensures err { IsOkUnless result Memory }
+    {
+        let found = self.hunter.hunt(alloc, placement, MOST_INFERENCES)?;
+        checked(alloc, &self.basis, placement, found)
+    }
+
+    // The verdict where the inferences refute the test.
+    pub(crate) fn refuted(
+        &self,
+        placement: &Placement,
+        inferences: List<Inference>,
+    ) -> Result<Verdict, Fault>
+        requires { IsSought self.now.test placement.now (Sought.Refuted inferences) }
+        ensures ok { IfOk result (IsVerdict self.now.test placement.now) }
+        ensures err { IsOkUnless result Memory }
+    {
+        let _ = &self.question;
+        forbidden(placement, Cycles::Inferred(inferences))
+    }
+
+    // The verdict where the candidate has no cycle with the placed fences; else that by the list of candidates.
+    pub(crate) fn shown(
+        &self,
+        alloc: Global,
+        known: &Known,
+        placement: &Placement,
+        first: &[Slot],
+    ) -> Result<Verdict, Fault>
+        requires { IsSought self.now.test placement.now (Sought.Shown known.now) }
+        ensures ok { IfOk result (IsVerdict self.now.test placement.now) }
+        ensures err { IfErr result (λ f. f ≢ Memory → IsCandidateFault self.now.test f) }
+    {
+        let _ = &self.question;
+        match known.witness(alloc, self.test(), placement, first)? {
+            Some(witness) => Ok(Verdict::Allowed(witness)),
+            None => self.by_list(alloc, placement, first),
+        }
+    }
+
+    // The verdict by the list of all candidates that show the outcome: the last resort, where a hunt gives up, or what it finds
+    // doesn't hold.
+    pub(crate) fn by_list(
+        &self,
+        alloc: Global,
+        placement: &Placement,
+        first: &[Slot],
+    ) -> Result<Verdict, Fault>
+        ensures ok { IfOk result (IsVerdict self.now.test placement.now) }
+        ensures err { IfErr result (λ f. f ≢ Memory → IsCandidateFault self.now.test f) }
+    {
+        let _ = &self.question;
+        verdict_by_list(alloc, &self.question.test, placement, first)
+    }
+
+    /// Whether the placement, one of the test's slots, forbids the outcome. A hunt finds a refutation, or of the executions that show
+    /// the outcome the one whose candidate comes first, whose witness is widened at the first slots before the others. What is answered
+    /// doesn't depend on earlier calls, unlike what a `Judge` answers. Where the hunt gives up, after 1,000,000 inferences, all
+    /// candidates are judged in turn, and F15 comes where they are too many; else the error is F19. The cost is that of `Hunter::first`,
+    /// and that of checking what it finds: of `Basis::reason_against`, or of `shown_by` and `widest_witness`.
     pub fn verdict(
         &self,
         alloc: Global,
@@ -114,49 +190,13 @@ impl Problem {
     ) -> Result<Verdict, Fault>
         requires { slots_of placement.now ≡ slots self.now.test }
         ensures ok { IfOk result (IsVerdict self.now.test placement.now) }
-        ensures err { IsOkUnless result Memory }
+        ensures err { IfErr result (λ f. f ≢ Memory → IsCandidateFault self.now.test f) }
     {
-        let survey = self.surveyed(alloc, &[], placement, first)?;
-        verdict_of(survey, placement)
-    }
-
-    // A live candidate without a cycle, one of these numbers before the others.
-    pub(crate) fn found(
-        &self,
-        alloc: Global,
-        before: &[usize],
-        placement: &Placement,
-        first: &[Slot],
-    ) -> Result<Option<Survivor>, Fault>
-        ensures ok { IfOk result (λ found. IfSome found (λ survivor. IsShownWith self.now.test placement.now survivor.witness)) }
-        ensures err { IsOkUnless result Memory }
-    {
-        let test = test_of(&self.question);
-        let showing = &self.showing;
-        let firsts = self.firsts.as_slice();
-        let again = first_survivor(alloc, test, showing, firsts, before, placement, first)?;
-        if again.is_some() {
-            return Ok(again);
+        let found = self.hunter.first(alloc, placement, MOST_INFERENCES)?;
+        match checked(alloc, &self.basis, placement, found)? {
+            Sought::Refuted(inferences) => self.refuted(placement, inferences),
+            Sought::Shown(known) => self.shown(alloc, &known, placement, first),
+            Sought::Nothing => self.by_list(alloc, placement, first),
         }
-        first_survivor(alloc, test, showing, firsts, &self.live, placement, first)
-    }
-
-    // What is found of all showing candidates, those of these numbers before the others: no cycle's links are made where a prejudged
-    // candidate survives.
-    pub(crate) fn surveyed(
-        &self,
-        alloc: Global,
-        before: &[usize],
-        placement: &Placement,
-        first: &[Slot],
-    ) -> Result<Survey, Fault>
-        ensures ok { IfOk result (IsSurvey self.now.test placement.now) }
-        ensures err { IsOkUnless result Memory }
-    {
-        if let Some(survivor) = self.found(alloc, before, placement, first)? {
-            return Ok(Survey::Survives(survivor));
-        }
-        let test = test_of(&self.question);
-        judge_all(alloc, test, &self.showing, &self.firsts, placement, first)
     }
 }

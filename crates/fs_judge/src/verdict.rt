@@ -3,10 +3,11 @@
 ghost use Rattle.std.specs.Prelude.{IfOk, IsOkUnless};
 ghost use Rattle.fs_kinds.specs.declared.fault.Fault.TheVariants.{Memory};
 ghost use Rattle.fs_model.specs.declared.test.Test.{Test};
+ghost use Rattle.fs_model.specs.Allows.{Allows};
+ghost use Rattle.fs_evidence.specs.Evidence.{ShowsForbidden};
+ghost use Rattle.fs_evidence.specs.Inferences.{cycles_of};
 ghost use Rattle.fs_judge.specs.Verdicts.{IsVerdict};
-ghost use Rattle.fs_judge.specs.inner.Findings.{IsSurvey};
 
-use crate::survey::Survey;
 use fs_evidence::{Cycles, Forbidden, Witness};
 use fs_kinds::{Fault, Placement};
 
@@ -15,21 +16,16 @@ use fs_kinds::{Fault, Placement};
 pub enum Verdict {
     /// It allows the outcome, as the witness shows.
     Allowed(Witness),
-    /// It forbids the outcome, as what it holds shows.
+    /// It forbids the outcome, and what shows that.
     Forbids(Forbidden),
 }
 
-// What was found of all showing candidates with the placed fences, as a verdict on the placement. The error is F19.
-pub(crate) fn verdict_of(survey: Survey, placement: &Placement) -> Result<Verdict, Fault>
-    ensures ok { (test : Test) → IsSurvey test placement.now survey → IfOk result (IsVerdict test placement.now) }
+// The placement forbids the outcome, as this shows. The error is F19.
+pub(crate) fn forbidden(placement: &Placement, cycles: Cycles) -> Result<Verdict, Fault>
+    ensures ok { (t : Test) → ShowsForbidden t (record { placement = placement.now; cycles = cycles_of cycles }) → (Allows t placement.now → ⊥)
+        → IfOk result (IsVerdict t placement.now) }
     ensures err { IsOkUnless result Memory }
 {
-    match survey {
-        Survey::Survives(survivor) => Ok(Verdict::Allowed(survivor.witness)),
-        Survey::Cycles(cycles) => {
-            let placement = placement.copy()?;
-            let cycles = Cycles::Listed(cycles);
-            Ok(Verdict::Forbids(Forbidden { placement, cycles }))
-        }
-    }
+    let placement = placement.copy()?;
+    Ok(Verdict::Forbids(Forbidden { placement, cycles }))
 }

@@ -1,21 +1,19 @@
 -- What is kept of candidates, and what it says.
-use Rattle.std.specs.Prelude.{◌≡◌, ℕ, ◌≤◌, Some, List, [], length, slice_get}
+use Rattle.std.specs.Prelude.{◌≡◌, ℕ, ◌≤◌, List, [], All, length}
 use Rattle.std.specs.List.{list_any}
 use Rattle.fs_kinds.specs.declared.placement.Entry.{Entry}
 use Rattle.fs_model.specs.declared.test.Test.{Test}
+use Rattle.fs_model.specs.Test.{IsStart}
+use Rattle.fs_model.specs.Execution.{initial_words}
 use Rattle.fs_model.specs.Operations.{operations}
-use Rattle.fs_answer.specs.CandidateFaults.{HasNoCandidateFault}
-use Rattle.fs_answer.specs.Candidates.{Candidate, runs_of}
+use Rattle.fs_answer.specs.Candidates.{Candidate, IsShowing, runs_of}
 use Rattle.fs_answer.specs.Judged.{is_judged}
-use Rattle.fs_answer.specs.Listings.{IsListing}
-use Rattle.fs_answer.specs.Cycles.{IsCycle}
+use Rattle.fs_cand.specs.Candidates.{candidate_of, IsMade}
 use Rattle.fs_thin_air.specs.ThinAir.{CanBeListed}
 use Rattle.fs_relation.specs.Edges.{has_edge}
 use Rattle.fs_edges.specs.Fencing.{orders_at, is_fenced}
-use Rattle.fs_showing.specs.Showing.{Listed}
 use Rattle.fs_judge.specs.declared.base.Base.{Base}
-use Rattle.fs_judge.specs.declared.prejudged.Prejudged.{Prejudged}
-use Rattle.fs_judge.specs.declared.prejudged.Prejudged.TheVariants.{Live, Dead}
+use Rattle.fs_judge.specs.declared.known.Known.{Known}
 
 -- its rows are the candidate's judged relation without placed fences, and its sides give the edges of each placement's fences
 pub record IsBase (t : Test) (c : Candidate) (base : Base) : Type 0 where
@@ -24,20 +22,16 @@ pub record IsBase (t : Test) (c : Candidate) (base : Base) : Type 0 where
   pub long : base.len ≡ length (operations (runs_of t c))
   pub few : base.len ≤ 64
 
--- it has this base; or this cycle, whatever fences are placed
-abbrev pub IsPrejudged : Test → Candidate → Prejudged → Type 0
-IsPrejudged t c (Live base) = IsBase t c base
-IsPrejudged t c (Dead links) = (p : List Entry) → IsCycle t p c links
+-- the candidate shows the outcome, and this is its base
+pub record IsKnown (t : Test) (known : Known) : Type 0 where
+  pub made : IsMade (initial_words t) known.candidate
+  pub operations : length known.candidate.operations ≤ 64
+  pub harts : length known.candidate.traces ≤ 8
+  pub showing : IsShowing t (candidate_of known.candidate)
+  pub base : IsBase t (candidate_of known.candidate) known.base
 
--- the first ones of these candidates
-pub record ArePrejudged (t : Test) (cs : List Candidate) (firsts : List Prejudged) : Type 0 where
-  pub within : length firsts ≤ length cs
-  pub each : (k : ℕ) (first : Prejudged) → slice_get firsts k ≡ Some first → (c : Candidate) → slice_get cs k ≡ Some c → IsPrejudged t c first
-
--- all showing candidates of a test whose candidates can be listed, the first ones prejudged
-pub record IsReady (t : Test) (s : Listed) (prejudged : List Prejudged) : Type 0 where
+-- refutations are over the runs of the test, which can be listed
+pub record IsReady (t : Test) (basis : Test) : Type 0 where
+  pub same : basis ≡ t
   pub listable : CanBeListed t
-  pub clean : HasNoCandidateFault t
-  pub same : s.test ≡ t
-  pub listing : IsListing t s.candidates
-  pub firsts : ArePrejudged t s.candidates prejudged
+  pub starts : All IsStart t.starts
