@@ -23,10 +23,6 @@ use std::sync::{Arc, Wait};
 use std::thread;
 use std::thread::Threads;
 
-/// Where more candidates than this show the outcome, one worker searches alone: then nearly all the time goes into verdicts
-/// on all of them, and most of those that a second worker would come to are of no use once the first one has its own.
-const MOST_CANDIDATES: usize = 10_000;
-
 /// Passes and hands side by side.
 fn side_by_side<A: Asked>(
     alloc: Global,
@@ -132,9 +128,6 @@ fn search_together<A: Asked + Send + Sync, R: Threads + Wait + Sync, G: Gate + S
     ensures asked { IfOk result (λ left. IfSome left (λ b. IsAsked b A.question A.limit)) }
     ensures err { IsOkUnless result Fault.Memory }
 {
-    if problem.candidates() > MOST_CANDIDATES {
-        return Ok(Some(board));
-    }
     let (desk, passes) = Desk::<A>::new(alloc, board, workers)?;
     let place = Workplace {
         rt,

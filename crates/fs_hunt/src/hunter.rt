@@ -11,8 +11,7 @@ use crate::frames::{Hunted, hunt};
 use crate::hart::{Hart, hart_of, may_store_often};
 use crate::region::Field;
 use crate::rules::Rule;
-use crate::witness::witness;
-use fs_answer::WitnessFile;
+use crate::witness::{Execution, execution};
 use fs_evidence::Inference;
 use fs_kinds::{Fault, MOST_LOCATIONS, OperationName, Placement};
 use fs_list::List;
@@ -41,7 +40,7 @@ pub enum Found {
     /// The inferences of a refutation, a whole tree in preorder.
     Refuted(List<Inference>),
     /// An execution that shows the outcome.
-    Shown(WitnessFile),
+    Shown(Execution),
     /// The tree would have more inferences than it may.
     GaveUp,
 }
@@ -130,7 +129,7 @@ impl Hunter {
         };
         Ok(match hunted {
             Hunted::Refuted(inferences) => Found::Refuted(List::new(inferences)),
-            Hunted::Shown(region) => Found::Shown(witness(alloc, field, &region)?),
+            Hunted::Shown(region) => Found::Shown(execution(alloc, field, &region)?),
             Hunted::GaveUp => Found::GaveUp,
         })
     }

@@ -31,3 +31,4 @@ mod uses;
 mod witness;
 
 pub use hunter::{Found, Hunter};
+pub use witness::Execution;

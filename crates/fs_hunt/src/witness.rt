@@ -6,7 +6,9 @@ use crate::hart::Hart;
 use crate::paths::sorted;
 use crate::region::{Field, Region};
 use crate::rows::{first_run, has_run};
-use fs_answer::{ChoiceLists, Choices, Names, WitnessFile};
+use fs_answer::{ChoiceLists, Choices};
+use fs_kinds::OperationName;
+use fs_list::List;
 use fs_model::Choice;
 use std::alloc::{AllocError, Global};
 
@@ -42,24 +44,35 @@ fn choices(alloc: Global, field: Field<'_>, region: &Region) -> Result<ChoiceLis
 }
 
 /// An order of the operations in which each comes after what must come before it.
-fn order(alloc: Global, field: Field<'_>, region: &Region) -> Result<Names, AllocError> {
+fn order(
+    alloc: Global,
+    field: Field<'_>,
+    region: &Region,
+) -> Result<List<OperationName>, AllocError> {
     let facts = Facts::of(field, region);
     let closure = facts.all_edges(region, field.count).closure(field.count);
     let numbers = sorted(alloc, &closure, facts.loads | facts.stores, field.count)?;
     let mut names = Vec::new(alloc);
     for number in &numbers {
-        names.push(Some(field.name(*number)))?;
+        names.push(field.name(*number))?;
     }
-    Ok(Names::new(names))
+    Ok(List::new(names))
 }
 
-/// The execution, by the choices of each hart and an order of its operations.
-pub(crate) fn witness(
+/// An execution, by the choices of each hart and the names of the operations in their order.
+#[derive(Drop)]
+pub struct Execution {
+    pub choices: ChoiceLists,
+    pub order: List<OperationName>,
+}
+
+/// The execution that the region shows.
+pub(crate) fn execution(
     alloc: Global,
     field: Field<'_>,
     region: &Region,
-) -> Result<WitnessFile, AllocError> {
-    Ok(WitnessFile {
+) -> Result<Execution, AllocError> {
+    Ok(Execution {
         choices: choices(alloc, field, region)?,
         order: order(alloc, field, region)?,
     })

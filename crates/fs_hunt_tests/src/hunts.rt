@@ -1,13 +1,13 @@
 //! What hunts find is right: trees by the check of trees, executions by the check of executions.
 
 use crate::texts::{ALWAYS, CASES, LOCK, LOCK3};
-use fs_answer::WitnessFile;
+use fs_answer::{Names, WitnessFile};
 use fs_check::shown_by;
 use fs_examples::{
     CO_RR, FORWARDED, LB, LRSC, LRSCF, MP, MP11, MPA, MPB, POINTER, SB, SBXA, TWO_WRITES,
     placement_of,
 };
-use fs_hunt::{Found, Hunter};
+use fs_hunt::{Execution, Found, Hunter};
 use fs_kinds::{Fault, Placement};
 use fs_litmus::read_test;
 use fs_refute::Basis;
@@ -32,19 +32,27 @@ const FIRST: Way = Way {
     most: 1000000,
 };
 
-/// Writes the choices of each hart, and the operations in their order.
-fn write_execution(file: &WitnessFile, text: &mut String) -> Result<(), AllocError> {
+/// Writes the choices of each hart.
+fn write_choices(file: &WitnessFile, text: &mut String) -> Result<(), AllocError> {
     for choices in file.choices.iter() {
         text.push_str(";")?;
         for choice in choices.iter() {
             write!(text, " {choice:?}")?;
         }
     }
-    text.push_str(" |")?;
-    for name in file.order.iter().flatten() {
-        write!(text, " {name}")?;
-    }
     Ok(())
+}
+
+/// The execution as a witness file has it.
+fn file_of(alloc: Global, execution: Execution) -> Result<WitnessFile, AllocError> {
+    let mut order = Vec::new(alloc);
+    for name in &execution.order {
+        order.push(Some(*name))?;
+    }
+    Ok(WitnessFile {
+        choices: execution.choices,
+        order: Names::new(order),
+    })
 }
 
 /// What was found, in words.
@@ -52,22 +60,22 @@ fn told(
     alloc: Global,
     basis: &Basis,
     placement: &Placement,
-    found: &Found,
+    found: Found,
     way: Way,
 ) -> Result<String, Fault> {
     let mut text = String::new(alloc);
     match found {
         Found::Refuted(tree) => {
             let why = basis.reason_against(alloc, placement, tree.as_slice())?;
-            let length = tree.len();
-            write!(text, "tree of {length}, {why:?}")?;
+            write!(text, "refuted, {why:?}")?;
         }
-        Found::Shown(file) => {
-            let shown = shown_by(alloc, basis.test(), placement, file)?;
+        Found::Shown(execution) => {
+            let file = file_of(alloc, execution)?;
+            let shown = shown_by(alloc, basis.test(), placement, &file)?;
             let is_right = shown.is_some();
             write!(text, "shown {is_right}")?;
             if way.is_first {
-                write_execution(file, &mut text)?;
+                write_choices(&file, &mut text)?;
             }
         }
         Found::GaveUp => text.push_str("gave up")?,
@@ -86,7 +94,7 @@ fn hunted(alloc: Global, text: &str, fences: &str, way: Way) -> Result<String, F
     } else {
         hunter.hunt(alloc, &placement, way.most)?
     };
-    told(alloc, &basis, &placement, &found, way)
+    told(alloc, &basis, &placement, found, way)
 }
 
 /// The same for each of the tests, a line for each.
@@ -118,16 +126,16 @@ const PLAIN: [(&str, &str); 12] = [
 
 const PLAIN_FOUND: &str = "shown true
 shown true
-tree of 5, None
+refuted, None
 shown true
-tree of 4, None
-tree of 4, None
-tree of 4, None
+refuted, None
+refuted, None
+refuted, None
 shown true
-tree of 5, None
+refuted, None
 shown true
-tree of 5, None
-tree of 4, None
+refuted, None
+refuted, None
 ";
 
 /// Pairs, AMOs, forwarding, and conditions of other forms.
@@ -146,17 +154,17 @@ const OTHERS: [(&str, &str); 12] = [
     (LOCK, "P0:3=r,r P0:7=w,w P1:7=w,w"),
 ];
 
-const OTHERS_FOUND: &str = "tree of 5, None
+const OTHERS_FOUND: &str = "refuted, None
 shown true
-tree of 7, None
+refuted, None
 shown true
 shown true
 shown true
-tree of 5, None
+refuted, None
 shown true
-tree of 9, None
+refuted, None
 shown true
-tree of 17, None
+refuted, None
 shown true
 ";
 
@@ -174,7 +182,7 @@ fn others(rt: HostRuntime) -> Result<(), Fail> {
     Ok(())
 }
 
-/// Tests of which the first execution is asked for, which is told by its choices and order.
+/// Tests of which the first execution is asked for, which is told by its choices: the least that show the outcome.
 const FIRSTS: [(&str, &str); 4] = [
     (MP11, ""),
     (MP11, "P0:3=rw,rw P1:1=rw,rw"),
@@ -182,10 +190,10 @@ const FIRSTS: [(&str, &str); 4] = [
     (LOCK, "P0:7=w,w P1:3=r,r"),
 ];
 
-const FIRSTS_FOUND: &str = "shown true;; Word(1) Word(1) | P0:1 P0:3 P1:0 P1:1
-shown true;; Word(1) Word(1) | P0:1 P0:3 P1:0 P1:1
-shown true; Word(0); Word(0) | P0:2 P1:1 P1:2 P0:1
-shown true; Word(0) Word(0) Word(1); Word(0) Word(0) Word(1) | P0:3 P1:1 P1:3 P1:7 P0:1 P0:5 P0:7 P1:5
+const FIRSTS_FOUND: &str = "shown true;; Word(1) Word(1)
+shown true;; Word(1) Word(1)
+shown true; Word(0); Word(0)
+shown true; Word(0) Word(0) Word(1); Word(0) Word(0) Word(1)
 ";
 
 #[test]
@@ -206,6 +214,6 @@ fn three_harts(rt: HostRuntime) -> Result<(), Fail> {
     let mut lines = all_hunted(rt.alloc(), &[(LOCK3, fences)], ANY)?;
     let more = all_hunted(rt.alloc(), &[(LOCK3, fences)], few)?;
     lines.push_str(&more)?;
-    assert_eq!(rt; lines.as_str(), "tree of 293, None\ngave up\n");
+    assert_eq!(rt; lines.as_str(), "refuted, None\ngave up\n");
     Ok(())
 }

@@ -164,7 +164,7 @@ impl Scout {
         ensures { result ≡ arc_value problem }
     {
         Scout {
-            judge: Judge::new(problem),
+            judge: Judge::new(alloc, problem),
             store: Store::new(alloc),
             will_plan: false,
             planned: None,
