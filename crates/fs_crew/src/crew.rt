@@ -109,7 +109,7 @@ fn work_all<A: Asked + Send + Sync, R: Threads + Wait + Sync, G: Gate + Sync>(
 }
 
 /// Some board of the question: the one that the workers searched and `finish` handed out, with nodes that are open or held
-/// where they lacked memory or met the limit; the given one, untouched, where there are many candidates; none where `finish`
+/// where they lacked memory or met the limit; none where `finish`
 /// hands none out, since its log and what they saw of it don't agree. That it is the workers' own is what the code does and
 /// tests see; the contract says that it is a board of the question with one history. The error is F19.
 fn search_together<A: Asked + Send + Sync, R: Threads + Wait + Sync, G: Gate + Sync>(
@@ -204,7 +204,7 @@ fn concluded<G: Gate>(
 }
 
 /// The answer to a question, as `fs_search::solve` gives it, searched by up to this many workers. One worker needs neither
-/// threads nor a desk. More of them search together first, where there are few candidates, and what they leave is searched as
+/// threads nor a desk. More of them search together first, and what they leave is searched as
 /// by one: all of it, where the board's log and what they saw of it don't agree. The faults are those of `fs_search::solve`.
 /// Several workers may make more nodes, and so come to F16 where one has the answer. A thread that never comes back is waited
 /// for without an end.

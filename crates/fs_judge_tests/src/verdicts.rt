@@ -1,5 +1,6 @@
 //! What is said of placements, and the candidates in their order.
 use crate::questions::verdict_on;
+use fs_evidence::Cycles;
 use fs_examples::{ADD2, CO_RR, LBD, LRSC, MP, MPA, PRICES, SB, SBF, question_of};
 use fs_hart::{Step, Trace};
 use fs_judge::{Problem, Verdict};
@@ -17,22 +18,21 @@ fn said_of(alloc: Global, text: &str, words: &str) -> Result<String, Fault> {
     let problem = Problem::new(alloc, question)?;
     let said = match verdict_on(alloc, &problem, words)? {
         Verdict::Allowed(_) => String::from_str(alloc, "allowed")?,
-        Verdict::Forbids(forbidden) => {
-            let count = forbidden.cycles.len();
-            format!(in alloc; "forbidden by {count}")?
-        }
+        Verdict::Forbids(forbidden) => match forbidden.cycles {
+            Cycles::Inferred(_) => String::from_str(alloc, "refuted")?,
+            Cycles::Listed(_) => String::from_str(alloc, "a cycle for each")?,
+        },
     };
     Ok(said)
 }
 
 #[test]
 fn verdicts_on_known_placements(rt: HostRuntime) -> Result<(), Fail> {
-    // Store buffering has one showing candidate, and so has MPA: the dependency leaves the choice of sources alone.
     let rows = [
         (SB, "", "allowed"),
         (SB, "P0:2=rw,rw", "allowed"),
-        (SB, "P0:2=w,r P1:2=w,r", "forbidden by 1"),
-        (MPA, "P0:3=w,w", "forbidden by 1"),
+        (SB, "P0:2=w,r P1:2=w,r", "refuted"),
+        (MPA, "P0:3=w,w", "refuted"),
         (SBF, "", "allowed"),
     ];
     for (text, words, wanted) in rows {

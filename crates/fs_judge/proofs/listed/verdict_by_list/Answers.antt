@@ -16,5 +16,5 @@ returns-clause-ok c =
     let t = c.args.test.now.value in
     let p = c.args.placement.now in
     let survey = subst (IsSurvey t p) c.in-Cycles.is
-        (subst (λ (u : Test). IsSurvey u p c.in_ok-witness.field-0) c.deref.ensures c.in_ok-witness.ensures.ok) in
+    (subst (λ (u : Test). IsSurvey u p c.in_ok-witness.field-0) c.deref.ensures c.in_ok-witness.ensures.ok) in
     c.forbidden.ensures.ok t survey.0 survey.1

@@ -11,5 +11,5 @@ of-requires-clause-shows c =
     let p = c.args.placement.now in
     let w : Witness = record { choices = c.args.execution.choices; order = c.args.execution.order } in
     let shows = subst (λ (found : Option OrderedCandidate). IfSome found (λ o. ShowsAs t p w (execution_in o))) c.in-Some.is
-        (c.in_ok-ordered.ensures.some w c.in_ok-file.ensures) in
+    (c.in_ok-ordered.ensures.some w c.in_ok-file.ensures) in
     (p, shows.1)

@@ -6,8 +6,8 @@ use Rattle.fs_judge.proofs.verdict.forbidden.Goals as goal
 
 pub returns-clause-ok : goal.returns-clause-ok
 returns-clause-ok c = λ t shows forbids. (
-    c.in_ok-placement.ensures.ok,
-    subst (λ (p : List Entry). ShowsForbidden t (record { placement = p; cycles = cycles_of c.args.cycles }))
-    (sym c.in_ok-placement.ensures.ok) shows,
-    forbids,
-  )
+  c.in_ok-placement.ensures.ok,
+  subst (λ (p : List Entry). ShowsForbidden t (record { placement = p; cycles = cycles_of c.args.cycles }))
+      (sym c.in_ok-placement.ensures.ok) shows,
+  forbids,
+)

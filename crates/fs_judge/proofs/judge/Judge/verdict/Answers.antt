@@ -21,8 +21,8 @@ pub invariant_of-self-in-Shown : goal.invariant_of-self-in-Shown
 invariant_of-self-in-Shown c =
     let t = c.self.inside.problem.value.test in
     let known : IsKnown t c.in-Shown.known =
-        subst (λ (q : Question). IsKnown q.test c.in-Shown.known) c.deref.ensures
-        (subst (λ s. IsSought c.deref.result.now.test c.args.placement.now s) c.in-Shown.is c.in_ok-inferences.ensures.ok) in
+    subst (λ (q : Question). IsKnown q.test c.in-Shown.known) c.deref.ensures
+    (subst (λ s. IsSought c.deref.result.now.test c.args.placement.now s) c.in-Shown.is c.in_ok-inferences.ensures.ok) in
     subst (λ (ks : List Known). All (IsKnown t) ks) (sym c.in_ok-push-in-Shown.ensures.items)
     (All-push (IsKnown t) c.self.inside.known.items c.in-Shown.known c.self.invariant known)
 

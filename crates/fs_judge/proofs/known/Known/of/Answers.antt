@@ -9,7 +9,7 @@ returns-clause-ok c =
     let t = c.args.test.now in
     let shows = c.requires.shows in
     let shown : IsShowing t _ = subst (λ (d : Candidate). IsShowing t d) (sym c.in_ok-candidate.ensures.is)
-        (showing t c.requires.listable shows.0 (execution_in c.args.ordered) shows.1) in
+    (showing t c.requires.listable shows.0 (execution_in c.args.ordered) shows.1) in
     record {
       made = c.in_ok-candidate.ensures.made;
       operations = omega (arith, c.if-len-gt64.false, c.len.ensures);

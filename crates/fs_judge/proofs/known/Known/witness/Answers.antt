@@ -15,6 +15,6 @@ pub widest_witness-requires-clause-order : goal.widest_witness-requires-clause-o
 widest_witness-requires-clause-order c =
     let known = c.requires.known in
     let long : c.args.self.now.base.len ≡ length c.args.self.now.candidate.operations =
-        known.base.long ∙ sym (ap length known.made.operations) in
+    known.base.long ∙ sym (ap length known.made.operations) in
     subst (λ (n : ℕ). (numbers : List ℕ) × IsOrderBelow (has_edge c.under-rows.result) n numbers) long
     (c.has_order.ensures.ordered c.if-not-has_order.false)
