@@ -11,7 +11,7 @@ use crate::frames::{Hunted, hunt};
 use crate::hart::{Hart, hart_of, may_store_often};
 use crate::region::Field;
 use crate::rules::Rule;
-use crate::witness::{Execution, execution};
+use crate::witness::{Execution, execution_of};
 use fs_evidence::Inference;
 use fs_kinds::{Fault, MOST_LOCATIONS, OperationName, Placement};
 use fs_list::List;
@@ -129,7 +129,7 @@ impl Hunter {
         };
         Ok(match hunted {
             Hunted::Refuted(inferences) => Found::Refuted(List::new(inferences)),
-            Hunted::Shown(region) => Found::Shown(execution(alloc, field, &region)?),
+            Hunted::Shown(region) => Found::Shown(execution_of(alloc, field, &region)?),
             Hunted::GaveUp => Found::GaveUp,
         })
     }

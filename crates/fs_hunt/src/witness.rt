@@ -67,7 +67,7 @@ pub struct Execution {
 }
 
 /// The execution that the region shows.
-pub(crate) fn execution(
+pub(crate) fn execution_of(
     alloc: Global,
     field: Field<'_>,
     region: &Region,
