@@ -117,9 +117,11 @@ solve-handed r fault p q limit same is why =
 -- the fault of a search that goes on
 pub later-fault : (a b : Search) (f : Fault) → GoesOn a b → IsSearchFault b f → IsSearchFault a f
 later-fault a b f goes fault = elim fault [
-  | inl large ↦ inl (large.0,
-      subst (λ (n : ℕ). n < tree_size a.question.prices (length (slots a.question.test))) goes.limit
-          (subst (λ (x : Question). b.board.limit < tree_size x.prices (length (slots x.test))) goes.question large.1))
+  | inl large ↦ inl (
+    large.0,
+    subst (λ (n : ℕ). n < tree_size a.question.prices (length (slots a.question.test))) goes.limit
+        (subst (λ (x : Question). b.board.limit < tree_size x.prices (length (slots x.test))) goes.question large.1),
+  )
   | inr other ↦ inr (subst (λ (x : Question). IsCandidateFault x.test f) goes.question other)
 ]
 

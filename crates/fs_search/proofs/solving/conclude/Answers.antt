@@ -1,6 +1,4 @@
-use Rattle.std.proofs.Common.{rules, ◌≡◌, ◌<◌, Option, IfSome, MatchOption, length, sym, subst}
-use Rattle.fs_model.specs.Slots.{slots}
-use Rattle.fs_history.specs.Sizes.{tree_size}
+use Rattle.std.proofs.Common.{rules, Option, IfSome, MatchOption, sym, subst}
 use Rattle.fs_evidence.specs.Evidence.{Question}
 use Rattle.fs_board.specs.View.{Search}
 use Rattle.fs_search.specs.Answers.{IsAnswer, IsAtAnEnd, IsAtLimit, IsBoardOf}

@@ -1,5 +1,4 @@
-use Rattle.std.proofs.Common.{◌≡◌, ◌∙◌, IfErr, refl, sym, subst}
-use Rattle.fs_evidence.specs.Evidence.{Question}
+use Rattle.std.proofs.Common.{◌∙◌, sym}
 use Rattle.fs_search.proofs.Ends.{if-err, later-fault, search-handed}
 use Rattle.fs_search.proofs.sweep.finish_node.Goals as goal
 
