@@ -83,6 +83,11 @@ pub handed : {T : Type 0} (r : Result T Fault) (fault : Fault) (P : Fault → Ty
 handed (Ok x) fault P h p = tt
 handed (Err f) fault P h p = subst P (sym h) p
 
+-- what the error shows goes on to hold
+pub if-err : {T : Type 0} (r : Result T Fault) (P Q : Fault → Type 0) → IfErr r P → ((f : Fault) → P f → Q f) → IfErr r Q
+if-err (Ok x) P Q p go = tt
+if-err (Err f) P Q p go = go f p
+
 -- so does a fault of the candidates of what is equal
 pub candidates-handed : {T : Type 0} (r : Result T Fault) (fault : Fault) (p q : Question) → p ≡ q → IsErrAnd r (λ f. f ≡ fault)
     → (fault ≢ Memory → IsCandidateFault p.test fault) → IfErr r (λ f. f ≢ Memory → IsCandidateFault q.test f)
@@ -130,10 +135,11 @@ limit-met s q f same is clean fault = elim fault [
 ]
 
 -- any other fault is
-pub not-limit : (s : Search) (q : Question) (limit : ℕ) (f : Fault) → s.question ≡ q → (f ≡ NodeLimit → ⊥) → IsSearchFault s f → IsSolveFault q limit f
-not-limit s q limit f same no fault = elim fault [
-  | inl large ↦ absurd (no large.0)
-  | inr other ↦ inl (subst (λ (x : Question). IsCandidateFault x.test f) same other)
+pub not_limit : (s : Search) (q : Question) (limit : ℕ) (f : Fault) → s.question ≡ q → (f ≡ NodeLimit → ⊥) → (f ≢ Memory → IsSearchFault s f)
+    → f ≢ Memory → IsSolveFault q limit f
+not_limit s q limit f same another why other = elim (why other) [
+  | inl large ↦ absurd (another large.0)
+  | inr of ↦ inl (subst (λ (x : Question). IsCandidateFault x.test f) same of)
 ]
 
 -- the limit is due where the runs can be listed, and the least and the greatest placement don't have the answer

@@ -26,5 +26,5 @@ returns-clause-ok c =
 
 pub returns-in_err-event-clause-err : goal.returns-in_err-event-clause-err
 returns-in_err-event-clause-err c =
-    search-handed c.from_residual-in_err-event.result _ c.args.board.now c.args.scout.now c.requires.same c.from_residual-in_err-event.ensures.1
+    search-handed c.from_residual.result _ c.args.board.now c.args.scout.now c.requires.same c.from_residual.ensures.1
     c.in_err-event.ensures.err

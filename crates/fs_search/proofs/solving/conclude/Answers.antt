@@ -1,11 +1,9 @@
-use Rattle.std.proofs.Common.{◌≡◌, ◌<◌, Option, IfSome, MatchOption, length, sym, subst}
-use Rattle.fs_model.specs.Slots.{slots}
-use Rattle.fs_history.specs.Sizes.{tree_size}
+use Rattle.std.proofs.Common.{rules, Option, IfSome, MatchOption, sym, subst}
 use Rattle.fs_evidence.specs.Evidence.{Question}
 use Rattle.fs_board.specs.View.{Search}
 use Rattle.fs_search.specs.Answers.{IsAnswer, IsAtAnEnd, IsAtLimit, IsBoardOf}
 use Rattle.fs_search.specs.Histories.{GoesOn}
-use Rattle.fs_search.proofs.Ends.{handed, limit-fault, limit-met, limit-not-memory}
+use Rattle.fs_search.proofs.Ends.{handed, limit-fault, limit-met, limit-not-memory, not_limit, solve-handed}
 use Rattle.fs_search.proofs.solving.conclude.Goals as goal
 
 pub returns-in_err-solved-in-Err-NodeLimit-clause-err : goal.returns-in_err-solved-in-Err-NodeLimit-clause-err
@@ -36,3 +34,16 @@ returns-in-Err-NodeLimit-clause-rests c =
 pub returns-in-Err-NodeLimit-clause-goes : goal.returns-in-Err-NodeLimit-clause-goes
 returns-in-Err-NodeLimit-clause-goes c =
     subst (λ (b : Option Search). IfSome b (GoesOn c.args.board)) (sym c.in_ok-solved-in-Err-NodeLimit.ensures.board) tt
+
+pub returns-in_err-answer-in-Ok-clause-err : goal.returns-in_err-answer-in-Ok-clause-err
+returns-in_err-answer-in-Ok-clause-err c =
+    solve-handed c.from_residual-in_err-answer-in-Ok.result _ c.deref.result.now c.args.problem.value c.args.board.board.limit c.deref.ensures
+    c.from_residual-in_err-answer-in-Ok.ensures.1 c.in_err-answer-in-Ok.ensures.err
+
+pub returns : goal.returns
+returns c = record {
+  ok = tt;
+  rests = tt;
+  goes = tt;
+  err = not_limit c.args.board c.args.problem.value c.args.board.board.limit c.in-Err.fault c.requires.same (λ limit. search rules) c.in-Err.ensures.err;
+}
