@@ -1,3 +1,2 @@
 -- What a problem is made of, for proofs above that it may cross threads.
 pub use Rattle.fs_judge.specs.contracts.problem.Problem.{the_row}
-pub use Rattle.fs_judge.proofs.prejudged.Prejudged.TheSendSync.{the_send, the_sync}
