@@ -4,7 +4,7 @@ ghost use Rattle.std.specs.Prelude.{◌≡◌, ◌≢◌, ◌≤◌, [], IfOk, I
 ghost use Rattle.std.specs.Arc.{arc_value};
 ghost use Rattle.fs_kinds.specs.PriceTable.{IsPriceTable};
 ghost use Rattle.fs_model.specs.Test.{IsBounded, IsStart};
-ghost use Rattle.fs_answer.specs.CandidateFaults.{IsCandidateFault};
+ghost use Rattle.fs_history.specs.Sizes.{HasNoRunFault};
 ghost use Rattle.fs_pool.specs.Asked.{IsAsked};
 ghost use Rattle.fs_search.specs.Answers.{IsAnswer, IsSolveFault, Rests};
 ghost use Rattle.fs_search.specs.Histories.{GoesOn};
@@ -197,7 +197,7 @@ fn concluded<G: Gate>(
 ) -> Result<Solved, Fault>
     requires test { IsBounded (arc_value problem).test }
     requires prices { IsPriceTable (arc_value problem).prices }
-    requires clean { (f : Fault) → IsCandidateFault (arc_value problem).test f → ⊥ }
+    requires clean { HasNoRunFault (arc_value problem).test }
     requires most { limit ≤ 1000000 }
     requires asked { IfSome left (λ b. IsAsked b (arc_value problem) limit) }
     ensures ok { IfOk result (λ s. IsAnswer (arc_value problem).test (arc_value problem).prices s.answer) }
@@ -231,7 +231,7 @@ pub fn solve<R: Threads + Wait + Sync, G: Gate + Sync>(
     requires least { 1 ≤ limit }
     requires most { limit ≤ 1000000 }
     ensures ok { IfOk result (λ s. IsAnswer (arc_value question).test (arc_value question).prices s.answer) }
-    ensures clean { OnOk result ((f : Fault) → IsCandidateFault (arc_value question).test f → ⊥) }
+    ensures clean { OnOk result (HasNoRunFault (arc_value question).test) }
     ensures rests { IfOk result (Rests (arc_value question) limit) }
     ensures err { IfErr result (λ f. f ≢ Fault.Memory → IsSolveFault (arc_value question) limit f) }
 {

@@ -12,4 +12,4 @@ mod relations;
 #[cfg(test)]
 mod verdicts;
 
-pub use questions::verdict_on;
+pub use questions::{count_of, verdict_on};

@@ -4,6 +4,7 @@ ghost use Rattle.fs_kinds.specs.declared.placement.Entry.{Entry};
 ghost use Rattle.fs_model.specs.Test.{IsBounded};
 ghost use Rattle.fs_judge.specs.Verdicts.{IsVerdict};
 
+use fs_evidence::Cycles;
 use fs_examples::placement_of;
 use fs_judge::{Problem, Verdict};
 use fs_kinds::Fault;
@@ -16,4 +17,12 @@ pub fn verdict_on(alloc: Global, problem: &Problem, words: &str) -> Result<Verdi
 {
     let placement = placement_of(alloc, &problem.question().test, words)?;
     problem.verdict(alloc, &placement, &[])
+}
+
+/// How many cycles there are, or inferences.
+pub fn count_of(cycles: &Cycles) -> usize {
+    match cycles {
+        Cycles::Listed(cycles) => cycles.len(),
+        Cycles::Inferred(inferences) => inferences.len(),
+    }
 }

@@ -1,5 +1,5 @@
 //! What is said of placements, and the candidates in their order.
-use crate::questions::verdict_on;
+use crate::questions::{count_of, verdict_on};
 use fs_examples::{ADD2, CO_RR, LBD, LRSC, MP, MPA, PRICES, SB, SBF, question_of};
 use fs_hart::{Step, Trace};
 use fs_judge::{Problem, Verdict};
@@ -18,7 +18,7 @@ fn said_of(alloc: Global, text: &str, words: &str) -> Result<String, Fault> {
     let said = match verdict_on(alloc, &problem, words)? {
         Verdict::Allowed(_) => String::from_str(alloc, "allowed")?,
         Verdict::Forbids(forbidden) => {
-            let count = forbidden.cycles.len();
+            let count = count_of(&forbidden.cycles);
             format!(in alloc; "forbidden by {count}")?
         }
     };

@@ -11,7 +11,7 @@ use Rattle.fs_litmus.specs.Reads.{Reads}
 use Rattle.fs_litmus.proofs.ReadsTest.{is_test}
 use Rattle.fs_litmus.proofs.ReadsOnce.{reads_once}
 use Rattle.fs_promise.proofs.KeptPlacements.{cheapest_same, of_witness_same, refutes_all_same}
-use Rattle.fs_promise.proofs.KeptCandidates.{candidate_fault_same}
+use Rattle.fs_promise.proofs.KeptRuns.{run_fault_same}
 use Rattle.fs_answer.specs.Texts.{fenced_lines, witness_text}
 use Rattle.fs_answer.specs.WitnessFile.{IsWitnessFile}
 use Rattle.fs_round_trip.proofs.Fencing.{read_back}
@@ -91,7 +91,7 @@ holds_of : (test prices text : List ℕ) (status : Status) → IsSolved test pri
 holds_of test prices text status s t table reads priced =
     let same : IsSame s.the_test t = reads_once test s.the_test t s.reads reads in
     let h : IsTest t = is_test test t reads in (
-      λ f fault. s.listed f ((candidate_fault_same s.the_test t same f).1 fault),
+      λ f fault. s.listed f ((run_fault_same s.the_test t same f).1 fault),
       elim s.answer [
         | inl a ↦ inl (a.ends, cheapest t h table s.table text status (agree prices table s.table priced s.priced) (cheapest_of_same s.the_test t s.table text status same a))
         | inr a ↦ inr (a.ends, none t h text status (none_of_same s.the_test t text status same a))

@@ -11,9 +11,9 @@ use Rattle.fs_litmus.specs.Reads.{Reads}
 use Rattle.fs_model.specs.Allows.{Allows, IsPlacement, full_fences, is_better, no_fences}
 use Rattle.fs_model.specs.Reasons.{IsYes}
 use Rattle.fs_model.specs.Witness.{Witness}
-use Rattle.fs_answer.specs.CandidateFaults.{HasNoCandidateFault}
 use Rattle.fs_answer.specs.Texts.{fenced_lines, none_lines, witness_text}
 use Rattle.fs_answer.specs.WitnessFile.{IsWitnessFile}
+use Rattle.fs_history.specs.Sizes.{HasNoRunFault}
 use Rattle.fs_io.specs.declared.status.Status.{Status}
 use Rattle.fs_io.specs.declared.status.Status.TheVariants.{Success, Denied}
 use Rattle.fs_place.specs.Place.{ArePricesOf}
@@ -52,10 +52,10 @@ pub record NothingRulesOut (t : Test) (text : List ℕ) : Type 0 where
   pub shows : IsYes t (full_fences t) witness
   pub possible : (q : List Entry) → slots_of q ≡ slots t → StaysPossible t q
 
--- One of these two is so of the test and the prices, and the status says which. And the test's candidates can be listed.
+-- One of these two is so of the test and the prices, and the status says which. And the test's runs can be listed.
 abbrev pub IsTrueAnswer : Test → PriceTable → (text : List ℕ) → Status → Type 0
 IsTrueAnswer t prices text status =
-    HasNoCandidateFault t
+    HasNoRunFault t
     × (((status ≡ Success) × CheapestRulesOut t prices text) ⊎ ((status ≡ Denied) × NothingRulesOut t text))
 
 -- there are a test and prices that the bytes read as

@@ -15,12 +15,11 @@ use Rattle.fs_model.specs.Witness.{Witness}
 use Rattle.fs_answer.specs.Certificate as said
 use Rattle.fs_answer.specs.CertificateFile.{CanBeSaid, IsCertificateFile}
 use Rattle.fs_answer.specs.Texts.{certificate_text}
-use Rattle.fs_answer.specs.Cycles.{HasCycles}
-use Rattle.fs_answer.specs.CandidateFaults.{HasNoCandidateFault}
 use Rattle.fs_certificate.specs.declared.certificate.Certificate.{Certificate}
 use Rattle.fs_certificate.specs.Kept.{AreInRange, KeepsCertificate}
 use Rattle.fs_io.specs.declared.status.Status.{Status}
-use Rattle.fs_evidence.specs.Evidence.{Question, Refuted, Shown, IsWitnessFor, placement_in}
+use Rattle.fs_history.specs.Sizes.{HasNoRunFault}
+use Rattle.fs_evidence.specs.Evidence.{Question, Refuted, Shown, IsWitnessFor, ShowsForbidden, placement_in}
 use Rattle.fs_crew.specs.Answers.{Answer, Solved, IsAnswer, IsAtLimit, IsBoardOf, Rests, placement_of}
 use Rattle.fs_crew.specs.Forms as answer
 use Rattle.fs_cert.specs.Certified.{Certifies, CertifiesNone}
@@ -30,7 +29,7 @@ use Rattle.fs_solve.specs.inner.Made.{CertifiesAnswer, HasWitness, PrintsWitness
 
 -- what was answered to a copy of the question
 pub found-for : (q asked given : Question) (limit : ℕ) (s : Solved) → asked ≡ q → given ≡ asked → IsBounded q.test
-    → HasNoCandidateFault given.test → IsAnswer given.test given.prices s.answer → Rests given limit s → IsFoundFor q limit asked s
+    → HasNoRunFault given.test → IsAnswer given.test given.prices s.answer → Rests given limit s → IsFoundFor q limit asked s
 found-for q asked given limit s same copied bounded listed is rests =
     subst (λ (x : Question). IsFoundFor q limit x s) copied (record {
       question = copied ∙ same;
@@ -42,7 +41,7 @@ found-for q asked given limit s same copied bounded listed is rests =
 
 -- what was answered to a copy of the question that the bytes ask
 pub found-asked : (test prices : List ℕ) (asked given : Question) (limit : ℕ) (s : Solved) → IsAskedBy test prices asked → given ≡ asked
-    → HasNoCandidateFault given.test → IsAnswer given.test given.prices s.answer → Rests given limit s → IsFound test prices limit asked s
+    → HasNoRunFault given.test → IsAnswer given.test given.prices s.answer → Rests given limit s → IsFound test prices limit asked s
 found-asked test prices asked given limit s by copied listed is rests = record {
   the_test = asked.test;
   table = asked.prices;
@@ -71,7 +70,7 @@ module _ (test prices : List ℕ) (limit : ℕ) (asked : Question) (s : Solved) 
     table = is.table;
     reads = is.reads;
     priced = is.priced;
-    listed = subst (λ (x : Question). HasNoCandidateFault x.test) found.question found.listed;
+    listed = subst (λ (x : Question). HasNoRunFault x.test) found.question found.listed;
     answer = subst (λ (x : Question). PrintsAnswer x.test x.prices text status) found.question
         (printed asked.test asked.prices (placement_of s.answer) text status (prints asked.test asked.prices found.answer));
   }
@@ -85,7 +84,7 @@ module _ (test prices : List ℕ) (limit : ℕ) (asked : Question) (s : Solved) 
         table = is.table;
         reads = is.reads;
         priced = is.priced;
-        listed = subst (λ (x : Question). HasNoCandidateFault x.test) found.question found.listed;
+        listed = subst (λ (x : Question). HasNoRunFault x.test) found.question found.listed;
         placed = placement_of s.answer;
         answer = subst (λ (x : Question). PrintsPlaced x.test x.prices (placement_of s.answer) text status) found.question
             (prints asked.test asked.prices found.answer);
@@ -110,22 +109,23 @@ first-memory test prices limit (Err f) is = subst (IsFirstSolveFault test prices
 -- ---- certificates
 
 pub witness-certifies : (t : Test) (prices : PriceTable) (a : Answer) (w : Shown) (made : Certificate) → a ≡ answer.None w → IsAnswer t prices a
-    → ((t : Test) (prices : PriceTable) (e : Execution) → IsWitnessFor t w e → RefutesAll t e → CertifiesNone t prices w.witness made)
+    → HasNoRunFault t
+    → ((t : Test) (prices : PriceTable) (e : Execution) → HasNoRunFault t → IsWitnessFor t w e → RefutesAll t e → CertifiesNone t prices w.witness made)
     → CertifiesAnswer t prices a made
-witness-certifies t prices a w made is holds certified =
+witness-certifies t prices a w made is holds listed certified =
     let shown = subst (IsAnswer t prices) is holds in
-    subst (λ (x : Answer). CertifiesAnswer t prices x made) (sym is) (certified t prices shown.0 shown.1 shown.2)
+    subst (λ (x : Answer). CertifiesAnswer t prices x made) (sym is) (certified t prices shown.0 listed shown.1 shown.2)
 
 pub fenced-certifies : (t : Test) (prices : PriceTable) (a : Answer) (f : _) (n : ℕ) (p : List Entry) (r : Result Certificate Fault)
     → a ≡ answer.Fenced f n → p ≡ placement_in f → IfOk r (Certifies t prices (Some p)) → IfOk r (CertifiesAnswer t prices a)
 fenced-certifies t prices a f n p r is placed certified =
     subst (λ (x : Answer). IfOk r (CertifiesAnswer t prices x)) (sym is) (subst (λ (q : List Entry). IfOk r (Certifies t prices (Some q))) placed certified)
 
--- an answer that is a placement has its cycles
+-- an answer that is a placement has what shows that it forbids the outcome
 pub fenced-cycles : (t : Test) (prices : PriceTable) (a : Answer) (f : _) (n : ℕ) (x : Refuted) → a ≡ answer.Fenced f n → x ≡ f.value → IsAnswer t prices a
-    → HasCycles t x.placement x.cycles
+    → ShowsForbidden t x
 fenced-cycles t prices a f n x is same holds =
-    subst (λ (y : Refuted). HasCycles t y.placement y.cycles) (sym same) (subst (IsAnswer t prices) is holds).2
+    subst (ShowsForbidden t) (sym same) (subst (IsAnswer t prices) is holds).2
 
 pub board-there : (asked : Question) (limit : ℕ) (s : Solved) (b : _) → Some b ≡ s.board → Rests asked limit s → IsBoardOf asked limit s.answer b
 board-there asked limit s b is h = subst (λ o. MatchOption o (IsAtLimit asked limit s.answer) (IsBoardOf asked limit s.answer)) (sym is) h
@@ -150,8 +150,9 @@ certificate-said t prices (answer.Fenced f n) made bytes certifies written says 
     certificate = certifies.certificate;
     file = says certifies.certificate certifies.keeps certifies.in_range certifies.sayable;
     written = written certifies.certificate certifies.keeps certifies.in_range;
-    second = certifies.second;
+    version = certifies.version;
     valid = certifies.valid;
+    judged = certifies.judged;
     least = certifies.least;
   };
   witnesses = tt;
@@ -161,8 +162,9 @@ certificate-said t prices (answer.None w) made bytes certifies written says = le
     certificate = by.certificate;
     file = says by.certificate by.keeps by.in_range by.sayable;
     written = written by.certificate by.keeps by.in_range;
-    second = by.second;
+    version = by.version;
     valid = by.valid;
+    judged = by.judged;
     least = by.least;
   };
   witnesses = certifies.only;

@@ -10,13 +10,14 @@ use Rattle.fs_litmus.specs.Faults.{IsTestFault}
 use Rattle.fs_model.specs.Execution.{Execution}
 use Rattle.fs_model.specs.Allows.{IsCheapest, RefutesAll}
 use Rattle.fs_model.specs.Witness.{Witness, IsOfWitness}
-use Rattle.fs_answer.specs.CandidateFaults.{HasNoCandidateFault}
+use Rattle.fs_answer.specs.CandidateFaults.{HasNoCyclesFault}
 use Rattle.fs_answer.specs.Certificate as said
 use Rattle.fs_answer.specs.CertificateFile.{IsCertificateFile}
 use Rattle.fs_answer.specs.Texts.{certificate_text, fenced_lines, none_lines, witness_text}
 use Rattle.fs_answer.specs.Valid.{IsValid}
 use Rattle.fs_answer.specs.WitnessFile.{IsWitnessFile}
-use Rattle.fs_history.specs.Sizes.{IsUnanswered}
+use Rattle.fs_history.specs.Sizes.{HasNoRunFault, IsUnanswered}
+use Rattle.fs_cert.specs.Certified.{version_for}
 use Rattle.fs_cert.specs.Cycles.{BeginsAtLeast}
 use Rattle.fs_io.specs.declared.status.Status.{Status}
 use Rattle.fs_io.specs.declared.status.Status.TheVariants.{Success, Denied}
@@ -48,7 +49,7 @@ pub record IsSolved (test prices text : List ℕ) (status : Status) : Type 0 whe
   pub table : PriceTable
   pub reads : Reads test the_test
   pub priced : ArePricesOf prices table
-  pub listed : HasNoCandidateFault the_test
+  pub listed : HasNoRunFault the_test
   pub answer : PrintsAnswer the_test table text status
 
 -- the first of the cheapest placements, which is this one, or `none` as above
@@ -56,14 +57,16 @@ abbrev pub PrintsPlaced : Test → PriceTable → Option (List Entry) → List �
 PrintsPlaced t prices (Some p) text status = IsCheapest t prices p × (text ≡ fenced_lines (cost prices p) p) × (status ≡ Success)
 PrintsPlaced t prices None text status = PrintsNone t text status
 
--- the bytes are a certificate file, as it is written, of the second version, which is valid with this placement as its answer, or with
--- none; and each of its cycles begins at its least operation
+-- The bytes are a certificate file, as it is written, which is valid with this placement as its answer, or with none, and no fault is in
+-- the way of judging that. It is of the second version where it lists cycles, each of which begins at its least operation, and else of the
+-- fourth.
 pub record IsCertificateOf (t : Test) (prices : PriceTable) (answer : Option (List Entry)) (bytes : List ℕ) : Type 0 where
   pub certificate : said.Certificate
   pub file : IsCertificateFile bytes certificate
   pub written : bytes ≡ certificate_text certificate
-  pub second : certificate.version ≡ said.Second
+  pub version : certificate.version ≡ version_for certificate.cycles
   pub valid : IsValid t prices certificate answer
+  pub judged : HasNoCyclesFault certificate.cycles t
   pub least : All BeginsAtLeast (said.listed_in certificate.cycles)
 
 -- where there is no placement, the one of these witnesses is printed
@@ -77,7 +80,7 @@ pub record IsCertified (test prices text : List ℕ) (status : Status) (certific
   pub table : PriceTable
   pub reads : Reads test the_test
   pub priced : ArePricesOf prices table
-  pub listed : HasNoCandidateFault the_test
+  pub listed : HasNoRunFault the_test
   pub placed : Option (List Entry)
   pub answer : PrintsPlaced the_test table placed text status
   pub certified : IsCertificateOf the_test table placed certificate

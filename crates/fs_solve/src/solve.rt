@@ -6,8 +6,7 @@ ghost use Rattle.fs_kinds.specs.PriceTable.{PriceTable, IsPriceTable};
 ghost use Rattle.fs_model.specs.declared.test.Test.{Test as Tests};
 ghost use Rattle.fs_model.specs.Test.{IsTest};
 ghost use Rattle.fs_litmus.specs.Reads.{Reads};
-ghost use Rattle.fs_answer.specs.Cycles.{HasCycles};
-ghost use Rattle.fs_evidence.specs.Evidence.{Question as Asked};
+ghost use Rattle.fs_evidence.specs.Evidence.{Question as Asked, ShowsForbidden};
 ghost use Rattle.fs_crew.specs.Answers.{IsAnswer, placement_of};
 ghost use Rattle.fs_cert.specs.Certified.{Certifies};
 ghost use Rattle.fs_place.specs.Place.{ArePricesOf};
@@ -66,9 +65,9 @@ pub fn run_solve_alone(
     answer_output(alloc, &found.solved.answer)
 }
 
-/// What `run_solve_alone` answers, with the text of a certificate of the second version, which is valid for the test and
-/// the prices with the answer that is printed, and each of whose cycles begins at its least operation; where the answer is
-/// `none`, its witness is the printed one. The faults are those of `run_solve_alone`.
+/// What `run_solve_alone` answers, with the text of a certificate, which is valid for the test and the prices with the answer that is
+/// printed: of the second version where it lists cycles, each of which begins at its least operation, else of the fourth. Where the
+/// answer is `none`, its witness is the printed one. The faults are those of `run_solve_alone`.
 pub fn run_certified_alone(
     alloc: Global,
     test: &[u8],
@@ -284,7 +283,7 @@ fn fenced_certificate(
     forbidden: &Forbidden,
 ) -> Result<Certificate, Fault>
     requires placed { placement_of solved.now.answer ≡ Some forbidden.now.placement }
-    requires cycles { HasCycles question.now.test forbidden.now.placement forbidden.now.cycles }
+    requires cycles { ShowsForbidden question.now.test forbidden.now }
     requires found { (q : Asked) × (limit : ℕ) × IsFoundFor q limit question.now solved.now }
     ensures ok { IfOk result (Certifies question.now.test question.now.prices (Some forbidden.now.placement)) }
     ensures err { IsOkUnless result Fault.Memory }

@@ -3,7 +3,7 @@ ghost use Rattle.std.specs.Prelude.{◌≡◌, Some, IfOk};
 ghost use Rattle.std.specs.Arc.{arc_value};
 ghost use Rattle.fs_kinds.specs.PriceTable.{IsPriceTable};
 ghost use Rattle.fs_model.specs.Test.{IsTest};
-ghost use Rattle.fs_answer.specs.Cycles.{HasCycles};
+ghost use Rattle.fs_evidence.specs.Evidence.{ShowsForbidden};
 ghost use Rattle.fs_search.specs.Answers.{IsAnswer, Rests, placement_of};
 
 use crate::printing::{print_fences, say_refused};
@@ -39,7 +39,7 @@ fn fenced_certificate(
 ) -> Result<Certificate, Fault>
     requires test { IsTest (arc_value question.now).test }
     requires placed { placement_of solved.now.answer ≡ Some forbidden.now.placement }
-    requires cycles { HasCycles (arc_value question.now).test forbidden.now.placement forbidden.now.cycles }
+    requires cycles { ShowsForbidden (arc_value question.now).test forbidden.now }
     requires rests { Rests (arc_value question.now) 10000 solved.now }
 {
     match solved.board() {

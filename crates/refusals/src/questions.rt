@@ -4,8 +4,7 @@ ghost use Rattle.std.specs.Arc.{arc_value};
 ghost use Rattle.fs_model.specs.Test.{IsBounded};
 ghost use Rattle.fs_model.specs.Allows.{Allows};
 ghost use Rattle.fs_model.specs.Execution.{Execution};
-ghost use Rattle.fs_answer.specs.Cycles.{HasCycles};
-ghost use Rattle.fs_evidence.specs.Evidence.{IsWitnessFor, placement_in};
+ghost use Rattle.fs_evidence.specs.Evidence.{IsWitnessFor, ShowsForbidden, placement_in};
 ghost use Rattle.fs_board.specs.Growth.{AreWitnesses};
 
 use fs_evidence::{Forbidden, Witness};
@@ -63,14 +62,14 @@ pub(crate) fn witnesses_on(
     Ok(List::new(witnesses))
 }
 
-/// That the placement that the words name forbids the outcome, with its cycles. `BadFence` where it allows the outcome.
+/// That the placement that the words name forbids the outcome, with what shows it. `BadFence` where it allows the outcome.
 pub(crate) fn forbidden_on(
     alloc: Global,
     problem: &Problem,
     words: &str,
 ) -> Result<Arc<Forbidden>, Fault>
     requires { IsBounded problem.now.test }
-    ensures cycles { IfOk result (λ f. HasCycles problem.now.test (placement_in f) (arc_value f).cycles) }
+    ensures cycles { IfOk result (λ f. ShowsForbidden problem.now.test (arc_value f)) }
     ensures forbids { IfOk result (λ f. Allows problem.now.test (placement_in f) → ⊥) }
 {
     match verdict_on(alloc, problem, words)? {

@@ -7,7 +7,7 @@ use crate::printing::say_refused;
 use fs_evidence::{Question, Witness};
 use fs_examples::{PRICES, SB, placement_of, question_of};
 use fs_judge::{Judge, Problem, Verdict};
-use fs_judge_tests::verdict_on;
+use fs_judge_tests::{count_of, verdict_on};
 use fs_kinds::Fault;
 use std::alloc::Global;
 use std::sync::Arc;
@@ -57,7 +57,7 @@ fn print_verdict<R: Print>(rt: &R, verdict: &Verdict) {
             let _ = println!(rt; "allowed with {} operations", witness.order.len());
         }
         Verdict::Forbids(forbidden) => {
-            let _ = println!(rt; "forbidden by {}", forbidden.cycles.len());
+            let _ = println!(rt; "forbidden by {}", count_of(&forbidden.cycles));
         }
     }
 }

@@ -4,7 +4,7 @@ use Rattle.fs_kinds.specs.PriceTable.{PriceTable, IsPriceTable}
 use Rattle.fs_model.specs.declared.test.Test.{Test}
 use Rattle.fs_model.specs.Test.{IsBounded, IsTest}
 use Rattle.fs_litmus.specs.Reads.{Reads}
-use Rattle.fs_answer.specs.CandidateFaults.{HasNoCandidateFault}
+use Rattle.fs_history.specs.Sizes.{HasNoRunFault}
 use Rattle.fs_evidence.specs.Evidence.{Question}
 use Rattle.fs_crew.specs.Answers.{Solved, IsAnswer, Rests}
 use Rattle.fs_place.specs.Place.{ArePricesOf}
@@ -20,7 +20,7 @@ pub record IsAskedBy (test prices : List ℕ) (asked : Question) : Type 0 where
 pub record IsFoundFor (q : Question) (limit : ℕ) (asked : Question) (s : Solved) : Type 0 where
   pub question : asked ≡ q
   pub bounded : IsBounded asked.test
-  pub listed : HasNoCandidateFault asked.test
+  pub listed : HasNoRunFault asked.test
   pub answer : IsAnswer asked.test asked.prices s.answer
   pub rests : Rests asked limit s
 

@@ -1,6 +1,5 @@
 use Rattle.std.proofs.Common.{inl, refl, sym, subst}
-use Rattle.fs_kinds.specs.declared.fault.Fault.{Fault}
-use Rattle.fs_answer.specs.CandidateFaults.{IsCandidateFault}
+use Rattle.fs_history.specs.Sizes.{HasNoRunFault}
 use Rattle.fs_evidence.specs.Evidence.{Question}
 use Rattle.fs_search.proofs.Ends.{handed}
 use Rattle.fs_crew.proofs.Faults.{same-fault}
@@ -13,7 +12,7 @@ returns-in_err-problem-clause-err g c =
 
 pub concluded-requires-clause-clean : goal.concluded-requires-clause-clean
 concluded-requires-clause-clean g c =
-    subst (λ (x : Question). (f : Fault) → IsCandidateFault x.test f → ⊥) (sym c.in_ok-problem.ensures.value) c.in_ok-problem.ensures.clean
+    subst (λ (x : Question). HasNoRunFault x.test) (sym c.in_ok-problem.ensures.value) c.in_ok-problem.ensures.clean
 
 pub returns-in_err-solved-clause-err : goal.returns-in_err-solved-clause-err
 returns-in_err-solved-clause-err g c =

@@ -13,7 +13,7 @@ fenced_certificate-requires-clause-cycles c = fenced-cycles _ _ _ _ _ _ c.in-Fen
 
 pub returns-in_ok-from_witness-in-None-clause-ok : goal.returns-in_ok-from_witness-in-None-clause-ok
 returns-in_ok-from_witness-in-None-clause-ok c =
-    witness-certifies _ _ _ _ _ c.in-None.is c.requires.2.answer c.in_ok-from_witness-in-None.ensures
+    witness-certifies _ _ _ _ _ c.in-None.is c.requires.2.answer c.requires.2.listed c.in_ok-from_witness-in-None.ensures
 
 pub returns-in-Fenced-clause-ok : goal.returns-in-Fenced-clause-ok
 returns-in-Fenced-clause-ok c =

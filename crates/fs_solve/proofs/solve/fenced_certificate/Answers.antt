@@ -1,7 +1,6 @@
 use Rattle.std.proofs.Common.{subst, sym, ◌∙◌}
 use Rattle.fs_model.specs.Test.{IsBounded}
-use Rattle.fs_answer.specs.Cycles.{HasCycles}
-use Rattle.fs_evidence.specs.Evidence.{Question}
+use Rattle.fs_evidence.specs.Evidence.{Question, ShowsForbidden}
 use Rattle.fs_solve.proofs.Founding.{board-there, least-there}
 use Rattle.fs_solve.proofs.solve.fenced_certificate.Goals as goal
 
@@ -24,9 +23,8 @@ from_board-requires-clause-posted c =
 pub from_board-requires-clause-cycles : goal.from_board-requires-clause-cycles
 from_board-requires-clause-cycles c =
     let found = c.requires.found in
-    let f = c.args.forbidden.now in
     let of = board-there c.args.question.now found.1 c.args.solved.now c.in-Some.board.now c.in-Some.ensures found.2.rests in
-    subst (λ (q : Question). HasCycles q.test f.placement f.cycles) (sym of.question) c.requires.cycles
+    subst (λ (q : Question). ShowsForbidden q.test c.args.forbidden.now) (sym of.question) c.requires.cycles
 
 pub from_least-requires-clause-least : goal.from_least-requires-clause-least
 from_least-requires-clause-least c =

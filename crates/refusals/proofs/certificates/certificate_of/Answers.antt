@@ -1,6 +1,5 @@
 use Rattle.std.proofs.Common.{Some, ap, subst, sym, ◌∙◌}
-use Rattle.fs_answer.specs.Cycles.{HasCycles}
-use Rattle.fs_evidence.specs.Evidence.{Question, Refuted}
+use Rattle.fs_evidence.specs.Evidence.{Question, Refuted, ShowsForbidden}
 use Rattle.fs_search.specs.Answers.{IsAnswer, placement_of}
 use Rattle.refusals.proofs.certificates.certificate_of.Goals as goal
 
@@ -11,5 +10,5 @@ fenced_certificate-requires-clause-placed c =
 pub fenced_certificate-requires-clause-cycles : goal.fenced_certificate-requires-clause-cycles
 fenced_certificate-requires-clause-cycles c =
     let q : Question = c.args.question.now.value in
-    subst (λ (f : Refuted). HasCycles q.test f.placement f.cycles) (sym c.deref.ensures)
+    subst (ShowsForbidden q.test) (sym c.deref.ensures)
     (subst (IsAnswer q.test q.prices) c.in-Fenced.is c.requires.answer).2

@@ -1,7 +1,6 @@
 use Rattle.std.proofs.Common.{◌≡◌, Option, Some, MatchOption, subst, sym, ◌∙◌}
 use Rattle.fs_model.specs.Test.{IsBounded}
-use Rattle.fs_answer.specs.Cycles.{HasCycles}
-use Rattle.fs_evidence.specs.Evidence.{Question}
+use Rattle.fs_evidence.specs.Evidence.{Question, ShowsForbidden}
 use Rattle.fs_board.specs.View.{Search}
 use Rattle.fs_search.specs.declared.answer.Solved.{Solved}
 use Rattle.fs_search.specs.Answers.{IsAtLimit, IsBoardOf, Rests}
@@ -25,6 +24,5 @@ from_board-requires-clause-posted c =
 
 pub from_board-requires-clause-cycles : goal.from_board-requires-clause-cycles
 from_board-requires-clause-cycles c =
-    let f = c.args.forbidden.now in
     let of = board-there c.args.question.now.value c.args.solved.now c.in-Some.board.now c.in-Some.ensures c.requires.rests in
-    subst (λ (q : Question). HasCycles q.test f.placement f.cycles) (sym of.question) c.requires.cycles
+    subst (λ (q : Question). ShowsForbidden q.test c.args.forbidden.now) (sym of.question) c.requires.cycles
