@@ -30,7 +30,8 @@ use Rattle.fs_bound.proofs.Floors.{cost-alone}
 use Rattle.fs_bound.proofs.Ranked.{better-irreflexive}
 use Rattle.fs_evidence.specs.Evidence.{Question, Refuted, ShowsForbidden}
 use Rattle.fs_history.specs.Sizes.{HasNoRunFault}
-use Rattle.fs_cert.specs.Certified.{Certifies, CertifiesNone, version_for}
+use Rattle.fs_cert.specs.Certified.{Certifies, CertifiesNone}
+use Rattle.fs_cert.specs.Cycles.{version_for}
 use Rattle.fs_cert.specs.inner.Copies.{AreCopiedWitnesses}
 use Rattle.fs_cert.specs.inner.Fenced.{IsFenced}
 use Rattle.fs_cert.specs.inner.Items.{AreSayable}

@@ -11,12 +11,7 @@ use Rattle.fs_answer.specs.Valid.{IsValid}
 use Rattle.fs_answer.specs.declared.witness.WitnessFile.{WitnessFile}
 use Rattle.fs_certificate.specs.declared.certificate.Certificate.{Certificate}
 use Rattle.fs_certificate.specs.Kept.{AreInRange, KeepsCertificate}
-use Rattle.fs_cert.specs.Cycles.{BeginsAtLeast}
-
--- the version that is written: the second where cycles are listed, the fourth where there are inferences
-abbrev pub version_for : said.Cycles → said.Version
-version_for (said.Listed cycles) = said.Second
-version_for (said.Inferred inferences) = said.Fourth
+use Rattle.fs_cert.specs.Cycles.{BeginsAtLeast, version_for}
 
 -- It is a certificate of the version that goes with its cycles, which is valid with this placement as its answer, or with none; no fault is
 -- in the way of judging that; a file can say it; and each cycle that it lists begins at its least operation.

@@ -1,7 +1,12 @@
--- Where a cycle of a certificate begins.
+-- In which version a certificate is written, and where its cycles begin.
 use Rattle.std.specs.Prelude.{◌≡◌, ◌⊎◌, ◌≤◌, ◌<◌, List, [], ◌∷◌, All}
 use Rattle.fs_kinds.specs.declared.reason.OperationName.{OperationName as Name}
-use Rattle.fs_answer.specs.Certificate.{Link}
+use Rattle.fs_answer.specs.Certificate.{Link, Cycles, Listed, Inferred, Version, Second, Fourth}
+
+-- the second where cycles are listed, the fourth where there are inferences
+abbrev pub version_for : Cycles → Version
+version_for (Listed cycles) = Second
+version_for (Inferred inferences) = Fourth
 
 -- the first operation doesn't come after the second, by hart and then by instruction
 abbrev pub IsNotAfter : Name → Name → Type 0

@@ -17,8 +17,7 @@ use Rattle.fs_answer.specs.Texts.{certificate_text, fenced_lines, none_lines, wi
 use Rattle.fs_answer.specs.Valid.{IsValid}
 use Rattle.fs_answer.specs.WitnessFile.{IsWitnessFile}
 use Rattle.fs_history.specs.Sizes.{HasNoRunFault, IsUnanswered}
-use Rattle.fs_cert.specs.Certified.{version_for}
-use Rattle.fs_cert.specs.Cycles.{BeginsAtLeast}
+use Rattle.fs_cert.specs.Cycles.{BeginsAtLeast, version_for}
 use Rattle.fs_io.specs.declared.status.Status.{Status}
 use Rattle.fs_io.specs.declared.status.Status.TheVariants.{Success, Denied}
 use Rattle.fs_place.specs.Place.{ArePricesOf, IsPricesFault}

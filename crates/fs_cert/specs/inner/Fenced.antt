@@ -9,7 +9,7 @@ use Rattle.fs_certificate.specs.declared.certificate.Certificate.{Certificate}
 use Rattle.fs_certificate.specs.declared.certificate.Item.{Item}
 use Rattle.fs_certificate.specs.Kept.{answer_of, version_of}
 use Rattle.fs_evidence.specs.Evidence.{Question, Refuted}
-use Rattle.fs_cert.specs.Certified.{version_for}
+use Rattle.fs_cert.specs.Cycles.{version_for}
 use Rattle.fs_cert.specs.inner.Copies.{AreCopiedCycles}
 
 pub record IsFenced (q : Question) (f : Refuted) (tree : List Item) (witnesses : List WitnessFile) (made : Certificate) : Type 0 where
