@@ -19,8 +19,7 @@ use Rattle.fs_certificate.specs.declared.certificate.CertifiedCycles.TheVariants
 use Rattle.fs_certificate.specs.Kept.{AreInRangeLinks, KeepsCycles}
 use Rattle.fs_evidence.specs.Inferences.{inference_of}
 use Rattle.fs_evidence.specs.declared.inference.Inference.{Inference as CodeInference}
-use Rattle.fs_cert.specs.Cycles.{version_for}
-use Rattle.fs_cert.specs.Cycles.{BeginsAtLeast}
+use Rattle.fs_cert.specs.Cycles.{BeginsAtLeast, version_for}
 use Rattle.fs_cert.specs.inner.Copies.{AreCopiedCycles, IsCopiedInference, IsSameLink}
 use Rattle.fs_cert.proofs.Copying.{zip_all, zip_same, zip_weaker}
 use Rattle.fs_cert.proofs.Turning.{are_said}

@@ -5,8 +5,7 @@ ghost use Rattle.std.specs.List.{AllZip};
 ghost use Rattle.fs_answer.specs.Certificate.{Link as LinkValue};
 ghost use Rattle.fs_evidence.specs.Inferences.{cycles_of};
 ghost use Rattle.fs_certificate.specs.Kept.{version_of};
-ghost use Rattle.fs_cert.specs.Cycles.{version_for};
-ghost use Rattle.fs_cert.specs.Cycles.{BeginsAtLeast, IsNotAfter};
+ghost use Rattle.fs_cert.specs.Cycles.{BeginsAtLeast, IsNotAfter, version_for};
 ghost use Rattle.fs_cert.specs.inner.Copies.{AreCopiedCycles, IsCopiedLink, IsCopiedCycle, turned};
 
 use crate::copied::name_of;
