@@ -18,11 +18,9 @@ use Rattle.fs_evidence.specs.contracts.question.Question as Question
 use Rattle.fs_board.specs.contracts.board.Board as Board
 use Rattle.fs_board.proofs.tree.Tree.TheSendSync as tree
 use Rattle.fs_board.proofs.event.LogEntry.TheSendSync as entry
-use Rattle.fs_cand.proofs.candidate.Candidate.TheSendSync as candidate
 use Rattle.fs_kinds.proofs.reason.OperationName.TheSendSync as named
 use Rattle.fs_alone.specs.contracts.lone.Lone as Lone
 use Rattle.fs_refute.specs.contracts.basis.Basis as Basis
-use Rattle.fs_hunt.proofs.hunter.Hunter.TheSendSync as hunter
 use Rattle.fs_search.proofs.Problems as problem
 use Rattle.fs_crew.proofs.Outcomes.{hole_send, hole_sync}
 
@@ -55,10 +53,10 @@ pub desk_sync : (A : RattleType) (g : asked.Ghosts A.Denot) → IsSync (Desk.the
 desk_sync A g = let s = shared_send A g in search (crosses, sendable) depth 40 fits 100000
 
 lone_send : IsSend Lone.the_row
-lone_send = search (test_send, test_sync, candidate.the_send, crosses, sendable) depth 40 fits 100000
+lone_send = search (test_send, test_sync, list.the_send, crosses, sendable) depth 60 fits 1000000
 
 lone_sync : IsSync Lone.the_row
-lone_sync = search (test_send, test_sync, candidate.the_sync, crosses, sendable) depth 40 fits 100000
+lone_sync = search (test_send, test_sync, list.the_sync, crosses, sendable) depth 60 fits 1000000
 
 basis_send : IsSend Basis.the_row
 basis_send = search (test_send, test_sync, lone_send, list.the_send, named.the_send, crosses, sendable) depth 40 fits 100000
@@ -67,7 +65,7 @@ basis_sync : IsSync Basis.the_row
 basis_sync = search (test_send, test_sync, lone_sync, list.the_sync, named.the_sync, crosses, sendable) depth 40 fits 100000
 
 pub problem_send : IsSend problem.the_row
-problem_send = search (question_send, question_sync, basis_send, hunter.the_send, crosses, sendable) depth 40 fits 100000
+problem_send = search (question_send, question_sync, basis_send, crosses, sendable) depth 40 fits 100000
 
 pub problem_sync : IsSync problem.the_row
-problem_sync = search (question_send, question_sync, basis_sync, hunter.the_sync, crosses, sendable) depth 40 fits 100000
+problem_sync = search (question_send, question_sync, basis_sync, crosses, sendable) depth 40 fits 100000
