@@ -95,7 +95,8 @@ fn answer_of(alloc: Global, problem: &Problem, board: &Board) -> Result<Answer, 
     }
 }
 
-/// The answer where the search came to its limit: none where `rw,rw` in every slot isn't enough, no fence where none is needed. Else F16.
+/// The answer where the search came to its limit: none where `rw,rw` in every slot isn't enough, no fence where none is needed. Else F16,
+/// or the fault of a verdict.
 /// As in `answer_of` the witness of none is the problem's own.
 fn answer_by_ends(alloc: Global, problem: &Problem) -> Result<Solved, Fault>
     requires bounded { IsBounded problem.now.test }
@@ -127,9 +128,10 @@ fn answer_by_ends(alloc: Global, problem: &Problem) -> Result<Solved, Fault>
 
 /// Ends the search of a board, whatever open and held nodes it has, and reads the answer from it: the cheapest placement that forbids the
 /// outcome, of several the first, or a witness that none does. F16 comes only where fences are needed, `rw,rw` in every slot is enough,
-/// and the tree of all placements has more nodes below its root than the board's limit; or F19. The witness of none depends on the
-/// problem alone, not on what was searched before. What is handed out with the answer, `solve` says, and a board that is handed out is
-/// this one gone on with: its log begins with what was logged before. It takes what `search` takes, and at most two verdicts more.
+/// and the tree of all placements has more nodes below its root than the board's limit; F13 to F15 where a verdict can't be made for the
+/// candidates; or F19. The witness of none depends on the problem alone, not on what was searched before. What is handed out with the
+/// answer, `solve` says, and a board that is handed out is this one gone on with: its log begins with what was logged before. It takes
+/// what `search` takes, and at most two verdicts more.
 pub fn conclude(alloc: Global, problem: Arc<Problem>, board: Board) -> Result<Solved, Fault>
     requires bounded { IsBounded (arc_value problem).test }
     requires prices { IsPriceTable (arc_value problem).prices }

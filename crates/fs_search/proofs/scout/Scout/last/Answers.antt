@@ -1,4 +1,4 @@
-use Rattle.std.proofs.Common.{◌≡◌, false, ◌∙◌, refl, sym, ap, subst}
+use Rattle.std.proofs.Common.{rules, ◌≡◌, false, ◌∙◌, refl, sym, ap, subst}
 use Rattle.std.specs.Prelude.{is_none}
 use Rattle.std.specs.List.{list_any}
 use Rattle.fs_model.specs.Slots.{slots}
@@ -7,6 +7,7 @@ use Rattle.fs_answer.specs.Shown.{IsShownBy}
 use Rattle.fs_bound.specs.Bounds.{slots_in_part}
 use Rattle.fs_evidence.specs.Evidence.{Question}
 use Rattle.fs_judge.specs.Verdicts.{IsVerdict}
+use Rattle.fs_search.proofs.Ends.{candidates-handed}
 use Rattle.fs_search.proofs.Parts.{floor-slots, leaf-shown}
 use Rattle.fs_search.proofs.Scouts.{known-still}
 use Rattle.fs_search.proofs.scout.Scout.last.Goals as goal
@@ -15,6 +16,12 @@ pub verdict-requires : goal.verdict-requires
 verdict-requires c =
     floor-slots c.deref-3.result.now c.in_ok-floor.floor _ c.in_ok-floor.ensures
     (ap slots_in_part c.deref-3.ensures ∙ (c.requires ∙ ap (λ (q : Question). slots q.test) (sym c.self.view_is)))
+
+-- the search finds this of any fault that a verdict may have
+pub returns-in_err-verdict-clause-err : goal.returns-in_err-verdict-clause-err
+returns-in_err-verdict-clause-err c =
+    candidates-handed c.from_residual-in_err-verdict.result _ c.self.inside.judge c.args.self.now c.self.view_is
+    c.from_residual-in_err-verdict.ensures.1 (λ other. search rules)
 
 pub returns-in-Allowed-clause-last : goal.returns-in-Allowed-clause-last
 returns-in-Allowed-clause-last c =
