@@ -1,0 +1,219 @@
+//! What hunts find is right: trees by the check of trees, executions by the check of executions.
+
+use crate::texts::{ALWAYS, CASES, LOCK, LOCK3};
+use fs_answer::{Names, WitnessFile};
+use fs_check::shown_by;
+use fs_examples::{
+    CO_RR, FORWARDED, LB, LRSC, LRSCF, MP, MP11, MPA, MPB, POINTER, SB, SBXA, TWO_WRITES,
+    placement_of,
+};
+use fs_hunt::{Execution, Found, Hunter};
+use fs_kinds::{Fault, Placement};
+use fs_litmus::read_test;
+use fs_refute::Basis;
+use std::alloc::{AllocError, Global};
+use std::sync::Arc;
+use std::test::Fail;
+
+/// How a hunt is made.
+#[derive(Clone, Copy)]
+struct Way {
+    is_first: bool,
+    most: usize,
+}
+
+const ANY: Way = Way {
+    is_first: false,
+    most: 1000000,
+};
+
+const FIRST: Way = Way {
+    is_first: true,
+    most: 1000000,
+};
+
+/// Writes the choices of each hart.
+fn write_choices(file: &WitnessFile, text: &mut String) -> Result<(), AllocError> {
+    for choices in file.choices.iter() {
+        text.push_str(";")?;
+        for choice in choices.iter() {
+            write!(text, " {choice:?}")?;
+        }
+    }
+    Ok(())
+}
+
+/// The execution as a witness file has it.
+fn file_of(alloc: Global, execution: Execution) -> Result<WitnessFile, AllocError> {
+    let mut order = Vec::new(alloc);
+    for name in &execution.order {
+        order.push(Some(*name))?;
+    }
+    Ok(WitnessFile {
+        choices: execution.choices,
+        order: Names::new(order),
+    })
+}
+
+/// What was found, in words.
+fn told(
+    alloc: Global,
+    basis: &Basis,
+    placement: &Placement,
+    found: Found,
+    way: Way,
+) -> Result<String, Fault> {
+    let mut text = String::new(alloc);
+    match found {
+        Found::Refuted(tree) => {
+            let why = basis.reason_against(alloc, placement, tree.as_slice())?;
+            write!(text, "refuted, {why:?}")?;
+        }
+        Found::Shown(execution) => {
+            let file = file_of(alloc, execution)?;
+            let shown = shown_by(alloc, basis.test(), placement, &file)?;
+            let is_right = shown.is_some();
+            write!(text, "shown {is_right}")?;
+            if way.is_first {
+                write_choices(&file, &mut text)?;
+            }
+        }
+        Found::GaveUp => text.push_str("gave up")?,
+    }
+    Ok(text)
+}
+
+/// What is found on the test of this text with the fences that the words name.
+fn hunted(alloc: Global, text: &str, fences: &str, way: Way) -> Result<String, Fault> {
+    let test = Arc::new(alloc, read_test(alloc, text.as_bytes())?)?;
+    let placement = placement_of(alloc, &test, fences)?;
+    let basis = Basis::new(alloc, &test)?;
+    let hunter = Hunter::new(alloc, &basis)?;
+    let found = if way.is_first {
+        hunter.first(alloc, &placement, way.most)?
+    } else {
+        hunter.hunt(alloc, &placement, way.most)?
+    };
+    told(alloc, &basis, &placement, found, way)
+}
+
+/// The same for each of the tests, a line for each.
+fn all_hunted(alloc: Global, rows: &[(&str, &str)], way: Way) -> Result<String, Fault> {
+    let mut lines = String::new(alloc);
+    for (text, fences) in rows {
+        let line = hunted(alloc, text, fences, way)?;
+        lines.push_str(&line)?;
+        lines.push_str("\n")?;
+    }
+    Ok(lines)
+}
+
+/// Two harts whose accesses are in order by fences or without.
+const PLAIN: [(&str, &str); 12] = [
+    (SB, ""),
+    (SB, "P0:2=rw,rw"),
+    (SB, "P0:2=rw,rw P1:2=w,r"),
+    (MP, "P0:3=w,w"),
+    (MP, "P0:3=w,w P1:1=r,r"),
+    (MPA, "P0:3=w,w"),
+    (MPB, "P0:3=w,w P1:2=r,r"),
+    (LB, ""),
+    (LB, "P0:2=r,w P1:2=rw,rw"),
+    (TWO_WRITES, ""),
+    (TWO_WRITES, "P0:3=w,w P1:3=w,w"),
+    (CO_RR, ""),
+];
+
+const PLAIN_FOUND: &str = "shown true
+shown true
+refuted, None
+shown true
+refuted, None
+refuted, None
+refuted, None
+shown true
+refuted, None
+shown true
+refuted, None
+refuted, None
+";
+
+/// Pairs, AMOs, forwarding, and conditions of other forms.
+const OTHERS: [(&str, &str); 12] = [
+    (LRSC, ""),
+    (LRSCF, ""),
+    (SBXA, ""),
+    (POINTER, ""),
+    (FORWARDED, ""),
+    (ALWAYS, ""),
+    (ALWAYS, "P0:2=rw,rw P1:2=rw,rw"),
+    (CASES, ""),
+    (CASES, "P0:2=rw,rw P1:2=rw,rw"),
+    (LOCK, ""),
+    (LOCK, "P0:3=r,r P0:7=w,w P1:3=r,r P1:7=w,w"),
+    (LOCK, "P0:3=r,r P0:7=w,w P1:7=w,w"),
+];
+
+const OTHERS_FOUND: &str = "refuted, None
+shown true
+refuted, None
+shown true
+shown true
+shown true
+refuted, None
+shown true
+refuted, None
+shown true
+refuted, None
+shown true
+";
+
+#[test]
+fn plain_ones(rt: HostRuntime) -> Result<(), Fail> {
+    let found = all_hunted(rt.alloc(), &PLAIN, ANY)?;
+    assert_eq!(rt; found.as_str(), PLAIN_FOUND);
+    Ok(())
+}
+
+#[test]
+fn others(rt: HostRuntime) -> Result<(), Fail> {
+    let found = all_hunted(rt.alloc(), &OTHERS, ANY)?;
+    assert_eq!(rt; found.as_str(), OTHERS_FOUND);
+    Ok(())
+}
+
+/// Tests of which the first execution is asked for, which is told by its choices: the least that show the outcome.
+const FIRSTS: [(&str, &str); 4] = [
+    (MP11, ""),
+    (MP11, "P0:3=rw,rw P1:1=rw,rw"),
+    (SB, ""),
+    (LOCK, "P0:7=w,w P1:3=r,r"),
+];
+
+const FIRSTS_FOUND: &str = "shown true;; Word(1) Word(1)
+shown true;; Word(1) Word(1)
+shown true; Word(0); Word(0)
+shown true; Word(0) Word(0) Word(1); Word(0) Word(0) Word(1)
+";
+
+#[test]
+fn first_ones(rt: HostRuntime) -> Result<(), Fail> {
+    let found = all_hunted(rt.alloc(), &FIRSTS, FIRST)?;
+    assert_eq!(rt; found.as_str(), FIRSTS_FOUND);
+    Ok(())
+}
+
+/// A lock of three harts, with a limit that it passes and without.
+#[test]
+fn three_harts(rt: HostRuntime) -> Result<(), Fail> {
+    let fences = "P0:3=r,r P0:7=w,w P1:3=r,r P1:7=w,w P2:3=r,r P2:7=w,w";
+    let few = Way {
+        is_first: false,
+        most: 100,
+    };
+    let mut lines = all_hunted(rt.alloc(), &[(LOCK3, fences)], ANY)?;
+    let more = all_hunted(rt.alloc(), &[(LOCK3, fences)], few)?;
+    lines.push_str(&more)?;
+    assert_eq!(rt; lines.as_str(), "refuted, None\ngave up\n");
+    Ok(())
+}
