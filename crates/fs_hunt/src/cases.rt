@@ -1,9 +1,9 @@
 //! The cases of a condition.
 
-use crate::condition::{Part, Wanted, left_of, right_of};
 use crate::region::Region;
 use crate::splits::Splitter;
 use fs_list::List;
+use fs_runs::{Part, Wanted, left_of, right_of};
 use std::alloc::AllocError;
 use std::sync::Arc;
 

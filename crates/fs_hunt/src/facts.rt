@@ -1,10 +1,8 @@
 //! What must hold in all candidates of a region, all harts together.
 
-use crate::access::NOWHERE;
-use crate::names::{MOST_NAMES, Origin, Relation, bit, has};
 use crate::region::{Field, Region};
-use crate::sum::Sum;
 use fs_kinds::MOST_LOCATIONS;
+use fs_runs::{MOST_NAMES, NOWHERE, Origin, Relation, Sum, bit, has};
 
 /// What depends on the runs and sources of a region, and not on the order of stores. The sets are of names.
 #[derive(Drop)]

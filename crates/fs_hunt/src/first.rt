@@ -3,11 +3,10 @@
 
 use crate::facts::Facts;
 use crate::frames::{Hunted, hunt};
-use crate::names::{bit, has};
 use crate::region::{Field, Region};
-use crate::rows::is_within;
 use crate::splits::{Decision, Splitter};
 use fs_kinds::MOST_LOCATIONS;
+use fs_runs::{bit, has, is_within};
 use std::alloc::{AllocError, Global};
 
 /// A region that is narrowed, and what it shows.

@@ -2,11 +2,11 @@
 
 use crate::choose::{Chooser, Split};
 use crate::facts::Facts;
-use crate::names::Relation;
 use crate::region::{Field, Region};
 use crate::saturate::{Ending, Looked, Step, saturate};
 use crate::splits::Decision;
 use fs_evidence::Inference;
+use fs_runs::Relation;
 use std::alloc::{AllocError, Global};
 
 /// What a search comes to.

@@ -3,20 +3,16 @@
 ghost use Rattle.std.specs.Prelude.{IsOkUnless};
 ghost use Rattle.fs_kinds.specs.declared.fault.Fault.TheVariants.{Memory};
 
-use crate::access::initial_word;
-use crate::condition::{Node, nodes};
-use crate::fences::all_fenced;
 use crate::first::hunt_first;
 use crate::frames::{Hunted, hunt};
-use crate::hart::{Hart, hart_of, may_store_often};
 use crate::region::Field;
-use crate::rules::Rule;
 use crate::witness::{Execution, execution_of};
+use fs_alone::Lone;
 use fs_evidence::Inference;
 use fs_kinds::{Fault, MOST_LOCATIONS, OperationName, Placement};
 use fs_list::List;
 use fs_model::{Quantifier, Test};
-use fs_refute::Basis;
+use fs_runs::{Hart, Node, Rule, all_fenced, hart_of, initial_word, may_store_often, nodes};
 use std::alloc::{AllocError, Global};
 
 /// So many stores to one location are many.
@@ -45,13 +41,19 @@ pub enum Found {
     GaveUp,
 }
 
-fn harts(alloc: Global, basis: &Basis, nodes: &[Node]) -> Result<Vec<Hart>, Fault>
+fn harts(
+    alloc: Global,
+    test: &Test,
+    names: &[OperationName],
+    nodes: &[Node],
+    runs: &[List<Lone>],
+) -> Result<Vec<Hart>, Fault>
     ensures err { IsOkUnless result Memory }
 {
     let mut harts = Vec::new(alloc);
     let mut number: u8 = 0;
-    for runs in basis.runs() {
-        harts.push(hart_of(alloc, basis, nodes, number, runs.as_slice())?)?;
+    for runs in runs {
+        harts.push(hart_of(alloc, test, names, nodes, number, runs.as_slice())?)?;
         number = number.saturating_add(1);
     }
     Ok(harts)
@@ -73,19 +75,22 @@ fn copied(alloc: Global, names: &[OperationName]) -> Result<Vec<OperationName>, 
 }
 
 impl Hunter {
-    /// What hunts over the test of the basis. The cost: for each name a sort of the runs of its hart by what they do
-    /// there; for each two names of a hart the rules of preserved program order, once for the runs that execute the
-    /// same instructions and access the same locations. The error is F19.
-    pub fn new(alloc: Global, basis: &Basis) -> Result<Hunter, Fault>
+    /// What hunts over the test, with the names of its memory instructions and for each hart all of its runs, in choice
+    /// order. The cost is that of `hart_of` of fs_runs for each hart. The error is F19.
+    pub fn new(
+        alloc: Global,
+        test: &Test,
+        names: &[OperationName],
+        runs: &[List<Lone>],
+    ) -> Result<Hunter, Fault>
         ensures err { IsOkUnless result Memory }
     {
-        let test = basis.test();
         let nodes = nodes(alloc, &test.condition)?;
-        let harts = harts(alloc, basis, &nodes)?;
+        let harts = harts(alloc, test, names, &nodes, runs)?;
         let has_many_stores = may_store_often(&harts, MANY_STORES);
         Ok(Hunter {
             harts,
-            names: copied(alloc, basis.names())?,
+            names: copied(alloc, names)?,
             nodes,
             words: initial_words(alloc, test)?,
             truth: test.quantifier != Quantifier::Forall,

@@ -3,30 +3,20 @@
 //! proved that it is safe and ends.
 #![tactic(auto)]
 
-mod access;
 mod cases;
 mod choose;
-mod condition;
 mod facts;
-mod fences;
 mod first;
-mod forms;
 mod frames;
-mod hart;
 mod hunter;
 mod links;
 mod loads;
 mod marks;
-mod names;
 mod outcome;
 mod pairs;
-mod paths;
 mod region;
-mod rows;
-mod rules;
 mod saturate;
 mod splits;
-mod sum;
 mod uses;
 mod witness;
 

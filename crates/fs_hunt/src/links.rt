@@ -1,14 +1,11 @@
 //! Links of cycles, and why each operation comes before the next.
 
 use crate::facts::Facts;
-use crate::hart::Hart;
-use crate::names::{Origin, Relation, has};
 use crate::region::{Field, Region};
-use crate::rows::is_within;
-use crate::rules::Rule;
 use crate::uses::add_link;
 use fs_evidence::{Cause, Inference, Link};
 use fs_list::List;
+use fs_runs::{Hart, Origin, Relation, Rule, has, is_within};
 use std::alloc::{AllocError, Global};
 
 /// A name, and why it comes before the next one.

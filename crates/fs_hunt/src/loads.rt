@@ -1,9 +1,9 @@
 //! What follows from what loads return from: an earlier store isn't later in coherence order.
 
-use crate::names::{Origin, Relation, bit, has};
 use crate::region::Region;
 use crate::saturate::{Ending, Looked, Round};
 use fs_evidence::{Cause, Inference};
+use fs_runs::{Origin, Relation, bit, has};
 use std::alloc::AllocError;
 
 /// A load, and a store at its location.

@@ -1,13 +1,11 @@
 //! Regions: what is known of the candidates that are in one.
 
-use crate::condition::{Node, Wanted};
-use crate::hart::Hart;
-use crate::names::{MOST_NAMES, Origin, Relation};
-use crate::rows::{are_same, both, is_empty};
-use crate::rules::Rule;
-use crate::sum::{Left, left_with};
 use fs_kinds::OperationName;
 use fs_list::List;
+use fs_runs::{
+    Hart, Left, MOST_NAMES, Node, Origin, Relation, Rule, Wanted, are_same, both, is_empty,
+    left_with,
+};
 use std::alloc::{AllocError, Global};
 use std::sync::Arc;
 

@@ -2,12 +2,11 @@
 
 use crate::facts::Facts;
 use crate::links::{Edge, inference_of};
-use crate::names::{MOST_NAMES, Relation, bit, has};
 use crate::outcome::Outlook;
-use crate::paths::{cycle, way};
 use crate::region::{Field, Region};
 use crate::uses::of_filter;
 use fs_evidence::{Cause, Inference};
+use fs_runs::{MOST_NAMES, Relation, bit, cycle, has, way};
 use std::alloc::{AllocError, Global};
 
 /// More rounds than there are pairs of names.

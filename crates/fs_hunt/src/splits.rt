@@ -1,13 +1,12 @@
 //! How a region is split into smaller ones: those that the check of a tree makes, in its order.
 
-use crate::access::{Access, class_of};
 use crate::facts::Facts;
-use crate::hart::Hart;
-use crate::names::{Origin, has};
 use crate::outcome::Outlook;
 use crate::region::{Field, Region};
-use crate::rows::{Row, both, do_meet, is_empty, join, no_run, without};
 use fs_evidence::Inference;
+use fs_runs::{
+    Access, Hart, Origin, Row, both, class_of, do_meet, has, is_empty, join, no_run, without,
+};
 use std::alloc::{AllocError, Global};
 
 /// How a region is split.

@@ -1,11 +1,10 @@
 //! Which pairs of stores, one earlier in coherence order, an inference rests on.
 
-use crate::condition::{Part, Wanted, within};
 use crate::facts::Facts;
-use crate::names::{Origin, Relation, bit, has};
 use crate::outcome::Outlook;
 use crate::region::Region;
 use fs_evidence::Cause;
+use fs_runs::{Origin, Part, Relation, Wanted, bit, has, within};
 
 /// Adds that the store is later than what the load returns from.
 pub(crate) fn add_overwriting(used: &mut Relation, region: &Region, load: u8, store: u8) {

@@ -1,15 +1,12 @@
 //! The execution that a region shows in which nothing is left to decide.
 
-use crate::access::{Doing, Takes};
 use crate::facts::Facts;
-use crate::hart::Hart;
-use crate::paths::sorted;
 use crate::region::{Field, Region};
-use crate::rows::{first_run, has_run};
 use fs_answer::{ChoiceLists, Choices};
 use fs_kinds::OperationName;
 use fs_list::List;
 use fs_model::Choice;
+use fs_runs::{Doing, Hart, Takes, first_run, has_run, sorted};
 use std::alloc::{AllocError, Global};
 
 /// What the run chooses at a name, if it chooses something there.

@@ -1,5 +1,8 @@
 //! What hunts find is right: trees by the check of trees, executions by the check of executions.
 
+ghost use Rattle.std.specs.Prelude.{All};
+ghost use Rattle.fs_model.specs.Test.{IsBounded, IsStart};
+
 use crate::texts::{ALWAYS, CASES, LOCK, LOCK3};
 use fs_answer::{Names, WitnessFile};
 use fs_check::shown_by;
@@ -9,7 +12,7 @@ use fs_examples::{
 };
 use fs_hunt::{Execution, Found, Hunter};
 use fs_kinds::{Fault, Placement};
-use fs_litmus::read_test;
+use fs_litmus::{Test, read_test};
 use fs_refute::Basis;
 use std::alloc::{AllocError, Global};
 use std::sync::Arc;
@@ -59,10 +62,14 @@ fn file_of(alloc: Global, execution: Execution) -> Result<WitnessFile, AllocErro
 fn told(
     alloc: Global,
     basis: &Basis,
+    test: &Test,
     placement: &Placement,
     found: Found,
     way: Way,
-) -> Result<String, Fault> {
+) -> Result<String, Fault>
+    requires bounded { IsBounded test.now }
+    requires starts { All IsStart test.now.starts }
+{
     let mut text = String::new(alloc);
     match found {
         Found::Refuted(tree) => {
@@ -71,7 +78,7 @@ fn told(
         }
         Found::Shown(execution) => {
             let file = file_of(alloc, execution)?;
-            let shown = shown_by(alloc, basis.test(), placement, &file)?;
+            let shown = shown_by(alloc, test, placement, &file)?;
             let is_right = shown.is_some();
             write!(text, "shown {is_right}")?;
             if way.is_first {
@@ -88,13 +95,13 @@ fn hunted(alloc: Global, text: &str, fences: &str, way: Way) -> Result<String, F
     let test = Arc::new(alloc, read_test(alloc, text.as_bytes())?)?;
     let placement = placement_of(alloc, &test, fences)?;
     let basis = Basis::new(alloc, &test)?;
-    let hunter = Hunter::new(alloc, &basis)?;
+    let hunter = Hunter::new(alloc, &test, basis.names(), basis.runs())?;
     let found = if way.is_first {
         hunter.first(alloc, &placement, way.most)?
     } else {
         hunter.hunt(alloc, &placement, way.most)?
     };
-    told(alloc, &basis, &placement, found, way)
+    told(alloc, &basis, &test, &placement, found, way)
 }
 
 /// The same for each of the tests, a line for each.

@@ -66,7 +66,7 @@ fn made_ready(alloc: Global, test: &Arc<Test>) -> Result<(Basis, Hunter), Fault>
     ensures err { IfErr result (λ f. f ≢ Memory → IsCandidateFault (arc_value test.now) f) }
 {
     let basis = Basis::new(alloc, test)?;
-    let hunter = Hunter::new(alloc, &basis)?;
+    let hunter = Hunter::new(alloc, test, basis.names(), basis.runs())?;
     if hunter.has_many_stores() {
         check_number(alloc, test)?;
     }

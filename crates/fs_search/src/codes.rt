@@ -28,18 +28,13 @@ fn bits(pairs: Pairs) -> u64 {
 }
 
 /// The pairs that a kind of fence orders, a bit for each.
-pub(crate) fn bits_of_kind(kind: Kind) -> u64 {
+fn bits_of_kind(kind: Kind) -> u64 {
     bits(Pairs {
         read_read: kind.orders(READ, READ),
         read_write: kind.orders(READ, WRITE),
         write_read: kind.orders(WRITE, READ),
         write_write: kind.orders(WRITE, WRITE),
     })
-}
-
-/// The pairs of an execution's width at a slot, a bit for each.
-pub(crate) fn bits_of_pairs(pairs: Pairs) -> u64 {
-    bits(pairs)
 }
 
 impl Codes {
@@ -71,7 +66,7 @@ impl Codes {
     pub(crate) fn of_widths(widths: &[Pairs]) -> Codes {
         let mut codes = Codes::new();
         for (slot, pairs) in widths.iter().enumerate() {
-            codes.put(slot, bits_of_pairs(*pairs));
+            codes.put(slot, bits(*pairs));
         }
         codes
     }

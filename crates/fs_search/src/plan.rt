@@ -1,5 +1,6 @@
-//! The plan: the cheapest placement that breaks all stored witnesses, of equal cost the first. It is found by branch and bound, with
-//! the least breaks of witnesses that share no breakable slot as lower bound.
+//! The plan: the cheapest placement that breaks all stored witnesses, of equal cost the first. What it costs is found by branch and
+//! bound, with the least breaks of witnesses that share no breakable slot as lower bound; and then slot by slot the earliest kind with
+//! which so much is still enough.
 
 ghost use Rattle.std.specs.Prelude.{◌≡◌, IfOk, IfSome};
 ghost use Rattle.fs_kinds.specs.Placement.{slots_of};
@@ -9,10 +10,11 @@ use crate::codes::Codes;
 use crate::store::{Limit, Store, Sum, cost};
 use fs_board::{Decision, Part};
 use fs_kinds::{Entry, Kind, Placement, Prices};
+use fs_parts::{OPTIONS, is_offered};
 use std::alloc::{AllocError, Global};
 
-/// So many steps are made before it is given up.
-const MOST_STEPS: usize = 200_000;
+/// So many steps are made before a plan is given up.
+pub(crate) const MOST_STEPS: usize = 50_000;
 
 /// The number of a slot that is decided, and that of the option which is next there.
 #[derive(Clone, Copy)]
@@ -24,38 +26,53 @@ struct Level {
 /// What the stored witnesses tell of the placements that have all that is decided.
 #[derive(Clone, Copy)]
 enum Outlook {
-    /// None of them is better than the best one so far and breaks all witnesses.
+    /// None of them is within the limit and breaks all witnesses.
     Closed,
     /// The least of them is, and does.
-    Better,
+    Breaks,
     /// A witness isn't broken yet, and is breakable at the undecided slot of this number.
     Open(usize),
 }
 
-/// What is decided, the least placement that has it, the slots that were decided in this order, and the best placement that was found.
+/// What a placement is planned by.
+#[derive(Clone, Copy)]
+struct Planner<'a> {
+    alloc: Global,
+    store: &'a Store,
+    prices: &'a Prices,
+    /// None, and the offered kinds, the cheapest first.
+    options: &'a [Option<Kind>],
+}
+
+/// What is decided, the least placement that has it, the slots that the walk decided, in this order, and what a placement may cost.
 #[derive(Drop)]
 struct Walk {
     decisions: Vec<Decision>,
     floor: Vec<Entry>,
     levels: Vec<Level>,
-    best: Option<Vec<Entry>>,
+    limit: Limit,
+}
+
+/// What a walk comes to.
+#[derive(Drop)]
+enum Walked {
+    /// It has gone through all placements, and this one is the best; or there is none.
+    Ended(Option<Vec<Entry>>),
+    GaveUp,
 }
 
 impl Walk {
-    /// Nothing is decided yet at these slots.
-    fn new(alloc: Global, slots: &[Decision]) -> Result<Walk, AllocError> {
-        let mut decisions = Vec::new(alloc);
+    /// Over the placements that have what is decided.
+    fn new(alloc: Global, decisions: Vec<Decision>, limit: Limit) -> Result<Walk, AllocError> {
         let mut floor = Vec::new(alloc);
-        for decision in slots {
-            let open = Decision::open(decision.slot);
-            floor.push(open.least())?;
-            decisions.push(open)?;
+        for decision in &decisions {
+            floor.push(decision.least())?;
         }
         Ok(Walk {
             decisions,
             floor,
             levels: Vec::new(alloc),
-            best: None,
+            limit,
         })
     }
 
@@ -70,31 +87,26 @@ impl Walk {
     }
 
     /// What is known of the placements that have what is decided. At a witness that is breakable at the fewest slots it goes on.
-    fn outlook(
-        &self,
-        alloc: Global,
-        store: &Store,
-        prices: &Prices,
-    ) -> Result<Outlook, AllocError> {
-        let codes = Codes::of_placement(&self.floor);
-        let offers = store.offers(alloc, &codes, &self.decisions)?;
-        let best = self.best.as_ref().map(|best| best.as_slice());
-        let limit = Limit::of(prices, best, &self.floor);
-        let mut sum = Sum::of(cost(prices, &self.floor));
-        if sum.passes(&limit) {
+    fn outlook(&self, planner: Planner<'_>) -> Result<Outlook, AllocError> {
+        let mut sum = Sum::of(cost(planner.prices, &self.floor));
+        if sum.passes(&self.limit) {
             return Ok(Outlook::Closed);
         }
+        let codes = Codes::of_placement(&self.floor);
+        let offers = planner
+            .store
+            .offers(planner.alloc, &codes, &self.decisions)?;
         for offer in &offers {
             if sum.is_apart(offer) {
                 sum.add(offer);
-            }
-            if sum.passes(&limit) {
-                return Ok(Outlook::Closed);
+                if sum.passes(&self.limit) {
+                    return Ok(Outlook::Closed);
+                }
             }
         }
         match offers.first() {
             Some(offer) => Ok(Outlook::Open(offer.first_place())),
-            None => Ok(Outlook::Better),
+            None => Ok(Outlook::Breaks),
         }
     }
 
@@ -116,55 +128,124 @@ impl Walk {
         false
     }
 
-    /// Takes one step. False where all placements were gone through.
-    fn step(
-        &mut self,
-        alloc: Global,
-        store: &Store,
-        prices: &Prices,
-        options: &[Option<Kind>],
-    ) -> Result<bool, AllocError> {
-        match self.outlook(alloc, store, prices)? {
-            Outlook::Closed => {}
-            Outlook::Better => self.best = Some(self.floor.clone()?),
-            Outlook::Open(slot) => self.levels.push(Level { slot, next: 0 })?,
+    /// Finds the cheapest placement within the limit that breaks all witnesses, or any one where the first will do.
+    fn run(
+        mut self,
+        planner: Planner<'_>,
+        first_will_do: bool,
+        steps: &mut usize,
+    ) -> Result<Walked, AllocError> {
+        let mut best = None;
+        for _ in 0..MOST_STEPS {
+            if *steps == 0 {
+                return Ok(Walked::GaveUp);
+            }
+            *steps = steps.saturating_sub(1);
+            match self.outlook(planner)? {
+                Outlook::Closed => {}
+                Outlook::Breaks => {
+                    best = Some(self.floor.clone()?);
+                    if first_will_do {
+                        return Ok(Walked::Ended(best));
+                    }
+                    self.limit = Limit::below(cost(planner.prices, &self.floor));
+                }
+                Outlook::Open(slot) => self.levels.push(Level { slot, next: 0 })?,
+            }
+            if !self.go_on(planner.options) {
+                return Ok(Walked::Ended(best));
+            }
         }
-        Ok(self.go_on(options))
+        Ok(Walked::GaveUp)
     }
 }
 
 /// What may stand in a slot: none, and the offered kinds, the cheapest first.
 fn options_of(alloc: Global, prices: &Prices) -> Result<Vec<Option<Kind>>, AllocError> {
-    let mut kinds = Vec::new(alloc);
-    for kind in Kind::ALL {
-        if let Some(price) = prices.of(kind) {
-            kinds.push((price, kind))?;
+    let mut priced = Vec::new(alloc);
+    for kind in OPTIONS {
+        if is_offered(prices, kind) {
+            priced.push((kind.and_then(|kind| prices.of(kind)), kind))?;
         }
     }
-    kinds.sort_unstable();
+    priced.sort_unstable();
     let mut options = Vec::new(alloc);
-    options.push(None)?;
-    for (_, kind) in &kinds {
-        options.push(Some(*kind))?;
+    for (_, kind) in &priced {
+        options.push(*kind)?;
     }
     Ok(options)
 }
 
-/// The best placement at these slots. None where no placement breaks all witnesses, and where this isn't found out in time.
-fn best_entries(
-    alloc: Global,
-    store: &Store,
-    prices: &Prices,
-    slots: &[Decision],
-) -> Result<Option<Vec<Entry>>, AllocError> {
-    let options = options_of(alloc, prices)?;
-    let mut walk = Walk::new(alloc, slots)?;
-    for _ in 0..MOST_STEPS {
-        if !walk.step(alloc, store, prices, &options)? {
-            return Ok(walk.best);
-        }
+/// Nothing is decided at these slots.
+fn all_open(alloc: Global, slots: &[Decision]) -> Result<Vec<Decision>, AllocError> {
+    let mut open = Vec::new(alloc);
+    for decision in slots {
+        open.push(Decision::open(decision.slot))?;
     }
-    Ok(None)
+    Ok(open)
+}
+
+impl Planner<'_> {
+    /// The slots before the one of this number are decided as the placement has them, and that one so.
+    fn decided(
+        self,
+        placement: &[Entry],
+        number: usize,
+        kind: Option<Kind>,
+    ) -> Result<Vec<Decision>, AllocError> {
+        let mut decisions = Vec::new(self.alloc);
+        for (place, entry) in placement.iter().enumerate() {
+            let mut decision = Decision::open(entry.slot);
+            if place < number {
+                decision.decided = Some(entry.kind);
+            } else if place == number {
+                decision.decided = Some(kind);
+            }
+            decisions.push(decision)?;
+        }
+        Ok(decisions)
+    }
+
+    /// A placement that costs no more than this one and breaks all witnesses, is the same at the slots before the one of this number, and
+    /// has an earlier kind there, the earliest that there can be.
+    fn earlier(
+        self,
+        placement: &[Entry],
+        number: usize,
+        steps: &mut usize,
+    ) -> Result<Walked, AllocError> {
+        let limit = Limit::up_to(cost(self.prices, placement));
+        let known = placement.get(number).and_then(|entry| entry.kind);
+        for kind in OPTIONS.iter().take_while(|kind| **kind < known) {
+            if !is_offered(self.prices, *kind) {
+                continue;
+            }
+            let decisions = self.decided(placement, number, *kind)?;
+            let walked = Walk::new(self.alloc, decisions, limit)?.run(self, true, steps)?;
+            if !matches!(walked, Walked::Ended(None)) {
+                return Ok(walked);
+            }
+        }
+        Ok(Walked::Ended(None))
+    }
+
+    /// The best placement at these slots: of those that cost the least the first. None where no placement breaks all witnesses, and where
+    /// this isn't found out in so many steps.
+    fn best(self, slots: &[Decision], steps: &mut usize) -> Result<Option<Vec<Entry>>, AllocError> {
+        let open = all_open(self.alloc, slots)?;
+        let cheapest = Walk::new(self.alloc, open, Limit::never())?.run(self, false, steps)?;
+        let Walked::Ended(Some(mut best)) = cheapest else {
+            return Ok(None);
+        };
+        for number in 0..slots.len() {
+            match self.earlier(&best, number, steps)? {
+                Walked::Ended(Some(earlier)) => best = earlier,
+                Walked::Ended(None) => {}
+                Walked::GaveUp => return Ok(None),
+            }
+        }
+        Ok(Some(best))
+    }
 }
 
 /// Puts the kind, or none, at the slot in place of what is there.
@@ -187,16 +268,24 @@ fn put_all(placement: &mut Placement, entries: &[Entry])
 }
 
 /// The cheapest placement at the part's slots that breaks all stored witnesses, of several the first. None where there is none, and
-/// where it isn't found in time. What the part decides doesn't matter.
+/// where it isn't found in the steps that are left. What the part decides doesn't matter.
 pub(crate) fn cheapest_breaking(
     alloc: Global,
     store: &Store,
     prices: &Prices,
     part: &Part,
+    steps: &mut usize,
 ) -> Result<Option<Placement>, AllocError>
     ensures { IfOk result (λ found. IfSome found (λ p. slots_of p ≡ slots_in_part part.now)) }
 {
-    let Some(entries) = best_entries(alloc, store, prices, part.as_slice())? else {
+    let options = options_of(alloc, prices)?;
+    let planner = Planner {
+        alloc,
+        store,
+        prices,
+        options: &options,
+    };
+    let Some(entries) = planner.best(part.as_slice(), steps)? else {
         return Ok(None);
     };
     let mut placement = part.floor(alloc)?;

@@ -17,7 +17,7 @@ use crate::floor_and_filled::{
     is_filled_new, is_floor_new, judge_floor, judge_placement, look_at_filled, stored_over_filled,
 };
 use crate::next_node::Taken;
-use crate::plan::cheapest_breaking;
+use crate::plan::{MOST_STEPS, cheapest_breaking};
 use crate::store::Store;
 use fs_board::{Decision, Event, Part, Reply};
 use fs_evidence::{Forbidden, Question, Witness};
@@ -200,8 +200,9 @@ impl Scout {
             return Ok(());
         }
         self.will_plan = false;
+        let mut steps = MOST_STEPS;
         for _ in 0..MOST_ROUNDS {
-            if self.plan(alloc, &taken.part)? {
+            if self.plan(alloc, &taken.part, &mut steps)? {
                 return Ok(());
             }
         }
@@ -209,13 +210,13 @@ impl Scout {
     }
 
     /// One round of the plan. True where it was the last one.
-    fn plan(&mut self, alloc: Global, part: &Part) -> Result<bool, Fault>
+    fn plan(&mut self, alloc: Global, part: &Part, steps: &mut usize) -> Result<bool, Fault>
         requires { slots_in_part part.now ≡ slots self.old.test }
         ensures value { self.new ≡ self.old }
         ensures err { IfErr result (λ f. f ≢ Fault.Memory → IsCandidateFault self.old.test f) }
     {
         let prices = &self.judge.question().prices;
-        let cheapest = cheapest_breaking(alloc, &self.store, prices, part)?;
+        let cheapest = cheapest_breaking(alloc, &self.store, prices, part, steps)?;
         let Some(placement) = cheapest else {
             return Ok(true);
         };

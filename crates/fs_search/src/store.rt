@@ -5,10 +5,11 @@ ghost use Rattle.std.specs.Arc.{arc_value};
 ghost use Rattle.fs_model.specs.declared.test.Test.{Test};
 ghost use Rattle.fs_board.specs.Growth.{AreWitnesses};
 
-use crate::codes::{Codes, bits_of_kind, bits_of_pairs};
+use crate::codes::Codes;
 use fs_board::{Decision, Part};
 use fs_evidence::{Forbidden, Pairs, Witness};
-use fs_kinds::{Entry, Kind, Prices, Slot};
+use fs_kinds::{Entry, Prices, Slot};
+use fs_parts::{OPTIONS, least_of, precedes};
 use std::alloc::{AllocError, Global};
 use std::marker::Model;
 use std::sync::Arc;
@@ -67,41 +68,12 @@ impl Offer {
 
 /// What the cheapest offered kind costs that orders a pair at the slot which isn't among these.
 fn least_break(prices: &Prices, slot: Slot, kept: Pairs) -> u64 {
-    let kept = bits_of_pairs(kept);
-    let weight = u64::from(prices.weight(slot));
-    let mut least = NEVER;
-    for kind in Kind::ALL {
-        if bits_of_kind(kind) & !kept != 0 {
-            if let Some(price) = prices.of(kind) {
-                least = least.min(u64::from(price).saturating_mul(weight));
-            }
-        }
-    }
-    least
+    least_of(prices, kept, prices.weight(slot), &OPTIONS).map_or(NEVER, u64::from)
 }
 
-/// What the placement costs, as far as numbers go.
+/// What the placement costs. At the highest prices and weights that is far below what never is.
 pub(crate) fn cost(prices: &Prices, placement: &[Entry]) -> u64 {
-    let mut total: u64 = 0;
-    for entry in placement {
-        if let Some(kind) = entry.kind {
-            if let Some(price) = prices.of(kind) {
-                let weight = u64::from(prices.weight(entry.slot));
-                total = total.saturating_add(u64::from(price).saturating_mul(weight));
-            }
-        }
-    }
-    total
-}
-
-/// Is the placement before the other one in the order of those of equal cost?
-fn is_before(placement: &[Entry], other: &[Entry]) -> bool {
-    for (entry, above) in placement.iter().zip(other) {
-        if entry.kind != above.kind {
-            return entry.kind < above.kind;
-        }
-    }
-    false
+    u64::try_from(fs_parts::cost(prices, placement)).unwrap_or(NEVER)
 }
 
 impl Known {
@@ -330,17 +302,35 @@ pub(crate) struct Limit {
 }
 
 impl Limit {
+    /// No cost closes a node but what can't be had at all.
+    pub(crate) fn never() -> Limit {
+        Limit::below(NEVER)
+    }
+
+    /// So much closes a node.
+    pub(crate) fn below(cost: u64) -> Limit {
+        Limit {
+            cost,
+            is_enough: true,
+        }
+    }
+
+    /// More than this closes a node.
+    pub(crate) fn up_to(cost: u64) -> Limit {
+        Limit {
+            cost,
+            is_enough: false,
+        }
+    }
+
     /// The limit at a node of this floor: at equal cost the best placement so far wins where the floor isn't before it. Where there is
     /// none it is what can't be had at all.
     pub(crate) fn of(prices: &Prices, best: Option<&[Entry]>, floor: &[Entry]) -> Limit {
         match best {
-            None => Limit {
-                cost: NEVER,
-                is_enough: true,
-            },
+            None => Limit::never(),
             Some(best) => Limit {
                 cost: cost(prices, best),
-                is_enough: !is_before(floor, best),
+                is_enough: !precedes(floor, best),
             },
         }
     }

@@ -1,6 +1,6 @@
 //! What the runs of a hart do at one name: rows of those that load or store this or that there.
 
-use crate::rows::{Group, Keyed, Row, both, do_meet, grouped, is_empty, join, no_run};
+use crate::rows::{Group, Grouping, Row, both, do_meet, is_empty, join, no_run};
 use fs_alone::Lone;
 use fs_instr::Instr;
 use fs_kinds::OperationName;
@@ -8,36 +8,36 @@ use fs_model::{Location, Test};
 use std::alloc::{AllocError, Global};
 
 /// The number of no location.
-pub(crate) const NOWHERE: u8 = 255;
+pub const NOWHERE: u8 = 255;
 
 /// The runs that access the location there.
 #[derive(Drop)]
-pub(crate) struct Place {
-    pub(crate) location: u8,
-    pub(crate) row: Row,
+pub struct Place {
+    pub location: u8,
+    pub row: Row,
 }
 
 /// How the runs of a hart load at a name, or how they store there.
 #[derive(Drop)]
-pub(crate) struct Access {
+pub struct Access {
     /// The runs that do.
-    pub(crate) any: Row,
+    pub any: Row,
     /// By location and word.
-    pub(crate) classes: Vec<Group>,
+    pub classes: Vec<Group>,
     /// By location.
-    pub(crate) places: Vec<Place>,
+    pub places: Vec<Place>,
 }
 
 /// The runs in which a load has the address and the word of an earlier store of the hart.
 #[derive(Drop)]
-pub(crate) struct Own {
-    pub(crate) store: u8,
-    pub(crate) row: Row,
+pub struct Own {
+    pub store: u8,
+    pub row: Row,
 }
 
 /// What kind of choice an instruction takes.
 #[derive(Clone, Copy, PartialEq, Eq)]
-pub(crate) enum Takes {
+pub enum Takes {
     Nothing,
     /// A word, of a load.
     Word,
@@ -47,16 +47,16 @@ pub(crate) enum Takes {
 
 /// What the runs of a hart do at a name.
 #[derive(Drop)]
-pub(crate) struct Doing {
-    pub(crate) takes: Takes,
-    pub(crate) loads: Access,
-    pub(crate) stores: Access,
+pub struct Doing {
+    pub takes: Takes,
+    pub loads: Access,
+    pub stores: Access,
     /// By what they choose, as `Lone::chosen_at` numbers it.
-    pub(crate) choices: Vec<Group>,
+    pub choices: Vec<Group>,
     /// The runs that load the word which the location begins with.
-    pub(crate) initial: Row,
+    pub initial: Row,
     /// Filled in when the hart's names are all there.
-    pub(crate) own: Vec<Own>,
+    pub own: Vec<Own>,
 }
 
 fn takes_of(test: &Test, name: OperationName) -> Takes {
@@ -70,7 +70,7 @@ fn takes_of(test: &Test, name: OperationName) -> Takes {
 }
 
 /// The number of the location of this address.
-pub(crate) fn location_of(address: u32) -> u8 {
+pub fn location_of(address: u32) -> u8 {
     match Location::at(address) {
         Some(location) => u8::try_from(location).unwrap_or(NOWHERE),
         None => NOWHERE,
@@ -83,12 +83,12 @@ fn class_key(location: u8, word: u32) -> u64 {
 }
 
 /// The location of such a number.
-pub(crate) fn location_in(key: u64) -> u8 {
+pub fn location_in(key: u64) -> u8 {
     (key.wrapping_shr(32) & 0xff) as u8
 }
 
 /// The word of such a number.
-pub(crate) fn word_in(key: u64) -> u32 {
+pub fn word_in(key: u64) -> u32 {
     (key & 0xffff_ffff) as u32
 }
 
@@ -109,13 +109,13 @@ fn classes(
     at: u8,
     is_load: bool,
 ) -> Result<Vec<Group>, AllocError> {
-    let mut keyed = Vec::new(alloc);
+    let mut grouping = Grouping::new(alloc, words);
     for (number, run) in runs.iter().enumerate() {
         if let Some(key) = class_at(run, at, is_load) {
-            keyed.push(Keyed { key, run: number })?;
+            grouping.put(alloc, key, number)?;
         }
     }
-    grouped(alloc, words, keyed)
+    grouping.groups(alloc)
 }
 
 fn places(alloc: Global, words: usize, classes: &[Group]) -> Result<Vec<Place>, AllocError> {
@@ -157,18 +157,15 @@ fn access_of(
 }
 
 fn choices(alloc: Global, words: usize, runs: &[Lone], at: u8) -> Result<Vec<Group>, AllocError> {
-    let mut keyed = Vec::new(alloc);
+    let mut grouping = Grouping::new(alloc, words);
     for (number, run) in runs.iter().enumerate() {
-        keyed.push(Keyed {
-            key: run.chosen_at(at),
-            run: number,
-        })?;
+        grouping.put(alloc, run.chosen_at(at), number)?;
     }
-    grouped(alloc, words, keyed)
+    grouping.groups(alloc)
 }
 
 /// The word that the location begins with.
-pub(crate) fn initial_word(test: &Test, location: u8) -> Option<u32> {
+pub fn initial_word(test: &Test, location: u8) -> Option<u32> {
     let location = test.locations.as_slice().get(usize::from(location))?;
     Some(location.word)
 }
@@ -184,7 +181,7 @@ fn initial(alloc: Global, words: usize, test: &Test, loads: &[Group]) -> Result<
 }
 
 /// What the runs do at the name, which is their hart's.
-pub(crate) fn doing_at(
+pub fn doing_at(
     alloc: Global,
     test: &Test,
     words: usize,
@@ -215,7 +212,7 @@ fn join_both(alloc: Global, row: &mut [u64], one: &[u64], other: &[u64]) -> Resu
 }
 
 /// The class of this number.
-pub(crate) fn class_of(classes: &[Group], key: u64) -> Option<&Group> {
+pub fn class_of(classes: &[Group], key: u64) -> Option<&Group> {
     let place = classes.partition_point(|class| class.key < key);
     let class = classes.get(place)?;
     if class.key == key { Some(class) } else { None }
@@ -238,7 +235,7 @@ fn agreeing(
 }
 
 /// The earlier stores of the hart with which the load agrees in some run. The first of the names has this number.
-pub(crate) fn own_stores(
+pub fn own_stores(
     alloc: Global,
     words: usize,
     first: u8,

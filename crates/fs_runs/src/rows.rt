@@ -1,16 +1,17 @@
 //! Rows of bits, one for each run of a hart. All rows of a hart have the same number of words.
 
 use std::alloc::{AllocError, Global};
+use std::collections::BTreeMap;
 
-pub(crate) type Row = Vec<u64>;
+pub type Row = Vec<u64>;
 
 /// How many words hold a bit for each of so many runs.
-pub(crate) fn words_for(runs: usize) -> usize {
+pub fn words_for(runs: usize) -> usize {
     runs / 64 + 1
 }
 
 /// No run.
-pub(crate) fn no_run(alloc: Global, words: usize) -> Result<Row, AllocError> {
+pub fn no_run(alloc: Global, words: usize) -> Result<Row, AllocError> {
     let mut row = Vec::new(alloc);
     for _ in 0..words {
         row.push(0)?;
@@ -19,43 +20,43 @@ pub(crate) fn no_run(alloc: Global, words: usize) -> Result<Row, AllocError> {
 }
 
 /// Puts the run of this number into the row.
-pub(crate) fn put(row: &mut [u64], run: usize) {
+pub fn put(row: &mut [u64], run: usize) {
     if let Some(word) = row.get_mut(run / 64) {
         *word |= 1u64.wrapping_shl((run % 64) as u32);
     }
 }
 
 /// Is the run of this number in the row?
-pub(crate) fn has_run(row: &[u64], run: usize) -> bool {
+pub fn has_run(row: &[u64], run: usize) -> bool {
     let word = row.get(run / 64).copied().unwrap_or(0);
     word.wrapping_shr((run % 64) as u32) & 1 != 0
 }
 
-pub(crate) fn is_empty(row: &[u64]) -> bool {
+pub fn is_empty(row: &[u64]) -> bool {
     row.iter().all(|word| *word == 0)
 }
 
 /// Has the other row each run of this one?
-pub(crate) fn is_within(row: &[u64], other: &[u64]) -> bool {
+pub fn is_within(row: &[u64], other: &[u64]) -> bool {
     row.iter()
         .zip(other)
         .all(|(word, above)| *word & !*above == 0)
 }
 
 /// Have the two a run in common?
-pub(crate) fn do_meet(row: &[u64], other: &[u64]) -> bool {
+pub fn do_meet(row: &[u64], other: &[u64]) -> bool {
     row.iter()
         .zip(other)
         .any(|(word, above)| *word & *above != 0)
 }
 
 /// Have the two the same runs?
-pub(crate) fn are_same(row: &[u64], other: &[u64]) -> bool {
+pub fn are_same(row: &[u64], other: &[u64]) -> bool {
     row.iter().zip(other).all(|(word, above)| *word == *above)
 }
 
 /// The runs of both.
-pub(crate) fn both(alloc: Global, row: &[u64], other: &[u64]) -> Result<Row, AllocError> {
+pub fn both(alloc: Global, row: &[u64], other: &[u64]) -> Result<Row, AllocError> {
     let mut made = Vec::new(alloc);
     for (word, above) in row.iter().zip(other) {
         made.push(*word & *above)?;
@@ -64,7 +65,7 @@ pub(crate) fn both(alloc: Global, row: &[u64], other: &[u64]) -> Result<Row, All
 }
 
 /// The runs of this one that the other one hasn't.
-pub(crate) fn without(alloc: Global, row: &[u64], other: &[u64]) -> Result<Row, AllocError> {
+pub fn without(alloc: Global, row: &[u64], other: &[u64]) -> Result<Row, AllocError> {
     let mut made = Vec::new(alloc);
     for (word, above) in row.iter().zip(other) {
         made.push(*word & !*above)?;
@@ -73,21 +74,21 @@ pub(crate) fn without(alloc: Global, row: &[u64], other: &[u64]) -> Result<Row, 
 }
 
 /// Puts the other's runs into the row.
-pub(crate) fn join(row: &mut [u64], other: &[u64]) {
+pub fn join(row: &mut [u64], other: &[u64]) {
     for (word, above) in row.iter_mut().zip(other) {
         *word |= *above;
     }
 }
 
 /// Drops from the row the runs that the other one hasn't.
-pub(crate) fn narrow(row: &mut [u64], other: &[u64]) {
+pub fn narrow(row: &mut [u64], other: &[u64]) {
     for (word, above) in row.iter_mut().zip(other) {
         *word &= *above;
     }
 }
 
 /// The number of its first run.
-pub(crate) fn first_run(row: &[u64]) -> Option<usize> {
+pub fn first_run(row: &[u64]) -> Option<usize> {
     for (place, word) in row.iter().enumerate() {
         if *word != 0 {
             let within = word.trailing_zeros() as usize;
@@ -98,7 +99,7 @@ pub(crate) fn first_run(row: &[u64]) -> Option<usize> {
 }
 
 /// Has it more than one run?
-pub(crate) fn has_several(row: &[u64]) -> bool {
+pub fn has_several(row: &[u64]) -> bool {
     let mut found = false;
     for word in row {
         if *word != 0 {
@@ -111,39 +112,47 @@ pub(crate) fn has_several(row: &[u64]) -> bool {
     false
 }
 
-/// A number, and the run that it is of.
-#[derive(Clone, Copy, PartialEq, Eq, PartialOrd, Ord)]
-pub(crate) struct Keyed {
-    pub(crate) key: u64,
-    pub(crate) run: usize,
-}
-
 /// A number, and the runs that it is of.
 #[derive(Drop)]
-pub(crate) struct Group {
-    pub(crate) key: u64,
-    pub(crate) row: Row,
+pub struct Group {
+    pub key: u64,
+    pub row: Row,
 }
 
-/// The runs by their numbers, which rise.
-pub(crate) fn grouped(
-    alloc: Global,
+/// Runs by numbers.
+#[derive(Drop)]
+pub struct Grouping {
     words: usize,
-    mut keyed: Vec<Keyed>,
-) -> Result<Vec<Group>, AllocError> {
-    keyed.sort_unstable();
-    let mut groups: Vec<Group> = Vec::new(alloc);
-    for one in &keyed {
-        let is_new = groups.last().is_none_or(|group| group.key != one.key);
-        if is_new {
-            groups.push(Group {
-                key: one.key,
-                row: no_run(alloc, words)?,
-            })?;
-        }
-        if let Some(group) = groups.last_mut() {
-            put(&mut group.row, one.run);
+    rows: BTreeMap<u64, Row>,
+}
+
+impl Grouping {
+    /// No run; rows have so many words.
+    pub fn new(alloc: Global, words: usize) -> Grouping {
+        Grouping {
+            words,
+            rows: BTreeMap::new(alloc),
         }
     }
-    Ok(groups)
+
+    /// Puts the run into the row of the number.
+    pub fn put(&mut self, alloc: Global, key: u64, run: usize) -> Result<(), AllocError> {
+        if let Some(row) = self.rows.get_mut(&key) {
+            put(row, run);
+            return Ok(());
+        }
+        let mut row = no_run(alloc, self.words)?;
+        put(&mut row, run);
+        self.rows.insert(key, row)?;
+        Ok(())
+    }
+
+    /// The groups, by rising numbers.
+    pub fn groups(self, alloc: Global) -> Result<Vec<Group>, AllocError> {
+        let mut groups = Vec::new(alloc);
+        for (key, row) in self.rows {
+            groups.push(Group { key, row })?;
+        }
+        Ok(groups)
+    }
 }

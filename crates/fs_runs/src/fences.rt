@@ -22,7 +22,7 @@ const WRITE: Classes = Classes {
 /// A fence before the instruction at this position of the code, or in its place, with the pairs that it orders: a bit
 /// for each.
 #[derive(Clone, Copy)]
-pub(crate) struct Barrier {
+pub struct Barrier {
     at: u8,
     pairs: u8,
 }
@@ -58,7 +58,7 @@ fn bits_in(instr: &Instr) -> u8 {
 }
 
 /// The fences that the hart's code has.
-pub(crate) fn written(alloc: Global, test: &Test, hart: u8) -> Result<Vec<Barrier>, AllocError> {
+pub fn written(alloc: Global, test: &Test, hart: u8) -> Result<Vec<Barrier>, AllocError> {
     let mut barriers = Vec::new(alloc);
     let Some(code) = test.codes.as_slice().get(usize::from(hart)) else {
         return Ok(barriers);
@@ -188,7 +188,7 @@ fn fenced(
 }
 
 /// The same for each hart.
-pub(crate) fn all_fenced(
+pub fn all_fenced(
     alloc: Global,
     harts: &[Hart],
     placement: &Placement,

@@ -12,41 +12,41 @@ use std::alloc::{AllocError, Global};
 /// The runs in which the rule of this number puts the one name before the other. Of rule 2 this is what it asks besides
 /// sources; of rule 3, where the second returns from the first.
 #[derive(Drop)]
-pub(crate) struct Rule {
-    pub(crate) first: u8,
-    pub(crate) second: u8,
-    pub(crate) number: u8,
-    pub(crate) row: Row,
+pub struct Rule {
+    pub first: u8,
+    pub second: u8,
+    pub number: u8,
+    pub row: Row,
 }
 
 /// The runs in which rule 12 puts the first name before the second, where that returns from the store.
 #[derive(Drop)]
-pub(crate) struct Forwarded {
-    pub(crate) first: u8,
-    pub(crate) store: u8,
-    pub(crate) second: u8,
-    pub(crate) row: Row,
+pub struct Forwarded {
+    pub first: u8,
+    pub store: u8,
+    pub second: u8,
+    pub row: Row,
 }
 
 /// A name with its number.
 #[derive(Clone, Copy)]
-pub(crate) struct Numbered {
-    pub(crate) number: u8,
-    pub(crate) name: OperationName,
+pub struct Numbered {
+    pub number: u8,
+    pub name: OperationName,
 }
 
 /// What rules are asked of: runs of one hart, with their forms.
 #[derive(Clone, Copy)]
-pub(crate) struct Asked<'a> {
-    pub(crate) words: usize,
-    pub(crate) runs: &'a [Lone],
-    pub(crate) forms: &'a [Form],
+pub struct Asked<'a> {
+    pub words: usize,
+    pub runs: &'a [Lone],
+    pub forms: &'a [Form],
     /// Without a fence.
-    pub(crate) bottom: &'a Placement,
+    pub bottom: &'a Placement,
 }
 
 /// No fence anywhere.
-pub(crate) fn no_fence(alloc: Global) -> Result<Placement, Fault>
+pub fn no_fence(alloc: Global) -> Result<Placement, Fault>
     ensures err { IsOkUnless result Memory }
 {
     Placement::bottom(alloc, &[])
@@ -112,7 +112,7 @@ impl Asked<'_> {
     }
 
     /// The rules between these names, which are the hart's, but for 4 and 12.
-    pub(crate) fn rules(&self, alloc: Global, names: &[Numbered]) -> Result<Vec<Rule>, AllocError> {
+    pub fn rules(&self, alloc: Global, names: &[Numbered]) -> Result<Vec<Rule>, AllocError> {
         let mut found = Vec::new(alloc);
         for first in names {
             for second in names {
@@ -151,7 +151,7 @@ impl Asked<'_> {
     }
 
     /// What rule 12 puts in order, where some load returns from a store on which an address or data dependency ends.
-    pub(crate) fn forwarded(
+    pub fn forwarded(
         &self,
         alloc: Global,
         names: &[Numbered],
@@ -187,7 +187,7 @@ fn with_number(names: &[Numbered], number: u8) -> Option<Numbered> {
 }
 
 /// The names of this hart, with their numbers.
-pub(crate) fn names_of(
+pub fn names_of(
     alloc: Global,
     names: &[OperationName],
     hart: u8,

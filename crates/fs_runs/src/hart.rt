@@ -11,33 +11,32 @@ use crate::rows::{Row, no_run, put, words_for};
 use crate::rules::{Asked, Forwarded, Numbered, Rule, names_of, no_fence};
 use fs_alone::Lone;
 use fs_instr::Reg;
-use fs_kinds::{Fault, MOST_LOCATIONS};
+use fs_kinds::{Fault, MOST_LOCATIONS, OperationName};
 use fs_model::Test;
-use fs_refute::Basis;
 use std::alloc::{AllocError, Global};
 
 /// The runs with which an atom of the condition on a register of the hart is true.
 #[derive(Drop)]
-pub(crate) struct Atom {
-    pub(crate) node: usize,
-    pub(crate) row: Row,
+pub struct Atom {
+    pub node: usize,
+    pub row: Row,
 }
 
 /// The runs of one hart.
 #[derive(Drop)]
-pub(crate) struct Hart {
-    pub(crate) words: usize,
-    pub(crate) all: Row,
-    pub(crate) names: Vec<Numbered>,
+pub struct Hart {
+    pub words: usize,
+    pub all: Row,
+    pub names: Vec<Numbered>,
     /// For each of the names.
-    pub(crate) doings: Vec<Doing>,
-    pub(crate) forms: Vec<Form>,
+    pub doings: Vec<Doing>,
+    pub forms: Vec<Form>,
     /// But for rules 4 and 12.
-    pub(crate) rules: Vec<Rule>,
-    pub(crate) forwarded: Vec<Forwarded>,
+    pub rules: Vec<Rule>,
+    pub forwarded: Vec<Forwarded>,
     /// The fences that the code has.
-    pub(crate) written: Vec<Barrier>,
-    pub(crate) atoms: Vec<Atom>,
+    pub written: Vec<Barrier>,
+    pub atoms: Vec<Atom>,
 }
 
 fn all_runs(alloc: Global, words: usize, count: usize) -> Result<Row, AllocError> {
@@ -131,10 +130,14 @@ fn rules(
     Ok((rules, forwarded))
 }
 
-/// What the runs of the hart of this number do.
-pub(crate) fn hart_of(
+/// What the runs of the hart of this number do. The names are all of the test's, and the nodes those of its condition. The
+/// cost: for each name of the hart the runs times the logarithm of how many different things they do there, and for each two
+/// names of it the rules of preserved program order, once for the runs that execute the same instructions and access the same
+/// locations. The error is F19.
+pub fn hart_of(
     alloc: Global,
-    basis: &Basis,
+    test: &Test,
+    all_names: &[OperationName],
     nodes: &[Node],
     hart: u8,
     runs: &[Lone],
@@ -142,8 +145,8 @@ pub(crate) fn hart_of(
     ensures err { IsOkUnless result Memory }
 {
     let words = words_for(runs.len());
-    let names = names_of(alloc, basis.names(), hart)?;
-    let doings = doings(alloc, basis.test(), words, runs, &names)?;
+    let names = names_of(alloc, all_names, hart)?;
+    let doings = doings(alloc, test, words, runs, &names)?;
     let forms = forms(alloc, words, runs)?;
     let (rules, forwarded) = rules(alloc, words, runs, &forms, &names)?;
     let atoms = atoms(alloc, words, hart, runs, nodes)?;
@@ -155,7 +158,7 @@ pub(crate) fn hart_of(
         forms,
         rules,
         forwarded,
-        written: written(alloc, basis.test(), hart)?,
+        written: written(alloc, test, hart)?,
         atoms,
     })
 }
@@ -170,7 +173,7 @@ fn most_stores(hart: &Hart, location: u8) -> usize {
 }
 
 /// May some location get so many stores of the harts?
-pub(crate) fn may_store_often(harts: &[Hart], least: usize) -> bool {
+pub fn may_store_often(harts: &[Hart], least: usize) -> bool {
     (0..MOST_LOCATIONS as u8).any(|location| {
         let mut total: usize = 0;
         for hart in harts {
@@ -182,12 +185,12 @@ pub(crate) fn may_store_often(harts: &[Hart], least: usize) -> bool {
 
 impl Hart {
     /// The number of the hart's first name.
-    pub(crate) fn first(&self) -> u8 {
+    pub fn first(&self) -> u8 {
         self.names.first().map_or(0, |name| name.number)
     }
 
     /// What its runs do at the name.
-    pub(crate) fn doing(&self, name: u8) -> Option<&Doing> {
+    pub fn doing(&self, name: u8) -> Option<&Doing> {
         let place = name.checked_sub(self.first())?;
         self.doings.get(usize::from(place))
     }

@@ -9,7 +9,7 @@ use std::alloc::{AllocError, Global};
 
 /// What the runs of a form have in common, by positions of the code: a bit, or four of them, for each.
 #[derive(Clone, Copy, PartialEq, Eq, PartialOrd, Ord)]
-pub(crate) struct Outline {
+pub struct Outline {
     /// Which instructions are executed.
     executed: u64,
     loads: u64,
@@ -28,11 +28,11 @@ struct Outlined {
 
 /// Runs of one outline.
 #[derive(Drop)]
-pub(crate) struct Form {
-    pub(crate) outline: Outline,
+pub struct Form {
+    pub outline: Outline,
     /// The number of one of them.
-    pub(crate) run: usize,
-    pub(crate) row: Row,
+    pub run: usize,
+    pub row: Row,
 }
 
 /// The bit of the position.
@@ -88,20 +88,20 @@ impl Outline {
     }
 
     /// Is the instruction there executed?
-    pub(crate) fn executes(&self, at: u8) -> bool {
+    pub fn executes(&self, at: u8) -> bool {
         self.executed & at_bit(at) != 0
     }
 
-    pub(crate) fn loads_at(&self, at: u8) -> bool {
+    pub fn loads_at(&self, at: u8) -> bool {
         self.loads & at_bit(at) != 0
     }
 
-    pub(crate) fn stores_at(&self, at: u8) -> bool {
+    pub fn stores_at(&self, at: u8) -> bool {
         self.stores & at_bit(at) != 0
     }
 
     /// How many of the stores are to the location.
-    pub(crate) fn count_stores(&self, location: u8) -> usize {
+    pub fn count_stores(&self, location: u8) -> usize {
         let code = u64::from(location.min(14)) + 1;
         let mut count: usize = 0;
         for at in 0..32u8 {
@@ -127,7 +127,7 @@ fn all_outlined(alloc: Global, runs: &[Lone]) -> Result<Vec<Outlined>, AllocErro
 }
 
 /// The forms of the runs.
-pub(crate) fn forms(alloc: Global, words: usize, runs: &[Lone]) -> Result<Vec<Form>, AllocError> {
+pub fn forms(alloc: Global, words: usize, runs: &[Lone]) -> Result<Vec<Form>, AllocError> {
     let mut all = all_outlined(alloc, runs)?;
     all.sort_unstable();
     let mut forms: Vec<Form> = Vec::new(alloc);

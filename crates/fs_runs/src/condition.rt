@@ -8,7 +8,7 @@ use std::alloc::{AllocError, Global};
 const MOST_PARTS: usize = 1 << 24;
 
 #[derive(Clone, Copy)]
-pub(crate) enum Part {
+pub enum Part {
     Always,
     Never,
     /// The hart's register ends with the word.
@@ -22,16 +22,16 @@ pub(crate) enum Part {
 
 /// A part, and how many parts it has, itself among them.
 #[derive(Clone, Copy)]
-pub(crate) struct Node {
-    pub(crate) part: Part,
-    pub(crate) size: usize,
+pub struct Node {
+    pub part: Part,
+    pub size: usize,
 }
 
 /// A part that is to have this truth value.
 #[derive(Clone, Copy)]
-pub(crate) struct Wanted {
-    pub(crate) node: usize,
-    pub(crate) truth: bool,
+pub struct Wanted {
+    pub node: usize,
+    pub truth: bool,
 }
 
 fn part_of(outcome: &Outcome) -> Part {
@@ -97,7 +97,7 @@ fn size_of(part: Part, sizes: &mut Vec<usize>) -> usize {
 }
 
 /// The condition's parts.
-pub(crate) fn nodes(alloc: Global, condition: &Outcome) -> Result<Vec<Node>, AllocError> {
+pub fn nodes(alloc: Global, condition: &Outcome) -> Result<Vec<Node>, AllocError> {
     let parts = parts(alloc, condition)?;
     let mut nodes = Vec::new(alloc);
     let mut sizes = Vec::new(alloc);
@@ -111,7 +111,7 @@ pub(crate) fn nodes(alloc: Global, condition: &Outcome) -> Result<Vec<Node>, All
 }
 
 /// The part and all of its own parts.
-pub(crate) fn within(nodes: &[Node], number: usize) -> &[Node] {
+pub fn within(nodes: &[Node], number: usize) -> &[Node] {
     let Some(behind) = nodes.get(number..) else {
         return &[];
     };
@@ -120,12 +120,12 @@ pub(crate) fn within(nodes: &[Node], number: usize) -> &[Node] {
 }
 
 /// The number of the left part, or the only one.
-pub(crate) fn left_of(number: usize) -> usize {
+pub fn left_of(number: usize) -> usize {
     number.saturating_add(1)
 }
 
 /// The number of the right part.
-pub(crate) fn right_of(nodes: &[Node], number: usize) -> usize {
+pub fn right_of(nodes: &[Node], number: usize) -> usize {
     let left = left_of(number);
     left.saturating_add(nodes.get(left).map_or(1, |node| node.size))
 }
