@@ -49,7 +49,7 @@ fn rule_in(rules: &[Rule], region: &Region, row: &[u64], first: u8, second: u8) 
         rule.first == first
             && rule.second == second
             && has_sources(region, rule)
-            && is_within(row, &rule.row)
+            && (rule.is_whole || is_within(row, &rule.row))
     })?;
     Some(cause_of(rule.number))
 }

@@ -2,7 +2,7 @@
 
 use crate::forms::{Form, Outline};
 use crate::hart::Hart;
-use crate::rows::{Row, is_empty, join, no_run};
+use crate::rows::{Row, is_empty, is_within, join, no_run};
 use crate::rules::{Numbered, Rule};
 use fs_instr::Instr;
 use fs_kinds::{Classes, Kind, Placement};
@@ -155,11 +155,13 @@ fn add_pair(
         second.name.at,
     )?;
     if !is_empty(&row) {
+        let is_whole = is_within(&hart.all, &row);
         found.push(Rule {
             first: first.number,
             second: second.number,
             number: 4,
             row,
+            is_whole,
         })?;
     }
     Ok(())

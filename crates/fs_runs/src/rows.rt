@@ -43,6 +43,15 @@ pub fn is_within(row: &[u64], other: &[u64]) -> bool {
         .all(|(word, above)| *word & !*above == 0)
 }
 
+/// Has the row each of so many runs?
+pub fn has_all(row: &[u64], runs: usize) -> bool {
+    let mut count: usize = 0;
+    for word in row {
+        count = count.saturating_add(word.count_ones() as usize);
+    }
+    count == runs
+}
+
 /// Have the two a run in common?
 pub fn do_meet(row: &[u64], other: &[u64]) -> bool {
     row.iter()

@@ -4,7 +4,7 @@ ghost use Rattle.std.specs.Prelude.{IsOkUnless};
 ghost use Rattle.fs_kinds.specs.declared.fault.Fault.TheVariants.{Memory};
 
 use crate::forms::Form;
-use crate::rows::{Row, is_empty, join, no_run};
+use crate::rows::{Row, has_all, is_empty, join, no_run};
 use fs_alone::{Lone, Source, Sourced};
 use fs_kinds::{Fault, OperationName, Placement};
 use std::alloc::{AllocError, Global};
@@ -17,6 +17,8 @@ pub struct Rule {
     pub second: u8,
     pub number: u8,
     pub row: Row,
+    /// Has the row all runs of the hart?
+    pub is_whole: bool,
 }
 
 /// The runs in which rule 12 puts the first name before the second, where that returns from the store.
@@ -100,11 +102,13 @@ impl Asked<'_> {
             let source = if number == 3 { Some(first.name) } else { None };
             let row = self.row(alloc, number, first.name, sourced(second.name, source))?;
             if !is_empty(&row) {
+                let is_whole = has_all(&row, self.runs.len());
                 found.push(Rule {
                     first: first.number,
                     second: second.number,
                     number,
                     row,
+                    is_whole,
                 })?;
             }
         }

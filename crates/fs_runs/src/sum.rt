@@ -118,7 +118,7 @@ impl Sum {
     /// Takes the rules that hold in each of the runs.
     fn add_rules(&mut self, rules: &[Rule], row: &[u64]) {
         for rule in rules {
-            if is_within(row, &rule.row) {
+            if rule.is_whole || is_within(row, &rule.row) {
                 self.add_rule(rule);
             }
         }
