@@ -165,8 +165,8 @@ fn answer_solve<R: Clock + Files + Input + Eprint + AllocGlobal + Threads + Wait
     Ok(certified.output)
 }
 
-/// What `solve` prints. One worker needs no thread and no desk, and its search is proved to end. But where standard error is a terminal any
-/// number of workers searches at a desk, with a gate that shows progress there.
+/// What `solve` prints. One worker needs no thread and no desk, and its search is proved to end. But where standard
+/// error is a terminal any number of workers searches at a desk, with a gate that shows progress there.
 fn solved<R: Clock + Files + Eprint + AllocGlobal + Threads + Wait + Sync>(
     rt: &R,
     test: &[u8],

@@ -22,8 +22,8 @@ fn major(device: u64) -> u64 {
     ((device >> 8) & 0xfff) | ((device >> 32) & 0xffff_f000)
 }
 
-/// Is standard error a terminal? Of Linux's devices with letters these are: virtual and serial ones, the process's own and the console,
-/// and the ends of pseudo-terminals.
+/// Is standard error a terminal? Of Linux's devices with letters these are: virtual and serial ones, the process's
+/// own and the console, and the ends of pseudo-terminals.
 pub(crate) fn is_terminal<R: Files>(rt: &R) -> bool {
     match metadata(rt, "/dev/stderr") {
         Ok(found) => found.file_type().is_char_device()
@@ -32,8 +32,9 @@ pub(crate) fn is_terminal<R: Files>(rt: &R) -> bool {
     }
 }
 
-/// How far a search is. It is displayed as what brings it onto the line, in place of what stood there. There are fewer than 80 columns as
-/// long as its numbers have no more than 43 digits together.
+/// How far a search is. It is displayed as what brings it onto the line, in place of what stood there. There are
+/// fewer than 80 columns as long as its numbers have no more than 43 digits together.
+#[derive(Drop)]
 struct State {
     seconds: u64,
     verdicts: u64,
@@ -57,8 +58,8 @@ impl fmt::Display for State {
     }
 }
 
-/// The gate of a search whose progress is shown. It counts what it is told, and now and then one of the threads that tell it writes the
-/// line. What a clock or a terminal refuses changes nothing of the search.
+/// The gate of a search whose progress is shown. It counts what it is told, and now and then one of the threads that
+/// tell it writes the line. What a clock or a terminal refuses changes nothing of the search.
 #[derive(Drop)]
 pub(crate) struct Progress<'a, R> {
     rt: &'a R,

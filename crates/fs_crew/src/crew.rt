@@ -205,10 +205,10 @@ fn concluded<G: Gate>(
     Ok(solved)
 }
 
-/// The answer to a question, as `fs_search::solve` gives it, searched by up to this many workers. They search together first, at a desk,
-/// also where it is one, and what they leave is searched as by
-/// `fs_search::solve`: all of it, where the board's log and what they saw of it don't agree. The faults are those of `fs_search::solve`.
-/// Several workers may make more nodes, and so come to F16 where one has the answer. A thread that never comes back is waited
+/// The answer to a question, as `fs_search::solve` gives it, searched by up to this many workers. They search
+/// together first, at a desk, also where it is one, and what they leave is searched as by `fs_search::solve`: all of
+/// it, where the board's log and what they saw of it don't agree. The faults are those of `fs_search::solve`. Several
+/// workers may make more nodes, and so come to F16 where one has the answer. A thread that never comes back is waited
 /// for without an end.
 pub fn solve<R: Threads + Wait + Sync, G: Gate + Sync>(
     rt: &R,

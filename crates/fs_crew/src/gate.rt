@@ -1,8 +1,8 @@
 //! Where others look on, and tests hold a worker up.
 
-/// It says when the other workers join the first one. It is told when a worker calls the desk, but for `leave`, which node it got, when
-/// it judges, and what it posted: by several threads at once; and once, when all have stopped, what they left. A call of it that doesn't
-/// return stops the search.
+/// It says when the other workers join the first one. It is told when a worker calls the desk, but for `leave`, which
+/// node it got, when it judges, and what it posted: by several threads at once; and once, when all have stopped, what
+/// they left. A call of it that doesn't return stops the search.
 pub trait Gate {
     /// How many nodes the first worker is done with before the others join. Where it is none, all begin together.
     fn nodes_alone(&self) -> usize;
@@ -19,7 +19,8 @@ pub trait Gate {
     /// The worker has called the desk.
     fn after(&self, worker: u8);
 
-    /// The worker has posted a placement of this cost, and the board took it. A better one may have been posted before.
+    /// The worker has posted a placement of this cost, and the board took it. A better one may have been posted
+    /// before.
     fn posted(&self, worker: u8, cost: u128);
 
     /// No worker is at the board: it is handed out with so many entries in its log, none where they didn't begin. Or it is

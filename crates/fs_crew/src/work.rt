@@ -110,8 +110,8 @@ fn scout_of(alloc: Global, problem: Arc<Problem>, is_alone: bool) -> Scout
     }
 }
 
-/// What a worker is lent: where it may wait, what it allocates with, the desk, the gate that is told of its calls, and the prices, by which
-/// the gate is told of costs.
+/// What a worker is lent: where it may wait, what it allocates with, the desk, the gate that is told of its calls,
+/// and the prices, by which the gate is told of costs.
 #[derive(Drop)]
 pub(crate) struct Workplace<'a, A: Asked, R, G> {
     pub(crate) rt: &'a R,

@@ -104,7 +104,8 @@ pub(crate) fn answered<R: Threads + Wait + Sync, G: Gate + Sync>(
     }
 }
 
-/// The answer that one worker finds within so many nodes, without a desk. The fault is F16 where their number is out of range.
+/// The answer that one worker finds within so many nodes, without a desk. The fault is F16 where their number is out
+/// of range.
 fn found_alone(alloc: Global, test: &str, nodes: usize) -> Result<Solved, Fault> {
     if nodes == 0 || nodes > 1_000_000 {
         return Err(Fault::NodeLimit);
