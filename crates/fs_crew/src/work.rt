@@ -9,7 +9,8 @@ ghost use Rattle.fs_board.specs.Asking.{IsMade};
 use crate::gate::Gate;
 use fs_board::{Event, Part, Reply};
 use fs_hands::Hand;
-use fs_kinds::Slot;
+use fs_kinds::{Prices, Slot};
+use fs_parts::cost;
 use fs_pool::{Asked, Desk, Pass};
 use fs_search::{Child, Problem, Scout, TRIES, Taken, Way, push_children};
 use std::alloc::{AllocError, Global};
@@ -53,6 +54,14 @@ fn step_after<A: Asked>(pass: &Pass<A>, is_post: bool) -> Step {
         Some(Reply::Closed) | Some(Reply::Children(_, _)) => Step::Moved,
         Some(Reply::Full) => Step::Leave,
         _ => Step::Next,
+    }
+}
+
+/// What the placement costs that is posted, where one is.
+fn posted_cost(prices: &Prices, event: &Event) -> Option<u128> {
+    match event {
+        Event::Post(_, forbidden) => Some(cost(prices, forbidden.placement.as_slice())),
+        _ => None,
     }
 }
 
@@ -101,13 +110,15 @@ fn scout_of(alloc: Global, problem: Arc<Problem>, is_alone: bool) -> Scout
     }
 }
 
-/// What a worker is lent: where it may wait, what it allocates with, the desk, and the gate that is told of its calls.
+/// What a worker is lent: where it may wait, what it allocates with, the desk, the gate that is told of its calls,
+/// and the prices, by which the gate is told of costs.
 #[derive(Drop)]
 pub(crate) struct Workplace<'a, A: Asked, R, G> {
     pub(crate) rt: &'a R,
     pub(crate) alloc: Global,
     pub(crate) desk: &'a Desk<A>,
     pub(crate) gate: &'a G,
+    pub(crate) prices: &'a Prices,
 }
 
 impl<A: Asked, R: Wait, G: Gate> Workplace<'_, A, R, G> {
@@ -181,13 +192,23 @@ impl<A: Asked, R: Wait, G: Gate> Workplace<'_, A, R, G> {
         let Some(event) = found else {
             return (pass, Step::Next);
         };
-        let is_post = matches!(event, Event::Post(_, _));
+        let cost = posted_cost(self.prices, &event);
         let (pass, is_made) = self.ask(pass, event);
         if !is_made {
             return (pass, Step::Leave);
         }
-        let step = step_after(&pass, is_post);
+        let step = step_after(&pass, cost.is_some());
+        self.tell_posted(pass.worker(), cost, step);
         (pass, step)
+    }
+
+    /// Tells the gate of a placement of this cost, where one was posted and taken.
+    fn tell_posted(&self, worker: u8, cost: Option<u128>, step: Step) {
+        if let Some(cost) = cost {
+            if step == Step::Moved {
+                self.gate.posted(worker, cost);
+            }
+        }
     }
 
     /// Is done with a node in the first way that serves. Where none does, the worker leaves.
@@ -223,16 +244,22 @@ impl<A: Asked, R: Wait, G: Gate> Workplace<'_, A, R, G> {
         (pass, is_learned)
     }
 
-    /// Makes the plan, where one is still to be made. False where this fails.
+    /// Makes the plan, where one is still to be made, and tells the gate of each verdict. False where this fails.
     fn prepare(&self, pass: &Pass<A>, scout: &mut Scout, taken: &Taken) -> bool
         requires question { scout.old ≡ A.question }
         requires slots { slots_in_part (arc_value taken.now.part) ≡ slots A.question.test }
         ensures value { scout.new ≡ scout.old }
     {
-        if scout.will_plan() {
+        for _ in 0..scout.rounds_left() {
+            if scout.rounds_left() == 0 {
+                break;
+            }
             self.gate.judging(pass.worker(), taken.node);
+            if scout.plan(self.alloc, taken).is_err() {
+                return false;
+            }
         }
-        scout.prepare(self.alloc, taken).is_ok()
+        true
     }
 
     /// Sees what the others have found, and makes its plan, where the worker hasn't yet. False where memory lacks, or a verdict can't be
@@ -292,6 +319,7 @@ impl<A: Asked, R: Wait, G: Gate> Workplace<'_, A, R, G> {
             let Some(taken) = next else {
                 return (pass, false);
             };
+            self.gate.taken(pass.worker(), taken.node);
             let (after, goes_on) = self.handle(pass, &mut scout, &mut children, &taken);
             pass = after;
             if !goes_on {

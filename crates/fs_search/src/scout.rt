@@ -64,13 +64,15 @@ pub const TRIES: [Way; 5] = [Way::Cost, Way::Bound, Way::Stored, Way::Looked, Wa
 /// A plan may ask for so many verdicts.
 const MOST_ROUNDS: usize = 1_000;
 
-/// A judge of the question, the witnesses that were met, whether a plan is still to be made, the planned placement, and what was seen of
-/// the board: the best placement posted, and where a peek was learned, how many witnesses there were. Contracts see the question.
+/// A judge of the question, the witnesses that were met, for how many verdicts the plan may still ask and how
+/// many steps it may still take, the planned placement, and what was seen of the board: the best placement posted, and where a peek was learned, how many
+/// witnesses there were. Contracts see the question.
 #[derive(Drop)]
 pub struct Scout {
     judge: Judge,
     store: Store,
-    will_plan: bool,
+    rounds: usize,
+    steps: usize,
     planned: Option<Arc<Forbidden>>,
     bound: Option<Arc<Forbidden>>,
     seen: usize,
@@ -166,7 +168,8 @@ impl Scout {
         Scout {
             judge: Judge::new(alloc, problem),
             store: Store::new(alloc),
-            will_plan: false,
+            rounds: 0,
+            steps: MOST_STEPS,
             planned: None,
             bound: None,
             seen: 0,
@@ -179,13 +182,13 @@ impl Scout {
         ensures { result ≡ arc_value problem }
     {
         let mut scout = Scout::new(alloc, problem);
-        scout.will_plan = true;
+        scout.rounds = MOST_ROUNDS;
         scout
     }
 
-    /// Is a plan still to be made?
-    pub fn will_plan(&self) -> bool {
-        self.will_plan
+    /// For how many verdicts the plan may still ask: none where it is made, or none is to be made.
+    pub fn rounds_left(&self) -> usize {
+        self.rounds
     }
 
     /// Makes the plan, where one is still to be made: the cheapest placement that breaks all stored witnesses is judged, and where it
@@ -196,27 +199,40 @@ impl Scout {
         ensures value { self.new ≡ self.old }
         ensures err { IfErr result (λ f. f ≢ Fault.Memory → IsCandidateFault self.old.test f) }
     {
-        if !self.will_plan {
-            return Ok(());
-        }
-        self.will_plan = false;
-        let mut steps = MOST_STEPS;
-        for _ in 0..MOST_ROUNDS {
-            if self.plan(alloc, &taken.part, &mut steps)? {
-                return Ok(());
-            }
+        for _ in 0..self.rounds {
+            self.plan(alloc, taken)?;
         }
         Ok(())
     }
 
-    /// One round of the plan. True where it was the last one.
-    fn plan(&mut self, alloc: Global, part: &Part, steps: &mut usize) -> Result<bool, Fault>
+    /// One round of what `prepare` does, where the plan is still to be made.
+    pub fn plan(&mut self, alloc: Global, taken: &Taken) -> Result<(), Fault>
+        requires { slots_in_part (arc_value taken.now.part) ≡ slots self.old.test }
+        ensures value { self.new ≡ self.old }
+        ensures err { IfErr result (λ f. f ≢ Fault.Memory → IsCandidateFault self.old.test f) }
+    {
+        if self.rounds == 0 {
+            return Ok(());
+        }
+        let is_last = self.judge_cheapest(alloc, &taken.part)?;
+        self.rounds = if is_last {
+            0
+        } else {
+            self.rounds.saturating_sub(1)
+        };
+        Ok(())
+    }
+
+    /// Judges the cheapest placement that breaks all stored witnesses. True where the plan needs no other round.
+    fn judge_cheapest(&mut self, alloc: Global, part: &Part) -> Result<bool, Fault>
         requires { slots_in_part part.now ≡ slots self.old.test }
         ensures value { self.new ≡ self.old }
         ensures err { IfErr result (λ f. f ≢ Fault.Memory → IsCandidateFault self.old.test f) }
     {
         let prices = &self.judge.question().prices;
-        let cheapest = cheapest_breaking(alloc, &self.store, prices, part, steps)?;
+        let mut steps = self.steps;
+        let cheapest = cheapest_breaking(alloc, &self.store, prices, part, &mut steps)?;
+        self.steps = steps;
         let Some(placement) = cheapest else {
             return Ok(true);
         };
