@@ -64,9 +64,9 @@ pub const TRIES: [Way; 5] = [Way::Cost, Way::Bound, Way::Stored, Way::Looked, Wa
 /// A plan may ask for so many verdicts.
 const MOST_ROUNDS: usize = 1_000;
 
-/// A judge of the question, the witnesses that were met, for how many verdicts the plan may still ask and how
-/// many steps it may still take, the planned placement, and what was seen of the board: the best placement posted, and where a peek was learned, how many
-/// witnesses there were. Contracts see the question.
+/// A judge of the question, the witnesses that were met, for how many verdicts the plan may still ask, how many steps
+/// it may still take, the planned placement, and what was seen of the board: the best placement posted, and where a
+/// peek was learned, how many witnesses there were. Contracts see the question.
 #[derive(Drop)]
 pub struct Scout {
     judge: Judge,
