@@ -32,6 +32,7 @@ pub fn has_run(row: &[u64], run: usize) -> bool {
     word.wrapping_shr((run % 64) as u32) & 1 != 0
 }
 
+/// Has it no run?
 pub fn is_empty(row: &[u64]) -> bool {
     row.iter().all(|word| *word == 0)
 }
