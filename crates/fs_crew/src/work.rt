@@ -244,7 +244,17 @@ impl<A: Asked, R: Wait, G: Gate> Workplace<'_, A, R, G> {
         (pass, is_learned)
     }
 
-    /// Makes the plan, where one is still to be made, and tells the gate of each verdict. False where this fails.
+    /// A round of the plan, of which the gate is told. False where it fails.
+    fn plan_round(&self, pass: &Pass<A>, scout: &mut Scout, taken: &Taken) -> bool
+        requires question { scout.old ≡ A.question }
+        requires slots { slots_in_part (arc_value taken.now.part) ≡ slots A.question.test }
+        ensures value { scout.new ≡ scout.old }
+    {
+        self.gate.judging(pass.worker(), taken.node);
+        scout.plan(self.alloc, taken).is_ok()
+    }
+
+    /// Makes the plan, where one is still to be made. False where this fails.
     fn prepare(&self, pass: &Pass<A>, scout: &mut Scout, taken: &Taken) -> bool
         requires question { scout.old ≡ A.question }
         requires slots { slots_in_part (arc_value taken.now.part) ≡ slots A.question.test }
@@ -254,8 +264,7 @@ impl<A: Asked, R: Wait, G: Gate> Workplace<'_, A, R, G> {
             if scout.rounds_left() == 0 {
                 break;
             }
-            self.gate.judging(pass.worker(), taken.node);
-            if scout.plan(self.alloc, taken).is_err() {
+            if !self.plan_round(pass, scout, taken) {
                 return false;
             }
         }
