@@ -213,7 +213,11 @@ impl Scout {
             return Ok(());
         }
         let is_last = self.judge_cheapest(alloc, &taken.part)?;
-        self.rounds = if is_last { 0 } else { self.rounds.saturating_sub(1) };
+        self.rounds = if is_last {
+            0
+        } else {
+            self.rounds.saturating_sub(1)
+        };
         Ok(())
     }
 
