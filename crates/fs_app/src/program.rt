@@ -52,9 +52,7 @@ impl Failure {
 /// Does what the process's command line asks for, and answers the exit status: 0 where it was done or the answer is yes or
 /// fenced, 1 where it is no or none, 2 for a fault or a bad command line, 3 where memory ran out. A fault or a bad command line
 /// prints on standard error, and nothing on standard output unless it was standard output that failed.
-pub fn run<
-    R: Clock + Env + Files + Input + Print + Eprint + AllocGlobal + Threads + Wait + Sync,
->(
+pub fn run<R: Clock + Env + Files + Input + Print + Eprint + AllocGlobal + Threads + Wait + Sync>(
     rt: &R,
 ) -> ExitCode {
     let status = match status_of_run(rt) {
@@ -69,9 +67,7 @@ pub fn run<
 
 fn status_of_run<
     R: Clock + Env + Files + Input + Print + Eprint + AllocGlobal + Threads + Wait + Sync,
->(
-    rt: &R,
-) -> Result<Status, Failure> {
+>(rt: &R) -> Result<Status, Failure> {
     let words = words(rt)?;
     let request = match read_request(rt.alloc(), words.as_slice()) {
         Ok(request) => request,

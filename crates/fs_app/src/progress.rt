@@ -50,7 +50,10 @@ impl fmt::Display for State {
             node,
             best,
         } = self;
-        write!(f, "\rrvfence: {seconds} s, {verdicts} verdicts, node {node}")?;
+        write!(
+            f,
+            "\rrvfence: {seconds} s, {verdicts} verdicts, node {node}"
+        )?;
         if *best != NO_COST {
             write!(f, ", best {best}")?;
         }
