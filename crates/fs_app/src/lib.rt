@@ -2,7 +2,6 @@
 #![tactic(auto)]
 
 mod program;
-mod progress;
 mod whole;
 
 pub use fs_io::{Output, Status, read_bytes, write_text};

@@ -2,7 +2,6 @@
 
 ghost use Rattle.std.specs.Prelude.{◌≤◌};
 
-use crate::progress::{Progress, is_terminal};
 use crate::whole::write_whole;
 use clap::error::ErrorKind;
 use fs_command::{Check, MOST_NODES, MOST_WORKERS, Order, Place, Request, Solve, read_request};
@@ -14,7 +13,7 @@ use fs_solve::{Certified, Open, run_certified, run_certified_alone, run_solve, r
 use fs_verify::run_check;
 use std::fs::File;
 use std::process::ExitCode;
-use std::rt::{Clock, Env, Files};
+use std::rt::{Env, Files};
 use std::sync::Wait;
 use std::thread::Threads;
 use std::{env, io};
@@ -52,7 +51,7 @@ impl Failure {
 /// Does what the process's command line asks for, and answers the exit status: 0 where it was done or the answer is yes or
 /// fenced, 1 where it is no or none, 2 for a fault or a bad command line, 3 where memory ran out. A fault or a bad command line
 /// prints on standard error, and nothing on standard output unless it was standard output that failed.
-pub fn run<R: Clock + Env + Files + Input + Print + Eprint + AllocGlobal + Threads + Wait + Sync>(
+pub fn run<R: Env + Files + Input + Print + Eprint + AllocGlobal + Threads + Wait + Sync>(
     rt: &R,
 ) -> ExitCode {
     let status = match status_of_run(rt) {
@@ -65,9 +64,9 @@ pub fn run<R: Clock + Env + Files + Input + Print + Eprint + AllocGlobal + Threa
     ExitCode::from(status.code())
 }
 
-fn status_of_run<
-    R: Clock + Env + Files + Input + Print + Eprint + AllocGlobal + Threads + Wait + Sync,
->(rt: &R) -> Result<Status, Failure> {
+fn status_of_run<R: Env + Files + Input + Print + AllocGlobal + Threads + Wait + Sync>(
+    rt: &R,
+) -> Result<Status, Failure> {
     let words = words(rt)?;
     let request = match read_request(rt.alloc(), words.as_slice()) {
         Ok(request) => request,
@@ -110,7 +109,7 @@ fn report<R: Eprint>(rt: &R, error: &impl std::error::Error) {
     let _ = rt.eprint(error);
 }
 
-fn answer<R: Clock + Files + Input + Eprint + AllocGlobal + Threads + Wait + Sync>(
+fn answer<R: Files + Input + AllocGlobal + Threads + Wait + Sync>(
     rt: &R,
     request: &Request<'_>,
 ) -> Result<Output, Fault> {
@@ -144,7 +143,7 @@ fn answer_order<R: Files + Input + AllocGlobal>(
     run_order(rt.alloc(), &test, &witness, &order.fences)
 }
 
-fn answer_solve<R: Clock + Files + Input + Eprint + AllocGlobal + Threads + Wait + Sync>(
+fn answer_solve<R: Files + Input + AllocGlobal + Threads + Wait + Sync>(
     rt: &R,
     solve: &Solve<'_>,
 ) -> Result<Output, Fault> {
@@ -161,9 +160,8 @@ fn answer_solve<R: Clock + Files + Input + Eprint + AllocGlobal + Threads + Wait
     Ok(certified.output)
 }
 
-/// What `solve` prints. One worker needs no thread and no desk, and its search is proved to end. But where standard
-/// error is a terminal any number of workers searches at a desk, with a gate that shows progress there.
-fn solved<R: Clock + Files + Eprint + AllocGlobal + Threads + Wait + Sync>(
+/// What `solve` prints. One worker needs no thread, and its search is proved to end.
+fn solved<R: AllocGlobal + Threads + Wait + Sync>(
     rt: &R,
     test: &[u8],
     prices: &[u8],
@@ -175,12 +173,6 @@ fn solved<R: Clock + Files + Eprint + AllocGlobal + Threads + Wait + Sync>(
     requires least { 1 ≤ limit }
     requires most { limit ≤ 1000000 }
 {
-    if is_terminal(rt) {
-        let progress = Progress::new(rt, workers);
-        let output = run_solve(rt, rt.alloc(), test, prices, workers, limit, &progress);
-        progress.wipe();
-        return output;
-    }
     if workers == 1 {
         return run_solve_alone(rt.alloc(), test, prices, limit);
     }
@@ -188,7 +180,7 @@ fn solved<R: Clock + Files + Eprint + AllocGlobal + Threads + Wait + Sync>(
 }
 
 /// What `solve` prints, with a certificate.
-fn certified<R: Clock + Files + Eprint + AllocGlobal + Threads + Wait + Sync>(
+fn certified<R: AllocGlobal + Threads + Wait + Sync>(
     rt: &R,
     test: &[u8],
     prices: &[u8],
@@ -200,12 +192,6 @@ fn certified<R: Clock + Files + Eprint + AllocGlobal + Threads + Wait + Sync>(
     requires least { 1 ≤ limit }
     requires most { limit ≤ 1000000 }
 {
-    if is_terminal(rt) {
-        let progress = Progress::new(rt, workers);
-        let certified = run_certified(rt, rt.alloc(), test, prices, workers, limit, &progress);
-        progress.wipe();
-        return certified;
-    }
     if workers == 1 {
         return run_certified_alone(rt.alloc(), test, prices, limit);
     }

@@ -68,7 +68,6 @@ fn work_together<A: Asked + Send + Sync, R: Threads + Wait + Sync, G: Gate + Syn
                 alloc,
                 desk,
                 gate,
-                prices: &problem.question().prices,
             };
             let (pass, _) = place.work(pass, hand, None, problem);
             pass
@@ -135,7 +134,6 @@ fn search_together<A: Asked + Send + Sync, R: Threads + Wait + Sync, G: Gate + S
         alloc,
         desk: &desk,
         gate,
-        prices: &problem.question().prices,
     };
     let passes = work_all(&place, problem, passes, workers)?;
     Ok(finish(desk, passes).ok())
@@ -205,10 +203,10 @@ fn concluded<G: Gate>(
     Ok(solved)
 }
 
-/// The answer to a question, as `fs_search::solve` gives it, searched by up to this many workers. They search
-/// together first, at a desk, also where it is one, and what they leave is searched as by `fs_search::solve`: all of
-/// it, where the board's log and what they saw of it don't agree. The faults are those of `fs_search::solve`. Several
-/// workers may make more nodes, and so come to F16 where one has the answer. A thread that never comes back is waited
+/// The answer to a question, as `fs_search::solve` gives it, searched by up to this many workers. One worker needs neither
+/// threads nor a desk. More of them search together first, and what they leave is searched as
+/// by one: all of it, where the board's log and what they saw of it don't agree. The faults are those of `fs_search::solve`.
+/// Several workers may make more nodes, and so come to F16 where one has the answer. A thread that never comes back is waited
 /// for without an end.
 pub fn solve<R: Threads + Wait + Sync, G: Gate + Sync>(
     rt: &R,
@@ -230,6 +228,9 @@ pub fn solve<R: Threads + Wait + Sync, G: Gate + Sync>(
     ensures rests { IfOk result (Rests (arc_value question) limit) }
     ensures err { IfErr result (λ f. f ≢ Fault.Memory → IsSolveFault (arc_value question) limit f) }
 {
+    if workers == 1 {
+        return fs_search::solve(alloc, question, limit);
+    }
     let problem = Problem::shared(alloc, question)?;
     let board = opened(alloc, &problem, limit)?;
     let left = search_together::<Brand, R, G>(rt, alloc, &problem, board, workers, gate)?;

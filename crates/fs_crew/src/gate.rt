@@ -1,8 +1,7 @@
-//! Where others look on, and tests hold a worker up.
+//! Where tests look on, and hold a worker up.
 
-/// It says when the other workers join the first one. It is told when a worker calls the desk, but for `leave`, which
-/// node it got, when it judges, and what it posted: by several threads at once; and once, when all have stopped, what
-/// they left. A call of it that doesn't return stops the search.
+/// It says when the other workers join the first one. It is told when a worker calls the desk, but for `leave`, and when it judges: by
+/// several threads at once; and once, when all have stopped, what they left. A call of it that doesn't return stops the search.
 pub trait Gate {
     /// How many nodes the first worker is done with before the others join. Where it is none, all begin together.
     fn nodes_alone(&self) -> usize;
@@ -10,18 +9,11 @@ pub trait Gate {
     /// The worker will call the desk.
     fn before(&self, worker: u8);
 
-    /// The worker has the node of this number. It has no lock.
-    fn taken(&self, worker: u8, node: usize);
-
-    /// The worker will judge a placement of the node, or one for the plan. It has no lock.
+    /// The worker will judge a placement of the node. It has no lock.
     fn judging(&self, worker: u8, node: usize);
 
     /// The worker has called the desk.
     fn after(&self, worker: u8);
-
-    /// The worker has posted a placement of this cost, and the board took it. A better one may have been posted
-    /// before.
-    fn posted(&self, worker: u8, cost: u128);
 
     /// No worker is at the board: it is handed out with so many entries in its log, none where they didn't begin. Or it is
     /// given up, since its log and what they saw of it don't agree.
@@ -43,13 +35,9 @@ impl Gate for Open {
 
     fn before(&self, _worker: u8) {}
 
-    fn taken(&self, _worker: u8, _node: usize) {}
-
     fn judging(&self, _worker: u8, _node: usize) {}
 
     fn after(&self, _worker: u8) {}
-
-    fn posted(&self, _worker: u8, _cost: u128) {}
 
     fn ended(&self, _logged: Option<usize>) {}
 }

@@ -9,8 +9,7 @@ ghost use Rattle.fs_board.specs.Asking.{IsMade};
 use crate::gate::Gate;
 use fs_board::{Event, Part, Reply};
 use fs_hands::Hand;
-use fs_kinds::{Prices, Slot};
-use fs_parts::cost;
+use fs_kinds::Slot;
 use fs_pool::{Asked, Desk, Pass};
 use fs_search::{Child, Problem, Scout, TRIES, Taken, Way, push_children};
 use std::alloc::{AllocError, Global};
@@ -54,14 +53,6 @@ fn step_after<A: Asked>(pass: &Pass<A>, is_post: bool) -> Step {
         Some(Reply::Closed) | Some(Reply::Children(_, _)) => Step::Moved,
         Some(Reply::Full) => Step::Leave,
         _ => Step::Next,
-    }
-}
-
-/// What the placement costs that is posted, where one is.
-fn posted_cost(prices: &Prices, event: &Event) -> Option<u128> {
-    match event {
-        Event::Post(_, forbidden) => Some(cost(prices, forbidden.placement.as_slice())),
-        _ => None,
     }
 }
 
@@ -110,15 +101,13 @@ fn scout_of(alloc: Global, problem: Arc<Problem>, is_alone: bool) -> Scout
     }
 }
 
-/// What a worker is lent: where it may wait, what it allocates with, the desk, the gate that is told of its calls,
-/// and the prices, by which the gate is told of costs.
+/// What a worker is lent: where it may wait, what it allocates with, the desk, and the gate that is told of its calls.
 #[derive(Drop)]
 pub(crate) struct Workplace<'a, A: Asked, R, G> {
     pub(crate) rt: &'a R,
     pub(crate) alloc: Global,
     pub(crate) desk: &'a Desk<A>,
     pub(crate) gate: &'a G,
-    pub(crate) prices: &'a Prices,
 }
 
 impl<A: Asked, R: Wait, G: Gate> Workplace<'_, A, R, G> {
@@ -192,23 +181,13 @@ impl<A: Asked, R: Wait, G: Gate> Workplace<'_, A, R, G> {
         let Some(event) = found else {
             return (pass, Step::Next);
         };
-        let cost = posted_cost(self.prices, &event);
+        let is_post = matches!(event, Event::Post(_, _));
         let (pass, is_made) = self.ask(pass, event);
         if !is_made {
             return (pass, Step::Leave);
         }
-        let step = step_after(&pass, cost.is_some());
-        self.tell_posted(pass.worker(), cost, step);
+        let step = step_after(&pass, is_post);
         (pass, step)
-    }
-
-    /// Tells the gate of a placement of this cost, where one was posted and taken.
-    fn tell_posted(&self, worker: u8, cost: Option<u128>, step: Step) {
-        if let Some(cost) = cost {
-            if step == Step::Moved {
-                self.gate.posted(worker, cost);
-            }
-        }
     }
 
     /// Is done with a node in the first way that serves. Where none does, the worker leaves.
@@ -328,7 +307,6 @@ impl<A: Asked, R: Wait, G: Gate> Workplace<'_, A, R, G> {
             let Some(taken) = next else {
                 return (pass, false);
             };
-            self.gate.taken(pass.worker(), taken.node);
             let (after, goes_on) = self.handle(pass, &mut scout, &mut children, &taken);
             pass = after;
             if !goes_on {

@@ -1,9 +1,8 @@
 //! Workers run at once, and judge at once.
 
-use crate::workers::{Ends, answered, answered_by_two};
+use crate::workers::{Ends, answered_by_two};
 use fs_crew::Gate;
-use fs_examples::SB;
-use std::sync::atomic::{AtomicBool, AtomicU64, AtomicUsize, Ordering};
+use std::sync::atomic::{AtomicBool, AtomicU64, Ordering};
 use std::test::Fail;
 use std::thread;
 use std::time::{Clock, Duration};
@@ -81,15 +80,11 @@ impl<'a, C: Clock> Gate for FirstCall<'a, C> {
         self.held.hold(self.clock, worker);
     }
 
-    fn taken(&self, _worker: u8, _node: usize) {}
-
     fn judging(&self, _worker: u8, _node: usize) {}
 
     fn after(&self, worker: u8) {
         self.held.meet(worker);
     }
-
-    fn posted(&self, _worker: u8, _cost: u128) {}
 
     fn ended(&self, logged: Option<usize>) {
         self.held.ends.ended(logged);
@@ -110,8 +105,6 @@ impl<'a, C: Clock> Gate for Overlap<'a, C> {
 
     fn before(&self, _worker: u8) {}
 
-    fn taken(&self, _worker: u8, _node: usize) {}
-
     fn judging(&self, worker: u8, node: usize) {
         if node != 0 {
             self.held.meet(worker);
@@ -121,76 +114,9 @@ impl<'a, C: Clock> Gate for Overlap<'a, C> {
 
     fn after(&self, _worker: u8) {}
 
-    fn posted(&self, _worker: u8, _cost: u128) {}
-
     fn ended(&self, logged: Option<usize>) {
         self.held.ends.ended(logged);
     }
-}
-
-/// What a search of one worker tells: it counts verdicts, and keeps the greatest node and the least cost.
-#[derive(Drop)]
-struct Heard {
-    verdicts: AtomicU64,
-    node: AtomicUsize,
-    cost: AtomicU64,
-    ends: Ends,
-}
-
-impl Heard {
-    fn new() -> Self {
-        Heard {
-            verdicts: AtomicU64::new(0),
-            node: AtomicUsize::new(0),
-            cost: AtomicU64::new(u64::MAX),
-            ends: Ends::new(),
-        }
-    }
-
-    /// Was it told of a verdict, of the root's children, and of the best cost, which is this?
-    fn has_heard(&self, cost: u64) -> bool {
-        self.verdicts.load(Ordering::SeqCst) > 0
-            && self.node.load(Ordering::SeqCst) > 0
-            && self.cost.load(Ordering::SeqCst) == cost
-            && self.ends.are(1)
-    }
-}
-
-impl Gate for Heard {
-    fn nodes_alone(&self) -> usize {
-        usize::MAX
-    }
-
-    fn before(&self, _worker: u8) {}
-
-    fn taken(&self, _worker: u8, node: usize) {
-        self.node.fetch_max(node, Ordering::SeqCst);
-    }
-
-    fn judging(&self, _worker: u8, _node: usize) {
-        self.verdicts.fetch_add(1, Ordering::SeqCst);
-    }
-
-    fn after(&self, _worker: u8) {}
-
-    fn posted(&self, _worker: u8, cost: u128) {
-        let cost = u64::try_from(cost).unwrap_or(u64::MAX);
-        self.cost.fetch_min(cost, Ordering::SeqCst);
-    }
-
-    fn ended(&self, logged: Option<usize>) {
-        self.ends.ended(logged);
-    }
-}
-
-/// One worker at a desk, alone to the end, finds the answer, and tells of it.
-#[test]
-fn gate_hears(rt: HostRuntime) -> Result<(), Fail> {
-    let gate = Heard::new();
-    let line = answered(&rt, rt.alloc(), SB, 1, 1_000_000, &gate)?;
-    assert!(rt; line.starts_with("fenced 18 "));
-    assert!(rt; gate.has_heard(18));
-    Ok(())
 }
 
 #[test]

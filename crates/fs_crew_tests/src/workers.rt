@@ -1,7 +1,7 @@
 //! Answers of any number of workers.
 
 use fs_board::{Event, LogEntry, Reply};
-use fs_crew::{Answer, Gate, Open, Solved, solve, solve_alone};
+use fs_crew::{Answer, Gate, Open, Solved, solve};
 use fs_examples::{LB, MP11, MPA, PRICES, SB, SBF, SBX, question_of, told, write_fences};
 use fs_kinds::Fault;
 use std::alloc::{AllocError, Global};
@@ -40,13 +40,9 @@ impl Gate for Ends {
 
     fn before(&self, _worker: u8) {}
 
-    fn taken(&self, _worker: u8, _node: usize) {}
-
     fn judging(&self, _worker: u8, _node: usize) {}
 
     fn after(&self, _worker: u8) {}
-
-    fn posted(&self, _worker: u8, _cost: u128) {}
 
     fn ended(&self, logged: Option<usize>) {
         let counted = match logged {
@@ -99,24 +95,6 @@ pub(crate) fn answered<R: Threads + Wait + Sync, G: Gate + Sync>(
     gate: &G,
 ) -> Result<String, AllocError> {
     match found(rt, alloc, test, workers, nodes, gate) {
-        Ok(solved) => line_of(alloc, &solved),
-        Err(fault) => fault.to_string(alloc),
-    }
-}
-
-/// The answer that one worker finds within so many nodes, without a desk. The fault is F16 where their number is out
-/// of range.
-fn found_alone(alloc: Global, test: &str, nodes: usize) -> Result<Solved, Fault> {
-    if nodes == 0 || nodes > 1_000_000 {
-        return Err(Fault::NodeLimit);
-    }
-    let question = question_of(alloc, test, PRICES)?;
-    solve_alone(alloc, question, nodes)
-}
-
-/// That answer as a line, or the line of the fault.
-fn answered_alone(alloc: Global, test: &str, nodes: usize) -> Result<String, AllocError> {
-    match found_alone(alloc, test, nodes) {
         Ok(solved) => line_of(alloc, &solved),
         Err(fault) => fault.to_string(alloc),
     }
@@ -220,14 +198,14 @@ fn any_number_of_workers_answers_the_same(rt: HostRuntime) -> Result<(), Fail> {
         (SB, 1, "fault F16"),
     ];
     for (test, nodes, expected) in rows {
-        let alone = answered_alone(rt.alloc(), test, nodes)?;
+        let alone = answered(&rt, rt.alloc(), test, 1, nodes, &Open)?;
         assert!(rt; alone.starts_with(expected));
         let ends = Ends::new();
-        for workers in [1, 2, 4, 16] {
+        for workers in [2, 4, 16] {
             let line = answered(&rt, rt.alloc(), test, workers, nodes, &ends)?;
             assert_eq!(rt; line.as_str(), alone.as_str());
         }
-        assert!(rt; ends.are(4));
+        assert!(rt; ends.are(3));
     }
     Ok(())
 }

@@ -86,14 +86,13 @@ pub fn run_certified_alone(
     with_certificate(alloc, &found)
 }
 
-/// What `run_solve_alone` answers, searched by 1 to 16 workers at a desk: more than one work in threads of their own,
-/// and the gate is told when each asks the desk, which nodes it gets, when it judges, and what it posts. Whatever
-/// their number, the printed placement is the first of the cheapest.
+/// What `run_solve_alone` answers, searched by 1 to 16 workers: more than one work in threads of their own, and the gate is told when
+/// each of these asks the desk, and when it judges. Whatever their number, the printed placement is the first of the cheapest.
 ///
-/// The faults are those of `run_solve_alone`. Where what was logged under the lock isn't what the workers were told,
-/// the lock or the threads didn't do as they should: then nothing of it is used, and one worker searches alone; no
-/// test meets it. Several workers may make more nodes, and so come to `NodeLimit` where one has the answer. It isn't
-/// proved that a thread comes back: a call that waits for ever has no answer.
+/// The faults are those of `run_solve_alone`. Where what was logged under the lock isn't what the workers were told, the lock or the threads
+/// didn't do as they should: then nothing of it is used, and one worker searches alone; no test meets it. Several workers may make more
+/// nodes, and so come to `NodeLimit` where one has the answer. It isn't proved that a thread comes back: a call that waits for ever has no
+/// answer.
 pub fn run_solve<R: Threads + Wait + Sync, G: Gate + Sync>(
     rt: &R,
     alloc: Global,
