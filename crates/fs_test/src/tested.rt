@@ -22,12 +22,20 @@ pub fn test_file(alloc: Global, name: &str, file: Result<Vec<u8>, Fault>) -> Res
     ensures said { IfOk result (λ line. SaysOfFile file line.said.kind (string_bytes line.said.text)) }
     ensures err { IsOkUnless result Memory }
 {
-    let said = match file {
-        Ok(bytes) => test_bytes(alloc, &bytes)?,
-        Err(fault) => faulty(alloc, fault)?,
-    };
+    let said = said_of(alloc, file)?;
     let name = String::from_str(alloc, name)?;
     Ok(Line { name, said })
+}
+
+// The same without its name.
+fn said_of(alloc: Global, file: Result<Vec<u8>, Fault>) -> Result<Said, Fault>
+    ensures ok { IfOk result (λ said. SaysOfFile file said.kind (string_bytes said.text)) }
+    ensures err { IsOkUnless result Memory }
+{
+    match file {
+        Ok(bytes) => test_bytes(alloc, &bytes),
+        Err(fault) => faulty(alloc, fault),
+    }
 }
 
 // The same of the bytes of a file.
