@@ -1,7 +1,7 @@
 -- What the walk over one inference, which filters the runs of a hart, says of a test.
-use Rattle.std.proofs.Common.{◌≡◌, ℕ, ◌<◌, true, false, Option, Some, None, List, [], ◌∷◌, ◌++◌, length, is_none, sym, subst, ◌∙◌, ap}
-use Rattle.std.specs.Prelude.{nat_lt}
-use Rattle.std.proofs.lemmas.Bool.{false≢true, and_parts, ltb-true}
+use Rattle.std.proofs.Common.{◌≡◌, ℕ, ◌+◌, ◌<◌, ◌≤◌, true, false, Option, Some, None, List, [], ◌∷◌, ◌++◌, length, inl, inr, sym, subst, ◌∙◌, ap, arith}
+use Rattle.std.specs.Prelude.{nat_lt, is_none}
+use Rattle.std.proofs.lemmas.Bool.{false≢true, and_parts, cases_lt, ltb-true}
 use Rattle.fs_kinds.specs.declared.placement.Entry.{Entry}
 use Rattle.fs_kinds.specs.declared.reason.Reason.{Reason}
 use Rattle.fs_model.specs.declared.test.Test.{Test}
@@ -54,11 +54,43 @@ low_of t hart (r ∷ rs) e =
     ltb-true hart (length t.codes)
     (and_parts (nat_lt hart (length t.codes)) (refutes t [] (left_after t r (Filter hart) ++ rs) []) e).0
 
-pub low : (t : Test) (hart : ℕ) → IsRefuted t [] (Filter hart ∷ []) → hart < length t.codes
-low t hart whole = low_of t hart (roots t whole.runs) whole.refuted
+pub low_in : (t : Test) (hart : ℕ) → IsRefuted t [] (Filter hart ∷ []) → hart < length t.codes
+low_in t hart whole = low_of t hart (roots t whole.runs) whole.refuted
 
 -- what is vacuous is forbidden
 pub vacuous_forbids : (t : Test) → CanBeListed t → IsVacuous t → IsForbidden t
 vacuous_forbids t listable vacuous =
     forbids t listable (no_fences t) (Filter vacuous.0 ∷ [])
     ((unfenced_refutes t (no_fences t)).refuted (Filter vacuous.0 ∷ []) vacuous.1)
+
+-- ---- as it is asked of the inferences that are kept, with no entry of a placement
+
+pub reason_of : (t : Test) (p : List Entry) (kept is : List Inference) (why : Option Reason) → p ≡ [] → kept ≡ is
+    → (runs : ℕ → List (List Step)) × AreItsRuns t runs × (why ≡ first_wrong t p (roots t runs) kept 0)
+    → IsReason t is why
+reason_of t p kept is why nowhere same found = (
+  found.0,
+  found.1,
+  found.2
+  ∙ ap (λ q. first_wrong t q (roots t found.0) kept 0) nowhere
+  ∙ ap (λ js. first_wrong t [] (roots t found.0) js 0) same,
+)
+
+-- ---- hart by hart
+
+-- of each of the first harts some run is left
+abbrev pub AreLeft : Test → ℕ → Type 0
+AreLeft t n = (h : ℕ) → h < n → IsRefuted t [] (Filter h ∷ []) → ⊥
+
+pub none_yet : (t : Test) → AreLeft t 0
+none_yet t h before whole = let low = before in absurd (omega (arith, low))
+
+pub one_more : (t : Test) (n : ℕ) → AreLeft t n → (IsRefuted t [] (Filter n ∷ []) → ⊥) → AreLeft t (n + 1)
+one_more t n before here h low whole = elim (cases_lt h n) [
+  | inl less ↦ before h less whole
+  | inr high ↦ (let same : h ≡ n = omega (arith, low, high) in here (subst (λ k. IsRefuted t [] (Filter k ∷ [])) same whole))
+]
+
+pub all_left : (t : Test) (n : ℕ) → length t.codes ≤ n → AreLeft t n → IsVacuous t → ⊥
+all_left t n high before vacuous =
+    let low = low_in t vacuous.0 vacuous.1 in before vacuous.0 (omega (arith, low, high)) vacuous.1

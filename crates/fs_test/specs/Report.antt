@@ -1,5 +1,5 @@
 -- What `test` prints of its files, and the exit status.
-use Rattle.std.specs.Prelude.{ℕ, ◌-◌, ◌==◌, max, Bool, List, [], ◌∷◌, ◌++◌, length, map, filter, fold, codes, string_bytes, if◌then◌else◌}
+use Rattle.std.specs.Prelude.{ℕ, ◌-◌, ◌==◌, max, Bool, List, [], ◌∷◌, ◌++◌, length, count_by, fold, codes, string_bytes, if◌then◌else◌}
 use Rattle.std.specs.Fmt.{decimal}
 use Rattle.std.specs.List.{flat_map, list_any, repeat}
 use Rattle.fs_model.specs.Printed.{ended, joined}
@@ -34,7 +34,7 @@ is_kind kind.Faulty kind.Faulty = Bool.true
 is_kind _ _ = Bool.false
 
 abbrev pub count_of : Kind → List Line → ℕ
-count_of k lines = length (filter (λ line. is_kind k line.said.kind) lines)
+count_of k = count_by (λ line. is_kind k line.said.kind)
 
 -- how many are of the kind, left out where none is
 abbrev pub count_text : Kind → ℕ → List ℕ

@@ -143,7 +143,11 @@ fn count_cycles(cycles: &Cycles) -> usize {
         Cycles::Listed(listed) => listed.len(),
         Cycles::Inferred(inferences) => inferences
             .iter()
-            .filter(|inference| matches!(inference, Inference::Cycle(_)))
+            .filter(|inference| is_cycle(inference))
             .count(),
     }
+}
+
+fn is_cycle(inference: &Inference) -> bool {
+    matches!(inference, Inference::Cycle(_))
 }

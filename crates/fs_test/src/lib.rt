@@ -5,12 +5,12 @@
 mod judged;
 mod never;
 mod ordered;
-mod report;
+mod reports;
 mod said;
 mod tested;
 mod vacuous;
 mod words;
 
-pub use report::report;
+pub use reports::report;
 pub use said::{Kind, Line, Said};
 pub use tested::test_file;

@@ -11,6 +11,7 @@ ghost use Rattle.fs_model.specs.Printed.{name_of, value_text};
 ghost use Rattle.fs_model.specs.Shows.{is_outcome};
 ghost use Rattle.fs_answer.specs.Trees.{AreItsRuns};
 ghost use Rattle.fs_refute.specs.Runs.{runs_over, AreOfEach};
+ghost use Rattle.fs_test.specs.inner.Parts.{ends_with};
 ghost use Rattle.fs_test.specs.Words.{stores_word, ends_as, is_stored, can_have, first_never, never_in_outcome, never_words};
 
 use crate::words::value_text;
@@ -57,12 +58,19 @@ fn runs_of(listed: &[List<Lone>], hart: u8) -> &[Lone]
     }
 }
 
-// Does some run of some hart store the word at the location?
+// Does some run of the hart store the word at the location?
+fn hart_stores(listed: &[List<Lone>], hart: u8, location: u8, word: u32) -> bool
+    ensures { result ≡ list_any (list_any (stores_word location word)) (runs_over listed.now hart) }
+{
+    some_stores(runs_of(listed, hart), location, word)
+}
+
+// Does some run of some hart?
 fn is_stored(basis: &Basis, listed: &[List<Lone>], location: u8, word: u32) -> bool
     ensures { result ≡ is_stored basis.now (runs_over listed.now) location word }
 {
     let harts = basis.test().codes.len() as u8;
-    (0..harts).any(|hart| some_stores(runs_of(listed, hart), location, word))
+    (0..harts).any(|hart| hart_stores(listed, hart, location, word))
 }
 
 // Does the location begin with the word?
@@ -82,15 +90,20 @@ fn can_have(basis: &Basis, listed: &[List<Lone>], location: u8, word: u32) -> bo
     begins_as(basis, location, word) || is_stored(basis, listed, location, word)
 }
 
-// Does some run of the hart end with the word in the register?
+// Does one of the runs end with the word in the register?
+fn some_ends(runs: &[Lone], register: Reg, word: u32) -> bool
+    ensures { result ≡ list_any (ends_with register word) runs.now }
+{
+    runs.iter().any(|run| run.final_register(register) == word)
+}
+
+// Does some run of the hart?
 fn ends_as(basis: &Basis, listed: &[List<Lone>], hart: u8, register: Reg, word: u32) -> bool
     requires { AreOfEach basis.now listed.now }
     ensures { result ≡ ends_as basis.now (runs_over listed.now) hart register word }
 {
     let _ = basis;
-    runs_of(listed, hart)
-        .iter()
-        .any(|run| run.final_register(register) == word)
+    some_ends(runs_of(listed, hart), register, word)
 }
 
 // The first atom that is to be true, where the condition is to have this truth value, and that nothing makes true. Its depth is bounded by
@@ -114,7 +127,11 @@ fn first_never<'a>(
             where_so(truth && !can_have(basis, listed, *location, *word), condition)
         }
         Outcome::Deny(denied) => first_never(basis, listed, denied, !truth),
-        Outcome::Both(left, right) | Outcome::Either(left, right) => {
+        Outcome::Both(left, right) => {
+            let first = first_never(basis, listed, left, truth);
+            first.or(first_never(basis, listed, right, truth))
+        }
+        Outcome::Either(left, right) => {
             let first = first_never(basis, listed, left, truth);
             first.or(first_never(basis, listed, right, truth))
         }

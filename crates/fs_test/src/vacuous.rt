@@ -1,13 +1,13 @@
 //! Tests that are vacuous: of some hart no run is left once they are filtered by the outcome.
 
-ghost use Rattle.std.specs.Prelude.{◌≡◌, ◌≢◌, ◌∷◌, [], All, true, false, IfOk, OnOk, IfErr, IfSome, IfNone, IsOkUnless, string_bytes};
+ghost use Rattle.std.specs.Prelude.{◌≡◌, ◌≢◌, ◌∷◌, [], All, true, false, map, IfOk, OnOk, IfErr, IfSome, IfNone, IsOkUnless, string_bytes};
 ghost use Rattle.std.specs.Arc.{arc_value};
 ghost use Rattle.fs_kinds.specs.declared.fault.Fault.TheVariants.{Memory};
 ghost use Rattle.fs_model.specs.Test.{IsBounded, IsStart};
 ghost use Rattle.fs_model.specs.TooMany.{IsRunFault};
 ghost use Rattle.fs_answer.specs.Certificate.{Filter};
 ghost use Rattle.fs_answer.specs.Trees.{IsRefuted};
-ghost use Rattle.fs_thin_air.specs.ThinAir.{CanBeListed};
+ghost use Rattle.fs_evidence.specs.Inferences.{inference_of};
 ghost use Rattle.fs_test.specs.Verdicts.{HasNoRunFault, IsVacuous, SaysVacuous};
 ghost use Rattle.fs_test.specs.inner.Parts.{IsTestedAs};
 
@@ -17,7 +17,7 @@ use fs_evidence::Inference;
 use fs_kinds::{Fault, Placement};
 use fs_model::Test;
 use fs_refute::Basis;
-use std::alloc::Global;
+use std::alloc::{AllocError, Global};
 use std::sync::Arc;
 
 // What is said of the test, where it is vacuous. The fault is that of its runs; or F19. The cost is that of `Basis::new`, and for each
@@ -63,6 +63,16 @@ fn is_refuted_by(alloc: Global, basis: &Basis, hart: u8) -> Result<bool, Fault>
     ensures err { IsOkUnless result Memory }
 {
     let nowhere = Placement::bottom(alloc, &[])?;
-    let reason = basis.reason_against(alloc, &nowhere, &[Inference::Filter(hart)])?;
+    let filter = filter(alloc, hart)?;
+    let reason = basis.reason_against(alloc, &nowhere, &filter)?;
     Ok(reason.is_none())
+}
+
+// The one inference by which the hart's runs are filtered.
+fn filter(alloc: Global, hart: u8) -> Result<Vec<Inference>, AllocError>
+    ensures { IfOk result (λ inferences. map inference_of inferences.items ≡ Filter hart ∷ []) }
+{
+    let mut inferences = Vec::new(alloc);
+    inferences.push(Inference::Filter(hart))?;
+    Ok(inferences)
 }
