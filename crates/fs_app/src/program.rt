@@ -12,7 +12,7 @@ use fs_kinds::Fault;
 use fs_order::run_order;
 use fs_place::run_place;
 use fs_solve::{Certified, Open, run_certified, run_certified_alone, run_solve, run_solve_alone};
-use fs_test::{report, test_file};
+use fs_test::{test_file, test_report};
 use fs_verify::run_check;
 use std::fs::File;
 use std::process::ExitCode;
@@ -133,7 +133,7 @@ fn answer_test<R: Files + Input + AllocGlobal>(rt: &R, test: &Test) -> Result<Ou
         let file = read_input(rt, path.as_str());
         lines.push(test_file(rt.alloc(), path.as_str(), file)?)?;
     }
-    report(rt.alloc(), &lines)
+    test_report(rt.alloc(), &lines)
 }
 
 fn answer_place<R: Files + Input + AllocGlobal>(

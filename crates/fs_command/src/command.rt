@@ -16,14 +16,14 @@ a last line that counts them. No fence is placed, and prices are not asked for.
   allowed    some execution shows it. Why: the first operation that comes to memory
              before an earlier one of its hart, and the earliest that it passes
   vacuous    no execution shows it, for a reason that has nothing to do with the memory
-             model: in some hart no run ends so, whichever words the loads return that
-             can be stored at all. Why: the first atom of the condition that nothing
-             makes true; mostly a slip of the pen
+             model: in some hart no run ends so, whatever its loads return of the words
+             that are stored at all. Why: the first atom of the condition that nothing
+             makes true, mostly a slip of the pen
   fault      the file isn't read, or not answered, and why
 
-  $ rvfence test examples/tests/SB.litmus examples/tests/typo.litmus
-  examples/tests/SB.litmus    allowed    P0:2 comes to memory before P0:1
-  examples/tests/typo.litmus  vacuous    nothing stores 1 to z
+  $ rvfence test examples/tests/SB-half.litmus examples/tests/typo.litmus
+  examples/tests/SB-half.litmus  allowed    P1:2 comes to memory before P1:1
+  examples/tests/typo.litmus     vacuous    nothing stores 1 to z
   2 tests: 1 allowed, 1 vacuous
 
 Exit status:

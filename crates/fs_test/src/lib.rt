@@ -5,12 +5,12 @@
 mod judged;
 mod never;
 mod ordered;
-mod reports;
+mod report;
 mod said;
 mod tested;
 mod vacuous;
 mod words;
 
-pub use reports::report;
+pub use report::test_report;
 pub use said::{Kind, Line, Said};
 pub use tested::test_file;

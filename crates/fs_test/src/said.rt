@@ -40,13 +40,13 @@ pub(crate) fn faulty(alloc: Global, fault: Fault) -> Result<Said, Fault>
     ensures ok { IfOk result (λ said. NamesFault fault said.kind (string_bytes said.text)) }
     ensures err { IsOkUnless result Memory }
 {
-    if fault == Fault::Memory {
-        return Err(Fault::Memory);
+    match fault {
+        Fault::Memory => Err(Fault::Memory),
+        _ => Ok(Said {
+            kind: Kind::Faulty,
+            text: fault_text(alloc, fault)?,
+        }),
     }
-    Ok(Said {
-        kind: Kind::Faulty,
-        text: fault_text(alloc, fault)?,
-    })
 }
 
 // The line of the fault, without its end.

@@ -1,6 +1,6 @@
 use Rattle.std.proofs.Common.{◌≡◌, flat_map, take, string_bytes}
 use Rattle.fs_test.specs.Report.{line_text}
-use Rattle.fs_test.proofs.reports.lines_text.Given as goal
+use Rattle.fs_test.proofs.report.lines_text.Given as goal
 
 -- the lines so far
 abbrev pub invariant-loop-line : goal.invariant-loop-line

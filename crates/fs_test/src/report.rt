@@ -13,7 +13,7 @@ use std::alloc::{AllocError, Global};
 
 /// The lines of the files, a last line that counts them, and the status: 1 where an outcome is possible; else 2 where a file has a fault;
 /// else 4 where an outcome is vacuous; else 0. The error is `Memory`.
-pub fn report(alloc: Global, lines: &[Line]) -> Result<Output, Fault>
+pub fn test_report(alloc: Global, lines: &[Line]) -> Result<Output, Fault>
     ensures text { IfOk result (λ output. string_bytes output.text ≡ report_text lines.now) }
     ensures status { IfOk result (λ output. output.status ≡ report_status lines.now) }
     ensures err { IsOkUnless result Memory }
