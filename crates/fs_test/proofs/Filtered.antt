@@ -1,6 +1,6 @@
 -- What the walk over one inference, which filters the runs of a hart, says of a test.
 use Rattle.std.proofs.Common.{◌≡◌, ℕ, ◌+◌, ◌<◌, ◌≤◌, true, false, Option, Some, None, List, [], ◌∷◌, ◌++◌, length, inl, inr, sym, subst, ◌∙◌, ap, arith}
-use Rattle.std.specs.Prelude.{nat_lt, is_none}
+use Rattle.std.specs.Prelude.{nat_lt}
 use Rattle.std.proofs.lemmas.Bool.{false≢true, and_parts, cases_lt, ltb-true}
 use Rattle.fs_kinds.specs.declared.placement.Entry.{Entry}
 use Rattle.fs_kinds.specs.declared.reason.Reason.{Reason}
@@ -24,23 +24,19 @@ IsReason t is why =
     (runs : ℕ → List (List Step)) × AreItsRuns t runs × (why ≡ first_wrong t [] (roots t runs) is 0)
 
 -- without a reason they refute the test
-pub refuted : (t : Test) (is : List Inference) (why : Option Reason) → IsReason t is why → is_none why ≡ true
-    → IsRefuted t [] is
-refuted t is None found none = record {
+pub refuted : (t : Test) (is : List Inference) → IsReason t is None → IsRefuted t [] is
+refuted t is found = record {
   runs = found.0;
   all = found.1;
   refuted = none_to t [] (roots t found.0) is 0 (sym found.2);
 }
-refuted t is (Some why) found none = absurd (false≢true none)
 
 differ : (why : Reason) (one : Option Reason) → Some why ≡ one → one ≡ None → ⊥
 differ why one e n = cc
 
 -- and with one they don't
-pub unrefuted : (t : Test) (is : List Inference) (why : Option Reason) → IsReason t is why → is_none why ≡ false
-    → IsRefuted t [] is → ⊥
-unrefuted t is None found none whole = false≢true (sym none)
-unrefuted t is (Some why) found none whole =
+pub unrefuted : (t : Test) (is : List Inference) (why : Reason) → IsReason t is (Some why) → IsRefuted t [] is → ⊥
+unrefuted t is why found whole =
     let same = one_family t found.0 whole.runs found.1 whole.all in
     let right = subst (λ (runs : ℕ → List (List Step)). first_wrong t [] (roots t runs) is 0 ≡ None) (sym same)
     (none_from t [] (roots t whole.runs) is 0 whole.refuted) in

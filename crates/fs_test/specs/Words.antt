@@ -37,7 +37,8 @@ overtaking (name ∷ later) = option_or (option_map (pair_at name) (overtaken na
 
 abbrev pub order_words : Option (Name × Name) → List ℕ
 order_words None = codes "in program order"
-order_words (Some (first, second)) = operation_name first ++ codes " comes to memory before " ++ operation_name second
+order_words (Some (first, second)) =
+    operation_name first ++ (codes " comes to memory before " ++ operation_name second)
 
 -- ---- an outcome that is vacuous: over all runs of each hart
 
@@ -78,7 +79,7 @@ module _ (t : Test) (runs : ℕ → List (List Step)) where
 -- the words for the atom that nothing makes true, if there is one
 abbrev pub never_words : Test → Option Condition → List ℕ
 never_words t (Some (LocationIs location word)) =
-    codes "nothing stores " ++ value_text t.locations word ++ codes " to " ++ name_of t.locations location
+    codes "nothing stores " ++ (value_text t.locations word ++ (codes " to " ++ name_of t.locations location))
 never_words t (Some (RegisterIs hart reg word)) =
-    codes "x" ++ decimal reg ++ codes " of P" ++ decimal hart ++ codes " never ends as " ++ value_text t.locations word
+    codes "x" ++ (decimal reg ++ (codes " of P" ++ (decimal hart ++ (codes " never ends as " ++ value_text t.locations word))))
 never_words t _ = codes "no runs end so"

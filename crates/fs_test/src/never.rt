@@ -1,6 +1,6 @@
 //! What nothing makes true in a vacuous test.
 
-ghost use Rattle.std.specs.Prelude.{◌≡◌, ◌≤◌, ◌++◌, [], ℕ, List, Some, None, codes, decimal, length, map, slice_get, option_map, if◌then◌else◌, IfOk, string_bytes};
+ghost use Rattle.std.specs.Prelude.{◌≡◌, ◌≤◌, ◌++◌, [], ℕ, List, Some, None, true, codes, decimal, length, map, slice_get, option_map, if◌then◌else◌, IfOk, string_bytes};
 ghost use Rattle.std.specs.List.{list_any, slice_index_or};
 ghost use Rattle.fs_kinds.specs.Limits.{most_locations};
 ghost use Rattle.fs_model.specs.Condition.{condition_of};
@@ -182,11 +182,11 @@ fn stored_text(
     word: u32,
 ) -> Result<String, AllocError>
     requires { length locations.now ≤ most_locations }
-    ensures { IfOk result (λ text. string_bytes text ≡ codes "vacuous    nothing stores " ++ value_text locations.now word
-        ++ codes " to " ++ name_of locations.now location) }
+    ensures { IfOk result (λ text. string_bytes text ≡ codes "nothing stores "
+        ++ (value_text locations.now word ++ (codes " to " ++ name_of locations.now location))) }
 {
     let value = value_text(alloc, locations, word)?;
-    format!(in alloc; "vacuous    nothing stores {} to {}", value.as_str(), name_of(locations, location))
+    format!(in alloc; "nothing stores {} to {}", value.as_str(), name_of(locations, location))
 }
 
 // That the register never ends as the word.
@@ -198,18 +198,18 @@ fn ending_text(
     word: u32,
 ) -> Result<String, AllocError>
     requires { length locations.now ≤ most_locations }
-    ensures { IfOk result (λ text. string_bytes text ≡ codes "vacuous    x" ++ decimal register ++ codes " of P" ++ decimal hart
-        ++ codes " never ends as " ++ value_text locations.now word) }
+    ensures { IfOk result (λ text. string_bytes text ≡ codes "x"
+        ++ (decimal register ++ (codes " of P" ++ (decimal hart ++ (codes " never ends as " ++ value_text locations.now word))))) }
 {
     let value = value_text(alloc, locations, word)?;
-    format!(in alloc; "vacuous    x{} of P{} never ends as {}", register.number(), hart, value.as_str())
+    format!(in alloc; "x{} of P{} never ends as {}", register.number(), hart, value.as_str())
 }
 
-// What is said of a vacuous test: the atom that nothing makes true, if there is one.
-fn never_text(alloc: Global, test: &Test, atom: Option<&Outcome>) -> Result<String, AllocError>
+// The words for the atom that nothing makes true, if there is one.
+fn never_words(alloc: Global, test: &Test, atom: Option<&Outcome>) -> Result<String, AllocError>
     requires { length test.now.locations ≤ most_locations }
-    ensures { IfOk result (λ text. string_bytes text ≡ codes "vacuous    "
-        ++ never_words test.now (option_map (λ atom. condition_of atom.now) atom.entry)) }
+    ensures { IfOk result (λ text.
+        string_bytes text ≡ never_words test.now (option_map (λ atom. condition_of atom.now) atom.entry)) }
 {
     let locations = test.locations.as_slice();
     match atom {
@@ -219,7 +219,7 @@ fn never_text(alloc: Global, test: &Test, atom: Option<&Outcome>) -> Result<Stri
         Some(Outcome::RegisterIs { hart, reg, word }) => {
             ending_text(alloc, locations, *hart, *reg, *word)
         }
-        _ => format!(in alloc; "vacuous    no runs end so"),
+        _ => format!(in alloc; "no runs end so"),
     }
 }
 
@@ -229,5 +229,6 @@ pub(crate) fn vacuous_text(alloc: Global, basis: &Basis) -> Result<String, Alloc
         × (string_bytes text ≡ codes "vacuous    " ++ never_words basis.now (never_in_outcome basis.now runs))) }
 {
     let atom = never_in_outcome(basis, basis.runs());
-    never_text(alloc, basis.test(), atom)
+    let words = never_words(alloc, basis.test(), atom)?;
+    format!(in alloc; "vacuous    {}", words.as_str())
 }

@@ -1,6 +1,6 @@
 //! In which order the operations of an execution come to memory.
 
-ghost use Rattle.std.specs.Prelude.{◌≡◌, ◌++◌, codes, IfOk, string_bytes};
+ghost use Rattle.std.specs.Prelude.{◌≡◌, ◌++◌, Some, codes, IfOk, string_bytes};
 ghost use Rattle.std.specs.List.{list_any};
 ghost use Rattle.fs_answer.specs.Regions.{same_name};
 ghost use Rattle.fs_test.specs.Words.{overtaken, overtaking, order_words, pair_at};
@@ -45,14 +45,26 @@ fn overtaking(order: &[OperationName]) -> Option<Pair>
     None
 }
 
+fn pair_words(alloc: Global, pair: Pair) -> Result<String, AllocError>
+    ensures { IfOk result (λ text. string_bytes text ≡ order_words (Some pair)) }
+{
+    format!(in alloc; "{} comes to memory before {}", pair.0, pair.1)
+}
+
+// The words for an order in which the first operation overtakes the second, if there is such a pair.
+fn order_words(alloc: Global, found: Option<Pair>) -> Result<String, AllocError>
+    ensures { IfOk result (λ text. string_bytes text ≡ order_words found) }
+{
+    match found {
+        Some(pair) => pair_words(alloc, pair),
+        None => format!(in alloc; "in program order"),
+    }
+}
+
 // What is said of an outcome that is possible, as an execution with this order shows.
 pub(crate) fn allowed_text(alloc: Global, order: &[OperationName]) -> Result<String, AllocError>
     ensures { IfOk result (λ text. string_bytes text ≡ codes "allowed    " ++ order_words (overtaking order.now)) }
 {
-    match overtaking(order) {
-        Some((first, second)) => {
-            format!(in alloc; "allowed    {} comes to memory before {}", first, second)
-        }
-        None => format!(in alloc; "allowed    in program order"),
-    }
+    let words = order_words(alloc, overtaking(order))?;
+    format!(in alloc; "allowed    {}", words.as_str())
 }

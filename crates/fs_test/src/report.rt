@@ -3,6 +3,7 @@
 ghost use Rattle.std.specs.Prelude.{◌≡◌, ◌++◌, [], codes, length, max, IfOk, OnOk, IsOkUnless, map, string_bytes};
 ghost use Rattle.std.specs.List.{flat_map};
 ghost use Rattle.fs_kinds.specs.declared.fault.Fault.TheVariants.{Memory};
+ghost use Rattle.fs_model.specs.Printed.{joined};
 ghost use Rattle.fs_test.specs.Report.{width, padded, line_text, is_kind, count_of, count_text, count_piece, pieces, summary, report_text, has, report_status};
 
 use crate::said::{Kind, Line};
@@ -115,7 +116,7 @@ fn push_count(
 
 // How many lines are of each kind, of which there are any.
 fn pieces(alloc: Global, lines: &[Line]) -> Result<Vec<String>, AllocError>
-    ensures { IfOk result (λ pieces. map string_bytes pieces.items ≡ pieces lines.now) }
+    ensures { IfOk result (λ made. map string_bytes made.items ≡ pieces lines.now) }
 {
     let mut pieces = Vec::new(alloc);
     push_count(alloc, Kind::Forbidden, lines, &mut pieces)?;
@@ -125,12 +126,20 @@ fn pieces(alloc: Global, lines: &[Line]) -> Result<Vec<String>, AllocError>
     Ok(pieces)
 }
 
+// The same in one text.
+fn joined_pieces(alloc: Global, lines: &[Line]) -> Result<String, AllocError>
+    ensures { IfOk result (λ text. string_bytes text ≡ joined (codes ", ") (pieces lines.now)) }
+{
+    let pieces = pieces(alloc, lines)?;
+    pieces.join(alloc, ", ")
+}
+
 // The last line.
 fn summary(alloc: Global, lines: &[Line]) -> Result<String, AllocError>
     ensures { IfOk result (λ text. string_bytes text ≡ summary lines.now) }
 {
     let tests = counted(alloc, lines.len(), "test")?;
-    let pieces = pieces(alloc, lines)?.join(alloc, ", ")?;
+    let pieces = joined_pieces(alloc, lines)?;
     format!(in alloc; "{}: {}\n", tests.as_str(), pieces.as_str())
 }
 

@@ -32,7 +32,8 @@ pub(crate) fn vacuous(alloc: Global, test: &Arc<Test>) -> Result<Option<Said>, F
     ensures err { IfErr result (λ f. f ≢ Memory → IsRunFault (arc_value test.now) f) }
 {
     let basis = Basis::new(alloc, test)?;
-    if !is_vacuous(alloc, &basis)? {
+    let is_vacuous = is_vacuous(alloc, &basis)?;
+    if !is_vacuous {
         return Ok(None);
     }
     Ok(Some(Said {
@@ -49,7 +50,8 @@ fn is_vacuous(alloc: Global, basis: &Basis) -> Result<bool, Fault>
 {
     let harts = basis.test().codes.len() as u8;
     for hart in 0..harts {
-        if is_refuted_by(alloc, basis, hart)? {
+        let is_refuted = is_refuted_by(alloc, basis, hart)?;
+        if is_refuted {
             return Ok(true);
         }
     }
@@ -65,7 +67,10 @@ fn is_refuted_by(alloc: Global, basis: &Basis, hart: u8) -> Result<bool, Fault>
     let nowhere = Placement::bottom(alloc, &[])?;
     let filter = filter(alloc, hart)?;
     let reason = basis.reason_against(alloc, &nowhere, &filter)?;
-    Ok(reason.is_none())
+    match reason {
+        None => Ok(true),
+        Some(_) => Ok(false),
+    }
 }
 
 // The one inference by which the hart's runs are filtered.

@@ -19,7 +19,8 @@ fn ending(count: usize) -> &'static str
 pub(crate) fn counted(alloc: Global, count: usize, word: &str) -> Result<String, AllocError>
     ensures { IfOk result (λ text. string_bytes text ≡ counted count word.now) }
 {
-    format!(in alloc; "{} {}{}", count, word, ending(count))
+    let ending = ending(count);
+    format!(in alloc; "{} {}{}", count, word, ending)
 }
 
 // The name of the location whose address the word is, or else the word in decimal.
