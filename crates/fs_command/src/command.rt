@@ -310,11 +310,7 @@ fn fences_of(alloc: Global, found: &ArgMatches<'_>) -> Result<Vec<String>, Alloc
 }
 
 /// The words of this argument.
-fn words_of(
-    alloc: Global,
-    found: &ArgMatches<'_>,
-    name: &str,
-) -> Result<Vec<String>, AllocError> {
+fn words_of(alloc: Global, found: &ArgMatches<'_>, name: &str) -> Result<Vec<String>, AllocError> {
     let mut words = Vec::new(alloc);
     for word in found.get_strs(name).unwrap_or(&[]) {
         words.push(String::from_str(alloc, word)?)?;

@@ -1,5 +1,5 @@
 -- What the walk over one inference, which filters the runs of a hart, says of a test.
-use Rattle.std.proofs.Common.{◌≡◌, ℕ, ◌+◌, ◌<◌, ◌≤◌, true, false, Option, Some, None, List, [], ◌∷◌, ◌++◌, length, inl, inr, sym, subst, ◌∙◌, ap, arith}
+use Rattle.std.proofs.Common.{◌≡◌, ℕ, ◌+◌, ◌<◌, ◌≤◌, true, Option, Some, None, List, [], ◌∷◌, ◌++◌, length, inl, inr, sym, subst, ◌∙◌, ap, arith}
 use Rattle.std.specs.Prelude.{nat_lt}
 use Rattle.std.proofs.lemmas.Bool.{false≢true, and_parts, cases_lt, ltb-true}
 use Rattle.fs_kinds.specs.declared.placement.Entry.{Entry}
@@ -68,8 +68,8 @@ reason_of t p kept is why nowhere same found = (
   found.0,
   found.1,
   found.2
-  ∙ ap (λ q. first_wrong t q (roots t found.0) kept 0) nowhere
-  ∙ ap (λ js. first_wrong t [] (roots t found.0) js 0) same,
+      ∙ ap (λ q. first_wrong t q (roots t found.0) kept 0) nowhere
+      ∙ ap (λ js. first_wrong t [] (roots t found.0) js 0) same,
 )
 
 -- ---- hart by hart

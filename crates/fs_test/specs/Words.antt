@@ -1,5 +1,5 @@
 -- Why an outcome is possible, or vacuous, in a few words.
-use Rattle.std.specs.Prelude.{ℕ, ◌==◌, Bool, true, false, ◌&&◌, ◌||◌, not, Option, None, Some, option_map, List, [], ◌∷◌, ◌++◌, slice_get, length, codes, if◌then◌else◌}
+use Rattle.std.specs.Prelude.{ℕ, ◌==◌, Bool, true, ◌&&◌, ◌||◌, not, Option, None, Some, option_map, List, [], ◌∷◌, ◌++◌, slice_get, length, codes, if◌then◌else◌}
 use Rattle.std.specs.Option.{option_or}
 use Rattle.std.specs.Fmt.{decimal}
 use Rattle.std.specs.List.{find, list_any}

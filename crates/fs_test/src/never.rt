@@ -121,10 +121,16 @@ fn first_never<'a>(
     match condition {
         Outcome::Always | Outcome::Never => None,
         Outcome::RegisterIs { hart, reg, word } => {
-            where_so(truth && !ends_as(basis, listed, *hart, *reg, *word), condition)
+            where_so(
+                truth && !ends_as(basis, listed, *hart, *reg, *word),
+                condition,
+            )
         }
         Outcome::LocationIs { location, word } => {
-            where_so(truth && !can_have(basis, listed, *location, *word), condition)
+            where_so(
+                truth && !can_have(basis, listed, *location, *word),
+                condition,
+            )
         }
         Outcome::Deny(denied) => first_never(basis, listed, denied, !truth),
         Outcome::Both(left, right) => {
@@ -186,7 +192,11 @@ fn stored_text(
         ++ (value_text locations.now word ++ (codes " to " ++ name_of locations.now location))) }
 {
     let value = value_text(alloc, locations, word)?;
-    format!(in alloc; "nothing stores {} to {}", value.as_str(), name_of(locations, location))
+    format!(in alloc;
+        "nothing stores {} to {}",
+        value.as_str(),
+        name_of(locations, location)
+    )
 }
 
 // That the register never ends as the word.
@@ -202,7 +212,12 @@ fn ending_text(
         ++ (decimal register ++ (codes " of P" ++ (decimal hart ++ (codes " never ends as " ++ value_text locations.now word))))) }
 {
     let value = value_text(alloc, locations, word)?;
-    format!(in alloc; "x{} of P{} never ends as {}", register.number(), hart, value.as_str())
+    format!(in alloc;
+        "x{} of P{} never ends as {}",
+        register.number(),
+        hart,
+        value.as_str()
+    )
 }
 
 // The words for the atom that nothing makes true, if there is one.

@@ -32,9 +32,7 @@ pub fn test_report(alloc: Global, lines: &[Line]) -> Result<Output, Fault>
 fn width(lines: &[Line]) -> usize
     ensures { result ≡ width lines.now }
 {
-    lines
-        .iter()
-        .fold(0, |most, line| most.max(line.name.len()))
+    lines.iter().fold(0, |most, line| most.max(line.name.len()))
 }
 
 // All lines but the last one.
@@ -54,7 +52,13 @@ fn write_line(alloc: Global, width: usize, line: &Line, text: &mut String) -> Re
     ensures { OnOk result (string_bytes text.new ≡ string_bytes text.old ++ line_text width line.now) }
 {
     let blanks = blanks(alloc, width, &line.name)?;
-    writeln!(text, "{}{}  {}", line.name.as_str(), blanks.as_str(), line.said.text.as_str())
+    writeln!(
+        text,
+        "{}{}  {}",
+        line.name.as_str(),
+        blanks.as_str(),
+        line.said.text.as_str()
+    )
 }
 
 // What stands behind a name that is to take so many bytes.

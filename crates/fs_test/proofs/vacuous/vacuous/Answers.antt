@@ -16,7 +16,7 @@ returns-clause-some c =
     let vacuous : IsVacuous t = subst IsVacuous same (c.in_ok-is_vacuous.ensures.yes c.if-not-is_vacuous.false) in
     let said : (runs : ℕ → List (List Step)) × AreItsRuns t runs × (text ≡ codes "vacuous    " ++ never_words t (never_in_outcome t runs)) =
     subst (λ (u : Test). (runs : ℕ → List (List Step)) × AreItsRuns u runs
-        × (text ≡ codes "vacuous    " ++ never_words u (never_in_outcome u runs))) same c.in_ok-vacuous_text.ensures in
+    × (text ≡ codes "vacuous    " ++ never_words u (never_in_outcome u runs))) same c.in_ok-vacuous_text.ensures in
     record {
       listed = c.in_ok-basis.ensures.listable.no_fault;
       says = record {
