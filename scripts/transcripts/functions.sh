@@ -42,3 +42,18 @@ filled() {
     echo
     sed 1d examples/MP.litmus
 }
+
+# What `test` says of the test of one hart with these cells and this condition, with its quantifier, without the name of the file. The
+# hart has the addresses of x in x6 and of y in x8, and 1 in x10.
+said() {
+    local -a cells
+    IFS=';' read -r -a cells <<<"$1"
+    {
+        printf 'RISCV said\n{ 0:x6=x; 0:x8=y; 0:x10=1; }\nP0 ;\n'
+        [[ ! $1 ]] || printf '%s ;\n' "${cells[@]}"
+        echo "$2"
+    } | rvfence test - | sed -n '1s/^- *//p'
+}
+
+# What `test` prints, with N for each number of cycles, which no contract says.
+cycles() { rvfence test "$@" | sed -E 's/[0-9]+ cycles?$/N cycles/'; }

@@ -4,12 +4,15 @@ ghost use Rattle.std.specs.Prelude.{◌≤◌};
 
 use crate::whole::write_whole;
 use clap::error::ErrorKind;
-use fs_command::{Check, MOST_NODES, MOST_WORKERS, Order, Place, Request, Solve, read_request};
+use fs_command::{
+    Check, MOST_NODES, MOST_WORKERS, Order, Place, Request, Solve, Test, read_request,
+};
 use fs_io::{Output, Status, read_bytes, write_text};
 use fs_kinds::Fault;
 use fs_order::run_order;
 use fs_place::run_place;
 use fs_solve::{Certified, Open, run_certified, run_certified_alone, run_solve, run_solve_alone};
+use fs_test::{test_file, test_report};
 use fs_verify::run_check;
 use std::fs::File;
 use std::process::ExitCode;
@@ -48,9 +51,10 @@ impl Failure {
     }
 }
 
-/// Does what the process's command line asks for, and answers the exit status: 0 where it was done or the answer is yes or
-/// fenced, 1 where it is no or none, 2 for a fault or a bad command line, 3 where memory ran out. A fault or a bad command line
-/// prints on standard error, and nothing on standard output unless it was standard output that failed.
+/// Does what the process's command line asks for, and answers the exit status: 0 where it was done or the answer is yes, fenced or
+/// forbidden, 1 where it is no, none or allowed, 2 for a fault or a bad command line, 3 where memory ran out, 4 where tests are vacuous
+/// and nothing is worse. A fault or a bad command line prints on standard error, and nothing on standard output unless it was standard
+/// output that failed; but a fault of a file of `test` stands in its line.
 pub fn run<R: Env + Files + Input + Print + Eprint + AllocGlobal + Threads + Wait + Sync>(
     rt: &R,
 ) -> ExitCode {
@@ -114,11 +118,22 @@ fn answer<R: Files + Input + AllocGlobal + Threads + Wait + Sync>(
     request: &Request<'_>,
 ) -> Result<Output, Fault> {
     match request {
+        Request::Test(test) => answer_test(rt, test),
         Request::Place(place) => answer_place(rt, place),
         Request::Order(order) => answer_order(rt, order),
         Request::Solve(solve) => answer_solve(rt, solve),
         Request::Check(check) => answer_check(rt, check),
     }
+}
+
+/// One file after the other; of each no more is kept than its line.
+fn answer_test<R: Files + Input + AllocGlobal>(rt: &R, test: &Test) -> Result<Output, Fault> {
+    let mut lines = Vec::new(rt.alloc());
+    for path in &test.files {
+        let file = read_input(rt, path.as_str());
+        lines.push(test_file(rt.alloc(), path.as_str(), file)?)?;
+    }
+    test_report(rt.alloc(), &lines)
 }
 
 fn answer_place<R: Files + Input + AllocGlobal>(

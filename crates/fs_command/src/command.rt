@@ -5,6 +5,37 @@ use std::alloc::{AllocError, Global};
 /// The version of the program, which `--version` prints behind its name.
 const VERSION: &str = "0.1.0";
 
+const TEST_ABOUT: &str = "Can the outcome of a litmus test happen, as the test is written?";
+
+const TEST_HELP: &str = "\
+Prints a line for each file, in order: its name, what is said of its test, and why; and
+a last line that counts them. No fence is placed, and prices are not asked for.
+
+  forbidden  no execution under RVWMO shows the outcome of the condition (of `forall`: of
+             its denial). N cycles: how many the refutation has that was found
+  allowed    some execution shows it. Why: the first operation that comes to memory
+             before an earlier one of its hart, and the earliest that it passes
+  vacuous    no execution shows it, for a reason that has nothing to do with the memory
+             model: in some hart no run ends so, whatever its loads return of the words
+             that are stored at all. Why: the first atom of the condition that nothing
+             makes true, mostly a slip of the pen
+  fault      the file isn't read, or not answered, and why
+
+  $ rvfence test examples/tests/SB-half.litmus examples/tests/typo.litmus
+  examples/tests/SB-half.litmus  allowed    P1:2 comes to memory before P1:1
+  examples/tests/typo.litmus     vacuous    nothing stores 1 to z
+  2 tests: 1 allowed, 1 vacuous
+
+Exit status:
+  0  each outcome is forbidden
+  1  one is allowed, whatever else there is
+  2  none is allowed, and a file has a fault; or a bad command line
+  3  memory ran out (fault F19), and nothing is printed
+  4  none is allowed, no file has a fault, and one is vacuous
+Faults beside those of the files: a hart has too many runs (F13), a run accesses an
+address of no location (F14), there are too many candidate executions (F15), a file
+can't be read (F20).";
+
 const PLACE_ABOUT: &str = "Print a litmus test with fences placed in it";
 
 const PLACE_HELP: &str = "\
@@ -127,10 +158,12 @@ version 4).";
 const PROGRAM_HELP: &str = "\
 `rvfence <COMMAND> --help` says what a command answers.
 
-Exit status: 0 done, yes or fenced; 1 no or none; 2 a fault or a bad command line;
-3 memory ran out.";
+Exit status: 0 done, yes, fenced or forbidden; 1 no, none or allowed; 2 a fault or a bad
+command line; 3 memory ran out; 4 vacuous.";
 
 const FILE_HELP: &str = "Litmus test in herd7's RISC-V format; `-` or `stdin` is standard input";
+
+const FILES_HELP: &str = "Litmus tests in herd7's RISC-V format; `-` or `stdin` is standard input";
 
 const FENCE_HELP: &str = "Fence to place, as P0:3=w,w: hart, instruction (from 0) and kind";
 
@@ -158,10 +191,17 @@ pub const MOST_NODES: u32 = 1_000_000;
 /// What a command line asks for. Files go by their paths.
 #[derive(Drop)]
 pub enum Request<'a> {
+    Test(Test),
     Place(Place<'a>),
     Order(Order<'a>),
     Solve(Solve<'a>),
     Check(Check<'a>),
+}
+
+/// What `test` was asked for.
+#[derive(Drop)]
+pub struct Test {
+    pub files: Vec<String>,
 }
 
 /// What `place` was asked for.
@@ -209,6 +249,9 @@ pub fn read_request<'a>(alloc: Global, words: &'a [String]) -> Result<Request<'a
 }
 
 fn request_of<'a>(alloc: Global, matches: &ArgMatches<'a>) -> Result<Request<'a>, AllocError> {
+    if let Some(found) = matches.subcommand_matches("test") {
+        return Ok(Request::Test(test_of(alloc, found)?));
+    }
     if let Some(found) = matches.subcommand_matches("order") {
         return Ok(Request::Order(order_of(alloc, found)?));
     }
@@ -220,6 +263,12 @@ fn request_of<'a>(alloc: Global, matches: &ArgMatches<'a>) -> Result<Request<'a>
     }
     let found = matches.subcommand_matches("place").unwrap_or(matches);
     Ok(Request::Place(place_of(alloc, found)?))
+}
+
+fn test_of(alloc: Global, found: &ArgMatches<'_>) -> Result<Test, AllocError> {
+    Ok(Test {
+        files: words_of(alloc, found, "FILE")?,
+    })
 }
 
 fn place_of<'a>(alloc: Global, found: &ArgMatches<'a>) -> Result<Place<'a>, AllocError> {
@@ -257,11 +306,16 @@ fn check_of<'a>(found: &ArgMatches<'a>) -> Check<'a> {
 }
 
 fn fences_of(alloc: Global, found: &ArgMatches<'_>) -> Result<Vec<String>, AllocError> {
-    let mut fences = Vec::new(alloc);
-    for word in found.get_strs("FENCE").unwrap_or(&[]) {
-        fences.push(String::from_str(alloc, word)?)?;
+    words_of(alloc, found, "FENCE")
+}
+
+/// The words of this argument.
+fn words_of(alloc: Global, found: &ArgMatches<'_>, name: &str) -> Result<Vec<String>, AllocError> {
+    let mut words = Vec::new(alloc);
+    for word in found.get_strs(name).unwrap_or(&[]) {
+        words.push(String::from_str(alloc, word)?)?;
     }
-    Ok(fences)
+    Ok(words)
 }
 
 fn whole_command<'a>(alloc: Global) -> Result<Command<'a>, AllocError> {
@@ -270,7 +324,8 @@ fn whole_command<'a>(alloc: Global) -> Result<Command<'a>, AllocError> {
         .about("Fences for RISC-V litmus tests under RVWMO")
         .after_help(PROGRAM_HELP)
         .subcommand_required(true);
-    let program = with_command(Ok(program), solve_command(alloc));
+    let program = with_command(Ok(program), test_command(alloc));
+    let program = with_command(program, solve_command(alloc));
     let program = with_command(program, place_command(alloc));
     let program = with_command(program, order_command(alloc));
     with_command(program, check_command(alloc))
@@ -290,6 +345,13 @@ fn with_argument<'a>(
     argument: Arg<'a>,
 ) -> Result<Command<'a>, AllocError> {
     command?.arg(argument)
+}
+
+fn test_command<'a>(alloc: Global) -> Result<Command<'a>, AllocError> {
+    let command = Command::new(alloc, "test")
+        .about(TEST_ABOUT)
+        .after_help(TEST_HELP);
+    with_argument(Ok(command), files(alloc, FILES_HELP))
 }
 
 fn place_command<'a>(alloc: Global) -> Result<Command<'a>, AllocError> {
@@ -341,6 +403,14 @@ fn option<'a>(alloc: Global, name: &'a str, value: &'a str, help: &'a str) -> Ar
         .long(name)
         .value_name(value)
         .help(help)
+}
+
+/// One word or more.
+fn files<'a>(alloc: Global, help: &'a str) -> Arg<'a> {
+    Arg::new(alloc, "FILE")
+        .help(help)
+        .num_args(1..)
+        .required(true)
 }
 
 fn fences<'a>(alloc: Global, help: &'a str) -> Arg<'a> {

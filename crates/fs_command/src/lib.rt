@@ -3,4 +3,6 @@
 
 mod command;
 
-pub use command::{Check, MOST_NODES, MOST_WORKERS, Order, Place, Request, Solve, read_request};
+pub use command::{
+    Check, MOST_NODES, MOST_WORKERS, Order, Place, Request, Solve, Test, read_request,
+};

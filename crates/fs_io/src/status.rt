@@ -7,18 +7,20 @@ use fs_kinds::Fault;
 /// How the program ends.
 #[derive(Clone, Copy, Debug, PartialEq, Eq)]
 pub enum Status {
-    /// The test was placed, fences were found, or the answer is yes.
+    /// The test was placed, fences were found, the answer is yes, or each outcome is forbidden.
     Success,
-    /// The answer is none, or no.
+    /// The answer is none, or no, or an outcome is allowed.
     Denied,
     /// A fault, or a bad command line.
     Failure,
     /// Memory ran out.
     OutOfMemory,
+    /// An outcome is vacuous, and nothing is worse.
+    Vacuous,
 }
 
 impl Status {
-    /// The exit status of the process: 0, 1, 2 or 3.
+    /// The exit status of the process: 0 to 4.
     pub fn code(self) -> u8
         ensures { result ≡ code self }
     {
@@ -27,6 +29,7 @@ impl Status {
             Status::Denied => 1,
             Status::Failure => 2,
             Status::OutOfMemory => 3,
+            Status::Vacuous => 4,
         }
     }
 

@@ -1,0 +1,4 @@
+pub mod Families
+pub mod Filtered
+pub mod TestFaults
+pub mod Texts

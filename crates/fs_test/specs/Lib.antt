@@ -1,0 +1,4 @@
+pub mod Verdicts
+pub mod Words
+pub mod Report
+pub mod inner

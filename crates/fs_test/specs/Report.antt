@@ -1,0 +1,70 @@
+-- What `test` prints of its files, and the exit status.
+use Rattle.std.specs.Prelude.{ℕ, ◌-◌, ◌==◌, max, Bool, List, [], ◌∷◌, ◌++◌, length, count_by, fold, codes, string_bytes, if◌then◌else◌}
+use Rattle.std.specs.Fmt.{decimal}
+use Rattle.std.specs.List.{flat_map, list_any, repeat}
+use Rattle.fs_model.specs.Printed.{ended, joined}
+use Rattle.fs_io.specs.declared.status.Status.{Status}
+use Rattle.fs_io.specs.declared.status.Status.TheVariants as status
+use Rattle.fs_test.specs.declared.said.Kind.{Kind}
+use Rattle.fs_test.specs.declared.said.Kind.TheVariants as kind
+use Rattle.fs_test.specs.declared.said.Line.{Line}
+use Rattle.fs_test.specs.Words.{counted}
+
+-- ---- lines
+
+-- the bytes of the longest name
+abbrev pub width : List Line → ℕ
+width lines = fold (λ most line. max most (length (string_bytes line.name))) 0 lines
+
+-- the name with blanks behind it up to this width
+abbrev pub padded : ℕ → List ℕ → List ℕ
+padded most name = name ++ repeat (most - length name) (codes " ")
+
+-- the name of the file, and what is said of it
+abbrev pub line_text : ℕ → Line → List ℕ
+line_text most line = ended (padded most (string_bytes line.name) ++ codes "  " ++ string_bytes line.said.text)
+
+-- ---- the last line
+
+abbrev pub is_kind : Kind → Kind → Bool
+is_kind kind.Forbidden kind.Forbidden = Bool.true
+is_kind kind.Allowed kind.Allowed = Bool.true
+is_kind kind.Vacuous kind.Vacuous = Bool.true
+is_kind kind.Faulty kind.Faulty = Bool.true
+is_kind _ _ = Bool.false
+
+abbrev pub count_of : Kind → List Line → ℕ
+count_of k = count_by (λ line. is_kind k line.said.kind)
+
+-- how many are of the kind, left out where none is
+abbrev pub count_text : Kind → ℕ → List ℕ
+count_text kind.Forbidden n = decimal n ++ codes " forbidden"
+count_text kind.Allowed n = decimal n ++ codes " allowed"
+count_text kind.Vacuous n = decimal n ++ codes " vacuous"
+count_text kind.Faulty n = counted n (codes "fault")
+
+abbrev pub count_piece : List Line → Kind → List (List ℕ)
+count_piece lines k = if count_of k lines == 0 then [] else count_text k (count_of k lines) ∷ []
+
+abbrev pub pieces : List Line → List (List ℕ)
+pieces lines =
+    count_piece lines kind.Forbidden ++ count_piece lines kind.Allowed
+    ++ count_piece lines kind.Vacuous ++ count_piece lines kind.Faulty
+
+-- such as `2 tests: 1 forbidden, 1 fault`
+abbrev pub summary : List Line → List ℕ
+summary lines = ended (counted (length lines) (codes "test") ++ codes ": " ++ joined (codes ", ") (pieces lines))
+
+abbrev pub report_text : List Line → List ℕ
+report_text lines = flat_map (line_text (width lines)) lines ++ summary lines
+
+-- ---- the status
+
+abbrev pub has : Kind → List Line → Bool
+has k = list_any (λ line. is_kind k line.said.kind)
+
+-- 1 where an outcome is possible; else 2 where a file has a fault; else 4 where an outcome is vacuous; else 0
+abbrev pub report_status : List Line → Status
+report_status lines =
+    if has kind.Allowed lines then status.Denied else if has kind.Faulty lines then status.Failure
+    else if has kind.Vacuous lines then status.Vacuous else status.Success

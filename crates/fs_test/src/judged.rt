@@ -1,0 +1,153 @@
+//! What is said of a test that was read.
+
+ghost use Rattle.std.specs.Prelude.{◌≡◌, ◌≢◌, ◌++◌, All, codes, IfOk, IfErr, IsOkUnless, string_bytes};
+ghost use Rattle.std.specs.Arc.{arc_value};
+ghost use Rattle.fs_kinds.specs.declared.fault.Fault.TheVariants.{Memory};
+ghost use Rattle.fs_model.specs.declared.test.Test.{Test as Tests};
+ghost use Rattle.fs_model.specs.Allows.{no_fences};
+ghost use Rattle.fs_model.specs.Test.{IsBounded, IsStart, IsTest};
+ghost use Rattle.fs_answer.specs.CandidateFaults.{IsCandidateFault};
+ghost use Rattle.fs_judge.specs.Verdicts.{IsVerdict};
+ghost use Rattle.fs_test.specs.Verdicts.{Says, IsVacuous};
+ghost use Rattle.fs_test.specs.Words.{counted};
+ghost use Rattle.fs_test.specs.inner.Parts.{IsTestedAs, IsFaultOf};
+
+use crate::ordered::allowed_text;
+use crate::said::{Kind, Said};
+use crate::vacuous::vacuous;
+use crate::words::counted;
+use fs_evidence::{Cycles, Inference, Question};
+use fs_judge::{Judge, Problem, Verdict};
+use fs_kinds::{Fault, Placement, Prices, read_prices};
+use fs_model::{Test, slots};
+use std::alloc::{AllocError, Global};
+use std::sync::Arc;
+
+/// Prices, which a question has and no verdict looks at.
+const PRICES: &[u8] = b"{\"rw,rw\":1}";
+
+// What is said of the test, or the fault of its runs or candidates.
+pub(crate) fn judge(alloc: Global, test: Test) -> Result<Said, Fault>
+    requires { IsTest test }
+    ensures ok { IfOk result (λ said. IsTestedAs test said.kind (string_bytes said.text)) }
+    ensures err { IfErr result (λ f. f ≢ Memory → IsFaultOf test f) }
+{
+    let test = shared(alloc, test)?;
+    judge_shared(alloc, &test)
+}
+
+// The test, to be shared.
+fn shared(alloc: Global, test: Test) -> Result<Arc<Test>, AllocError>
+    ensures { IfOk result (λ shared. arc_value shared ≡ test) }
+{
+    Ok(Arc::new(alloc, test)?)
+}
+
+// The same of a test that is shared.
+fn judge_shared(alloc: Global, test: &Arc<Test>) -> Result<Said, Fault>
+    requires bounded { IsBounded (arc_value test.now) }
+    requires starts { All IsStart (arc_value test.now).starts }
+    ensures ok { IfOk result (λ said. IsTestedAs (arc_value test.now) said.kind (string_bytes said.text)) }
+    ensures err { IfErr result (λ f. f ≢ Memory → IsFaultOf (arc_value test.now) f) }
+{
+    match vacuous(alloc, test)? {
+        Some(said) => Ok(said),
+        None => judge_serious(alloc, test),
+    }
+}
+
+// The same of a test that isn't vacuous.
+fn judge_serious(alloc: Global, test: &Arc<Test>) -> Result<Said, Fault>
+    requires bounded { IsBounded (arc_value test.now) }
+    requires starts { All IsStart (arc_value test.now).starts }
+    requires serious { IsVacuous (arc_value test.now) → ⊥ }
+    ensures ok { IfOk result (λ said. Says (arc_value test.now) said.kind (string_bytes said.text)) }
+    ensures err { IfErr result (λ f. f ≢ Memory → IsCandidateFault (arc_value test.now) f) }
+{
+    let verdict = verdict(alloc, test)?;
+    said_of(alloc, &verdict)
+}
+
+// Prices, as they have to be in a question.
+fn prices(alloc: Global) -> Result<Prices, Fault>
+    ensures { IsOkUnless result Memory }
+{
+    match read_prices(alloc, PRICES) {
+        Ok(prices) => Ok(prices),
+        Err(_) => Err(Fault::Memory), // they are prices, so it can be nothing else
+    }
+}
+
+// The question of the test.
+fn question(alloc: Global, test: &Arc<Test>) -> Result<Arc<Question>, Fault>
+    ensures ok { IfOk result (λ question. (arc_value question).test ≡ arc_value test.now) }
+    ensures err { IsOkUnless result Memory }
+{
+    let prices = prices(alloc)?;
+    let test = Arc::try_clone(test)?;
+    Ok(Arc::new(alloc, Question { test, prices })?)
+}
+
+// No fence in any slot of the test.
+fn no_fences(alloc: Global, test: &Test) -> Result<Placement, Fault>
+    requires { IsBounded test.now }
+    ensures ok { IfOk result (λ placement. placement ≡ no_fences test.now) }
+    ensures err { IsOkUnless result Memory }
+{
+    let slots = slots(alloc, test)?;
+    Placement::bottom(alloc, &slots)
+}
+
+// The verdict on the test with no fence in any slot.
+fn verdict(alloc: Global, test: &Arc<Test>) -> Result<Verdict, Fault>
+    requires bounded { IsBounded (arc_value test.now) }
+    requires starts { All IsStart (arc_value test.now).starts }
+    ensures ok { IfOk result (IsVerdict (arc_value test.now) (no_fences (arc_value test.now))) }
+    ensures err { IfErr result (λ f. f ≢ Memory → IsCandidateFault (arc_value test.now) f) }
+{
+    let placement = no_fences(alloc, test)?;
+    let problem = Problem::shared(alloc, question(alloc, test)?)?;
+    let mut judge = Judge::new(alloc, problem);
+    judge.verdict(alloc, &placement, &[])
+}
+
+// The verdict in words.
+fn said_of(alloc: Global, verdict: &Verdict) -> Result<Said, Fault>
+    ensures ok { (t : Tests) → IsVerdict t (no_fences t) verdict.now → (IsVacuous t → ⊥)
+        → IfOk result (λ said. Says t said.kind (string_bytes said.text)) }
+    ensures err { IsOkUnless result Memory }
+{
+    match verdict {
+        Verdict::Forbids(forbidden) => Ok(Said {
+            kind: Kind::Forbidden,
+            text: forbidden_text(alloc, count_cycles(&forbidden.cycles))?,
+        }),
+        Verdict::Allowed(witness) => Ok(Said {
+            kind: Kind::Allowed,
+            text: allowed_text(alloc, witness.order.as_slice())?,
+        }),
+    }
+}
+
+// That no execution shows the outcome, as so many cycles show.
+fn forbidden_text(alloc: Global, cycles: usize) -> Result<String, AllocError>
+    ensures { IfOk result (λ text. string_bytes text ≡ codes "forbidden  " ++ counted cycles (codes "cycle")) }
+{
+    let cycles = counted(alloc, cycles, "cycle")?;
+    format!(in alloc; "forbidden  {}", cycles.as_str())
+}
+
+// How many cycles there are.
+fn count_cycles(cycles: &Cycles) -> usize {
+    match cycles {
+        Cycles::Listed(listed) => listed.len(),
+        Cycles::Inferred(inferences) => inferences
+            .iter()
+            .filter(|inference| is_cycle(inference))
+            .count(),
+    }
+}
+
+fn is_cycle(inference: &Inference) -> bool {
+    matches!(inference, Inference::Cycle(_))
+}

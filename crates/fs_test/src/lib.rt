@@ -1,0 +1,16 @@
+//! What the command `test` answers, from the names and bytes of its files to the text that is printed: whether a test, as it is written,
+//! can show its outcome.
+#![tactic(auto)]
+
+mod judged;
+mod never;
+mod ordered;
+mod report;
+mod said;
+mod tested;
+mod vacuous;
+mod words;
+
+pub use report::test_report;
+pub use said::{Kind, Line, Said};
+pub use tested::test_file;

@@ -1,0 +1,169 @@
+//! What is printed of files.
+
+ghost use Rattle.std.specs.Prelude.{◌≡◌, ◌++◌, [], codes, length, max, IfOk, OnOk, IsOkUnless, map, string_bytes};
+ghost use Rattle.std.specs.List.{flat_map};
+ghost use Rattle.fs_kinds.specs.declared.fault.Fault.TheVariants.{Memory};
+ghost use Rattle.fs_model.specs.Printed.{joined};
+ghost use Rattle.fs_test.specs.Report.{width, padded, line_text, is_kind, count_of, count_text, count_piece, pieces, summary, report_text, has, report_status};
+
+use crate::said::{Kind, Line};
+use crate::words::counted;
+use fs_io::{Output, Status};
+use fs_kinds::Fault;
+use std::alloc::{AllocError, Global};
+
+/// The lines of the files, a last line that counts them, and the status: 1 where an outcome is possible; else 2 where a file has a fault;
+/// else 4 where an outcome is vacuous; else 0. The error is `Memory`.
+pub fn test_report(alloc: Global, lines: &[Line]) -> Result<Output, Fault>
+    ensures text { IfOk result (λ output. string_bytes output.text ≡ report_text lines.now) }
+    ensures status { IfOk result (λ output. output.status ≡ report_status lines.now) }
+    ensures err { IsOkUnless result Memory }
+{
+    let mut text = lines_text(alloc, lines)?;
+    let summary = summary(alloc, lines)?;
+    text.push_str(summary.as_str())?;
+    Ok(Output {
+        text,
+        status: status_of(lines),
+    })
+}
+
+// The bytes of the longest name.
+fn width(lines: &[Line]) -> usize
+    ensures { result ≡ width lines.now }
+{
+    lines.iter().fold(0, |most, line| most.max(line.name.len()))
+}
+
+// All lines but the last one.
+fn lines_text(alloc: Global, lines: &[Line]) -> Result<String, AllocError>
+    ensures { IfOk result (λ text. string_bytes text ≡ flat_map (line_text (width lines.now)) lines.now) }
+{
+    let width = width(lines);
+    let mut text = String::new(alloc);
+    for line in lines {
+        write_line(alloc, width, line, &mut text)?;
+    }
+    Ok(text)
+}
+
+// Appends the line of a file, with its name in so many bytes.
+fn write_line(alloc: Global, width: usize, line: &Line, text: &mut String) -> Result<(), AllocError>
+    ensures { OnOk result (string_bytes text.new ≡ string_bytes text.old ++ line_text width line.now) }
+{
+    let blanks = blanks(alloc, width, &line.name)?;
+    writeln!(
+        text,
+        "{}{}  {}",
+        line.name.as_str(),
+        blanks.as_str(),
+        line.said.text.as_str()
+    )
+}
+
+// What stands behind a name that is to take so many bytes.
+fn blanks(alloc: Global, width: usize, name: &String) -> Result<String, AllocError>
+    ensures { IfOk result (λ text. string_bytes name.now ++ string_bytes text ≡ padded width (string_bytes name.now)) }
+{
+    " ".repeat(alloc, width.saturating_sub(name.len()))
+}
+
+fn is_kind(kind: Kind, other: Kind) -> bool
+    ensures { result ≡ is_kind kind other }
+{
+    match kind {
+        Kind::Forbidden => matches!(other, Kind::Forbidden),
+        Kind::Allowed => matches!(other, Kind::Allowed),
+        Kind::Vacuous => matches!(other, Kind::Vacuous),
+        Kind::Faulty => matches!(other, Kind::Faulty),
+    }
+}
+
+// How many of the lines are of the kind.
+fn count_of(kind: Kind, lines: &[Line]) -> usize
+    ensures { result ≡ count_of kind lines.now }
+{
+    lines
+        .iter()
+        .filter(|line| is_kind(kind, line.said.kind))
+        .count()
+}
+
+// That so many are of the kind.
+fn count_text(alloc: Global, kind: Kind, count: usize) -> Result<String, AllocError>
+    ensures { IfOk result (λ text. string_bytes text ≡ count_text kind count) }
+{
+    match kind {
+        Kind::Forbidden => format!(in alloc; "{} forbidden", count),
+        Kind::Allowed => format!(in alloc; "{} allowed", count),
+        Kind::Vacuous => format!(in alloc; "{} vacuous", count),
+        Kind::Faulty => counted(alloc, count, "fault"),
+    }
+}
+
+// Appends how many lines are of the kind, if any are.
+fn push_count(
+    alloc: Global,
+    kind: Kind,
+    lines: &[Line],
+    pieces: &mut Vec<String>,
+) -> Result<(), AllocError>
+    ensures { OnOk result (map string_bytes pieces.new.items
+        ≡ map string_bytes pieces.old.items ++ count_piece lines.now kind) }
+{
+    let count = count_of(kind, lines);
+    if count != 0 {
+        pieces.push(count_text(alloc, kind, count)?)?;
+    }
+    Ok(())
+}
+
+// How many lines are of each kind, of which there are any.
+fn pieces(alloc: Global, lines: &[Line]) -> Result<Vec<String>, AllocError>
+    ensures { IfOk result (λ made. map string_bytes made.items ≡ pieces lines.now) }
+{
+    let mut pieces = Vec::new(alloc);
+    push_count(alloc, Kind::Forbidden, lines, &mut pieces)?;
+    push_count(alloc, Kind::Allowed, lines, &mut pieces)?;
+    push_count(alloc, Kind::Vacuous, lines, &mut pieces)?;
+    push_count(alloc, Kind::Faulty, lines, &mut pieces)?;
+    Ok(pieces)
+}
+
+// The same in one text.
+fn joined_pieces(alloc: Global, lines: &[Line]) -> Result<String, AllocError>
+    ensures { IfOk result (λ text. string_bytes text ≡ joined (codes ", ") (pieces lines.now)) }
+{
+    let pieces = pieces(alloc, lines)?;
+    pieces.join(alloc, ", ")
+}
+
+// The last line.
+fn summary(alloc: Global, lines: &[Line]) -> Result<String, AllocError>
+    ensures { IfOk result (λ text. string_bytes text ≡ summary lines.now) }
+{
+    let tests = counted(alloc, lines.len(), "test")?;
+    let pieces = joined_pieces(alloc, lines)?;
+    format!(in alloc; "{}: {}\n", tests.as_str(), pieces.as_str())
+}
+
+// Is some line of the kind?
+fn has(kind: Kind, lines: &[Line]) -> bool
+    ensures { result ≡ has kind lines.now }
+{
+    lines.iter().any(|line| is_kind(kind, line.said.kind))
+}
+
+fn status_of(lines: &[Line]) -> Status
+    ensures { result ≡ report_status lines.now }
+{
+    if has(Kind::Allowed, lines) {
+        Status::Denied
+    } else if has(Kind::Faulty, lines) {
+        Status::Failure
+    } else if has(Kind::Vacuous, lines) {
+        Status::Vacuous
+    } else {
+        Status::Success
+    }
+}

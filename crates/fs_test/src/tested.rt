@@ -1,0 +1,59 @@
+//! From a file to what is said of it.
+
+ghost use Rattle.std.specs.Prelude.{◌≡◌, IfOk, IfErr, IsOkUnless, string_bytes};
+ghost use Rattle.fs_kinds.specs.declared.fault.Fault.TheVariants.{Memory};
+ghost use Rattle.fs_model.specs.Test.{IsTest};
+ghost use Rattle.fs_test.specs.Verdicts.{IsTested, IsFirstTestFault, SaysOfBytes, SaysOfFile};
+
+use crate::judged::judge;
+use crate::said::{Line, Said, faulty};
+use fs_kinds::Fault;
+use fs_litmus::read_test;
+use std::alloc::Global;
+
+/// What is said of the file of this name: whether its test, as it is written and with no fence placed, can show its outcome, and why; or
+/// the first fault. The file is its bytes as they were read, or the fault of reading it.
+///
+/// The first fault of a file in this order: those of a test file by number and then line; `TooManyTraces` and `Astray`;
+/// `TooManyCandidates`, which doesn't come where the test is vacuous. The error is `Memory`. The cost is that of `read_test`, of
+/// `Basis::new` and for each hart `Basis::reason_against` of fs_refute, and of `Problem::new` and `Judge::verdict` of fs_judge.
+pub fn test_file(alloc: Global, name: &str, file: Result<Vec<u8>, Fault>) -> Result<Line, Fault>
+    ensures name { IfOk result (λ line. string_bytes line.name ≡ name.now) }
+    ensures said { IfOk result (λ line. SaysOfFile file line.said.kind (string_bytes line.said.text)) }
+    ensures err { IsOkUnless result Memory }
+{
+    let said = said_of(alloc, file)?;
+    let name = String::from_str(alloc, name)?;
+    Ok(Line { name, said })
+}
+
+// The same without its name.
+fn said_of(alloc: Global, file: Result<Vec<u8>, Fault>) -> Result<Said, Fault>
+    ensures ok { IfOk result (λ said. SaysOfFile file said.kind (string_bytes said.text)) }
+    ensures err { IsOkUnless result Memory }
+{
+    match file {
+        Ok(bytes) => test_bytes(alloc, &bytes),
+        Err(fault) => faulty(alloc, fault),
+    }
+}
+
+// The same of the bytes of a file.
+fn test_bytes(alloc: Global, bytes: &[u8]) -> Result<Said, Fault>
+    ensures ok { IfOk result (λ said. SaysOfBytes bytes.now said.kind (string_bytes said.text)) }
+    ensures err { IsOkUnless result Memory }
+{
+    match judge_bytes(alloc, bytes) {
+        Ok(said) => Ok(said),
+        Err(fault) => faulty(alloc, fault),
+    }
+}
+
+// What is said of the test that the bytes are, or the first fault.
+fn judge_bytes(alloc: Global, bytes: &[u8]) -> Result<Said, Fault>
+    ensures ok { IfOk result (λ said. IsTested bytes.now said.kind (string_bytes said.text)) }
+    ensures fault { IfErr result (IsFirstTestFault bytes.now) }
+{
+    let test = read_test(alloc, bytes)?;
+    judge(alloc, test)
+}
