@@ -51,10 +51,11 @@ impl Failure {
     }
 }
 
-/// Does what the process's command line asks for, and answers the exit status: 0 where it was done or the answer is yes, fenced or
-/// forbidden, 1 where it is no, none or allowed, 2 for a fault or a bad command line, 3 where memory ran out, 4 where tests are vacuous
-/// and nothing is worse. A fault or a bad command line prints on standard error, and nothing on standard output unless it was standard
-/// output that failed; but a fault of a file of `test` stands in its line.
+/// Does what the process's command line asks for, and answers the exit status: 0 where it was done or the answer is
+/// yes, fenced or forbidden, 1 where it is no, none or allowed, 2 for a fault or a bad command line, 3 where memory
+/// ran out, 4 where tests are vacuous and nothing is worse. A fault or a bad command line prints on standard error,
+/// and nothing on standard output unless it was standard output that failed; but a fault of a file of `test` stands
+/// in its line.
 pub fn run<R: Env + Files + Input + Print + Eprint + AllocGlobal + Threads + Wait + Sync>(
     rt: &R,
 ) -> ExitCode {

@@ -24,8 +24,9 @@ use Rattle.fs_test.specs.Words.{counted, overtaking, order_words, never_in_outco
 abbrev pub IsForbidden : Test → Type 0
 IsForbidden t = Allows t (no_fences t) → ⊥
 
--- Nothing of the memory model is needed to see it: of some hart each run, of all its runs, is such that the condition can't get its truth
--- value, whichever runs the other harts have and whichever of their stores are the last.
+-- Nothing of the memory model is needed to see it: of some hart each run, of all its runs, is such that the
+-- condition can't get its truth value, whichever runs the other harts have and whichever of their stores are the
+-- last.
 abbrev pub IsVacuous : Test → Type 0
 IsVacuous t = (hart : ℕ) × IsRefuted t [] (Filter hart ∷ [])
 
@@ -70,8 +71,8 @@ pub record IsTested (test : List ℕ) (said : Kind) (text : List ℕ) : Type 0 w
   pub listed : HasNoRunFault the_test
   pub says : Says the_test said text
 
--- the first fault: of the test, else of its runs, else, where it isn't vacuous, of its candidates; want of memory may come in place of any
--- answer
+-- the first fault: of the test, else of its runs, else, where it isn't vacuous, of its candidates; want of memory
+-- may come in place of any answer
 pub data IsFirstTestFault (test : List ℕ) : Fault → Type 0 where
   of_test : {fault : Fault} → IsTestFault test fault → IsFirstTestFault test fault
   of_runs : {fault : Fault} (t : Test) → Reads test t → IsRunFault t fault → IsFirstTestFault test fault
@@ -89,7 +90,8 @@ pub record NamesFault (fault : Fault) (said : Kind) (text : List ℕ) : Type 0 w
 
 -- the test that the bytes are, or the first fault
 abbrev pub SaysOfBytes : List ℕ → Kind → List ℕ → Type 0
-SaysOfBytes test said text = IsTested test said text ⊎ ((fault : Fault) × IsFirstTestFault test fault × NamesFault fault said text)
+SaysOfBytes test said text =
+    IsTested test said text ⊎ ((fault : Fault) × IsFirstTestFault test fault × NamesFault fault said text)
 
 -- of the bytes that were read, or of the fault of reading them
 module _ {A : Type 0} where

@@ -24,13 +24,14 @@ counted n word = decimal n ++ codes " " ++ word ++ (if n == 1 then [] else codes
 
 -- the least position before the name's in its code whose operation is among these
 abbrev pub overtaken : Name → List Name → Option ℕ
-overtaken name later = find (λ at. list_any (same_name (record { hart = name.hart; at = at })) later) (numbers_below name.at)
+overtaken name later =
+    find (λ at. list_any (same_name (record { hart = name.hart; at = at })) later) (numbers_below name.at)
 
 abbrev pub pair_at : Name → ℕ → Name × Name
 pair_at name at = (name, record { hart = name.hart; at = at })
 
--- The first operation of an order that stands before one which is earlier in its hart's code, and the earliest such one. Branches go
--- forward, so what is earlier in the code is earlier in program order.
+-- The first operation of an order that stands before one which is earlier in its hart's code, and the earliest such
+-- one. Branches go forward, so what is earlier in the code is earlier in program order.
 abbrev pub overtaking : List Name → Option (Name × Name)
 overtaking [] = None
 overtaking (name ∷ later) = option_or (option_map (pair_at name) (overtaken name later)) (overtaking later)
@@ -60,8 +61,8 @@ module _ (t : Test) (runs : ℕ → List (List Step)) where
   abbrev pub can_have : (location word : ℕ) → Bool
   can_have location word = is_same (slice_get (initial_words t) location) (Some word) || is_stored location word
 
-  -- The first atom in the order of the text that is to be true, where the condition is to have this truth value, and that nothing makes
-  -- true.
+  -- The first atom in the order of the text that is to be true, where the condition is to have this truth value, and
+  -- that nothing makes true.
   abbrev pub first_never : Condition → Bool → Option Condition
   first_never (RegisterIs hart reg word) v =
       if v && not (ends_as hart reg word) then Some (RegisterIs hart reg word) else None
@@ -81,5 +82,6 @@ abbrev pub never_words : Test → Option Condition → List ℕ
 never_words t (Some (LocationIs location word)) =
     codes "nothing stores " ++ (value_text t.locations word ++ (codes " to " ++ name_of t.locations location))
 never_words t (Some (RegisterIs hart reg word)) =
-    codes "x" ++ (decimal reg ++ (codes " of P" ++ (decimal hart ++ (codes " never ends as " ++ value_text t.locations word))))
+    codes "x"
+    ++ (decimal reg ++ (codes " of P" ++ (decimal hart ++ (codes " never ends as " ++ value_text t.locations word))))
 never_words t _ = codes "no runs end so"

@@ -1,5 +1,5 @@
-//! What the command `test` answers, from the names and bytes of its files to the text that is printed: whether a test, as it is written,
-//! can show its outcome.
+//! What the command `test` answers, from the names and bytes of its files to the text that is printed: whether a
+//! test, as it is written, can show its outcome.
 #![tactic(auto)]
 
 mod judged;

@@ -106,8 +106,8 @@ fn ends_as(basis: &Basis, listed: &[List<Lone>], hart: u8, register: Reg, word: 
     some_ends(runs_of(listed, hart), register, word)
 }
 
-// The first atom that is to be true, where the condition is to have this truth value, and that nothing makes true. Its depth is bounded by
-// that of the test's condition.
+// The first atom that is to be true, where the condition is to have this truth value, and that nothing makes true.
+// Its depth is bounded by that of the test's condition.
 fn first_never<'a>(
     basis: &Basis,
     listed: &[List<Lone>],
@@ -209,7 +209,8 @@ fn ending_text(
 ) -> Result<String, AllocError>
     requires { length locations.now ≤ most_locations }
     ensures { IfOk result (λ text. string_bytes text ≡ codes "x"
-        ++ (decimal register ++ (codes " of P" ++ (decimal hart ++ (codes " never ends as " ++ value_text locations.now word))))) }
+        ++ (decimal register ++ (codes " of P" ++ (decimal hart
+        ++ (codes " never ends as " ++ value_text locations.now word))))) }
 {
     let value = value_text(alloc, locations, word)?;
     format!(in alloc;

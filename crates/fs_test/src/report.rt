@@ -12,8 +12,8 @@ use fs_io::{Output, Status};
 use fs_kinds::Fault;
 use std::alloc::{AllocError, Global};
 
-/// The lines of the files, a last line that counts them, and the status: 1 where an outcome is possible; else 2 where a file has a fault;
-/// else 4 where an outcome is vacuous; else 0. The error is `Memory`.
+/// The lines of the files, a last line that counts them, and the status: 1 where an outcome is possible; else 2
+/// where a file has a fault; else 4 where an outcome is vacuous; else 0. The error is `Memory`.
 pub fn test_report(alloc: Global, lines: &[Line]) -> Result<Output, Fault>
     ensures text { IfOk result (λ output. string_bytes output.text ≡ report_text lines.now) }
     ensures status { IfOk result (λ output. output.status ≡ report_status lines.now) }

@@ -11,12 +11,13 @@ use fs_kinds::Fault;
 use fs_litmus::read_test;
 use std::alloc::Global;
 
-/// What is said of the file of this name: whether its test, as it is written and with no fence placed, can show its outcome, and why; or
-/// the first fault. The file is its bytes as they were read, or the fault of reading it.
+/// What is said of the file of this name: whether its test, as it is written and with no fence placed, can show its
+/// outcome, and why; or the first fault. The file is its bytes as they were read, or the fault of reading it.
 ///
-/// The first fault of a file in this order: those of a test file by number and then line; `TooManyTraces` and `Astray`;
-/// `TooManyCandidates`, which doesn't come where the test is vacuous. The error is `Memory`. The cost is that of `read_test`, of
-/// `Basis::new` and for each hart `Basis::reason_against` of fs_refute, and of `Problem::new` and `Judge::verdict` of fs_judge.
+/// The first fault of a file in this order: those of a test file by number and then line; `TooManyTraces` and
+/// `Astray`; `TooManyCandidates`, which doesn't come where the test is vacuous. The error is `Memory`. The cost is
+/// that of `read_test`, of `Basis::new` and for each hart `Basis::reason_against` of fs_refute, and of
+/// `Problem::new` and `Judge::verdict` of fs_judge.
 pub fn test_file(alloc: Global, name: &str, file: Result<Vec<u8>, Fault>) -> Result<Line, Fault>
     ensures name { IfOk result (λ line. string_bytes line.name ≡ name.now) }
     ensures said { IfOk result (λ line. SaysOfFile file line.said.kind (string_bytes line.said.text)) }

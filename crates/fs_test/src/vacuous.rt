@@ -20,8 +20,8 @@ use fs_refute::Basis;
 use std::alloc::{AllocError, Global};
 use std::sync::Arc;
 
-// What is said of the test, where it is vacuous. The fault is that of its runs; or F19. The cost is that of `Basis::new`, and for each
-// hart that of `Basis::reason_against`.
+// What is said of the test, where it is vacuous. The fault is that of its runs; or F19. The cost is that of
+// `Basis::new`, and for each hart that of `Basis::reason_against`.
 pub(crate) fn vacuous(alloc: Global, test: &Arc<Test>) -> Result<Option<Said>, Fault>
     requires bounded { IsBounded (arc_value test.now) }
     requires starts { All IsStart (arc_value test.now).starts }
