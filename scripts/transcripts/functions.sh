@@ -43,8 +43,8 @@ filled() {
     sed 1d examples/MP.litmus
 }
 
-# What `test` says of the test of one hart with these cells and this condition, with its quantifier, without the name of the file. The
-# hart has the addresses of x in x6 and of y in x8, and 1 in x10.
+# What `test` says of the test of one hart with these cells and this condition, with its quantifier, without the name
+# of the file. The hart has the addresses of x in x6 and of y in x8, and 1 in x10.
 said() {
     local -a cells
     IFS=';' read -r -a cells <<<"$1"
