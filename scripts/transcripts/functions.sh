@@ -57,3 +57,20 @@ said() {
 
 # What `test` prints, with N for each number of cycles, which no contract says.
 cycles() { rvfence test "$@" | sed -E 's/[0-9]+ cycles?$/N cycles/'; }
+
+# What `audit` prints for the test of two harts with these cells and this condition, at the prices in $prices or else in
+# examples/prices.json, with further words. Each hart has the addresses of x in x6, of y in x8 and of z in x11, and 1 in x10; the first
+# row is line 6.
+audited() {
+    local -a first second
+    local at init='x6=x; H:x8=y; H:x11=z; H:x10=1;'
+    IFS=';' read -r -a first <<<"$1"
+    IFS=';' read -r -a second <<<"$2"
+    {
+        printf 'RISCV audited\n{\n0:%s\n1:%s }\nP0 | P1 ;\n' "${init//H/0}" "${init//H/1}"
+        for at in 0 1 2 3 4 5; do
+            echo "${first[at]} | ${second[at]} ;"
+        done
+        echo "exists ($3)"
+    } | rvfence audit - "${prices:-examples/prices.json}" "${@:4}"
+}

@@ -4,6 +4,7 @@
 mod program;
 mod whole;
 
+pub use fs_audit::{run_audit, run_mended};
 pub use fs_io::{Output, Status, read_bytes, write_text};
 pub use fs_order::run_order;
 pub use fs_place::run_place;

@@ -4,8 +4,9 @@ ghost use Rattle.std.specs.Prelude.{◌≤◌};
 
 use crate::whole::write_whole;
 use clap::error::ErrorKind;
+use fs_audit::{run_audit, run_mended};
 use fs_command::{
-    Check, MOST_NODES, MOST_WORKERS, Order, Place, Request, Solve, Test, read_request,
+    Audit, Check, MOST_NODES, MOST_WORKERS, Order, Place, Request, Solve, Test, read_request,
 };
 use fs_io::{Output, Status, read_bytes, write_text};
 use fs_kinds::Fault;
@@ -122,6 +123,7 @@ fn answer<R: Files + Input + AllocGlobal + Threads + Wait + Sync>(
         Request::Place(place) => answer_place(rt, place),
         Request::Order(order) => answer_order(rt, order),
         Request::Solve(solve) => answer_solve(rt, solve),
+        Request::Audit(audit) => answer_audit(rt, audit),
         Request::Check(check) => answer_check(rt, check),
     }
 }
@@ -211,6 +213,21 @@ fn certified<R: AllocGlobal + Threads + Wait + Sync>(
         return run_certified_alone(rt.alloc(), test, prices, limit);
     }
     run_certified(rt, rt.alloc(), test, prices, workers, limit, &Open)
+}
+
+fn answer_audit<R: Files + Input + AllocGlobal>(
+    rt: &R,
+    audit: &Audit<'_>,
+) -> Result<Output, Fault> {
+    let test = read_input(rt, audit.test)?;
+    let prices = read_file(rt, audit.prices, INPUT_LIMIT)?;
+    // the command line has no other numbers; here it is said once more for the proof
+    let limit = audit.nodes.clamp(1, MOST_NODES) as usize;
+    if audit.write {
+        run_mended(rt.alloc(), &test, &prices, limit)
+    } else {
+        run_audit(rt.alloc(), &test, &prices, limit)
+    }
 }
 
 fn answer_check<R: Files + Input + AllocGlobal>(

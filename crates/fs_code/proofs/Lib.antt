@@ -4,3 +4,4 @@ pub mod ColumnLemmas
 pub mod LabelLemmas
 pub mod CodeLemmas
 pub mod HartLemmas
+pub mod LineLemmas

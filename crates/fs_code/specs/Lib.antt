@@ -3,3 +3,4 @@ pub mod inner
 pub mod Columns
 pub mod Labels
 pub mod Codes
+pub mod Lines

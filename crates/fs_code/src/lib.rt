@@ -7,8 +7,10 @@ mod codes;
 mod column;
 mod hart;
 mod labels;
+mod lines;
 mod listing;
 mod slices;
 
 pub use codes::read_codes;
 pub use hart::HartCode;
+pub use lines::read_lines;

@@ -1,5 +1,5 @@
 //! The command line: its words, and what each command's help says.
-use clap::{Arg, ArgMatches, Command, Error, value_parser};
+use clap::{Arg, ArgAction, ArgMatches, Command, Error, value_parser};
 use std::alloc::{AllocError, Global};
 
 /// The version of the program, which `--version` prints behind its name.
@@ -118,6 +118,46 @@ Faults beside those of the files: a hart has too many runs (F13), a run accesses
 address of no location (F14), there are too many candidate executions (F15), the search
 needs more nodes (F16).";
 
+const AUDIT_ABOUT: &str = "Which fences of a litmus test are needed, and which are missing?";
+
+const AUDIT_HELP: &str = "\
+Takes the FENCE instructions out of the test, finds the cheapest fences that rule its
+outcome out, and compares. The first line says whether the outcome can happen as the test
+is written, what its FENCEs cost, and what the cheapest fences cost. Then comes a line for
+each FENCE, and for each fence that is missing:
+
+  $ rvfence audit examples/tests/SB-fenced.litmus examples/prices.json
+  forbidden as written, 20; cheapest 18
+  line 11   P0:2   rw,rw      w,r is enough
+  line 11   P1:2   rw,rw      w,r is enough
+
+  needed          it is one of the cheapest fences
+  K is enough     kind K, which orders less, is enough in its place
+  K instead       kind K, some of which it doesn't order, is advised in its place
+  not needed      no fence is needed there, or another FENCE stands for it
+  orders nothing  no access stands before it, or none behind it
+  at no slot      a label or a branch stands between it and the next access
+  not for memory  it orders devices alone, and stays
+  K is missing    a fence of kind K is needed before this instruction
+
+Followed together the lines rule the outcome out at the least cost; one alone may not.
+
+Lines and instructions are those of the file; instructions count from 0, FENCEs too. A
+FENCE belongs to the next access behind it. Where the FENCEs rule the outcome out and cost
+as little as any that do, they are the cheapest; else these are those of `solve` for the
+test without FENCEs, by whose instructions the weights of PRICES go. What the FENCEs cost
+is left out where one has no price or no slot of its own.
+
+With --write the test is printed with the cheapest fences in place of its own.
+
+Exit status:
+  0  each FENCE is needed, and none is missing
+  1  there is something to change, or the outcome can happen as the test is written
+  2  a fault, one line on standard error as `fault F11 NoTop`, or a bad command line
+  3  memory ran out (fault F19)
+  4  the outcome is vacuous, as `test` says it
+Faults are those of `test` and of `solve`.";
+
 const CHECK_ABOUT: &str = "Does this certificate show that an answer is right?";
 
 const CHECK_HELP: &str = "\
@@ -177,6 +217,8 @@ const CERT_HELP: &str = "File to write a certificate of the answer to, which `ch
 
 const WORKERS_HELP: &str = "Threads to search with, 1 to 16";
 
+const WRITE_HELP: &str = "Print the test with the cheapest fences in place of its own";
+
 const NODES_HELP: &str = "Most nodes that the search may make, 1 to 1000000";
 
 /// The most threads that may search.
@@ -195,6 +237,7 @@ pub enum Request<'a> {
     Place(Place<'a>),
     Order(Order<'a>),
     Solve(Solve<'a>),
+    Audit(Audit<'a>),
     Check(Check<'a>),
 }
 
@@ -233,6 +276,17 @@ pub struct Solve<'a> {
     pub certificate: Option<&'a str>,
 }
 
+/// What `audit` was asked for.
+#[derive(Drop)]
+pub struct Audit<'a> {
+    pub test: &'a str,
+    pub prices: &'a str,
+    /// Whether the mended test is to be printed.
+    pub write: bool,
+    /// How many nodes the search may make: from 1 to 1,000,000.
+    pub nodes: u32,
+}
+
 /// What `check` was asked for.
 #[derive(Drop)]
 pub struct Check<'a> {
@@ -257,6 +311,9 @@ fn request_of<'a>(alloc: Global, matches: &ArgMatches<'a>) -> Result<Request<'a>
     }
     if let Some(found) = matches.subcommand_matches("solve") {
         return Ok(Request::Solve(solve_of(found)));
+    }
+    if let Some(found) = matches.subcommand_matches("audit") {
+        return Ok(Request::Audit(audit_of(found)));
     }
     if let Some(found) = matches.subcommand_matches("check") {
         return Ok(Request::Check(check_of(found)));
@@ -297,6 +354,15 @@ fn solve_of<'a>(found: &ArgMatches<'a>) -> Solve<'a> {
     }
 }
 
+fn audit_of<'a>(found: &ArgMatches<'a>) -> Audit<'a> {
+    Audit {
+        test: found.get_str("FILE").unwrap_or(""),
+        prices: found.get_str("PRICES").unwrap_or(""),
+        write: found.get_flag("write"),
+        nodes: found.get_one::<u32>("nodes").unwrap_or(MOST_NODES),
+    }
+}
+
 fn check_of<'a>(found: &ArgMatches<'a>) -> Check<'a> {
     Check {
         test: found.get_str("FILE").unwrap_or(""),
@@ -326,6 +392,7 @@ fn whole_command<'a>(alloc: Global) -> Result<Command<'a>, AllocError> {
         .subcommand_required(true);
     let program = with_command(Ok(program), test_command(alloc));
     let program = with_command(program, solve_command(alloc));
+    let program = with_command(program, audit_command(alloc));
     let program = with_command(program, place_command(alloc));
     let program = with_command(program, order_command(alloc));
     with_command(program, check_command(alloc))
@@ -383,6 +450,16 @@ fn solve_command<'a>(alloc: Global) -> Result<Command<'a>, AllocError> {
     with_argument(command, option(alloc, "cert", "PATH", CERT_HELP))
 }
 
+fn audit_command<'a>(alloc: Global) -> Result<Command<'a>, AllocError> {
+    let command = Command::new(alloc, "audit")
+        .about(AUDIT_ABOUT)
+        .after_help(AUDIT_HELP);
+    let command = with_argument(Ok(command), required(alloc, "FILE", FILE_HELP));
+    let command = with_argument(command, required(alloc, "PRICES", PRICES_HELP));
+    let command = with_argument(command, flag(alloc, "write", WRITE_HELP));
+    with_argument(command, nodes(alloc, NODES_HELP))
+}
+
 fn check_command<'a>(alloc: Global) -> Result<Command<'a>, AllocError> {
     let command = Command::new(alloc, "check")
         .about(CHECK_ABOUT)
@@ -403,6 +480,14 @@ fn option<'a>(alloc: Global, name: &'a str, value: &'a str, help: &'a str) -> Ar
         .long(name)
         .value_name(value)
         .help(help)
+}
+
+/// A word after `--` by itself.
+fn flag<'a>(alloc: Global, name: &'a str, help: &'a str) -> Arg<'a> {
+    Arg::new(alloc, name)
+        .help(help)
+        .long(name)
+        .action(ArgAction::SetTrue)
 }
 
 /// One word or more.

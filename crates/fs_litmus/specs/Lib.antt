@@ -4,6 +4,7 @@ pub mod Settings
 pub mod Atoms
 pub mod Starts
 pub mod Reads
+pub mod Lines
 pub mod Rising
 pub mod Faults
 pub mod Checks

@@ -5,6 +5,7 @@ mod atoms;
 mod declared;
 mod entries;
 mod limits;
+mod lines;
 mod meaning;
 mod names;
 mod reader;
@@ -16,4 +17,5 @@ pub use fs_model::{
     Code, Codes, Location, Locations, Name, Outcome, Quantifier, Registers, Starts, Test,
     read_fences, slots, write_fenced,
 };
+pub use lines::read_lines;
 pub use reader::read_test;

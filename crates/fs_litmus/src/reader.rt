@@ -21,7 +21,7 @@ use fs_tokens::{Stop, Token, tokens};
 use std::alloc::Global;
 
 // The fault where the tokens stop being of the form: in the line of the first that can't stand there, or in the last line.
-fn stopped(stop: Stop, last: usize) -> Fault
+pub(crate) fn stopped(stop: Stop, last: usize) -> Fault
     ensures { result ≡ fault_of stop.entry last }
 {
     match stop {
@@ -34,7 +34,7 @@ fn stopped(stop: Stop, last: usize) -> Fault
 }
 
 // The sections and the condition that the tokens are, all of them.
-fn read_sections<'b, 'a>(
+pub(crate) fn read_sections<'b, 'a>(
     alloc: Global,
     tokens: &'b [Token<'a>],
 ) -> Result<(Form<'b, 'a>, Condition<'a>), Stop<'b, 'a>>

@@ -8,7 +8,7 @@ use Rattle.fs_kinds.specs.PriceTable.{PriceTable, price_of, is_offered, are_offe
 use Rattle.fs_kinds.specs.Slot.{is_same_slot}
 use Rattle.fs_model.specs.Placed.{fits, placed, IsPlaced}
 
-slots_of-all_with : (slots : List Slot) → slots_of (all_with None slots) ≡ slots
+pub slots_of-all_with : (slots : List Slot) → slots_of (all_with None slots) ≡ slots
 slots_of-all_with [] = refl
 slots_of-all_with (s ∷ slots) = ap (λ ss. s ∷ ss) (slots_of-all_with slots)
 
@@ -19,7 +19,7 @@ slot-entry_with s kind e = at (is_same_slot e.slot s)
     at true = refl
     at false = refl
 
-slots_of-with_kind : (s : Slot) (kind : Option Kind) (p : List Entry) → slots_of (with_kind s kind p) ≡ slots_of p
+pub slots_of-with_kind : (s : Slot) (kind : Option Kind) (p : List Entry) → slots_of (with_kind s kind p) ≡ slots_of p
 slots_of-with_kind s kind [] = refl
 slots_of-with_kind s kind (e ∷ p) = rw (slot-entry_with s kind e, slots_of-with_kind s kind p)
 
@@ -34,7 +34,7 @@ unfolding count
 if_some true o x e = (refl, e)
 if_some false o x e = let n : 0 ≡ 1 = ap count e in absurd (omega (arith, n))
 
-and_left : (a b : Bool) → a && b ≡ true → a ≡ true
+pub and_left : (a b : Bool) → a && b ≡ true → a ≡ true
 and_left true b e = refl
 and_left false b e = e
 
@@ -49,7 +49,7 @@ pub slots_of-IsPlaced : (prices : Option PriceTable) (slots : List Slot) (words 
     → IsPlaced prices slots words (Some p) → slots_of p ≡ slots
 slots_of-IsPlaced prices slots words p h = slots_of-placed prices (all_with None slots) h.0 p h.2 ∙ slots_of-all_with slots
 
-offered-all_with : (t : PriceTable) (slots : List Slot) → are_offered t (all_with None slots) ≡ true
+pub offered-all_with : (t : PriceTable) (slots : List Slot) → are_offered t (all_with None slots) ≡ true
 offered-all_with t [] = refl
 offered-all_with t (s ∷ slots) = offered-all_with t slots
 
@@ -68,7 +68,7 @@ offered-entry_with t s kind e new old = at (is_same_slot e.slot s)
     at true = new
     at false = old
 
-offered-with_kind : (t : PriceTable) (s : Slot) (kind : Kind) (p : List Entry) → is_some (price_of t kind) ≡ true → are_offered t p ≡ true
+pub offered-with_kind : (t : PriceTable) (s : Slot) (kind : Kind) (p : List Entry) → is_some (price_of t kind) ≡ true → are_offered t p ≡ true
     → are_offered t (with_kind s (Some kind) p) ≡ true
 offered-with_kind t s kind [] new old = refl
 offered-with_kind t s kind (e ∷ p) new old =

@@ -14,6 +14,7 @@ mod Accepted
 mod Agrees
 mod LineEnds
 mod Meaning
+mod Mending
 mod OneAnswer
 mod Placing
 mod ReadLines

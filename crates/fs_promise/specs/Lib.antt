@@ -1,4 +1,5 @@
 pub mod Agreement
+pub mod Audits
 pub mod Checked
 pub mod Headline
 pub mod Lines

@@ -61,6 +61,15 @@ Says t kind.Faulty text = ⊥
 abbrev pub HasNoRunFault : Test → Type 0
 HasNoRunFault t = (f : Fault) → IsRunFault t f → ⊥
 
+-- its runs can be listed, and this is said of it
+pub record IsTestedAs (t : Test) (said : Kind) (text : List ℕ) : Type 0 where
+  pub listed : HasNoRunFault t
+  pub says : Says t said text
+
+-- the fault of a test: of its runs, or else, where it isn't vacuous, of its candidates
+abbrev pub IsFaultOf : Test → Fault → Type 0
+IsFaultOf t f = IsRunFault t f ⊎ ((IsVacuous t → ⊥) × IsCandidateFault t f)
+
 -- ---- of the bytes of a file
 
 -- they read as a test, of which this is said

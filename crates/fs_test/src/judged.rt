@@ -8,9 +8,8 @@ ghost use Rattle.fs_model.specs.Allows.{no_fences};
 ghost use Rattle.fs_model.specs.Test.{IsBounded, IsStart, IsTest};
 ghost use Rattle.fs_answer.specs.CandidateFaults.{IsCandidateFault};
 ghost use Rattle.fs_judge.specs.Verdicts.{IsVerdict};
-ghost use Rattle.fs_test.specs.Verdicts.{Says, IsVacuous};
+ghost use Rattle.fs_test.specs.Verdicts.{Says, IsFaultOf, IsTestedAs, IsVacuous};
 ghost use Rattle.fs_test.specs.Words.{counted};
-ghost use Rattle.fs_test.specs.inner.Parts.{IsTestedAs, IsFaultOf};
 
 use crate::ordered::allowed_text;
 use crate::said::{Kind, Said};
@@ -33,7 +32,7 @@ pub(crate) fn judge(alloc: Global, test: Test) -> Result<Said, Fault>
     ensures err { IfErr result (λ f. f ≢ Memory → IsFaultOf test f) }
 {
     let test = shared(alloc, test)?;
-    judge_shared(alloc, &test)
+    judge_test(alloc, &test)
 }
 
 // The test, to be shared.
@@ -43,8 +42,12 @@ fn shared(alloc: Global, test: Test) -> Result<Arc<Test>, AllocError>
     Ok(Arc::new(alloc, test)?)
 }
 
-// The same of a test that is shared.
-fn judge_shared(alloc: Global, test: &Arc<Test>) -> Result<Said, Fault>
+/// What is said of a test as it is written, with no fence placed: whether it can show its outcome, and why.
+///
+/// The first fault in this order: `TooManyTraces` and `Astray`; `TooManyCandidates`, which doesn't come where the test is vacuous. `Memory`
+/// may come in place of any answer. The cost is that of `Basis::new` and for each hart `Basis::reason_against` of fs_refute, and of
+/// `Problem::new` and `Judge::verdict` of fs_judge.
+pub fn judge_test(alloc: Global, test: &Arc<Test>) -> Result<Said, Fault>
     requires bounded { IsBounded (arc_value test.now) }
     requires starts { All IsStart (arc_value test.now).starts }
     ensures ok { IfOk result (λ said. IsTestedAs (arc_value test.now) said.kind (string_bytes said.text)) }

@@ -11,6 +11,7 @@ mod tested;
 mod vacuous;
 mod words;
 
-pub use report::test_report;
+pub use judged::judge_test;
+pub use report::{padded, test_report};
 pub use said::{Kind, Line, Said};
 pub use tested::test_file;

@@ -51,21 +51,18 @@ fn lines_text(alloc: Global, lines: &[Line]) -> Result<String, AllocError>
 fn write_line(alloc: Global, width: usize, line: &Line, text: &mut String) -> Result<(), AllocError>
     ensures { OnOk result (string_bytes text.new ≡ string_bytes text.old ++ line_text width line.now) }
 {
-    let blanks = blanks(alloc, width, &line.name)?;
-    writeln!(
-        text,
-        "{}{}  {}",
-        line.name.as_str(),
-        blanks.as_str(),
-        line.said.text.as_str()
-    )
+    let name = padded(alloc, width, line.name.as_str())?;
+    writeln!(text, "{}  {}", name.as_str(), line.said.text.as_str())
 }
 
-// What stands behind a name that is to take so many bytes.
-fn blanks(alloc: Global, width: usize, name: &String) -> Result<String, AllocError>
-    ensures { IfOk result (λ text. string_bytes name.now ++ string_bytes text ≡ padded width (string_bytes name.now)) }
+/// The text with blanks behind it up to this many bytes; a longer text as it is.
+pub fn padded(alloc: Global, width: usize, text: &str) -> Result<String, AllocError>
+    ensures { IfOk result (λ padding. string_bytes padding ≡ padded width text.now) }
 {
-    " ".repeat(alloc, width.saturating_sub(name.len()))
+    let mut padding = String::from_str(alloc, text)?;
+    let blanks = " ".repeat(alloc, width.saturating_sub(text.len()))?;
+    padding.push_str(blanks.as_str())?;
+    Ok(padding)
 }
 
 fn is_kind(kind: Kind, other: Kind) -> bool

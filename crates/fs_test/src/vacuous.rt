@@ -8,8 +8,7 @@ ghost use Rattle.fs_model.specs.TooMany.{IsRunFault};
 ghost use Rattle.fs_answer.specs.Certificate.{Filter};
 ghost use Rattle.fs_answer.specs.Trees.{IsRefuted};
 ghost use Rattle.fs_evidence.specs.Inferences.{inference_of};
-ghost use Rattle.fs_test.specs.Verdicts.{HasNoRunFault, IsVacuous, SaysVacuous};
-ghost use Rattle.fs_test.specs.inner.Parts.{IsTestedAs};
+ghost use Rattle.fs_test.specs.Verdicts.{HasNoRunFault, IsTestedAs, IsVacuous, SaysVacuous};
 
 use crate::never::vacuous_text;
 use crate::said::{Kind, Said};

@@ -4,9 +4,8 @@ use Rattle.std.specs.Arc.{arc_value}
 use Rattle.std.proofs.lemmas.Result.{IfOk-weaker, IfErr-weaker}
 use Rattle.fs_place.proofs.Faults.{IfErr-handed}
 use Rattle.fs_test.specs.declared.said.Said.{Said}
-use Rattle.fs_test.specs.Verdicts.{IsVacuous}
-use Rattle.fs_test.specs.inner.Parts.{IsTestedAs}
-use Rattle.fs_test.proofs.judged.judge_shared.Goals as goal
+use Rattle.fs_test.specs.Verdicts.{IsTestedAs, IsVacuous}
+use Rattle.fs_test.proofs.judged.judge_test.Goals as goal
 
 pub returns-in_err-said-clause-err : goal.returns-in_err-said-clause-err
 returns-in_err-said-clause-err c =

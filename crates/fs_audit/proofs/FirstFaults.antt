@@ -1,0 +1,36 @@
+-- Which fault is answered first.
+use Rattle.std.proofs.Common.{◌≡◌, ◌≢◌, inl, inr, ℕ, List, sym, subst}
+use Rattle.fs_kinds.specs.declared.fault.Fault.{Fault}
+use Rattle.fs_kinds.specs.declared.fault.Fault.TheVariants.{Memory}
+use Rattle.fs_kinds.specs.PriceTable.{PriceTable}
+use Rattle.std.specs.Prelude.{Some}
+use Rattle.fs_model.specs.declared.test.Test.{Test}
+use Rattle.fs_model.specs.Test.{IsSame}
+use Rattle.fs_history.specs.Sizes.{IsUnanswered}
+use Rattle.fs_litmus.specs.Reads.{Reads}
+use Rattle.fs_litmus.specs.Faults.{IsTestFault}
+use Rattle.fs_place.specs.Place.{ArePricesOf, IsPricesFault}
+use Rattle.fs_place.proofs.Faults.{is_memory}
+use Rattle.fs_test.specs.Verdicts.{IsFaultOf}
+use Rattle.fs_audit.specs.Unfenced.{unfenced}
+use Rattle.fs_audit.specs.Audit.{IsFirstAuditFault, of_prices, of_test, of_written, of_search, of_memory}
+
+module _ (test prices : List ℕ) (limit : ℕ) where
+  pub audit-memory : (f : Fault) → f ≡ Memory → IsFirstAuditFault test prices limit f
+  audit-memory f e = subst (IsFirstAuditFault test prices limit) (sym e) of_memory
+
+  pub audit-prices : (f : Fault) → (f ≢ Memory → IsPricesFault (Some prices) f) → IsFirstAuditFault test prices limit f
+  audit-prices f h = elim (is_memory f) [ inl e ↦ audit-memory f e | inr n ↦ of_prices (h n) ]
+
+  module _ (table : PriceTable) (priced : ArePricesOf prices table) where
+    pub audit-test : (f : Fault) → (f ≢ Memory → IsTestFault test f) → IsFirstAuditFault test prices limit f
+    audit-test f h = elim (is_memory f) [ inl e ↦ audit-memory f e | inr n ↦ of_test table priced (h n) ]
+
+    module _ (t : Test) (reads : Reads test t) where
+      pub audit-written : (f : Fault) → (f ≢ Memory → IsFaultOf t f) → IsFirstAuditFault test prices limit f
+      audit-written f h = elim (is_memory f) [ inl e ↦ audit-memory f e | inr n ↦ of_written table t priced reads (h n) ]
+
+      pub audit-search : (bare : Test) → IsSame bare (unfenced t) → (f : Fault) → (f ≢ Memory → IsUnanswered bare table limit f)
+          → IsFirstAuditFault test prices limit f
+      audit-search bare same f h =
+          elim (is_memory f) [ inl e ↦ audit-memory f e | inr n ↦ of_search table t bare priced reads same (h n) ]

@@ -1,0 +1,4 @@
+pub mod Bare
+pub mod Chosen
+pub mod Taken
+pub mod FirstFaults

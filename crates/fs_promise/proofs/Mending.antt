@@ -1,0 +1,59 @@
+-- The fences that `audit` advises rule the outcome out.
+use Rattle.std.proofs.Common.{◌≡◌, ◌⊎◌, ◌≤◌, ℕ, List, [], Option, None, Some, inl, inr, length, refl, subst, sym}
+use Rattle.fs_kinds.specs.declared.placement.Entry.{Entry}
+use Rattle.fs_io.specs.declared.status.Status.{Status}
+use Rattle.fs_model.specs.declared.test.Test.{Test}
+use Rattle.fs_model.specs.Allows.{Allows}
+use Rattle.fs_model.specs.Condition.{Condition, SpeaksOf, nesting}
+use Rattle.fs_model.specs.Fenced.{fenced}
+use Rattle.fs_model.specs.Printed.{printed}
+use Rattle.fs_model.specs.Test.{IsBounded, IsSame, IsTest}
+use Rattle.fs_litmus.specs.Reads.{Reads}
+use Rattle.fs_litmus.proofs.ReadsTest.{is_test}
+use Rattle.fs_audit.specs.Audit.{AreFound, Findings, IsBestAnswer, IsMended, fenced_text}
+use Rattle.fs_audit.specs.Unfenced.{unfenced}
+use Rattle.fs_audit.proofs.Bare.{test_unfenced}
+use Rattle.fs_promise.specs.Audits.{IsMendedTest, IsNothingOrMended}
+use Rattle.fs_promise.proofs.Kept.{Keeps, carried}
+use Rattle.fs_promise.proofs.Meaning.{ruled_out}
+
+-- whether it is a test doesn't depend on where the parts of its condition lie
+bounded : Keeps IsBounded
+bounded u v e h = record {
+  starts = h.starts;
+  forward = h.forward;
+  atoms = subst (λ (c : Condition). SpeaksOf (length u.codes) (length u.locations) c) (sym e) h.atoms;
+  harts = h.harts;
+  lengths = h.lengths;
+  accesses = h.accesses;
+  locations = h.locations;
+  depth = subst (λ (c : Condition). nesting c ≤ 64) (sym e) h.depth;
+}
+
+tested : Keeps IsTest
+tested u v e h = record {
+  utf8 = h.utf8;
+  bounded = bounded u v e h.bounded;
+  title = h.title;
+  some_hart = h.some_hart;
+  registers = h.registers;
+  instructions = h.instructions;
+  named = h.named;
+  distinct = h.distinct;
+  words = h.words;
+}
+
+bare_is_test : (t bare : Test) → IsTest t → IsSame bare (unfenced t) → IsTest bare
+bare_is_test t bare h same = (carried IsTest tested bare (unfenced t) same).1 (test_unfenced t h)
+
+best_is_mended : (bare : Test) (prices : _) (best : Option (List Entry)) → IsTest bare → IsBestAnswer bare prices best
+    → IsNothingOrMended (fenced_text bare best)
+best_is_mended bare prices None h is = inl refl
+best_is_mended bare prices (Some p) h is = inr (λ u reads possible. ruled_out bare h p is.forbids u (inr reads) possible)
+
+pub mended : (test prices text : List ℕ) (status : Status) → IsMended test prices text status → IsNothingOrMended text
+mended test prices text status is =
+    let f = is.findings in
+    let own = is_test test f.test is.found.reads in
+    subst IsNothingOrMended (sym is.shown)
+    (best_is_mended f.bare f.prices f.best (bare_is_test f.test f.bare own is.found.bare) is.found.best)
