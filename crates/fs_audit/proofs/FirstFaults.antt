@@ -1,5 +1,5 @@
 -- Which fault is answered first.
-use Rattle.std.proofs.Common.{◌≡◌, ◌≢◌, inl, inr, ℕ, List, sym, subst}
+use Rattle.std.proofs.Common.{◌≡◌, ◌≢◌, inl, inr, ℕ, List, Result, Ok, Err, IfErr, IsOkUnless, sym, subst}
 use Rattle.fs_kinds.specs.declared.fault.Fault.{Fault}
 use Rattle.fs_kinds.specs.declared.fault.Fault.TheVariants.{Memory}
 use Rattle.fs_kinds.specs.PriceTable.{PriceTable}
@@ -8,12 +8,25 @@ use Rattle.fs_model.specs.declared.test.Test.{Test}
 use Rattle.fs_model.specs.Test.{IsSame}
 use Rattle.fs_history.specs.Sizes.{IsUnanswered}
 use Rattle.fs_litmus.specs.Reads.{Reads}
-use Rattle.fs_litmus.specs.Faults.{IsTestFault}
+use Rattle.fs_litmus.specs.Faults.{IsBroken, IsTestFault}
+use Rattle.fs_litmus.proofs.FrontFaults.{unbroken}
 use Rattle.fs_place.specs.Place.{ArePricesOf, IsPricesFault}
 use Rattle.fs_place.proofs.Faults.{is_memory}
 use Rattle.fs_test.specs.Verdicts.{IsFaultOf}
 use Rattle.fs_audit.specs.Unfenced.{unfenced}
-use Rattle.fs_audit.specs.Audit.{IsFirstAuditFault, of_prices, of_test, of_written, of_search, of_memory}
+use Rattle.fs_audit.specs.Audit.{IsTested, IsFirstAuditFault, of_prices, of_test, of_written, of_search, of_memory}
+
+-- bytes that read as a test are of the form
+of-form : (bytes : List ℕ) (t : Test) (f : Fault) → Reads bytes t → (f ≢ Memory → (line : ℕ) × IsBroken bytes line) → f ≡ Memory
+of-form bytes t f reads broken = elim (is_memory f) [
+  | inl e ↦ e
+  | inr n ↦ (let there = broken n in absurd (unbroken bytes reads.form reads.syntax_of there.0 reads.has_form there.1))
+]
+
+pub memory-only : {T : Type 0} (bytes : List ℕ) (t : Test) (r : Result T Fault) → Reads bytes t
+    → IfErr r (λ f. f ≢ Memory → (line : ℕ) × IsBroken bytes line) → IsOkUnless r Memory
+memory-only bytes t (Ok x) reads broken = tt
+memory-only bytes t (Err f) reads broken = of-form bytes t f reads broken
 
 module _ (test prices : List ℕ) (limit : ℕ) where
   pub audit-memory : (f : Fault) → f ≡ Memory → IsFirstAuditFault test prices limit f
@@ -30,7 +43,7 @@ module _ (test prices : List ℕ) (limit : ℕ) where
       pub audit-written : (f : Fault) → (f ≢ Memory → IsFaultOf t f) → IsFirstAuditFault test prices limit f
       audit-written f h = elim (is_memory f) [ inl e ↦ audit-memory f e | inr n ↦ of_written table t priced reads (h n) ]
 
-      pub audit-search : (bare : Test) → IsSame bare (unfenced t) → (f : Fault) → (f ≢ Memory → IsUnanswered bare table limit f)
+      pub audit-search : (bare : Test) → IsTested t → IsSame bare (unfenced t) → (f : Fault) → (f ≢ Memory → IsUnanswered bare table limit f)
           → IsFirstAuditFault test prices limit f
-      audit-search bare same f h =
-          elim (is_memory f) [ inl e ↦ audit-memory f e | inr n ↦ of_search table t bare priced reads same (h n) ]
+      audit-search bare tested same f h =
+          elim (is_memory f) [ inl e ↦ audit-memory f e | inr n ↦ of_search table t bare priced reads tested same (h n) ]

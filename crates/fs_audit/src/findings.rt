@@ -300,15 +300,13 @@ fn read_shared(alloc: Global, bytes: &[u8]) -> Result<Arc<Test>, Fault>
     Ok(Arc::new(alloc, test)?)
 }
 
-// The lines of the instructions. The bytes are a test, so nothing but memory can be wanting.
+// The lines of the instructions of a test.
 fn lines_of(alloc: Global, bytes: &[u8]) -> Result<Vec<List<usize>>, Fault>
+    requires { (t : Tests) × Reads bytes.now t }
     ensures ok { IfOk result (λ lines. StandIn bytes.now lines.items) }
     ensures err { IsOkUnless result Fault.Memory }
 {
-    match read_lines(alloc, bytes) {
-        Ok(lines) => Ok(lines),
-        Err(_) => Err(Fault::Memory),
-    }
+    read_lines(alloc, bytes)
 }
 
 // The test of the bytes without its FENCEs.

@@ -19,7 +19,7 @@ use Rattle.fs_model.specs.declared.test.Test.{Test}
 use Rattle.fs_kinds.specs.FaultOrder.{IsFirst}
 use Rattle.fs_litmus.specs.Title.{after_line, last_line, HasTitle, IsBody}
 use Rattle.fs_litmus.specs.Reads.{HasTokens, HasForm}
-use Rattle.fs_litmus.specs.Faults.{IsText, line_at, token, comment, IsFormFault, HasFault}
+use Rattle.fs_litmus.specs.Faults.{IsText, IsBroken, line_at, token, comment, IsFormFault, HasFault}
 use Rattle.fs_litmus.specs.inner.Sections.{AreSections, IsTextStop, fault_of}
 use Rattle.fs_litmus.proofs.FrontFaults.{tokens_once, first_broken, first_meaning, no_fault}
 
@@ -72,6 +72,19 @@ pub open_first : (bytes name : List ℕ) (ts : List Lined) (f : Form) (c : condi
 open_first bytes name ts f c u t h s =
     let whole : IsText ts s.syntax_of = (f, s.rest, s.is_form, s.is_condition) in
     first_broken bytes name (last_line bytes) u t (comment h ([], s.syntax_of, subst (λ l. IsText l s.syntax_of) (sym (append-nil ts)) whole))
+
+-- ---- a text that isn't of the form
+
+pub stop_broken : (bytes : List ℕ) (ts : List Lined) (closed : Bool) (e : Stop) (f : Fault) → HasTokens bytes ts closed → IsTextStop ts e
+    → f ≡ fault_of e (last_line bytes) → f ≢ fault.Memory → (line : ℕ) × IsBroken bytes line
+stop_broken bytes ts closed Memory f h s e n = no_memory ((line : ℕ) × IsBroken bytes line) f e n
+stop_broken bytes ts closed (At rest) f h s e n = (line_at (views rest.now) (last_line bytes), token h s)
+
+pub open_broken : (bytes : List ℕ) (ts : List Lined) (f : Form) (c : conditions.Condition) → HasTokens bytes ts false → AreSections ts f c
+    → (line : ℕ) × IsBroken bytes line
+open_broken bytes ts f c h s =
+    let whole : IsText ts s.syntax_of = (f, s.rest, s.is_form, s.is_condition) in
+    (last_line bytes, comment h ([], s.syntax_of, subst (λ l. IsText l s.syntax_of) (sym (append-nil ts)) whole))
 
 -- ---- a text that has been read
 

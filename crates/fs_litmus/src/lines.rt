@@ -1,6 +1,7 @@
 //! The lines in which the instructions of a test file stand.
 
-ghost use Rattle.std.specs.Prelude.{◌≡◌, IfOk};
+ghost use Rattle.std.specs.Prelude.{◌≢◌, ℕ, IfOk, IfErr};
+ghost use Rattle.fs_litmus.specs.Faults.{IsBroken};
 ghost use Rattle.fs_litmus.specs.Lines.{StandIn};
 
 use crate::reader::{read_sections, stopped};
@@ -11,9 +12,10 @@ use fs_tokens::tokens;
 use std::alloc::Global;
 
 /// The lines in which the instructions of each hart stand, of a file that `read_test` reads: of each the line of its mnemonic, the first
-/// line being line 1. An error where the bytes aren't of the form; or F19. Linear in the bytes.
+/// line being line 1. F3 where the bytes aren't of the form; or F19. Linear in the bytes.
 pub fn read_lines(alloc: Global, bytes: &[u8]) -> Result<Vec<List<usize>>, Fault>
-    ensures { IfOk result (λ lines. StandIn bytes.now lines.items) }
+    ensures ok { IfOk result (λ lines. StandIn bytes.now lines.items) }
+    ensures err { IfErr result (λ f. f ≢ Fault.Memory → (line : ℕ) × IsBroken bytes.now line) }
 {
     let last = last_line(bytes);
     let Some(Body { text, line }) = skip_title(bytes) else {
