@@ -1,5 +1,5 @@
 -- What a placement keeps while FENCEs are taken up.
-use Rattle.std.proofs.Common.{◌≡◌, ◌&&◌, List, [], ◌∷◌, Bool, true, false, Option, None, Some, is_some, refl, ◌∙◌, if◌then◌else◌}
+use Rattle.std.proofs.Common.{◌≡◌, ◌&&◌, ◌<◌, ◌≤◌, ◌+◌, ℕ, zero, suc, List, [], ◌∷◌, length, drop, get_or, Bool, true, false, Option, None, Some, is_some, refl, ap, sym, arith, ◌∙◌, if◌then◌else◌}
 use Rattle.fs_kinds.specs.declared.kind.Kind.{Kind}
 use Rattle.fs_kinds.specs.declared.slot.Slot.{Slot}
 use Rattle.fs_kinds.specs.declared.placement.Entry.{Entry}
@@ -7,7 +7,7 @@ use Rattle.fs_kinds.specs.Placement.{slots_of, with_kind}
 use Rattle.fs_kinds.specs.PriceTable.{PriceTable, price_of, are_offered}
 use Rattle.fs_model.specs.Placed.{fits}
 use Rattle.fs_place.proofs.Placements.{and_left, offered-with_kind, slots_of-with_kind}
-use Rattle.fs_audit.specs.Audit.{with_one, taken_up}
+use Rattle.fs_audit.specs.Audit.{fits_one, with_one, taken_up, all_fit}
 
 module _ (prices : PriceTable) where
   slots-put : (p : List Entry) (fence : Slot × Kind) (b : Bool)
@@ -37,3 +37,59 @@ module _ (prices : PriceTable) where
       → are_offered prices (taken_up prices p fences) ≡ true
   offered-taken p [] h = h
   offered-taken p (fence ∷ fences) h = offered-taken (with_one prices p fence) fences (offered-one p fence h)
+
+-- ---- one more
+
+drop_at : {A : Type 0} (xs : List A) (i : ℕ) (x : A) → i < length xs → x ≡ get_or xs i x → drop i xs ≡ x ∷ drop (i + 1) xs
+drop_at [] i x low at = absurd (omega (arith, low))
+drop_at (y ∷ ys) zero x low at = ap (λ z. z ∷ ys) (sym at)
+drop_at (y ∷ ys) (suc i) x low at = drop_at ys i x (omega (arith, low)) at
+
+module _ (prices : PriceTable) (p : List Entry) (fences : List (Option (Slot × Kind))) (i : ℕ) (fence : Option (Slot × Kind))
+    (low : i < length fences) (at : fence ≡ get_or fences i fence) where
+  pub fit-next : all_fit prices p (drop i fences) ≡ fits_one prices p fence && all_fit prices (with_one prices p fence) (drop (i + 1) fences)
+  fit-next = ap (all_fit prices p) (drop_at fences i fence low at)
+
+  pub taken-next : taken_up prices p (drop i fences) ≡ taken_up prices (with_one prices p fence) (drop (i + 1) fences)
+  taken-next = ap (taken_up prices p) (drop_at fences i fence low at)
+
+and_assoc : (a b c : Bool) → a && (b && c) ≡ (a && b) && c
+and_assoc true b c = refl
+and_assoc false b c = refl
+
+-- a loop that takes up one more
+pub fit-more : (prices : PriceTable) (p q : List Entry) (fences : List (Option (Slot × Kind))) (i : ℕ) (fence : Option (Slot × Kind))
+    (whole was fits is : Bool) → i < length fences → fence ≡ get_or fences i fence → whole ≡ was && all_fit prices p (drop i fences)
+    → fits ≡ fits_one prices p fence → q ≡ with_one prices p fence → is ≡ was && fits
+    → whole ≡ is && all_fit prices q (drop (i + 1) fences)
+fit-more prices p q fences i fence whole was fits is low at before own next both =
+    before
+    ∙ ap (λ b. was && b) (fit-next prices p fences i fence low at)
+    ∙ and_assoc was (fits_one prices p fence) (all_fit prices (with_one prices p fence) (drop (i + 1) fences))
+    ∙ ap (λ b. (was && b) && all_fit prices (with_one prices p fence) (drop (i + 1) fences)) (sym own)
+    ∙ ap (λ r. (was && fits) && all_fit prices r (drop (i + 1) fences)) (sym next)
+    ∙ ap (λ b. b && all_fit prices q (drop (i + 1) fences)) (sym both)
+
+pub taken-more : (prices : PriceTable) (p q : List Entry) (fences : List (Option (Slot × Kind))) (i : ℕ) (fence : Option (Slot × Kind))
+    (whole : List Entry) → i < length fences → fence ≡ get_or fences i fence → whole ≡ taken_up prices p (drop i fences)
+    → q ≡ with_one prices p fence → whole ≡ taken_up prices q (drop (i + 1) fences)
+taken-more prices p q fences i fence whole low at before next =
+    before ∙ taken-next prices p fences i fence low at ∙ ap (λ r. taken_up prices r (drop (i + 1) fences)) (sym next)
+
+end_of : {A : Type 0} (xs : List A) (i : ℕ) → length xs ≤ i → drop i xs ≡ []
+end_of [] zero high = refl
+end_of [] (suc i) high = refl
+end_of (x ∷ xs) zero high = absurd (omega (arith, high))
+end_of (x ∷ xs) (suc i) high = end_of xs i (omega (arith, high))
+
+and_true : (b : Bool) → b && true ≡ b
+and_true true = refl
+and_true false = refl
+
+pub fit-end : (prices : PriceTable) (p : List Entry) (fences : List (Option (Slot × Kind))) (i : ℕ) (b : Bool) → length fences ≤ i
+    → b && all_fit prices p (drop i fences) ≡ b
+fit-end prices p fences i b high = ap (λ fs. b && all_fit prices p fs) (end_of fences i high) ∙ and_true b
+
+pub taken-end : (prices : PriceTable) (p : List Entry) (fences : List (Option (Slot × Kind))) (i : ℕ) → length fences ≤ i
+    → taken_up prices p (drop i fences) ≡ p
+taken-end prices p fences i high = ap (taken_up prices p) (end_of fences i high)
