@@ -28,12 +28,7 @@ use std::alloc::{AllocError, Global};
 /// The first fault in this order: `BadPrices` and `NoTop`; those of a test file by number and then line; those of `judge_test` of
 /// fs_test; those of a search for the cheapest fences with this limit of nodes. `Memory` may come in place of any answer. The cost is that
 /// of reading the test three times, of judging it twice, of the search, and of each hart the fourth power of its code's length.
-pub fn run_audit(
-    alloc: Global,
-    test: &[u8],
-    prices: &[u8],
-    limit: usize,
-) -> Result<Output, Fault>
+pub fn run_audit(alloc: Global, test: &[u8], prices: &[u8], limit: usize) -> Result<Output, Fault>
     requires least { 1 ≤ limit }
     requires most { limit ≤ 1000000 }
     ensures answer { IfOk result (λ output.
@@ -50,12 +45,7 @@ pub fn run_audit(
 
 /// The test with the fences that `run_audit` advises in place of its own, in the printed form of herd7's format; nothing is printed where no
 /// fences rule the outcome out. The status and the faults are those of `run_audit`.
-pub fn run_mended(
-    alloc: Global,
-    test: &[u8],
-    prices: &[u8],
-    limit: usize,
-) -> Result<Output, Fault>
+pub fn run_mended(alloc: Global, test: &[u8], prices: &[u8], limit: usize) -> Result<Output, Fault>
     requires least { 1 ≤ limit }
     requires most { limit ≤ 1000000 }
     ensures answer { IfOk result (λ output.
@@ -115,5 +105,9 @@ fn status_of(found: &Findings) -> Status
     requires { IsSound found.now }
     ensures { result ≡ audit_status found.now.kind (findings_of found.now).test.codes found.now.best }
 {
-    audit_status(found.kind, found.written.codes.as_slice(), found.best.as_ref())
+    audit_status(
+        found.kind,
+        found.written.codes.as_slice(),
+        found.best.as_ref(),
+    )
 }

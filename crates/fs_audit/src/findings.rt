@@ -120,11 +120,7 @@ fn written_fences(
 }
 
 // Puts the fence at its slot where it fits: where there is such a slot, with no fence yet, and the kind has a price.
-fn take_up(
-    prices: &Prices,
-    fence: Option<(Slot, FenceKind)>,
-    placement: &mut Placement,
-) -> bool
+fn take_up(prices: &Prices, fence: Option<(Slot, FenceKind)>, placement: &mut Placement) -> bool
     ensures fits { result ≡ fits_one prices.now placement.old fence }
     ensures taken { placement.new ≡ with_one prices.now placement.old fence }
 {

@@ -19,7 +19,9 @@ use std::alloc::{AllocError, Global};
 
 /// The bytes that the line's number takes with its word, and the names of instructions, and the letters of FENCEs.
 const LINE_WIDTH: usize = 8;
+
 const PLACE_WIDTH: usize = 5;
+
 const FENCE_WIDTH: usize = 9;
 
 // The letters of a FENCE, such as `rw,w` or `tso`.
@@ -109,7 +111,13 @@ fn line_text(
     let place = place_cell(alloc, place)?;
     let fence = fence_cell(alloc, instr)?;
     let advice = advice_text(alloc, instr, advice)?;
-    format!(in alloc; "{}  {}  {}  {}\n", line.as_str(), place.as_str(), fence.as_str(), advice.as_str())
+    format!(in alloc;
+        "{}  {}  {}  {}\n",
+        line.as_str(),
+        place.as_str(),
+        fence.as_str(),
+        advice.as_str()
+    )
 }
 
 fn lines_of_hart(lines: &[List<usize>], hart: usize) -> &[usize]
@@ -197,7 +205,11 @@ fn kind_text(kind: Kind) -> &'static str
 }
 
 // What the FENCEs cost, where that is known.
-fn cost_text(alloc: Global, prices: &Prices, fences: Option<&Placement>) -> Result<String, AllocError>
+fn cost_text(
+    alloc: Global,
+    prices: &Prices,
+    fences: Option<&Placement>,
+) -> Result<String, AllocError>
     requires { IfSome (option_copied fences.entry) (λ p. IsTrue (are_offered prices.now p)) }
     ensures { IfOk result (λ text. string_bytes text ≡ cost_text prices.now (option_copied fences.entry)) }
 {
@@ -232,7 +244,12 @@ pub(crate) fn first_line(
 {
     let cost = cost_text(alloc, prices, fences)?;
     let best = best_text(alloc, prices, best)?;
-    format!(in alloc; "{} as written{}; {}\n", kind_text(kind), cost.as_str(), best.as_str())
+    format!(in alloc;
+        "{} as written{}; {}\n",
+        kind_text(kind),
+        cost.as_str(),
+        best.as_str()
+    )
 }
 
 /// The lines below the first one.

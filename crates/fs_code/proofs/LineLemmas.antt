@@ -67,4 +67,7 @@ lines_more columns n cells lines line h is = record {
 }
 
 pub all_lines : (columns n : ℕ) (cells : List (List Lined)) (lines : List (List ℕ)) → n ≡ columns → AreFirstLines columns n cells lines → AreLines columns cells lines
-all_lines columns n cells lines same h = subst (λ m. AreLines m cells lines) same (record { count = h.count; each = h.each })
+all_lines columns n cells lines same h = record {
+  count = h.count ∙ same;
+  each = λ number items low are. h.each number items (omega (arith, low, same)) are;
+}

@@ -6,4 +6,4 @@ use Rattle.fs_code.proofs.lines.hart_lines.Goals as goal
 pub returns : goal.returns
 returns c = λ items are.
     let cells = column c.args.columns 0 (cells_of c.args.cells.now) in
-    c.new.ensures ∙ c.in_ok-lines_of.ensures ∙ lines_if cells _ items _ c.in_ok-read_column.ensures are
+    c.new.ensures ∙ c.in_ok-lines_of.ensures ∙ lines_if cells _ items _ c.in_ok-listing.ensures are

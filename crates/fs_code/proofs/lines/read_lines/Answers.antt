@@ -7,7 +7,7 @@ use Rattle.fs_code.proofs.LineLemmas.{AreFirstLines, no_lines, lines_more, all_l
 use Rattle.fs_code.proofs.lines.read_lines.Goals as goal
 
 pub loop-hart-init : goal.loop-hart-init
-loop-hart-init c = subst (AreFirstLines c.args.columns 0 (cells_of c.args.cells.now)) (sym c.new.ensures) (no_lines c.args.columns (cells_of c.args.cells.now))
+loop-hart-init c = subst (AreFirstLines c.args.columns 0 (cells_of c.args.cells.now)) (sym c.new-lines.ensures.items) (no_lines c.args.columns (cells_of c.args.cells.now))
 
 pub loop-hart-preserved : goal.loop-hart-preserved
 loop-hart-preserved c =

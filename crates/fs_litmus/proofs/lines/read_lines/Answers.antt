@@ -1,5 +1,6 @@
 use Rattle.std.proofs.Common.{sym, subst, refl, ap, ◌∙◌}
 use Rattle.fs_tokens.specs.Tokens.{views}
+use Rattle.fs_form.specs.Body.{cells_of}
 use Rattle.fs_form.specs.Form.{form_of}
 use Rattle.fs_code.specs.Lines.{AreLines}
 use Rattle.fs_litmus.specs.Faults.{no_block}
@@ -34,5 +35,6 @@ returns-clause-ok c =
       form = form_of sections.0;
       syntax_of = c.in-Ok.ensures.ok.syntax_of;
       has_form = has_form bytes (views c.deref.result.now) (form_of sections.0) sections.1 whole c.in-Ok.ensures.ok;
-      are_lines = subst (λ cells. AreLines sections.0.columns cells _) c.in-Ok.ensures.whole c.in_ok-read_lines.ensures;
+      are_lines = subst (λ cells. AreLines sections.0.columns cells c.in_ok-read_lines.field-0.items)
+          (ap cells_of c.deref-2.ensures.value ∙ c.in-Ok.ensures.whole) c.in_ok-read_lines.ensures;
     }
