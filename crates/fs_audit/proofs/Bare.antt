@@ -25,7 +25,7 @@ kept_cons : (x : Instr) (xs : List Instr) → kept (x ∷ xs) ≡ bit x + kept x
 kept_cons x xs = sum_by-cons bit x xs
 
 kept_split : (code : List Instr) (a b : ℕ) → kept (take (a + b) code) ≡ kept (take a code) + kept (take b (drop a code))
-kept_split code zero b = let same : 0 + b ≡ b = omega arith in ap (λ n. kept (take n code)) same
+kept_split code zero b = let same : 0 + b ≡ b = omega arith in let whole = ap (λ n. kept (take n code)) same in omega (arith, whole)
 kept_split [] (suc a) b = refl
 kept_split (x ∷ code) (suc a) b =
     let same : suc a + b ≡ suc (a + b) = omega arith in
@@ -52,11 +52,14 @@ next_position code n x xs rest =
     let one = one_kept x xs in
     omega (arith, split, here, one)
 
+drop_suc : {A : Type 0} (code : List A) (n : ℕ) (x : A) (xs : List A) → drop n code ≡ x ∷ xs → drop (suc n) code ≡ xs
+drop_suc [] zero x xs e = absurd (cc)
+drop_suc [] (suc n) x xs e = absurd (cc)
+drop_suc (y ∷ ys) zero x xs e = cc
+drop_suc (y ∷ ys) (suc n) x xs e = drop_suc ys n x xs e
+
 drop_next : {A : Type 0} (code : List A) (n : ℕ) (x : A) (xs : List A) → drop n code ≡ x ∷ xs → drop (n + 1) code ≡ xs
-drop_next [] zero x xs e = absurd (cc)
-drop_next [] (suc n) x xs e = absurd (cc)
-drop_next (y ∷ ys) zero x xs e = cc
-drop_next (y ∷ ys) (suc n) x xs e = drop_next ys n x xs e
+drop_next code n x xs e = let same : suc n ≡ n + 1 = omega arith in subst (λ m. drop m code ≡ xs) same (drop_suc code n x xs e)
 
 -- ---- branches
 
@@ -189,7 +192,7 @@ module _ (code : List Instr) where
   one_access x xs ys true here same =
       let was = sum_by-cons access_bit x xs in
       let is = sum_by-cons access_bit (moved code x) (map (moved code) ys) in
-      let one = ap (λ b. cond b 1 0) (moved_memory x) in
+      let one : cond (is_memory (moved code x)) 1 0 ≡ access_bit x = ap (λ b. cond {A = ℕ} b 1 0) (moved_memory x) in
       omega (arith, was, is, one, same)
   one_access x xs ys false here same =
       let was = sum_by-cons access_bit x xs in
@@ -270,7 +273,7 @@ module _ (code : List Instr) where
       → All IsOfTable (map (moved code) (cond b (x ∷ []) [] ++ ys))
   one_more_of_table x ys true here rest zero d low = here
   one_more_of_table x ys true here rest (suc k) d low = rest k d (omega (arith, low))
-  one_more_of_table x ys false here rest = rest
+  one_more_of_table x ys false here rest k d low = rest k d low
 
   none_of_table : All IsOfTable []
   none_of_table k d low = absurd (omega (arith, low))

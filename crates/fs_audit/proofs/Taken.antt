@@ -1,5 +1,5 @@
 -- What a placement keeps while FENCEs are taken up.
-use Rattle.std.proofs.Common.{◌≡◌, ◌&&◌, ◌<◌, ◌≤◌, ◌+◌, ℕ, zero, suc, List, [], ◌∷◌, length, drop, get_or, Bool, true, false, Option, None, Some, is_some, refl, ap, sym, arith, ◌∙◌, if◌then◌else◌}
+use Rattle.std.proofs.Common.{◌≡◌, ◌&&◌, ◌<◌, ◌≤◌, ◌+◌, ℕ, zero, suc, List, [], ◌∷◌, length, drop, get_or, Bool, true, false, Option, None, Some, is_some, refl, ap, sym, subst, arith, ◌∙◌, if◌then◌else◌}
 use Rattle.fs_kinds.specs.declared.kind.Kind.{Kind}
 use Rattle.fs_kinds.specs.declared.slot.Slot.{Slot}
 use Rattle.fs_kinds.specs.declared.placement.Entry.{Entry}
@@ -40,10 +40,13 @@ module _ (prices : PriceTable) where
 
 -- ---- one more
 
+drop_here : {A : Type 0} (xs : List A) (i : ℕ) (x : A) → i < length xs → x ≡ get_or xs i x → drop i xs ≡ x ∷ drop (suc i) xs
+drop_here [] i x low at = absurd (omega (arith, low))
+drop_here (y ∷ ys) zero x low at = ap (λ z. z ∷ ys) (sym at)
+drop_here (y ∷ ys) (suc i) x low at = drop_here ys i x (omega (arith, low)) at
+
 drop_at : {A : Type 0} (xs : List A) (i : ℕ) (x : A) → i < length xs → x ≡ get_or xs i x → drop i xs ≡ x ∷ drop (i + 1) xs
-drop_at [] i x low at = absurd (omega (arith, low))
-drop_at (y ∷ ys) zero x low at = ap (λ z. z ∷ ys) (sym at)
-drop_at (y ∷ ys) (suc i) x low at = drop_at ys i x (omega (arith, low)) at
+drop_at xs i x low at = let same : suc i ≡ i + 1 = omega arith in subst (λ m. drop i xs ≡ x ∷ drop m xs) same (drop_here xs i x low at)
 
 module _ (prices : PriceTable) (p : List Entry) (fences : List (Option (Slot × Kind))) (i : ℕ) (fence : Option (Slot × Kind))
     (low : i < length fences) (at : fence ≡ get_or fences i fence) where

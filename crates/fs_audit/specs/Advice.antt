@@ -53,8 +53,8 @@ advice_at p hart code at (Some access) =
     if has_slot (slot_of hart code access) p then advice_for code at access (kind_at (slot_of hart code access) p) else off_slot code at
 
 -- of instruction `at`
-abbrev pub advice : List Entry → (hart : ℕ) → List Instr → (at : ℕ) → Option Advice
-advice p hart code at =
+abbrev pub advice_of : List Entry → (hart : ℕ) → List Instr → (at : ℕ) → Option Advice
+advice_of p hart code at =
     if is_fence_at code at then Some (advice_at p hart code at (access_after code at))
     else if is_memory_at code at then missing code at (kind_at (slot_of hart code at) p)
     else if is_at is_device_fence code at then Some Devices else None
@@ -73,7 +73,7 @@ is_content (Some a) = changes_nothing a
 
 -- each FENCE of the hart is needed, and none is missing
 abbrev pub is_right_code : List Entry → (hart : ℕ) → List Instr → Bool
-is_right_code p hart code = list_all (λ at. is_content (advice p hart code at)) (numbers_below (length code))
+is_right_code p hart code = list_all (λ at. is_content (advice_of p hart code at)) (numbers_below (length code))
 
 abbrev pub is_right : List (List Instr) → List Entry → Bool
 is_right codes p = list_all (λ hart. is_right_code p hart (slice_index_or codes hart [])) (numbers_below (length codes))

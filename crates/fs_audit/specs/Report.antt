@@ -1,5 +1,5 @@
 -- What `audit` prints, and its exit status.
-use Rattle.std.specs.Prelude.{ℕ, List, [], ◌∷◌, ◌++◌, codes, Bool, ◌||◌, Option, None, Some, length, slice_get, if◌then◌else◌}
+use Rattle.std.specs.Prelude.{ℕ, List, [], ◌∷◌, ◌++◌, codes, Bool, false, ◌||◌, Option, None, Some, length, slice_get, if◌then◌else◌}
 use Rattle.std.specs.Fmt.{decimal}
 use Rattle.std.specs.List.{flat_map, enumerate_from, slice_index_or}
 use Rattle.fs_instr.specs.FenceLetters.{letters_text}
@@ -16,7 +16,7 @@ use Rattle.fs_io.specs.declared.status.Status.TheVariants as status
 use Rattle.fs_test.specs.declared.said.Kind.{Kind}
 use Rattle.fs_test.specs.declared.said.Kind.TheVariants as kind
 use Rattle.fs_test.specs.Report.{padded}
-use Rattle.fs_audit.specs.Advice.{advice, is_right}
+use Rattle.fs_audit.specs.Advice.{advice_of, is_right}
 use Rattle.fs_audit.specs.declared.advice.Advice.{Advice}
 use Rattle.fs_audit.specs.declared.advice.Advice.TheVariants.{Needed, Enough, Instead, NotNeeded, NoSlot, Idle, Devices, Missing}
 
@@ -64,7 +64,7 @@ advised line hart at i (Some a) = line_text line hart at i a
 -- what is said of instruction `at`, mostly nothing
 abbrev pub instruction_text : List (List ℕ) → List Entry → (hart : ℕ) → List Instr → ℕ × Instr → List ℕ
 instruction_text lines p hart code numbered =
-    advised (line_of lines hart numbered.0) hart numbered.0 numbered.1 (advice p hart code numbered.0)
+    advised (line_of lines hart numbered.0) hart numbered.0 numbered.1 (advice_of p hart code numbered.0)
 
 abbrev pub code_text : List (List ℕ) → List Entry → ℕ × List Instr → List ℕ
 code_text lines p numbered = flat_map (instruction_text lines p numbered.0 numbered.1) (enumerate_from 0 numbered.1)
@@ -102,7 +102,7 @@ below lines codes (Some p) = lines_text lines codes p
 
 -- the code is as it is advised
 abbrev pub is_as_advised : List (List Instr) → Option (List Entry) → Bool
-is_as_advised codes None = Bool.false
+is_as_advised codes None = false
 is_as_advised codes (Some p) = is_right codes p
 
 -- 4 where the outcome is vacuous; else 1 where it is possible, or there is something to change; else 0

@@ -5,7 +5,7 @@ ghost use Rattle.std.specs.List.{slice_index_or};
 ghost use Rattle.fs_kinds.specs.Limits.{most_harts, most_instructions};
 ghost use Rattle.fs_kinds.specs.Placement.{has_slot};
 ghost use Rattle.fs_audit.specs.Standing.{is_at};
-ghost use Rattle.fs_audit.specs.Advice.{graded, kind_there, advice_for, missing, is_device_fence, slot_of, off_slot, advice_at, advice, changes_nothing, is_content, is_right_code, is_right};
+ghost use Rattle.fs_audit.specs.Advice.{graded, kind_there, advice_for, missing, is_device_fence, slot_of, off_slot, advice_at, advice_of, changes_nothing, is_content, is_right_code, is_right};
 
 use crate::standing::{
     access_after, answering, covers, is_between_accesses, is_fence_at, is_memory_at, is_of,
@@ -151,9 +151,9 @@ fn advice_at(
 }
 
 // What is advised of instruction `at`, mostly nothing. The cube of the code's length at most.
-pub(crate) fn advice(placement: &Placement, hart: u8, code: &[Instr], at: usize) -> Option<Advice>
+pub(crate) fn advice_of(placement: &Placement, hart: u8, code: &[Instr], at: usize) -> Option<Advice>
     requires { length code.now ≤ most_instructions }
-    ensures { result ≡ advice placement.now hart code.now at }
+    ensures { result ≡ advice_of placement.now hart code.now at }
 {
     if is_fence_at(code, at) {
         let access = access_after(code, at);
@@ -187,7 +187,7 @@ fn is_right_code(placement: &Placement, hart: u8, code: &[Instr]) -> bool
     requires { length code.now ≤ most_instructions }
     ensures { result ≡ is_right_code placement.now hart code.now }
 {
-    (0..code.len()).all(|at| is_content(advice(placement, hart, code, at)))
+    (0..code.len()).all(|at| is_content(advice_of(placement, hart, code, at)))
 }
 
 // The code of the hart.

@@ -75,15 +75,15 @@ fn push_fence(
     hart: u8,
     code: &[Instr],
     at: usize,
-    instr: Instr,
+    instr: &Instr,
     fences: &mut Vec<Option<(Slot, FenceKind)>>,
 ) -> Result<(), AllocError>
     requires { length code.now ≤ most_instructions }
-    ensures { OnOk result (fences.new.items ≡ fences.old.items ++ written_fence hart code.now (at, instr)) }
+    ensures { OnOk result (fences.new.items ≡ fences.old.items ++ written_fence hart code.now (at, instr.now)) }
 {
-    if is_fence(instr) {
+    if is_fence(*instr) {
         let access = access_after(code, at);
-        fences.push(fence_there(hart, code, access, memory_kind(instr)))?;
+        fences.push(fence_there(hart, code, access, memory_kind(*instr)))?;
     }
     Ok(())
 }
@@ -98,7 +98,7 @@ fn push_fences(
     ensures { OnOk result (fences.new.items ≡ fences.old.items ++ code_fences (hart, code.now)) }
 {
     for (at, instr) in code.iter().enumerate() {
-        push_fence(hart, code, at, *instr, fences)?;
+        push_fence(hart, code, at, instr, fences)?;
     }
     Ok(())
 }

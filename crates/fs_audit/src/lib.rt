@@ -6,6 +6,7 @@ mod advice;
 mod audit;
 mod findings;
 mod report;
+mod slices;
 mod standing;
 mod unfenced;
 

@@ -8,7 +8,7 @@ ghost use Rattle.fs_kinds.specs.Slot.{place_name};
 ghost use Rattle.fs_test.specs.Report.{padded};
 ghost use Rattle.fs_audit.specs.Report.{fence_letters, names_devices, about, advice_text, line_text, line_of, advised, code_text, lines_text, kind_text, cost_text, best_text, first_line, below, is_as_advised, audit_status};
 
-use crate::advice::{Advice, advice, is_right};
+use crate::advice::{Advice, advice_of, is_right};
 use fs_instr::Instr;
 use fs_io::Status;
 use fs_kinds::{OperationName, Placement, Prices};
@@ -102,15 +102,15 @@ fn line_text(
     alloc: Global,
     line: usize,
     place: OperationName,
-    instr: Instr,
+    instr: &Instr,
     advice: Advice,
 ) -> Result<String, AllocError>
-    ensures { IfOk result (λ text. string_bytes text ≡ line_text line place.hart place.at instr advice) }
+    ensures { IfOk result (λ text. string_bytes text ≡ line_text line place.hart place.at instr.now advice) }
 {
     let line = line_cell(alloc, line)?;
     let place = place_cell(alloc, place)?;
-    let fence = fence_cell(alloc, instr)?;
-    let advice = advice_text(alloc, instr, advice)?;
+    let fence = fence_cell(alloc, *instr)?;
+    let advice = advice_text(alloc, *instr, advice)?;
     format!(in alloc;
         "{}  {}  {}  {}\n",
         line.as_str(),
@@ -141,10 +141,10 @@ fn advised(
     alloc: Global,
     line: usize,
     place: OperationName,
-    instr: Instr,
+    instr: &Instr,
     advice: Option<Advice>,
 ) -> Result<String, AllocError>
-    ensures { IfOk result (λ text. string_bytes text ≡ advised line place.hart place.at instr advice) }
+    ensures { IfOk result (λ text. string_bytes text ≡ advised line place.hart place.at instr.now advice) }
 {
     match advice {
         Some(advice) => line_text(alloc, line, place, instr, advice),
@@ -167,8 +167,8 @@ fn code_text(
     for (at, instr) in code.iter().enumerate() {
         let line = line_of(lines, usize::from(hart), at);
         let place = OperationName { hart, at: at as u8 };
-        let advice = advice(placement, hart, code, at);
-        let said = advised(alloc, line, place, *instr, advice)?;
+        let advice = advice_of(placement, hart, code, at);
+        let said = advised(alloc, line, place, instr, advice)?;
         text.push_str(said.as_str())?;
     }
     Ok(text)
@@ -210,7 +210,7 @@ fn cost_text(
     prices: &Prices,
     fences: Option<&Placement>,
 ) -> Result<String, AllocError>
-    requires { IfSome (option_copied fences.entry) (λ p. IsTrue (are_offered prices.now p)) }
+    requires { IfSome (option_copied fences) (λ p. IsTrue (are_offered prices.now p)) }
     ensures { IfOk result (λ text. string_bytes text ≡ cost_text prices.now (option_copied fences.entry)) }
 {
     match fences {
@@ -220,7 +220,7 @@ fn cost_text(
 }
 
 fn best_text(alloc: Global, prices: &Prices, best: Option<&Placement>) -> Result<String, AllocError>
-    requires { IfSome (option_copied best.entry) (λ p. IsTrue (are_offered prices.now p)) }
+    requires { IfSome (option_copied best) (λ p. IsTrue (are_offered prices.now p)) }
     ensures { IfOk result (λ text. string_bytes text ≡ best_text prices.now (option_copied best.entry)) }
 {
     match best {
@@ -237,8 +237,8 @@ pub(crate) fn first_line(
     fences: Option<&Placement>,
     best: Option<&Placement>,
 ) -> Result<String, AllocError>
-    requires fences { IfSome (option_copied fences.entry) (λ p. IsTrue (are_offered prices.now p)) }
-    requires best { IfSome (option_copied best.entry) (λ p. IsTrue (are_offered prices.now p)) }
+    requires fences { IfSome (option_copied fences) (λ p. IsTrue (are_offered prices.now p)) }
+    requires best { IfSome (option_copied best) (λ p. IsTrue (are_offered prices.now p)) }
     ensures { IfOk result (λ text. string_bytes text
         ≡ first_line kind prices.now (option_copied fences.entry) (option_copied best.entry)) }
 {

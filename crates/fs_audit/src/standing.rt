@@ -9,6 +9,7 @@ ghost use Rattle.fs_model.specs.Slots.{is_memory_at};
 ghost use Rattle.fs_audit.specs.Standing.{is_at, is_fence_at, leads_on, is_stop, reached, access_after, stands_at, is_between_accesses, covers, is_of, first_at, answering};
 ghost use Rattle.fs_audit.specs.Unfenced.{memory_kind};
 
+use crate::slices::{before, from};
 use crate::unfenced::{is_fence, memory_kind};
 use fs_instr::Instr;
 use fs_kinds::Kind;
@@ -35,19 +36,6 @@ fn has_access(code: &[Instr]) -> bool
     ensures { result ≡ list_any is_memory code.now }
 {
     code.iter().any(|instr| instr.is_memory())
-}
-
-// What stands from instruction `at` on, and what stands before it.
-fn from(code: &[Instr], at: usize) -> &[Instr]
-    ensures { result.now ≡ drop at code.now }
-{
-    &code[at.min(code.len())..]
-}
-
-fn before(code: &[Instr], at: usize) -> &[Instr]
-    ensures { result.now ≡ take at code.now }
-{
-    &code[..at.min(code.len())]
 }
 
 // Does it go to where an access is still to come?

@@ -1,10 +1,11 @@
 //! The test without its FENCE instructions, but for those on devices alone.
 
-ghost use Rattle.std.specs.Prelude.{◌≡◌, ◌≤◌, All, length, map, IfOk};
+ghost use Rattle.std.specs.Prelude.{◌≡◌, ◌≤◌, All, count_by, length, map, IfOk};
 ghost use Rattle.fs_kinds.specs.Limits.{most_instructions};
 ghost use Rattle.fs_model.specs.Test.{IsBounded};
 ghost use Rattle.fs_audit.specs.Unfenced.{kind_of_sides, memory_kind, is_fence, is_kept, position, moved, unfenced_code, unfenced};
 
+use crate::slices::before;
 use fs_instr::{Instr, Letters};
 use fs_kinds::Kind;
 use fs_litmus::{Code, Codes, Test};
@@ -51,22 +52,28 @@ fn is_kept(instr: &Instr) -> bool
     !is_fence(*instr)
 }
 
+fn count_kept(code: &[Instr]) -> usize
+    ensures { result ≡ count_by is_kept code.now }
+{
+    code.iter().filter(|instr| is_kept(instr)).count()
+}
+
 // Where a label of instruction `at` stands in the unfenced code.
 pub(crate) fn position(code: &[Instr], at: usize) -> u8
     requires { length code.now ≤ most_instructions }
     ensures { result ≡ position code.now at }
 {
-    code.iter().take(at).filter(|instr| is_kept(instr)).count() as u8
+    count_kept(before(code, at)) as u8
 }
 
 // The instruction, going to where its label stands in the unfenced code.
-fn moved(code: &[Instr], instr: Instr) -> Instr
+fn moved(code: &[Instr], instr: &Instr) -> Instr
     requires { length code.now ≤ most_instructions }
-    ensures { result ≡ moved code.now instr }
+    ensures { result ≡ moved code.now instr.now }
 {
     match instr.target() {
         Some(target) => instr.with_target(position(code, usize::from(target))),
-        None => instr,
+        None => *instr,
     }
 }
 
@@ -74,11 +81,12 @@ fn unfenced_code(alloc: Global, code: &[Instr]) -> Result<Code, AllocError>
     requires { length code.now ≤ most_instructions }
     ensures { IfOk result (λ made. made ≡ unfenced_code code.now) }
 {
-    let made = code
-        .iter()
-        .filter(|instr| is_kept(instr))
-        .map(|instr| moved(code, *instr))
-        .collect(alloc)?;
+    let mut made = Vec::new(alloc);
+    for instr in code {
+        if is_kept(instr) {
+            made.push(moved(code, instr))?;
+        }
+    }
     Ok(Code::new(made))
 }
 
