@@ -2,3 +2,4 @@ pub mod Bare
 pub mod Chosen
 pub mod Taken
 pub mod FirstFaults
+pub mod Rows
