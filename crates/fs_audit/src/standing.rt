@@ -1,6 +1,6 @@
 //! At which access of its hart a FENCE stands, and for which kind.
 
-ghost use Rattle.std.specs.Prelude.{◌≡◌, drop, take};
+ghost use Rattle.std.specs.Prelude.{◌≡◌, ◌&&◌, drop, length, nat_lt, take};
 ghost use Rattle.std.specs.List.{find, list_any};
 ghost use Rattle.fs_instr.specs.Instructions.{is_memory, target_of};
 ghost use Rattle.fs_model.specs.Numbers.{numbers_below};
@@ -91,12 +91,21 @@ fn reached(code: &[Instr], at: usize) -> Option<usize>
     }
 }
 
+// The first stop behind it.
+fn next_stop(code: &[Instr], at: usize) -> Option<usize>
+    ensures { result ≡ find (λ n. nat_lt at n && is_stop code.now n) (numbers_below (length code.now)) }
+{
+    (0..code.len()).find(|other| at < *other && is_stop(code, *other))
+}
+
 // The access at which a FENCE at `at` stands, if there is one. The square of the code's length at most.
 pub(crate) fn access_after(code: &[Instr], at: usize) -> Option<usize>
     ensures { result ≡ access_after code.now at }
 {
-    let next = (0..code.len()).find(|other| at < *other && is_stop(code, *other))?;
-    reached(code, next)
+    match next_stop(code, at) {
+        Some(next) => reached(code, next),
+        None => None,
+    }
 }
 
 // Does a FENCE at `at` stand at this access?
