@@ -24,9 +24,17 @@ kept = count_by is_kept
 kept_cons : (x : Instr) (xs : List Instr) → kept (x ∷ xs) ≡ bit x + kept xs
 kept_cons x xs = sum_by-cons bit x xs
 
+none_kept : (n : ℕ) → kept (take n []) ≡ 0
+none_kept zero = refl
+none_kept (suc n) = refl
+
 kept_split : (code : List Instr) (a b : ℕ) → kept (take (a + b) code) ≡ kept (take a code) + kept (take b (drop a code))
 kept_split code zero b = let same : 0 + b ≡ b = omega arith in let whole = ap (λ n. kept (take n code)) same in omega (arith, whole)
-kept_split [] (suc a) b = refl
+kept_split [] (suc a) b =
+    let whole = none_kept (suc a + b) in
+    let front : kept (take (suc a) []) ≡ 0 = refl in
+    let rest : kept (take b (drop (suc a) [])) ≡ 0 = none_kept b in
+    omega (arith, whole, front, rest)
 kept_split (x ∷ code) (suc a) b =
     let same : suc a + b ≡ suc (a + b) = omega arith in
     let whole = ap (λ n. kept (take n (x ∷ code))) same in
@@ -126,7 +134,7 @@ module _ (code : List Instr) where
 
   one_or_none : (n end : ℕ) (x : Instr) (xs : List Instr) (b : Bool) → drop n code ≡ x ∷ xs → is_kept x ≡ b → Ahead n end (x ∷ xs)
       → Ahead (position code (n + 1)) (position code end) (rest_of xs)
-      → Ahead (position code n) (position code end) (map (moved code) (cond b (x ∷ []) [] ++ filter is_kept xs))
+      → Ahead (position code n) (position code end) (map (moved code) (cond b (x ∷ filter is_kept xs) (filter is_kept xs)))
   one_or_none n end x xs true rest here h later = with_one n end x xs (rest_of xs) rest here h later
   one_or_none n end x xs false rest here h later = without_one n end x xs (rest_of xs) rest here later
 
@@ -188,7 +196,7 @@ module _ (code : List Instr) where
   access_bit i = cond (is_memory i) 1 0
 
   one_access : (x : Instr) (xs ys : List Instr) (b : Bool) → is_kept x ≡ b → count_by is_memory (map (moved code) ys) ≡ count_by is_memory xs
-      → count_by is_memory (map (moved code) (cond b (x ∷ []) [] ++ ys)) ≡ count_by is_memory (x ∷ xs)
+      → count_by is_memory (map (moved code) (cond b (x ∷ ys) ys)) ≡ count_by is_memory (x ∷ xs)
   one_access x xs ys true here same =
       let was = sum_by-cons access_bit x xs in
       let is = sum_by-cons access_bit (moved code x) (map (moved code) ys) in
@@ -270,7 +278,7 @@ module _ (code : List Instr) where
   moved_of_table instr.FenceTso h low = h
 
   one_more_of_table : (x : Instr) (ys : List Instr) (b : Bool) → IsOfTable (moved code x) → All IsOfTable (map (moved code) ys)
-      → All IsOfTable (map (moved code) (cond b (x ∷ []) [] ++ ys))
+      → All IsOfTable (map (moved code) (cond b (x ∷ ys) ys))
   one_more_of_table x ys true here rest zero d low = here
   one_more_of_table x ys true here rest (suc k) d low = rest k d (omega (arith, low))
   one_more_of_table x ys false here rest k d low = rest k d low

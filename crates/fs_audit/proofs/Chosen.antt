@@ -1,5 +1,5 @@
 -- Which placements are of least cost.
-use Rattle.std.proofs.Common.{◌≡◌, ◌≢◌, ◌⊎◌, ◌==◌, ◌&&◌, ◌||◌, ◌<◌, ℕ, List, true, false, Bool, refl, sym, inl, inr, ap, subst, ◌∙◌, arith}
+use Rattle.std.proofs.Common.{◌≡◌, ◌≢◌, ◌⊎◌, ◌==◌, ◌&&◌, ◌||◌, ◌<◌, ℕ, List, true, false, Bool, refl, sym, inl, inr, Option, Some, None, IfSome, ap, subst, ◌∙◌, arith}
 use Rattle.std.specs.Prelude.{nat_lt}
 use Rattle.std.proofs.lemmas.Bool.{cases_lt}
 use Rattle.std.proofs.lemmas.Bool.Decides.{nat_tests}
@@ -10,6 +10,7 @@ use Rattle.fs_model.specs.declared.test.Test.{Test}
 use Rattle.fs_model.specs.Allows.{Allows, IsCheapest, IsPlacement, is_better}
 use Rattle.fs_model.specs.Slots.{slots}
 use Rattle.fs_answer.specs.Certificate.{IsLeastCost}
+use Rattle.fs_audit.specs.Audit.{IsAdvised, IsKept, costs_everywhere}
 
 module _ (t : Test) (prices : PriceTable) where
   lower_is_better : (p q : List Entry) → cost prices q < cost prices p → is_better prices q p ≡ true
@@ -43,4 +44,19 @@ module _ (t : Test) (prices : PriceTable) where
       | inl more ↦ h.forbids (least.cheaper p h.placement more)
       | inr low ↦ other (omega (arith, high, low))
     ]
+  ]
+
+  -- a placement is kept where each of its fences costs something, and it costs as much and forbids the outcome
+  pub is-kept : (p q : List Entry) → costs_everywhere prices q ≡ true → IsCheapest t prices p → slots_of q ≡ slots t
+      → are_offered prices q ≡ true → cost prices p ≡ cost prices q → (Allows t q → ⊥) → IsKept t prices q
+  is-kept p q each h own offered same forbids = (each, same_is_least p q h own offered same forbids)
+
+  -- what is advised is a placement over the slots of the test, with kinds that have a price
+  pub placement-advised : (own : List Entry) (best : Option (List Entry)) → IsAdvised t prices own best
+      → IfSome best (λ p. (slots_of p ≡ slots t) × (are_offered prices p ≡ true))
+  placement-advised own None h = tt
+  placement-advised own (Some p) h = elim h [
+    | inl kept ↦
+      let placed = subst (IsPlacement t prices) (sym kept.0) kept.1.1.placement in (placed.slots, placed.offered)
+    | inr first ↦ (first.0.placement.slots, first.0.placement.offered)
   ]

@@ -5,8 +5,11 @@ use Rattle.fs_kinds.specs.declared.slot.Slot.{Slot}
 use Rattle.fs_kinds.specs.declared.placement.Entry.{Entry}
 use Rattle.fs_kinds.specs.Placement.{slots_of, with_kind}
 use Rattle.fs_kinds.specs.PriceTable.{PriceTable, price_of, are_offered}
+use Rattle.fs_model.specs.declared.test.Test.{Test}
+use Rattle.fs_model.specs.Allows.{no_fences}
 use Rattle.fs_model.specs.Placed.{fits}
-use Rattle.fs_place.proofs.Placements.{and_left, offered-with_kind, slots_of-with_kind}
+use Rattle.fs_model.specs.Slots.{slots}
+use Rattle.fs_place.proofs.Placements.{and_left, offered-all_with, offered-with_kind, slots_of-all_with, slots_of-with_kind}
 use Rattle.fs_audit.specs.Audit.{fits_one, with_one, taken_up, all_fit}
 
 module _ (prices : PriceTable) where
@@ -38,7 +41,21 @@ module _ (prices : PriceTable) where
   offered-taken p [] h = h
   offered-taken p (fence ∷ fences) h = offered-taken (with_one prices p fence) fences (offered-one p fence h)
 
+  -- the FENCEs of a test, over its slots
+  pub slots-own : (t : Test) (p : List Entry) (fences : List (Option (Slot × Kind))) → p ≡ taken_up prices (no_fences t) fences
+      → slots_of p ≡ slots t
+  slots-own t p fences is = ap slots_of is ∙ slots-taken (no_fences t) fences ∙ slots_of-all_with (slots t)
+
+  pub offered-own : (t : Test) (p : List Entry) (fences : List (Option (Slot × Kind))) → p ≡ taken_up prices (no_fences t) fences
+      → are_offered prices p ≡ true
+  offered-own t p fences is = ap (are_offered prices) is ∙ offered-taken (no_fences t) fences (offered-all_with prices (slots t))
+
 -- ---- one more
+
+pub at-same : {A : Type 0} (xs : List A) (i : ℕ) (d e : A) → i < length xs → get_or xs i d ≡ get_or xs i e
+at-same [] i d e low = absurd (omega (arith, low))
+at-same (x ∷ xs) zero d e low = refl
+at-same (x ∷ xs) (suc i) d e low = at-same xs i d e (omega (arith, low))
 
 drop_here : {A : Type 0} (xs : List A) (i : ℕ) (x : A) → i < length xs → x ≡ get_or xs i x → drop i xs ≡ x ∷ drop (suc i) xs
 drop_here [] i x low at = absurd (omega (arith, low))

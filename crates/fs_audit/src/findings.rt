@@ -1,6 +1,6 @@
 //! What `audit` finds of a test file and prices.
 
-ghost use Rattle.std.specs.Prelude.{◌≡◌, ◌≢◌, ◌≤◌, ◌++◌, ℕ, All, List as Items, Some, length, OnOk, IfOk, IfErr, IsOkUnless, IsTrue, true, false};
+ghost use Rattle.std.specs.Prelude.{◌≡◌, ◌≢◌, ◌≤◌, ◌++◌, ◌&&◌, ℕ, All, List as Items, Some, length, OnOk, IfOk, IfErr, IsOkUnless, IsTrue, true, false};
 ghost use Rattle.std.specs.Arc.{arc_value};
 ghost use Rattle.fs_kinds.specs.Limits.{most_harts, most_instructions};
 ghost use Rattle.fs_kinds.specs.Placement.{slots_of};
@@ -133,6 +133,13 @@ fn take_up(prices: &Prices, fence: Option<(Slot, FenceKind)>, placement: &mut Pl
     placement.with(slot, Some(kind)).is_ok()
 }
 
+// Do both hold?
+fn both(one: bool, other: bool) -> bool
+    ensures { result ≡ one && other }
+{
+    one && other
+}
+
 // Takes up the fences in turn. Do all fit?
 fn take_up_all(
     prices: &Prices,
@@ -145,7 +152,7 @@ fn take_up_all(
     let mut all_fit = true;
     for fence in fences {
         let fits = take_up(prices, *fence, placement);
-        all_fit = all_fit && fits;
+        all_fit = both(all_fit, fits);
     }
     all_fit
 }
@@ -168,6 +175,24 @@ fn written_placement(
     let fences = written_fences(alloc, codes)?;
     let all_fit = take_up_all(&question.prices, &fences, &mut placement);
     Ok((placement, all_fit))
+}
+
+// The same for a question that is shared: a placement over the slots of its test, with kinds that have a price.
+fn own_fences(
+    alloc: Global,
+    question: &Arc<Question>,
+    codes: &[Code],
+) -> Result<(Placement, bool), Fault>
+    requires bounded { IsBounded (arc_value question.now).test }
+    requires harts { length codes.now ≤ most_harts }
+    requires lengths { All (λ code. length code ≤ most_instructions) codes.now }
+    ensures taken { IfOk result (λ x. x.0 ≡ taken_up (arc_value question.now).prices (no_fences (arc_value question.now).test) (written_fences codes.now)) }
+    ensures fit { IfOk result (λ x. x.1 ≡ all_fit (arc_value question.now).prices (no_fences (arc_value question.now).test) (written_fences codes.now)) }
+    ensures slots { IfOk result (λ x. slots_of x.0 ≡ slots (arc_value question.now).test) }
+    ensures offered { IfOk result (λ x. IsTrue (are_offered (arc_value question.now).prices x.0)) }
+    ensures err { IsOkUnless result Fault.Memory }
+{
+    written_placement(alloc, question, codes)
 }
 
 // ---- the fences that are advised
@@ -349,7 +374,7 @@ fn find_judged(
     ensures fault { IfErr result (λ f. (file : Items ℕ) → ArePricesOf file prices → IsFirstAuditFault bytes.now file limit f) }
 {
     let question = bare_question(alloc, bytes, prices)?;
-    let (fences, all_fit) = written_placement(alloc, &question, written.codes.as_slice())?;
+    let (fences, all_fit) = own_fences(alloc, &question, written.codes.as_slice())?;
     let best = best(alloc, &question, &fences, limit)?;
     let lines = lines_of(alloc, bytes)?;
     Ok(Findings {

@@ -7,7 +7,7 @@ pub loop-at-preserved : goal.loop-at-preserved
 loop-at-preserved c =
     numbered_text (written_fence c.args.hart c.args.code.now) c.args.code.now c.loop-at.at c.index-code-at.result
     c.args.fences.now.items c.loop-at.fences.items _
-    (omega arith) c.index-code-at.is c.push_fence.ensures c.loop-at.invariant
+    (omega arith) c.index-code-at.is c.in_ok-push_fence.ensures c.loop-at.invariant
 
 pub returns : goal.returns
 returns c =
