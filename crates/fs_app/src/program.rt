@@ -73,10 +73,7 @@ pub fn run<R: Env + Files + Input + Print + Eprint + AllocGlobal + Clock + Threa
 
 fn status_of_run<
     R: Env + Files + Input + Print + Eprint + AllocGlobal + Clock + Threads + Wait + Sync,
->(
-    rt: &R,
-    is_terminal: bool,
-) -> Result<Status, Failure> {
+>(rt: &R, is_terminal: bool) -> Result<Status, Failure> {
     let words = words(rt)?;
     let request = match read_request(rt.alloc(), words.as_slice()) {
         Ok(request) => request,
