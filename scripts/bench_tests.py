@@ -119,10 +119,11 @@ def at_least(count, atoms):
 
 def votes(pairs, least, spare):
     """Pairs of harts with store buffering each, of which at least so many see it. Any pair may be the one without
-    fences, so no few executions tell what an answer must cost, and the tree is wide. The first harts load another
-    pair's word besides, of which the outcome doesn't speak, so that there are more candidates."""
+    fences, so no few executions tell what an answer must cost, and the tree is wide. So many loads of another pair's
+    word, of which the outcome doesn't speak, are dealt out to the harts besides, so that there are more candidates."""
     words = 'abcdefgh'[:2 * pairs]
-    harts = [[f'{word}=1', *[f'x12={words[(at + 2) % len(words)]}'] * (at < spare), f'x10={words[at ^ 1]}']
+    harts = [[f'{word}=1', *[f'x12={words[(at + 2) % len(words)]}'] * len(range(at, spare, len(words))),
+              f'x10={words[at ^ 1]}']
              for at, word in enumerate(words)]
     seen = [f'({at}:x10=0 /\\ {at + 1}:x10=0)' for at in range(0, 2 * pairs, 2)]
     return text_of('votes', harts, [at_least(least, seen)])

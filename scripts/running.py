@@ -4,9 +4,11 @@ import collections
 import concurrent.futures
 import functools
 import os
+import pty
 import resource
 import subprocess
 import sys
+import threading
 
 TOP = os.path.dirname(os.path.dirname(os.path.realpath(__file__)))
 EXAMPLES = f"{TOP}/examples"
@@ -45,6 +47,25 @@ def ran(command, stdin=None, timeout=LONGEST, limits=None, **options):
     except subprocess.TimeoutExpired:
         return Said("", f"no end in {timeout} seconds", NO_END)
     return Said(decoded(done.stdout), decoded(done.stderr), done.returncode)
+
+
+def ran_on_terminal(command):
+    """What a run of this command says whose standard error is a terminal."""
+    terminal, end = pty.openpty()
+    with subprocess.Popen(command, stdin=subprocess.DEVNULL, stdout=subprocess.PIPE, stderr=end) as run:
+        os.close(end)
+        timer = threading.Timer(LONGEST, run.kill)
+        timer.start()
+        said = bytearray()
+        try:
+            while more := os.read(terminal, 4096):
+                said += more
+        except OSError:                 # no process has the other end any more
+            pass
+        out = run.stdout.read()
+        timer.cancel()
+    os.close(terminal)
+    return Said(decoded(out), decoded(said), run.returncode)
 
 
 def rvfence(*words, **options):

@@ -2,6 +2,7 @@
 #![tactic(auto)]
 
 mod program;
+mod progress;
 mod whole;
 
 pub use fs_audit::{run_audit, run_mended};
@@ -9,7 +10,8 @@ pub use fs_io::{Output, Status, read_bytes, write_text};
 pub use fs_order::run_order;
 pub use fs_place::run_place;
 pub use fs_solve::{
-    Certified, Gate, Open, run_certified, run_certified_alone, run_solve, run_solve_alone,
+    Certified, Gate, Open, Unwatched, Watch, run_certified, run_certified_alone, run_solve,
+    run_solve_alone,
 };
 pub use fs_test::{Kind, Line, Said, test_file, test_report};
 pub use fs_verify::run_check;

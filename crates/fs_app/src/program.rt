@@ -2,6 +2,7 @@
 
 ghost use Rattle.std.specs.Prelude.{◌≤◌};
 
+use crate::progress::Progress;
 use crate::whole::write_whole;
 use clap::error::ErrorKind;
 use fs_audit::{run_audit, run_mended};
@@ -12,12 +13,12 @@ use fs_io::{Output, Status, read_bytes, write_text};
 use fs_kinds::Fault;
 use fs_order::run_order;
 use fs_place::run_place;
-use fs_solve::{Certified, Open, run_certified, run_certified_alone, run_solve, run_solve_alone};
+use fs_solve::{Certified, run_certified, run_certified_alone, run_solve, run_solve_alone};
 use fs_test::{test_file, test_report};
 use fs_verify::run_check;
 use std::fs::File;
 use std::process::ExitCode;
-use std::rt::{Env, Files};
+use std::rt::{Clock, Env, Files};
 use std::sync::Wait;
 use std::thread::Threads;
 use std::{env, io};
@@ -55,11 +56,13 @@ impl Failure {
 /// Does what the process's command line asks for, and answers the exit status: 0 where it was done or the answer is yes, fenced or
 /// forbidden, 1 where it is no, none or allowed, 2 for a fault or a bad command line, 3 where memory ran out, 4 where tests are vacuous
 /// and nothing is worse. A fault or a bad command line prints on standard error, and nothing on standard output unless it was standard
-/// output that failed; but a fault of a file of `test` stands in its line.
-pub fn run<R: Env + Files + Input + Print + Eprint + AllocGlobal + Threads + Wait + Sync>(
+/// output that failed; but a fault of a file of `test` stands in its line. Where standard error is a terminal, as the caller says, a long
+/// search has a line there while it goes on.
+pub fn run<R: Env + Files + Input + Print + Eprint + AllocGlobal + Clock + Threads + Wait + Sync>(
     rt: &R,
+    is_terminal: bool,
 ) -> ExitCode {
-    let status = match status_of_run(rt) {
+    let status = match status_of_run(rt, is_terminal) {
         Ok(status) => status,
         Err(failure) => {
             report(rt, &failure);
@@ -69,15 +72,15 @@ pub fn run<R: Env + Files + Input + Print + Eprint + AllocGlobal + Threads + Wai
     ExitCode::from(status.code())
 }
 
-fn status_of_run<R: Env + Files + Input + Print + AllocGlobal + Threads + Wait + Sync>(
-    rt: &R,
-) -> Result<Status, Failure> {
+fn status_of_run<
+    R: Env + Files + Input + Print + Eprint + AllocGlobal + Clock + Threads + Wait + Sync,
+>(rt: &R, is_terminal: bool) -> Result<Status, Failure> {
     let words = words(rt)?;
     let request = match read_request(rt.alloc(), words.as_slice()) {
         Ok(request) => request,
         Err(error) => return explain(rt, error),
     };
-    let output = answer(rt, &request)?;
+    let output = answer(rt, &request, is_terminal)?;
     write_text(&mut io::writer(rt), output.text.as_bytes())?;
     Ok(output.status)
 }
@@ -114,15 +117,16 @@ fn report<R: Eprint>(rt: &R, error: &impl std::error::Error) {
     let _ = rt.eprint(error);
 }
 
-fn answer<R: Files + Input + AllocGlobal + Threads + Wait + Sync>(
+fn answer<R: Files + Input + Eprint + AllocGlobal + Clock + Threads + Wait + Sync>(
     rt: &R,
     request: &Request<'_>,
+    is_terminal: bool,
 ) -> Result<Output, Fault> {
     match request {
         Request::Test(test) => answer_test(rt, test),
         Request::Place(place) => answer_place(rt, place),
         Request::Order(order) => answer_order(rt, order),
-        Request::Solve(solve) => answer_solve(rt, solve),
+        Request::Solve(solve) => answer_solve(rt, solve, is_terminal),
         Request::Audit(audit) => answer_audit(rt, audit),
         Request::Check(check) => answer_check(rt, check),
     }
@@ -160,30 +164,38 @@ fn answer_order<R: Files + Input + AllocGlobal>(
     run_order(rt.alloc(), &test, &witness, &order.fences)
 }
 
-fn answer_solve<R: Files + Input + AllocGlobal + Threads + Wait + Sync>(
+/// While it searches it says how far it is, and wipes that before anything else is printed.
+fn answer_solve<R: Files + Input + Eprint + AllocGlobal + Clock + Threads + Wait + Sync>(
     rt: &R,
     solve: &Solve<'_>,
+    is_terminal: bool,
 ) -> Result<Output, Fault> {
     let test = read_input(rt, solve.test)?;
     let prices = read_file(rt, solve.prices, INPUT_LIMIT)?;
     // the command line has no other numbers; here it is said once more for the proof
     let workers = solve.workers.clamp(1, MOST_WORKERS);
     let limit = solve.nodes.clamp(1, MOST_NODES) as usize;
+    let mut progress = Progress::new(rt, is_terminal);
     let Some(path) = solve.certificate else {
-        return solved(rt, &test, &prices, workers, limit);
+        let output = solved(rt, &test, &prices, workers, limit, &mut progress);
+        progress.wipe();
+        return output;
     };
-    let certified = certified(rt, &test, &prices, workers, limit)?;
+    let certified = certified(rt, &test, &prices, workers, limit, &mut progress);
+    progress.wipe();
+    let certified = certified?;
     write_whole(rt, path, certified.certificate.as_bytes())?;
     Ok(certified.output)
 }
 
 /// What `solve` prints. One worker needs no thread, and its search is proved to end.
-fn solved<R: AllocGlobal + Threads + Wait + Sync>(
+fn solved<R: Eprint + AllocGlobal + Clock + Threads + Wait + Sync>(
     rt: &R,
     test: &[u8],
     prices: &[u8],
     workers: u8,
     limit: usize,
+    progress: &mut Progress<'_, R>,
 ) -> Result<Output, Fault>
     requires some { 1 ≤ workers }
     requires few { workers ≤ 16 }
@@ -191,18 +203,19 @@ fn solved<R: AllocGlobal + Threads + Wait + Sync>(
     requires most { limit ≤ 1000000 }
 {
     if workers == 1 {
-        return run_solve_alone(rt.alloc(), test, prices, limit);
+        return run_solve_alone(rt.alloc(), test, prices, limit, progress);
     }
-    run_solve(rt, rt.alloc(), test, prices, workers, limit, &Open)
+    run_solve(rt, rt.alloc(), test, prices, workers, limit, progress)
 }
 
 /// What `solve` prints, with a certificate.
-fn certified<R: AllocGlobal + Threads + Wait + Sync>(
+fn certified<R: Eprint + AllocGlobal + Clock + Threads + Wait + Sync>(
     rt: &R,
     test: &[u8],
     prices: &[u8],
     workers: u8,
     limit: usize,
+    progress: &mut Progress<'_, R>,
 ) -> Result<Certified, Fault>
     requires some { 1 ≤ workers }
     requires few { workers ≤ 16 }
@@ -210,9 +223,9 @@ fn certified<R: AllocGlobal + Threads + Wait + Sync>(
     requires most { limit ≤ 1000000 }
 {
     if workers == 1 {
-        return run_certified_alone(rt.alloc(), test, prices, limit);
+        return run_certified_alone(rt.alloc(), test, prices, limit, progress);
     }
-    run_certified(rt, rt.alloc(), test, prices, workers, limit, &Open)
+    run_certified(rt, rt.alloc(), test, prices, workers, limit, progress)
 }
 
 fn answer_audit<R: Files + Input + AllocGlobal>(

@@ -29,7 +29,7 @@ use fs_judge::{Problem, Verdict};
 use fs_kinds::{Entry, Fault, Kind as FenceKind, Placement, Prices, Slot, read_prices};
 use fs_list::List;
 use fs_litmus::{Code, Test, read_lines, read_test, slots};
-use fs_search::{Answer, solve};
+use fs_search::{Answer, Unwatched, solve};
 use fs_test::{Kind, judge_test};
 use std::alloc::{AllocError, Global};
 use std::sync::Arc;
@@ -299,7 +299,7 @@ fn best(
         → IsUnanswered (arc_value question.now).test (arc_value question.now).prices limit f) }
 {
     let asked = Arc::try_clone(question)?;
-    let solved = solve(alloc, asked, limit)?;
+    let solved = solve(alloc, asked, limit, &mut Unwatched)?;
     match &solved.answer {
         Answer::Fenced { forbidden, cost } => {
             let best = kept_or_first(alloc, question, own, forbidden, *cost)?;

@@ -120,18 +120,18 @@ fn line_text(
     )
 }
 
-fn lines_of_hart(lines: &[List<usize>], hart: usize) -> &[usize]
+fn lines_of_hart(lines: &[List<usize>], hart: u8) -> &[usize]
     ensures { result.now ≡ slice_index_or lines.now hart [] }
 {
-    if hart < lines.len() {
-        lines[hart].as_slice()
+    if usize::from(hart) < lines.len() {
+        lines[usize::from(hart)].as_slice()
     } else {
         &[]
     }
 }
 
 // The line of the file in which instruction `at` of the hart stands.
-fn line_of(lines: &[List<usize>], hart: usize, at: usize) -> usize
+fn line_of(lines: &[List<usize>], hart: u8, at: usize) -> usize
     ensures { result ≡ line_of lines.now hart at }
 {
     lines_of_hart(lines, hart).get(at).copied().unwrap_or(0)
@@ -165,7 +165,7 @@ fn code_text(
 {
     let mut text = String::new(alloc);
     for (at, instr) in code.iter().enumerate() {
-        let line = line_of(lines, usize::from(hart), at);
+        let line = line_of(lines, hart, at);
         let place = OperationName { hart, at: at as u8 };
         let advice = advice_of(placement, hart, code, at);
         let said = advised(alloc, line, place, instr, advice)?;

@@ -16,7 +16,7 @@ use fs_evidence::Question;
 use fs_hands::{Hand, hands};
 use fs_kinds::Fault;
 use fs_pool::{Asked, Desk, Pass, finish};
-use fs_search::{Problem, Solved, conclude};
+use fs_search::{Problem, Solved, Unwatched, conclude};
 use std::alloc::{AllocError, Global};
 use std::marker::Brand;
 use std::sync::{Arc, Wait};
@@ -199,7 +199,7 @@ fn concluded<G: Gate>(
     ensures err { IfErr result (λ f. f ≢ Fault.Memory → IsSolveFault (arc_value problem) limit f) }
 {
     let board = taken_up(alloc, &problem, left, limit, gate)?;
-    let solved = conclude(alloc, problem, board)?;
+    let solved = conclude(alloc, problem, board, &mut Unwatched)?;
     Ok(solved)
 }
 
@@ -229,7 +229,7 @@ pub fn solve<R: Threads + Wait + Sync, G: Gate + Sync>(
     ensures err { IfErr result (λ f. f ≢ Fault.Memory → IsSolveFault (arc_value question) limit f) }
 {
     if workers == 1 {
-        return fs_search::solve(alloc, question, limit);
+        return fs_search::solve(alloc, question, limit, &mut Unwatched);
     }
     let problem = Problem::shared(alloc, question)?;
     let board = opened(alloc, &problem, limit)?;

@@ -7,5 +7,5 @@ mod gate;
 mod work;
 
 pub use crew::solve;
-pub use fs_search::{Answer, Solved, solve as solve_alone};
+pub use fs_search::{Answer, Solved, Unwatched, Watch, solve as solve_alone};
 pub use gate::{Gate, Open};

@@ -12,6 +12,7 @@ mod scout;
 mod solving;
 mod store;
 mod sweep;
+mod watch;
 
 pub use answer::{Answer, Solved};
 pub use fs_judge::Problem;
@@ -19,3 +20,4 @@ pub use next_node::{Child, Taken, push_children};
 pub use scout::{Scout, TRIES, Way};
 pub use solving::{conclude, solve};
 pub use sweep::search;
+pub use watch::{Unwatched, Watch};

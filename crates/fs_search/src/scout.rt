@@ -19,6 +19,7 @@ use crate::floor_and_filled::{
 use crate::next_node::Taken;
 use crate::plan::{MOST_STEPS, cheapest_breaking};
 use crate::store::Store;
+use crate::watch::Watch;
 use fs_board::{Decision, Event, Part, Reply};
 use fs_evidence::{Forbidden, Question, Witness};
 use fs_judge::{Judge, Problem, Verdict};
@@ -193,13 +194,22 @@ impl Scout {
 
     /// Makes the plan, where one is still to be made: the cheapest placement that breaks all stored witnesses is judged, and where it
     /// allows the outcome, a witness is stored, and so on. One that forbids it is the plan. The node is any of the board. There is no
-    /// plan where no placement breaks all witnesses, and where it takes too long.
-    pub fn prepare(&mut self, alloc: Global, taken: &Taken) -> Result<(), Fault>
+    /// plan where no placement breaks all witnesses, and where it takes too long. The watch is told of each round.
+    pub fn prepare<W: Watch>(
+        &mut self,
+        alloc: Global,
+        taken: &Taken,
+        watch: &mut W,
+    ) -> Result<(), Fault>
         requires { slots_in_part (arc_value taken.now.part) ≡ slots self.old.test }
         ensures value { self.new ≡ self.old }
         ensures err { IfErr result (λ f. f ≢ Fault.Memory → IsCandidateFault self.old.test f) }
     {
         for _ in 0..self.rounds {
+            if self.rounds == 0 {
+                break;
+            }
+            watch.planned();
             self.plan(alloc, taken)?;
         }
         Ok(())

@@ -17,6 +17,7 @@ ghost use Rattle.fs_search.specs.Histories.{GoesOn};
 
 use crate::answer::{Answer, Solved};
 use crate::sweep::search;
+use crate::watch::Watch;
 use fs_board::Board;
 use fs_evidence::{Forbidden, Question};
 use fs_judge::{Problem, Verdict};
@@ -132,7 +133,12 @@ fn answer_by_ends(alloc: Global, problem: &Problem) -> Result<Solved, Fault>
 /// candidates; or F19. The witness of none depends on the problem alone, not on what was searched before. What is handed out with the
 /// answer, `solve` says, and a board that is handed out is this one gone on with: its log begins with what was logged before. It takes
 /// what `search` takes, and at most two verdicts more.
-pub fn conclude(alloc: Global, problem: Arc<Problem>, board: Board) -> Result<Solved, Fault>
+pub fn conclude<W: Watch>(
+    alloc: Global,
+    problem: Arc<Problem>,
+    board: Board,
+    watch: &mut W,
+) -> Result<Solved, Fault>
     requires bounded { IsBounded (arc_value problem).test }
     requires prices { IsPriceTable (arc_value problem).prices }
     requires same { board.question ≡ arc_value problem }
@@ -144,7 +150,7 @@ pub fn conclude(alloc: Global, problem: Arc<Problem>, board: Board) -> Result<So
 {
     let mut board = board;
     let shared = Arc::try_clone(&problem)?;
-    match search(alloc, shared, &mut board) {
+    match search(alloc, shared, &mut board, watch) {
         Ok(()) => {
             let answer = answer_of(alloc, &problem, &board)?;
             Ok(Solved {
@@ -169,8 +175,13 @@ pub fn conclude(alloc: Global, problem: Arc<Problem>, board: Board) -> Result<So
 /// is a placement comes with what shows that it forbids the outcome.
 ///
 /// To list the candidates takes time by how many lists of runs and how many raw candidates there are, times the square of the
-/// operations. What the search takes after that, `search` says.
-pub fn solve(alloc: Global, question: Arc<Question>, limit: usize) -> Result<Solved, Fault>
+/// operations. What the search takes after that, `search` says; the watch is told how far it is.
+pub fn solve<W: Watch>(
+    alloc: Global,
+    question: Arc<Question>,
+    limit: usize,
+    watch: &mut W,
+) -> Result<Solved, Fault>
     requires test { IsBounded (arc_value question).test }
     requires starts { All IsStart (arc_value question).test.starts }
     requires prices { IsPriceTable (arc_value question).prices }
@@ -184,6 +195,6 @@ pub fn solve(alloc: Global, question: Arc<Question>, limit: usize) -> Result<Sol
     let asked = Arc::try_clone(&question)?;
     let problem = Problem::shared(alloc, asked)?;
     let board = Board::new(alloc, question, limit)?;
-    let solved = conclude(alloc, problem, board)?;
+    let solved = conclude(alloc, problem, board, watch)?;
     Ok(solved)
 }

@@ -10,19 +10,29 @@ ghost use Rattle.fs_search.specs.inner.Steps.{MovesOn, IsTaken};
 use crate::closing::{close_or_split, try_way};
 use crate::next_node::{Child, Taken, next_node};
 use crate::scout::{Scout, TRIES};
+use crate::watch::Watch;
 use fs_board::Board;
 use fs_judge::Problem;
 use fs_kinds::Fault;
+use fs_parts::cost;
 use std::alloc::Global;
 use std::sync::Arc;
 
+/// What the cheapest fences posted so far cost.
+fn best_cost(board: &Board) -> Option<u64> {
+    let best = board.bound()?;
+    let costs = cost(&board.question().prices, best.placement.as_slice());
+    u64::try_from(costs).ok()
+}
+
 /// Is done with a node in the first way that serves.
-fn finish_node(
+fn finish_node<W: Watch>(
     alloc: Global,
     board: &mut Board,
     scout: &mut Scout,
     children: &mut Vec<Child>,
     taken: &Taken,
+    watch: &mut W,
 ) -> Result<(), Fault>
     requires same { board.old.question ≡ scout.old }
     requires taken { IsTaken board.old taken.now.node (arc_value taken.now.part) }
@@ -31,7 +41,7 @@ fn finish_node(
     ensures ok { OnOk result (MovesOn board.old board.new) }
     ensures err { IfErr result (λ f. f ≢ Fault.Memory → IsSearchFault board.old f) }
 {
-    scout.prepare(alloc, taken)?;
+    scout.prepare(alloc, taken, watch)?;
     scout.see_bound(board.bound())?;
     for way in TRIES {
         if try_way(alloc, board, scout, way, taken)? {
@@ -48,8 +58,13 @@ fn finish_node(
 ///
 /// There are no more nodes than the board's limit allows. At each one, the stored witnesses are held against it by four bits a slot, and
 /// those that show the outcome under its least placement are sorted. Where they don't close it, the judge is asked for a look, and where
-/// that finds nothing for a verdict, unless the plan has it.
-pub fn search(alloc: Global, problem: Arc<Problem>, board: &mut Board) -> Result<(), Fault>
+/// that finds nothing for a verdict, unless the plan has it. The watch is told of each node before it is looked at.
+pub fn search<W: Watch>(
+    alloc: Global,
+    problem: Arc<Problem>,
+    board: &mut Board,
+    watch: &mut W,
+) -> Result<(), Fault>
     requires { board.old.question ≡ arc_value problem }
     ensures goes { GoesOn board.old board.new }
     ensures ok { OnOk result (is_finished board.new.board ≡ true) }
@@ -58,7 +73,8 @@ pub fn search(alloc: Global, problem: Arc<Problem>, board: &mut Board) -> Result
     let mut scout = Scout::planner(alloc, problem);
     let mut children = Vec::new(alloc);
     while let Some(taken) = next_node(board, &mut children)? {
-        finish_node(alloc, board, &mut scout, &mut children, &taken)?;
+        watch.searched(board.len(), best_cost(board));
+        finish_node(alloc, board, &mut scout, &mut children, &taken, watch)?;
     }
     Ok(())
 }

@@ -3,5 +3,5 @@
 
 mod solve;
 
-pub use fs_crew::{Gate, Open};
+pub use fs_crew::{Gate, Open, Unwatched, Watch};
 pub use solve::{Certified, run_certified, run_certified_alone, run_solve, run_solve_alone};

@@ -16,7 +16,7 @@ ghost use Rattle.fs_solve.specs.inner.Made.{CertifiesAnswer, PrintsWitness, Says
 
 use fs_cert::{from_board, from_least, from_witness};
 use fs_certificate::Certificate;
-use fs_crew::{Answer, Gate, Solved, solve_alone};
+use fs_crew::{Answer, Gate, Solved, Watch, solve_alone};
 use fs_evidence::{Forbidden, Question};
 use fs_io::{Output, Status};
 use fs_kinds::{Fault, Prices, read_prices};
@@ -43,17 +43,18 @@ struct Found {
 
 /// What `solve` prints for a test file and a file of prices: the first of the cheapest placements of fences that rule the outcome
 /// out, with its cost, and status 0; or `none`, with an execution that shows the outcome with `rw,rw` in every slot, and status 1.
-/// The files are bytes as they were read. One worker searches, without threads, and the call ends.
+/// The files are bytes as they were read. One worker searches, without threads, and the call ends; the watch is told how far it is.
 ///
 /// The first fault in this order: `BadPrices` and `NoTop`; those of a test file by number and then line; `TooManyTraces` and
 /// `Astray`; `TooManyCandidates`; `NodeLimit`, which comes only where fences are needed, `rw,rw` in every slot is enough, and the
 /// tree of all placements has more than `limit` nodes below its root. `Memory` may come in place of any answer. The law `headline`
 /// of fs_promise says what an answer means.
-pub fn run_solve_alone(
+pub fn run_solve_alone<W: Watch>(
     alloc: Global,
     test: &[u8],
     prices: &[u8],
     limit: usize,
+    watch: &mut W,
 ) -> Result<Output, Fault>
     requires least { 1 ≤ limit }
     requires most { limit ≤ 1000000 }
@@ -61,18 +62,19 @@ pub fn run_solve_alone(
         IsSolved test.now prices.now (string_bytes output.text) output.status) }
     ensures fault { IfErr result (IsFirstSolveFault test.now prices.now limit) }
 {
-    let found = find_alone(alloc, test, prices, limit)?;
+    let found = find_alone(alloc, test, prices, limit, watch)?;
     answer_output(alloc, &found.solved.answer)
 }
 
 /// What `run_solve_alone` answers, with the text of a certificate, which is valid for the test and the prices with the answer that is
 /// printed: of the second version where it lists cycles, each of which begins at its least operation, else of the fourth. Where the
 /// answer is `none`, its witness is the printed one. The faults are those of `run_solve_alone`.
-pub fn run_certified_alone(
+pub fn run_certified_alone<W: Watch>(
     alloc: Global,
     test: &[u8],
     prices: &[u8],
     limit: usize,
+    watch: &mut W,
 ) -> Result<Certified, Fault>
     requires least { 1 ≤ limit }
     requires most { limit ≤ 1000000 }
@@ -82,7 +84,7 @@ pub fn run_certified_alone(
         IsCertified test.now prices.now (string_bytes made.output.text) made.output.status (string_bytes made.certificate)) }
     ensures fault { IfErr result (IsFirstSolveFault test.now prices.now limit) }
 {
-    let found = find_alone(alloc, test, prices, limit)?;
+    let found = find_alone(alloc, test, prices, limit, watch)?;
     with_certificate(alloc, &found)
 }
 
@@ -180,7 +182,13 @@ fn read_priced(alloc: Global, test: &[u8], prices: Prices) -> Result<Arc<Questio
 }
 
 /// The answer for a test file and a file of prices, searched by one worker.
-fn find_alone(alloc: Global, test: &[u8], prices: &[u8], limit: usize) -> Result<Found, Fault>
+fn find_alone<W: Watch>(
+    alloc: Global,
+    test: &[u8],
+    prices: &[u8],
+    limit: usize,
+    watch: &mut W,
+) -> Result<Found, Fault>
     requires least { 1 ≤ limit }
     requires most { limit ≤ 1000000 }
     ensures answer { IfOk result (λ found.
@@ -189,7 +197,7 @@ fn find_alone(alloc: Global, test: &[u8], prices: &[u8], limit: usize) -> Result
 {
     let question = read_question(alloc, test, prices)?;
     let asked = Arc::try_clone(&question)?;
-    let solved = solve_alone(alloc, asked, limit)?;
+    let solved = solve_alone(alloc, asked, limit, watch)?;
     Ok(Found { question, solved })
 }
 

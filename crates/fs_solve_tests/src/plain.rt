@@ -10,7 +10,7 @@ use fs_examples::{
 use fs_kinds::{Fault, Kind, Placement, Prices, Slot};
 use fs_litmus::{Test, read_fences, slots};
 use fs_plain::allows_over;
-use fs_search::{Answer, solve};
+use fs_search::{Answer, Unwatched, solve};
 use fs_values::Values;
 use std::alloc::{AllocError, Global};
 use std::test::Fail;
@@ -83,7 +83,7 @@ fn plain_answer(alloc: Global, test: &Test, prices: &Prices) -> Result<String, F
 fn both_answers(alloc: Global, text: &str, prices: &str) -> Result<(String, String), Fault> {
     let question = question_of(alloc, text, prices)?;
     let wanted = plain_answer(alloc, &question.test, &question.prices)?;
-    let solved = solve(alloc, question, 1_000_000)?;
+    let solved = solve(alloc, question, 1_000_000, &mut Unwatched)?;
     let found = match &solved.answer {
         Answer::Fenced { forbidden, cost } => fenced_text(alloc, &forbidden.placement, *cost)?,
         Answer::None { .. } => String::from_str(alloc, "none")?,

@@ -13,7 +13,7 @@ use fs_checker::{CheckVerdict, check};
 use fs_evidence::{Forbidden, Question};
 use fs_examples::{CO_RR, MP11, PRICES, SBF, question_of};
 use fs_kinds::Fault;
-use fs_search::{Answer, Solved, solve};
+use fs_search::{Answer, Solved, Unwatched, solve};
 use std::alloc::Global;
 use std::sync::Arc;
 
@@ -27,7 +27,7 @@ fn solved_of(alloc: Global, question: &Arc<Question>) -> Result<Solved, Fault>
     ensures ok { IfOk result (λ s. IsAnswer (arc_value question.now).test (arc_value question.now).prices s.answer) }
     ensures rests { IfOk result (Rests (arc_value question.now) 10000) }
 {
-    solve(alloc, Arc::try_clone(question)?, LIMIT)
+    solve(alloc, Arc::try_clone(question)?, LIMIT, &mut Unwatched)
 }
 
 /// The certificate of an answer that is a placement. `NodeLimit` where the search came to its limit.

@@ -7,7 +7,7 @@ use Rattle.fs_search.proofs.Ends.{handed, limit-fault, limit-met, limit-not-memo
 use Rattle.fs_search.proofs.solving.conclude.Goals as goal
 
 pub returns-in_err-solved-in-Err-NodeLimit-clause-err : goal.returns-in_err-solved-in-Err-NodeLimit-clause-err
-returns-in_err-solved-in-Err-NodeLimit-clause-err c =
+returns-in_err-solved-in-Err-NodeLimit-clause-err g c =
     let q : Question = c.args.problem.value in
     let there = c.in-Err-NodeLimit.ensures.err (limit-not-memory c.in-Err-NodeLimit.field-0 c.in-Err-NodeLimit.field-0-is) in
     handed c.from_residual-in_err-solved-in-Err-NodeLimit.result _ _ c.from_residual-in_err-solved-in-Err-NodeLimit.ensures.1
@@ -15,12 +15,12 @@ returns-in_err-solved-in-Err-NodeLimit-clause-err c =
     (limit-met c.args.board q c.in-Err-NodeLimit.field-0 c.requires.same c.in-Err-NodeLimit.field-0-is c.requires.clean there) (c.in_err-solved-in-Err-NodeLimit.ensures.err other))
 
 pub returns-in-Err-NodeLimit-clause-ok : goal.returns-in-Err-NodeLimit-clause-ok
-returns-in-Err-NodeLimit-clause-ok c =
+returns-in-Err-NodeLimit-clause-ok g c =
     subst (λ (x : Question). IsAnswer x.test x.prices c.in_ok-solved-in-Err-NodeLimit.solved.answer) c.deref-in-Err-NodeLimit.ensures
     c.in_ok-solved-in-Err-NodeLimit.ensures.ok
 
 pub returns-in-Err-NodeLimit-clause-rests : goal.returns-in-Err-NodeLimit-clause-rests
-returns-in-Err-NodeLimit-clause-rests c =
+returns-in-Err-NodeLimit-clause-rests g c =
     let q : Question = c.args.problem.value in
     let limit = c.args.board.board.limit in
     let solved = c.in_ok-solved-in-Err-NodeLimit.solved in
@@ -32,16 +32,16 @@ returns-in-Err-NodeLimit-clause-rests c =
     })
 
 pub returns-in-Err-NodeLimit-clause-goes : goal.returns-in-Err-NodeLimit-clause-goes
-returns-in-Err-NodeLimit-clause-goes c =
+returns-in-Err-NodeLimit-clause-goes g c =
     subst (λ (b : Option Search). IfSome b (GoesOn c.args.board)) (sym c.in_ok-solved-in-Err-NodeLimit.ensures.board) tt
 
 pub returns-in_err-answer-in-Ok-clause-err : goal.returns-in_err-answer-in-Ok-clause-err
-returns-in_err-answer-in-Ok-clause-err c =
+returns-in_err-answer-in-Ok-clause-err g c =
     solve-handed c.from_residual-in_err-answer-in-Ok.result _ c.deref.result.now c.args.problem.value c.args.board.board.limit c.deref.ensures
     c.from_residual-in_err-answer-in-Ok.ensures.1 c.in_err-answer-in-Ok.ensures.err
 
 pub returns : goal.returns
-returns c = record {
+returns g c = record {
   ok = tt;
   rests = tt;
   goes = tt;
