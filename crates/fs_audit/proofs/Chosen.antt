@@ -57,6 +57,6 @@ module _ (t : Test) (prices : PriceTable) where
   placement-advised own None h = tt
   placement-advised own (Some p) h = elim h [
     | inl kept ↦
-      let placed = subst (IsPlacement t prices) (sym kept.0) kept.1.1.placement in (placed.slots, placed.offered)
+        let placed = subst (IsPlacement t prices) (sym kept.0) kept.1.1.placement in (placed.slots, placed.offered)
     | inr first ↦ (first.0.placement.slots, first.0.placement.offered)
   ]

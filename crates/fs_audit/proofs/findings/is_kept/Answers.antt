@@ -12,8 +12,8 @@ returns-then-cost-clause-yes c =
     let prices = (arc_value c.args.question.now).prices in
     let behind : c.behind-question.inside.prices ≡ prices = ap (λ (q : Question). q.prices) (c.behind-question.view_is ∙ c.deref.ensures) in
     let each : costs_everywhere prices c.args.own.now ≡ true =
-        ap (λ t. costs_everywhere t c.args.own.now) (sym behind) ∙ sym c.costs_everywhere.ensures ∙ c.if-costs_everywhere.true in
+    ap (λ t. costs_everywhere t c.args.own.now) (sym behind) ∙ sym c.costs_everywhere.ensures ∙ c.if-costs_everywhere.true in
     let same : cost prices c.args.first.now.placement ≡ cost prices c.args.own.now =
-        sym c.requires.cost ∙ sym c.if-cost.true ∙ c.cost.ensures ∙ ap (λ t. cost t c.args.own.now) behind in
+    sym c.requires.cost ∙ sym c.if-cost.true ∙ c.cost.ensures ∙ ap (λ t. cost t c.args.own.now) behind in
     IfOk-weaker c.forbids.result _ _
     (λ is h yes. is-kept _ _ _ _ each c.requires.first c.requires.slots c.requires.offered same (h yes)) c.forbids.ensures.yes

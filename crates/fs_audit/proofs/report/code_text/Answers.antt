@@ -12,11 +12,11 @@ loop-at-preserved c =
     numbered_flat (instruction_text c.args.lines.now c.args.placement.now hart c.args.code.now) c.args.code.now
     at item before _ (omega arith) c.index-code-at.is
     (c.in_ok-push_str.ensures.bytes
-        ∙ ap (λ more. before ++ more)
-        (c.as_str.ensures.value
-            ∙ c.in_ok-said.ensures
-            ∙ ap (λ line. advised line hart at item c.advice_of-advice.result) c.line_of-line.ensures
-            ∙ ap (λ found. advised (line_of c.args.lines.now hart at) hart at item found) c.advice_of-advice.ensures))
+    ∙ ap (λ more. before ++ more)
+    (c.as_str.ensures.value
+    ∙ c.in_ok-said.ensures
+    ∙ ap (λ line. advised line hart at item c.advice_of-advice.result) c.line_of-line.ensures
+    ∙ ap (λ found. advised (line_of c.args.lines.now hart at) hart at item found) c.advice_of-advice.ensures))
     c.loop-at.invariant
 
 pub returns : goal.returns

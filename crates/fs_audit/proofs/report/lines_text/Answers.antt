@@ -9,8 +9,8 @@ loop-hart-preserved c =
     numbered_flat (code_text c.args.lines.now c.args.placement.now) c.args.codes.now c.loop-hart.hart c.index-codes-hart.result
     before _ (omega arith) c.index-codes-hart.is
     (c.in_ok-push_str.ensures.bytes ∙ ap (λ more. before ++ more) (c.as_str.ensures.value
-        ∙ c.in_ok-said.ensures
-        ∙ ap (λ code. code_text c.args.lines.now c.args.placement.now (c.loop-hart.hart, code)) c.as_slice.ensures))
+    ∙ c.in_ok-said.ensures
+    ∙ ap (λ code. code_text c.args.lines.now c.args.placement.now (c.loop-hart.hart, code)) c.as_slice.ensures))
     c.loop-hart.invariant
 
 pub returns : goal.returns
