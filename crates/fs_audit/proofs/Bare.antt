@@ -1,5 +1,5 @@
 -- What a test keeps without its FENCEs: its branches go forward, and it has the same accesses.
-use Rattle.std.proofs.Common.{◌≡◌, ℕ, zero, suc, ◌+◌, ◌-◌, ◌<◌, ◌≤◌, List, [], ◌∷◌, ◌++◌, length, map, filter, take, drop, cond, Bool, true, false, Option, None, Some, refl, ap, sym, ◌∙◌, subst, arith, All}
+use Rattle.std.proofs.Common.{◌≡◌, ℕ, zero, suc, ◌+◌, ◌-◌, ◌<◌, ◌≤◌, List, [], ◌∷◌, length, map, filter, take, drop, cond, Bool, true, false, Some, refl, ap, sym, ◌∙◌, subst, arith, All}
 use Rattle.std.specs.Prelude.{slice_get, option_and_then, sum_by, count_by}
 use Rattle.std.proofs.Math.ListN.{length-take}
 use Rattle.std.proofs.lemmas.List.{length-map, take_all}
@@ -11,7 +11,7 @@ use Rattle.fs_instr.specs.declared.instr.Instr.TheVariants as instr
 use Rattle.fs_model.specs.declared.test.Test.{Test}
 use Rattle.fs_model.specs.Condition.{SpeaksOf, condition_of}
 use Rattle.fs_model.specs.Test.{GoesForward, IsBounded, IsTest}
-use Rattle.fs_audit.specs.Unfenced.{is_fence, is_kept, position, moved, unfenced_code, unfenced}
+use Rattle.fs_audit.specs.Unfenced.{is_kept, position, moved, unfenced_code, unfenced}
 
 -- ---- counting what is kept
 

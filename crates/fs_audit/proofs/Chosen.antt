@@ -1,10 +1,10 @@
 -- Which placements are of least cost.
-use Rattle.std.proofs.Common.{◌≡◌, ◌≢◌, ◌⊎◌, ◌==◌, ◌&&◌, ◌||◌, ◌<◌, ℕ, List, true, false, Bool, refl, sym, inl, inr, Option, Some, None, IfSome, ap, subst, ◌∙◌, arith}
+use Rattle.std.proofs.Common.{◌≡◌, ◌<◌, List, true, false, Bool, refl, sym, inl, inr, Option, Some, None, IfSome, subst, arith}
 use Rattle.std.specs.Prelude.{nat_lt}
 use Rattle.std.proofs.lemmas.Bool.{cases_lt}
 use Rattle.std.proofs.lemmas.Bool.Decides.{nat_tests}
 use Rattle.fs_kinds.specs.declared.placement.Entry.{Entry}
-use Rattle.fs_kinds.specs.Placement.{precedes, slots_of}
+use Rattle.fs_kinds.specs.Placement.{slots_of}
 use Rattle.fs_kinds.specs.PriceTable.{PriceTable, are_offered, cost}
 use Rattle.fs_model.specs.declared.test.Test.{Test}
 use Rattle.fs_model.specs.Allows.{Allows, IsCheapest, IsPlacement, is_better}
