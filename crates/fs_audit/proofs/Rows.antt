@@ -1,5 +1,5 @@
 -- A line of four cells.
-use Rattle.std.proofs.Common.{◌≡◌, ◌++◌, ◌∷◌, [], ℕ, List, codes, refl, append_assoc, ap, ◌∙◌}
+use Rattle.std.proofs.Common.{◌≡◌, ◌++◌, ℕ, List, codes, refl, append_assoc, ap, ◌∙◌}
 use Rattle.fs_model.specs.Printed.{ended}
 
 grouped : (l p f a : List ℕ)

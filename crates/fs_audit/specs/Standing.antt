@@ -1,5 +1,5 @@
 -- At which access of its hart a FENCE stands, and for which kind.
-use Rattle.std.specs.Prelude.{ℕ, length, nat_lt, Bool, true, false, ◌&&◌, ◌||◌, not, Option, None, Some, option_and_then, option_map, unwrap_or, List, drop, take, slice_get, if◌then◌else◌}
+use Rattle.std.specs.Prelude.{ℕ, length, nat_lt, Bool, false, ◌&&◌, ◌||◌, not, Option, None, Some, option_and_then, option_map, unwrap_or, List, drop, take, slice_get, if◌then◌else◌}
 use Rattle.std.specs.List.{find, list_any}
 use Rattle.std.specs.Option.{option_or}
 use Rattle.fs_instr.specs.Instructions.{is_memory, target_of}
