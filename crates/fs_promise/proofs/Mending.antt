@@ -10,7 +10,8 @@ use Rattle.fs_model.specs.Printed.{printed}
 use Rattle.fs_model.specs.Test.{IsBounded, IsSame, IsTest}
 use Rattle.fs_litmus.specs.Reads.{Reads}
 use Rattle.fs_litmus.proofs.ReadsTest.{is_test}
-use Rattle.fs_audit.specs.Audit.{AreFound, Findings, IsBestAnswer, IsMended, fenced_text}
+use Rattle.fs_kinds.specs.PriceTable.{PriceTable}
+use Rattle.fs_audit.specs.Audit.{IsAdvised, IsMended, fenced_text}
 use Rattle.fs_audit.specs.Unfenced.{unfenced}
 use Rattle.fs_audit.proofs.Bare.{test_unfenced}
 use Rattle.fs_promise.specs.Audits.{IsMendedTest, IsNothingOrMended}
@@ -46,14 +47,20 @@ tested u v e h = record {
 bare_is_test : (t bare : Test) → IsTest t → IsSame bare (unfenced t) → IsTest bare
 bare_is_test t bare h same = (carried IsTest tested bare (unfenced t) same).1 (test_unfenced t h)
 
-best_is_mended : (bare : Test) (prices : _) (best : Option (List Entry)) → IsTest bare → IsBestAnswer bare prices best
-    → IsNothingOrMended (fenced_text bare best)
-best_is_mended bare prices None h is = inl refl
-best_is_mended bare prices (Some p) h is = inr (λ u reads possible. ruled_out bare h p is.forbids u (inr reads) possible)
+-- the fences that are advised forbid the outcome
+forbids : (bare : Test) (prices : PriceTable) (written p : List Entry) → IsAdvised bare prices written (Some p) → Allows bare p → ⊥
+forbids bare prices written p (inl kept) = subst (λ (q : List Entry). Allows bare q → ⊥) (sym kept.0) kept.1.1.forbids
+forbids bare prices written p (inr first) = first.0.forbids
+
+best_is_mended : (bare : Test) (prices : PriceTable) (written : List Entry) (best : Option (List Entry)) → IsTest bare
+    → IsAdvised bare prices written best → IsNothingOrMended (fenced_text bare best)
+best_is_mended bare prices written None h is = inl refl
+best_is_mended bare prices written (Some p) h is =
+    inr (λ u reads possible. ruled_out bare h p (forbids bare prices written p is) u (inr reads) possible)
 
 pub mended : (test prices text : List ℕ) (status : Status) → IsMended test prices text status → IsNothingOrMended text
 mended test prices text status is =
     let f = is.findings in
     let own = is_test test f.test is.found.reads in
     subst IsNothingOrMended (sym is.shown)
-    (best_is_mended f.bare f.prices f.best (bare_is_test f.test f.bare own is.found.bare) is.found.best)
+    (best_is_mended f.bare f.prices f.written f.best (bare_is_test f.test f.bare own is.found.bare) is.found.best)
