@@ -11,11 +11,11 @@ ghost use Rattle.fs_board.specs.Growth.{AreWitnesses};
 ghost use Rattle.fs_evidence.specs.Evidence.{IsWitnessFor};
 ghost use Rattle.fs_search.specs.Tries.{IsPostable};
 
-use crate::store::Store;
 use fs_board::Part;
 use fs_evidence::{Forbidden, Witness};
 use fs_judge::{Judge, Verdict};
 use fs_kinds::{Fault, Kind, Placement, Slot};
+use fs_plan::Store;
 use std::alloc::{AllocError, Global};
 use std::sync::Arc;
 

@@ -4,13 +4,10 @@
 
 mod answer;
 mod closing;
-mod codes;
 mod floor_and_filled;
 mod next_node;
-mod plan;
 mod scout;
 mod solving;
-mod store;
 mod sweep;
 mod watch;
 

@@ -17,8 +17,6 @@ use crate::floor_and_filled::{
     is_filled_new, is_floor_new, judge_floor, judge_placement, look_at_filled, stored_over_filled,
 };
 use crate::next_node::Taken;
-use crate::plan::{MOST_STEPS, cheapest_breaking};
-use crate::store::Store;
 use crate::watch::Watch;
 use fs_board::{Decision, Event, Part, Reply};
 use fs_evidence::{Forbidden, Question, Witness};
@@ -26,6 +24,7 @@ use fs_judge::{Judge, Problem, Verdict};
 use fs_kinds::{Fault, Kind, Placement, Prices};
 use fs_list::List;
 use fs_parts::is_same;
+use fs_plan::{MOST_STEPS, Store, cheapest_breaking};
 use std::alloc::{AllocError, Global};
 use std::marker::Model;
 use std::sync::Arc;

@@ -1,4 +1,4 @@
-use Rattle.fs_search.proofs.Parts.{floor-slots}
+use Rattle.fs_plan.proofs.Parts.{floor-slots}
 use Rattle.fs_search.proofs.floor_and_filled.judge_floor.Goals as goal
 
 pub judge_placement-requires-clause-slots : goal.judge_placement-requires-clause-slots

@@ -1,6 +1,6 @@
 use Rattle.std.proofs.Common.{subst}
 use Rattle.fs_judge.specs.Verdicts.{IsVerdict}
-use Rattle.fs_search.proofs.Parts.{one-more}
+use Rattle.fs_plan.proofs.Parts.{one-more}
 use Rattle.fs_search.proofs.floor_and_filled.judge_placement.Goals as goal
 
 pub returns-in_ok-add-in-Allowed-clause-known : goal.returns-in_ok-add-in-Allowed-clause-known

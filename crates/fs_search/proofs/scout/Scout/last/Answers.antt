@@ -8,7 +8,7 @@ use Rattle.fs_bound.specs.Bounds.{slots_in_part}
 use Rattle.fs_evidence.specs.Evidence.{Question}
 use Rattle.fs_judge.specs.Verdicts.{IsVerdict}
 use Rattle.fs_search.proofs.Ends.{candidates-handed}
-use Rattle.fs_search.proofs.Parts.{floor-slots, leaf-shown}
+use Rattle.fs_plan.proofs.Parts.{floor-slots, leaf-shown}
 use Rattle.fs_search.proofs.Scouts.{known-still}
 use Rattle.fs_search.proofs.scout.Scout.last.Goals as goal
 

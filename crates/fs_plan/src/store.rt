@@ -36,7 +36,7 @@ impl Model for Known {
 
 /// The witnesses that a search has met, the newest last.
 #[derive(Drop)]
-pub(crate) struct Store {
+pub struct Store {
     known: Vec<Known>,
 }
 
@@ -52,7 +52,7 @@ impl Model for Store {
 /// A stored witness that shows the outcome under a node's least placement: how many slots of the node are breakable for it, what its
 /// least break lacks to the greatest number, its number, and the breakable slots as bits. The least one is tried first.
 #[derive(Clone, Copy, PartialEq, Eq, PartialOrd, Ord)]
-pub(crate) struct Offer {
+pub struct Offer {
     slots: u32,
     lack: u64,
     number: usize,
@@ -61,7 +61,7 @@ pub(crate) struct Offer {
 
 impl Offer {
     /// The number of the first slot that is breakable.
-    pub(crate) fn first_place(&self) -> usize {
+    pub fn first_place(&self) -> usize {
         self.places.trailing_zeros() as usize
     }
 }
@@ -72,7 +72,7 @@ fn least_break(prices: &Prices, slot: Slot, kept: Pairs) -> u64 {
 }
 
 /// What the placement costs. At the highest prices and weights that is far below what never is.
-pub(crate) fn cost(prices: &Prices, placement: &[Entry]) -> u64 {
+pub fn cost(prices: &Prices, placement: &[Entry]) -> u64 {
     u64::try_from(fs_parts::cost(prices, placement)).unwrap_or(NEVER)
 }
 
@@ -106,7 +106,7 @@ impl Known {
 
 impl Store {
     /// No witness yet.
-    pub(crate) fn new(alloc: Global) -> Store
+    pub fn new(alloc: Global) -> Store
         ensures { result ≡ [] }
     {
         Store {
@@ -115,13 +115,13 @@ impl Store {
     }
 
     /// Has a stored witness these widths?
-    pub(crate) fn has_widths(&self, witness: &Witness) -> bool {
+    pub fn has_widths(&self, witness: &Witness) -> bool {
         let codes = Codes::of_widths(witness.widths.as_slice());
         self.known.iter().any(|known| codes.is_within(&known.kept) && known.kept.is_within(&codes))
     }
 
     /// Stores a witness. The decisions are those of any node. At `Err` nothing is changed.
-    pub(crate) fn keep(
+    pub fn keep(
         &mut self,
         alloc: Global,
         prices: &Prices,
@@ -142,7 +142,7 @@ impl Store {
     }
 
     /// Stores a witness, and hands it out. At `Err` nothing is changed.
-    pub(crate) fn add(
+    pub fn add(
         &mut self,
         alloc: Global,
         prices: &Prices,
@@ -160,7 +160,7 @@ impl Store {
     }
 
     /// The newest witness that shows the outcome with this placement.
-    pub(crate) fn newest_over(&self, placement: &[Entry]) -> Option<&Arc<Witness>>
+    pub fn newest_over(&self, placement: &[Entry]) -> Option<&Arc<Witness>>
         ensures { IfSome result (λ w. (k : ℕ) × (slice_get self.now k ≡ Some (arc_value w.now))) }
     {
         let codes = Codes::of_placement(placement);
@@ -203,7 +203,7 @@ impl Store {
 
     /// What the witnesses offer that show the outcome under a node's least placement: those first that are breakable at the fewest slots,
     /// and of these those whose least break is the highest.
-    pub(crate) fn offers(
+    pub fn offers(
         &self,
         alloc: Global,
         floor: &Codes,
@@ -221,7 +221,7 @@ impl Store {
 
     /// Witnesses that bound the node of this part and cost too much to break together, taken greedily: each that shares no breakable slot
     /// with those taken. None where that doesn't close the node, with this bound.
-    pub(crate) fn pick(
+    pub fn pick(
         &self,
         alloc: Global,
         prices: &Prices,
@@ -263,14 +263,14 @@ fn breaks_of(
 
 /// What breaking the witnesses that were taken costs, with the node's least placement, and where they are breakable.
 #[derive(Clone, Copy)]
-pub(crate) struct Sum {
+pub struct Sum {
     total: u64,
     places: u64,
 }
 
 impl Sum {
     /// A least placement of this cost, and no witness yet.
-    pub(crate) fn of(cost: u64) -> Sum {
+    pub fn of(cost: u64) -> Sum {
         Sum {
             total: cost,
             places: 0,
@@ -278,37 +278,37 @@ impl Sum {
     }
 
     /// Does the witness share no breakable slot with those that were taken?
-    pub(crate) fn is_apart(&self, offer: &Offer) -> bool {
+    pub fn is_apart(&self, offer: &Offer) -> bool {
         offer.places & self.places == 0
     }
 
     /// Takes one more.
-    pub(crate) fn add(&mut self, offer: &Offer) {
+    pub fn add(&mut self, offer: &Offer) {
         self.total = self.total.saturating_add(NEVER.saturating_sub(offer.lack));
         self.places |= offer.places;
     }
 
     /// Does so much close the node?
-    pub(crate) fn passes(&self, limit: &Limit) -> bool {
+    pub fn passes(&self, limit: &Limit) -> bool {
         limit.cost < self.total || limit.is_enough && limit.cost == self.total
     }
 }
 
 /// What a node must cost to be closed: at least so much, or more.
 #[derive(Clone, Copy)]
-pub(crate) struct Limit {
+pub struct Limit {
     cost: u64,
     is_enough: bool,
 }
 
 impl Limit {
     /// No cost closes a node but what can't be had at all.
-    pub(crate) fn never() -> Limit {
+    pub fn never() -> Limit {
         Limit::below(NEVER)
     }
 
     /// So much closes a node.
-    pub(crate) fn below(cost: u64) -> Limit {
+    pub fn below(cost: u64) -> Limit {
         Limit {
             cost,
             is_enough: true,
@@ -316,7 +316,7 @@ impl Limit {
     }
 
     /// More than this closes a node.
-    pub(crate) fn up_to(cost: u64) -> Limit {
+    pub fn up_to(cost: u64) -> Limit {
         Limit {
             cost,
             is_enough: false,
@@ -325,7 +325,7 @@ impl Limit {
 
     /// The limit at a node of this floor: at equal cost the best placement so far wins where the floor isn't before it. Where there is
     /// none it is what can't be had at all.
-    pub(crate) fn of(prices: &Prices, best: Option<&[Entry]>, floor: &[Entry]) -> Limit {
+    pub fn of(prices: &Prices, best: Option<&[Entry]>, floor: &[Entry]) -> Limit {
         match best {
             None => Limit::never(),
             Some(best) => Limit {

@@ -15,7 +15,7 @@ const WRITE: Classes = Classes {
 
 /// Four bits for each of 48 slots, as many as a test may have. Of slots past these nothing is kept.
 #[derive(Clone, Copy)]
-pub(crate) struct Codes {
+pub struct Codes {
     words: [u64; 3],
 }
 
@@ -52,7 +52,7 @@ impl Codes {
     }
 
     /// What a placement orders at each slot.
-    pub(crate) fn of_placement(entries: &[Entry]) -> Codes {
+    pub fn of_placement(entries: &[Entry]) -> Codes {
         let mut codes = Codes::new();
         for (slot, entry) in entries.iter().enumerate() {
             if let Some(kind) = entry.kind {
@@ -63,7 +63,7 @@ impl Codes {
     }
 
     /// What an execution keeps at each slot.
-    pub(crate) fn of_widths(widths: &[Pairs]) -> Codes {
+    pub fn of_widths(widths: &[Pairs]) -> Codes {
         let mut codes = Codes::new();
         for (slot, pairs) in widths.iter().enumerate() {
             codes.put(slot, bits(*pairs));
@@ -72,7 +72,7 @@ impl Codes {
     }
 
     /// Has the other one each bit at each slot?
-    pub(crate) fn is_within(&self, other: &Codes) -> bool {
+    pub fn is_within(&self, other: &Codes) -> bool {
         self.words[0] & !other.words[0] == 0
             && self.words[1] & !other.words[1] == 0
             && self.words[2] & !other.words[2] == 0

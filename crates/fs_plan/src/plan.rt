@@ -14,7 +14,7 @@ use fs_parts::{OPTIONS, is_offered};
 use std::alloc::{AllocError, Global};
 
 /// So many steps are made before a plan is given up.
-pub(crate) const MOST_STEPS: usize = 50_000;
+pub const MOST_STEPS: usize = 50_000;
 
 /// The number of a slot that is decided, and that of the option which is next there.
 #[derive(Clone, Copy)]
@@ -269,7 +269,7 @@ fn put_all(placement: &mut Placement, entries: &[Entry])
 
 /// The cheapest placement at the part's slots that breaks all stored witnesses, of several the first. None where there is none, and
 /// where it isn't found in the steps that are left. What the part decides doesn't matter.
-pub(crate) fn cheapest_breaking(
+pub fn cheapest_breaking(
     alloc: Global,
     store: &Store,
     prices: &Prices,
