@@ -13,6 +13,6 @@ pub use fs_solve::{
     Certified, Gate, Open, Unwatched, Watch, run_certified, run_certified_alone, run_solve,
     run_solve_alone,
 };
-pub use fs_test::{Kind, Line, Said, test_file, test_report};
+pub use fs_test::{Kind, Line, Said, test_file, test_objects, test_report};
 pub use fs_verify::run_check;
 pub use program::run;

@@ -14,7 +14,7 @@ use fs_kinds::Fault;
 use fs_order::run_order;
 use fs_place::run_place;
 use fs_solve::{Certified, run_certified, run_certified_alone, run_solve, run_solve_alone};
-use fs_test::{test_file, test_report};
+use fs_test::{test_file, test_objects, test_report};
 use fs_verify::run_check;
 use std::fs::File;
 use std::process::ExitCode;
@@ -132,14 +132,18 @@ fn answer<R: Files + Input + Eprint + AllocGlobal + Clock + Threads + Wait + Syn
     }
 }
 
-/// One file after the other; of each no more is kept than its line.
+/// One file after the other; of each no more is kept than what is said of it.
 fn answer_test<R: Files + Input + AllocGlobal>(rt: &R, test: &Test) -> Result<Output, Fault> {
     let mut lines = Vec::new(rt.alloc());
     for path in &test.files {
         let file = read_input(rt, path.as_str());
         lines.push(test_file(rt.alloc(), path.as_str(), file)?)?;
     }
-    test_report(rt.alloc(), &lines)
+    if test.json {
+        test_objects(rt.alloc(), &lines)
+    } else {
+        test_report(rt.alloc(), &lines)
+    }
 }
 
 fn answer_place<R: Files + Input + AllocGlobal>(

@@ -26,6 +26,15 @@ a last line that counts them. No fence is placed, and prices are not asked for.
   examples/tests/typo.litmus     vacuous    nothing stores 1 to z
   2 tests: 1 allowed, 1 vacuous
 
+With --json it prints a JSON object for each file, a line each, and nothing counts them:
+
+  $ rvfence test examples/tests/SB-half.litmus --json
+  {\"file\":\"examples/tests/SB-half.litmus\",\"verdict\":\"allowed\",\"why\":\"P1:2 comes to memory
+  before P1:1\",\"witness\":{\"choices\":[[0],[0]],\"order\":[\"P1:2\",\"P0:1\",\"P0:3\",\"P1:1\"]}}
+
+(here in two lines). Where the outcome is allowed, the witness is an execution that shows it,
+which `order` reads.
+
 Exit status:
   0  each outcome is forbidden
   1  one is allowed, whatever else there is
@@ -217,6 +226,8 @@ const CERT_HELP: &str = "File to write a certificate of the answer to, which `ch
 
 const WORKERS_HELP: &str = "Threads to search with, 1 to 16";
 
+const JSON_HELP: &str = "Print a JSON object for each file, a line each";
+
 const WRITE_HELP: &str = "Print the test with the cheapest fences in place of its own";
 
 const NODES_HELP: &str = "Most nodes that the search may make, 1 to 1000000";
@@ -245,6 +256,8 @@ pub enum Request<'a> {
 #[derive(Drop)]
 pub struct Test {
     pub files: Vec<String>,
+    /// Whether JSON is to be printed.
+    pub json: bool,
 }
 
 /// What `place` was asked for.
@@ -325,6 +338,7 @@ fn request_of<'a>(alloc: Global, matches: &ArgMatches<'a>) -> Result<Request<'a>
 fn test_of(alloc: Global, found: &ArgMatches<'_>) -> Result<Test, AllocError> {
     Ok(Test {
         files: words_of(alloc, found, "FILE")?,
+        json: found.get_flag("json"),
     })
 }
 
@@ -418,7 +432,8 @@ fn test_command<'a>(alloc: Global) -> Result<Command<'a>, AllocError> {
     let command = Command::new(alloc, "test")
         .about(TEST_ABOUT)
         .after_help(TEST_HELP);
-    with_argument(Ok(command), files(alloc, FILES_HELP))
+    let command = with_argument(Ok(command), files(alloc, FILES_HELP));
+    with_argument(command, flag(alloc, "json", JSON_HELP))
 }
 
 fn place_command<'a>(alloc: Global) -> Result<Command<'a>, AllocError> {

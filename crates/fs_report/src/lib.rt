@@ -5,4 +5,4 @@ mod fences;
 mod witness;
 
 pub use fences::fenced_text;
-pub use witness::{none_text, witness_text};
+pub use witness::{none_text, witness_text, witness_value};

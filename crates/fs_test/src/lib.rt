@@ -4,6 +4,7 @@
 
 mod judged;
 mod never;
+mod objects;
 mod ordered;
 mod report;
 mod said;
@@ -12,6 +13,7 @@ mod vacuous;
 mod words;
 
 pub use judged::judge_test;
-pub use report::{padded, test_report};
+pub use objects::test_objects;
+pub use report::{kind_text, padded, test_report};
 pub use said::{Kind, Line, Said};
 pub use tested::test_file;
