@@ -1,6 +1,8 @@
 //! The program without its `main`: a run from the command line to the exit status, and what each command answers.
 #![tactic(auto)]
 
+mod input;
+mod judging;
 mod program;
 mod progress;
 mod whole;

@@ -2,6 +2,8 @@
 
 ghost use Rattle.std.specs.Prelude.{◌≤◌};
 
+use crate::input::{INPUT_LIMIT, read_file, read_input};
+use crate::judging::said_of_files;
 use crate::progress::Progress;
 use crate::whole::write_whole;
 use clap::error::ErrorKind;
@@ -9,23 +11,19 @@ use fs_audit::{run_audit, run_mended};
 use fs_command::{
     Audit, Check, MOST_NODES, MOST_WORKERS, Order, Place, Request, Solve, Test, read_request,
 };
-use fs_io::{Output, Status, read_bytes, write_text};
+use fs_io::{Output, Status, write_text};
 use fs_kinds::Fault;
 use fs_order::run_order;
 use fs_place::run_place;
 use fs_solve::{Certified, run_certified, run_certified_alone, run_solve, run_solve_alone};
-use fs_test::{test_file, test_objects, test_report};
+use fs_test::{test_objects, test_report};
 use fs_verify::run_check;
-use std::fs::File;
 use std::process::ExitCode;
 use std::rt::{Clock, Env, Files};
 use std::sync::Wait;
 use std::thread::Threads;
 use std::{env, io};
 use thiserror::Error;
-
-/// Tests, prices and witnesses are read up to this many bytes.
-const INPUT_LIMIT: usize = 1_048_576;
 
 /// Certificates are read up to this many bytes.
 const CERTIFICATE_LIMIT: usize = 1_073_741_824;
@@ -132,13 +130,11 @@ fn answer<R: Files + Input + Eprint + AllocGlobal + Clock + Threads + Wait + Syn
     }
 }
 
-/// One file after the other; of each no more is kept than what is said of it.
-fn answer_test<R: Files + Input + AllocGlobal>(rt: &R, test: &Test) -> Result<Output, Fault> {
-    let mut lines = Vec::new(rt.alloc());
-    for path in &test.files {
-        let file = read_input(rt, path.as_str());
-        lines.push(test_file(rt.alloc(), path.as_str(), file)?)?;
-    }
+fn answer_test<R: Files + Input + AllocGlobal + Threads + Wait + Sync>(
+    rt: &R,
+    test: &Test,
+) -> Result<Output, Fault> {
+    let lines = said_of_files(rt, &test.files, test.jobs)?;
     if test.json {
         test_objects(rt.alloc(), &lines)
     } else {
@@ -255,20 +251,4 @@ fn answer_check<R: Files + Input + AllocGlobal>(
     let prices = read_file(rt, check.prices, INPUT_LIMIT)?;
     let certificate = read_file(rt, check.certificate, CERTIFICATE_LIMIT)?;
     run_check(rt.alloc(), &test, &prices, &certificate)
-}
-
-/// The bytes of a test: of standard input where it is called `-` or `stdin`, else of the file.
-fn read_input<R: Files + Input + AllocGlobal>(rt: &R, path: &str) -> Result<Vec<u8>, Fault> {
-    if path == "-" || path == "stdin" {
-        return read_bytes(rt.alloc(), &mut rt.reader(), INPUT_LIMIT);
-    }
-    read_file(rt, path, INPUT_LIMIT)
-}
-
-/// The bytes of the file, where there are at most `limit`. One that can't be opened is a `ReadFault`.
-fn read_file<R: Files + AllocGlobal>(rt: &R, path: &str, limit: usize) -> Result<Vec<u8>, Fault> {
-    match File::open(rt, path) {
-        Ok(mut file) => read_bytes(rt.alloc(), &mut file, limit),
-        Err(_) => Err(Fault::ReadFault),
-    }
 }

@@ -226,16 +226,18 @@ const CERT_HELP: &str = "File to write a certificate of the answer to, which `ch
 
 const WORKERS_HELP: &str = "Threads to search with, 1 to 16";
 
+const JOBS_HELP: &str = "Threads to judge files with, 1 to 16; the lines are the same";
+
 const JSON_HELP: &str = "Print a JSON object for each file, a line each";
 
 const WRITE_HELP: &str = "Print the test with the cheapest fences in place of its own";
 
 const NODES_HELP: &str = "Most nodes that the search may make, 1 to 1000000";
 
-/// The most threads that may search.
+/// The most threads that may search, or judge files.
 pub const MOST_WORKERS: u8 = 16;
 
-/// How many threads search, where the command line doesn't say.
+/// How many threads do, where the command line doesn't say.
 const ONE_WORKER: u8 = 1;
 
 /// The most nodes that a search may be allowed, and how many it is where the command line doesn't say.
@@ -256,6 +258,8 @@ pub enum Request<'a> {
 #[derive(Drop)]
 pub struct Test {
     pub files: Vec<String>,
+    /// How many threads judge files: from 1 to 16.
+    pub jobs: u8,
     /// Whether JSON is to be printed.
     pub json: bool,
 }
@@ -338,6 +342,7 @@ fn request_of<'a>(alloc: Global, matches: &ArgMatches<'a>) -> Result<Request<'a>
 fn test_of(alloc: Global, found: &ArgMatches<'_>) -> Result<Test, AllocError> {
     Ok(Test {
         files: words_of(alloc, found, "FILE")?,
+        jobs: found.get_one::<u8>("jobs").unwrap_or(ONE_WORKER),
         json: found.get_flag("json"),
     })
 }
@@ -433,6 +438,7 @@ fn test_command<'a>(alloc: Global) -> Result<Command<'a>, AllocError> {
         .about(TEST_ABOUT)
         .after_help(TEST_HELP);
     let command = with_argument(Ok(command), files(alloc, FILES_HELP));
+    let command = with_argument(command, threads(alloc, "jobs", JOBS_HELP));
     with_argument(command, flag(alloc, "json", JSON_HELP))
 }
 
@@ -460,7 +466,7 @@ fn solve_command<'a>(alloc: Global) -> Result<Command<'a>, AllocError> {
         .after_help(SOLVE_HELP);
     let command = with_argument(Ok(command), required(alloc, "FILE", FILE_HELP));
     let command = with_argument(command, required(alloc, "PRICES", PRICES_HELP));
-    let command = with_argument(command, workers(alloc, WORKERS_HELP));
+    let command = with_argument(command, threads(alloc, "workers", WORKERS_HELP));
     let command = with_argument(command, nodes(alloc, NODES_HELP));
     with_argument(command, option(alloc, "cert", "PATH", CERT_HELP))
 }
@@ -517,8 +523,9 @@ fn fences<'a>(alloc: Global, help: &'a str) -> Arg<'a> {
     Arg::new(alloc, "FENCE").help(help).num_args(0..)
 }
 
-fn workers<'a>(alloc: Global, help: &'a str) -> Arg<'a> {
-    option(alloc, "workers", "N", help)
+/// How many threads are asked for.
+fn threads<'a>(alloc: Global, name: &'a str, help: &'a str) -> Arg<'a> {
+    option(alloc, name, "N", help)
         .value_parser(value_parser!(u8).range(1..=i64::from(MOST_WORKERS)))
         .default_value("1")
 }
