@@ -9,7 +9,7 @@ use crate::whole::write_whole;
 use clap::error::ErrorKind;
 use fs_audit::{run_audit, run_mended};
 use fs_command::{
-    Audit, Check, MOST_NODES, MOST_WORKERS, Order, Place, Request, Solve, Test, read_request,
+    Audit, Check, MOST_NODES, MOST_WORKERS, Order, Place, Solve, Task, Test, read_request,
 };
 use fs_io::{Output, Status, write_text};
 use fs_kinds::Fault;
@@ -78,8 +78,10 @@ fn status_of_run<
         Ok(request) => request,
         Err(error) => return explain(rt, error),
     };
-    let output = answer(rt, &request, is_terminal)?;
-    write_text(&mut io::writer(rt), output.text.as_bytes())?;
+    let output = answer(rt, &request.task, is_terminal)?;
+    if !request.quiet {
+        write_text(&mut io::writer(rt), output.text.as_bytes())?;
+    }
     Ok(output.status)
 }
 
@@ -117,16 +119,16 @@ fn report<R: Eprint>(rt: &R, error: &impl std::error::Error) {
 
 fn answer<R: Files + Input + Eprint + AllocGlobal + Clock + Threads + Wait + Sync>(
     rt: &R,
-    request: &Request<'_>,
+    task: &Task<'_>,
     is_terminal: bool,
 ) -> Result<Output, Fault> {
-    match request {
-        Request::Test(test) => answer_test(rt, test),
-        Request::Place(place) => answer_place(rt, place),
-        Request::Order(order) => answer_order(rt, order),
-        Request::Solve(solve) => answer_solve(rt, solve, is_terminal),
-        Request::Audit(audit) => answer_audit(rt, audit),
-        Request::Check(check) => answer_check(rt, check),
+    match task {
+        Task::Test(test) => answer_test(rt, test),
+        Task::Place(place) => answer_place(rt, place),
+        Task::Order(order) => answer_order(rt, order),
+        Task::Solve(solve) => answer_solve(rt, solve, is_terminal),
+        Task::Audit(audit) => answer_audit(rt, audit),
+        Task::Check(check) => answer_check(rt, check),
     }
 }
 

@@ -205,7 +205,8 @@ address of no location (F14), there are too many candidate executions (F15; not 
 version 4).";
 
 const PROGRAM_HELP: &str = "\
-`rvfence <COMMAND> --help` says what a command answers.
+`rvfence <COMMAND> --help` says what a command answers. With -q a command prints nothing on
+standard output, and the status tells.
 
 Exit status: 0 done, yes, fenced or forbidden; 1 no, none or allowed; 2 a fault or a bad
 command line; 3 memory ran out; 4 vacuous.";
@@ -232,6 +233,8 @@ const JSON_HELP: &str = "Print a JSON object for each file, a line each";
 
 const WRITE_HELP: &str = "Print the test with the cheapest fences in place of its own";
 
+const QUIET_HELP: &str = "Print nothing on standard output: the status tells";
+
 const NODES_HELP: &str = "Most nodes that the search may make, 1 to 1000000";
 
 /// The most threads that may search, or judge files.
@@ -243,9 +246,17 @@ const ONE_WORKER: u8 = 1;
 /// The most nodes that a search may be allowed, and how many it is where the command line doesn't say.
 pub const MOST_NODES: u32 = 1_000_000;
 
-/// What a command line asks for. Files go by their paths.
+/// What a command line asks for.
 #[derive(Drop)]
-pub enum Request<'a> {
+pub struct Request<'a> {
+    pub task: Task<'a>,
+    /// Whether nothing is to be printed on standard output.
+    pub quiet: bool,
+}
+
+/// What is to be done. Files go by their paths.
+#[derive(Drop)]
+pub enum Task<'a> {
     Test(Test),
     Place(Place<'a>),
     Order(Order<'a>),
@@ -320,23 +331,27 @@ pub fn read_request<'a>(alloc: Global, words: &'a [String]) -> Result<Request<'a
 }
 
 fn request_of<'a>(alloc: Global, matches: &ArgMatches<'a>) -> Result<Request<'a>, AllocError> {
-    if let Some(found) = matches.subcommand_matches("test") {
-        return Ok(Request::Test(test_of(alloc, found)?));
+    let (name, found) = matches.subcommand().unwrap_or(("", matches));
+    Ok(Request {
+        task: task_of(alloc, name, found)?,
+        quiet: found.get_flag("quiet"),
+    })
+}
+
+/// What the command of this name is to do.
+fn task_of<'a>(
+    alloc: Global,
+    name: &str,
+    found: &ArgMatches<'a>,
+) -> Result<Task<'a>, AllocError> {
+    match name {
+        "test" => Ok(Task::Test(test_of(alloc, found)?)),
+        "order" => Ok(Task::Order(order_of(alloc, found)?)),
+        "solve" => Ok(Task::Solve(solve_of(found))),
+        "audit" => Ok(Task::Audit(audit_of(found))),
+        "check" => Ok(Task::Check(check_of(found))),
+        _ => Ok(Task::Place(place_of(alloc, found)?)),
     }
-    if let Some(found) = matches.subcommand_matches("order") {
-        return Ok(Request::Order(order_of(alloc, found)?));
-    }
-    if let Some(found) = matches.subcommand_matches("solve") {
-        return Ok(Request::Solve(solve_of(found)));
-    }
-    if let Some(found) = matches.subcommand_matches("audit") {
-        return Ok(Request::Audit(audit_of(found)));
-    }
-    if let Some(found) = matches.subcommand_matches("check") {
-        return Ok(Request::Check(check_of(found)));
-    }
-    let found = matches.subcommand_matches("place").unwrap_or(matches);
-    Ok(Request::Place(place_of(alloc, found)?))
 }
 
 fn test_of(alloc: Global, found: &ArgMatches<'_>) -> Result<Test, AllocError> {
@@ -439,7 +454,8 @@ fn test_command<'a>(alloc: Global) -> Result<Command<'a>, AllocError> {
         .after_help(TEST_HELP);
     let command = with_argument(Ok(command), files(alloc, FILES_HELP));
     let command = with_argument(command, threads(alloc, "jobs", JOBS_HELP));
-    with_argument(command, flag(alloc, "json", JSON_HELP))
+    let command = with_argument(command, flag(alloc, "json", JSON_HELP));
+    with_argument(command, quiet(alloc))
 }
 
 fn place_command<'a>(alloc: Global) -> Result<Command<'a>, AllocError> {
@@ -448,7 +464,8 @@ fn place_command<'a>(alloc: Global) -> Result<Command<'a>, AllocError> {
         .after_help(PLACE_HELP);
     let command = with_argument(Ok(command), required(alloc, "FILE", FILE_HELP));
     let command = with_argument(command, fences(alloc, FENCE_HELP));
-    with_argument(command, option(alloc, "prices", "PRICES", PRICES_HELP))
+    let command = with_argument(command, option(alloc, "prices", "PRICES", PRICES_HELP));
+    with_argument(command, quiet(alloc))
 }
 
 fn order_command<'a>(alloc: Global) -> Result<Command<'a>, AllocError> {
@@ -457,7 +474,8 @@ fn order_command<'a>(alloc: Global) -> Result<Command<'a>, AllocError> {
         .after_help(ORDER_HELP);
     let command = with_argument(Ok(command), required(alloc, "FILE", FILE_HELP));
     let command = with_argument(command, required(alloc, "WITNESS", WITNESS_HELP));
-    with_argument(command, fences(alloc, FENCE_HELP))
+    let command = with_argument(command, fences(alloc, FENCE_HELP));
+    with_argument(command, quiet(alloc))
 }
 
 fn solve_command<'a>(alloc: Global) -> Result<Command<'a>, AllocError> {
@@ -468,7 +486,8 @@ fn solve_command<'a>(alloc: Global) -> Result<Command<'a>, AllocError> {
     let command = with_argument(command, required(alloc, "PRICES", PRICES_HELP));
     let command = with_argument(command, threads(alloc, "workers", WORKERS_HELP));
     let command = with_argument(command, nodes(alloc, NODES_HELP));
-    with_argument(command, option(alloc, "cert", "PATH", CERT_HELP))
+    let command = with_argument(command, option(alloc, "cert", "PATH", CERT_HELP));
+    with_argument(command, quiet(alloc))
 }
 
 fn audit_command<'a>(alloc: Global) -> Result<Command<'a>, AllocError> {
@@ -478,7 +497,8 @@ fn audit_command<'a>(alloc: Global) -> Result<Command<'a>, AllocError> {
     let command = with_argument(Ok(command), required(alloc, "FILE", FILE_HELP));
     let command = with_argument(command, required(alloc, "PRICES", PRICES_HELP));
     let command = with_argument(command, flag(alloc, "write", WRITE_HELP));
-    with_argument(command, nodes(alloc, NODES_HELP))
+    let command = with_argument(command, nodes(alloc, NODES_HELP));
+    with_argument(command, quiet(alloc))
 }
 
 fn check_command<'a>(alloc: Global) -> Result<Command<'a>, AllocError> {
@@ -487,7 +507,8 @@ fn check_command<'a>(alloc: Global) -> Result<Command<'a>, AllocError> {
         .after_help(CHECK_HELP);
     let command = with_argument(Ok(command), required(alloc, "FILE", FILE_HELP));
     let command = with_argument(command, required(alloc, "PRICES", PRICES_HELP));
-    with_argument(command, required(alloc, "CERTIFICATE", CERTIFICATE_HELP))
+    let command = with_argument(command, required(alloc, "CERTIFICATE", CERTIFICATE_HELP));
+    with_argument(command, quiet(alloc))
 }
 
 /// A word that must be there.
@@ -509,6 +530,11 @@ fn flag<'a>(alloc: Global, name: &'a str, help: &'a str) -> Arg<'a> {
         .help(help)
         .long(name)
         .action(ArgAction::SetTrue)
+}
+
+/// That nothing is to be printed on standard output, which each command takes.
+fn quiet<'a>(alloc: Global) -> Arg<'a> {
+    flag(alloc, "quiet", QUIET_HELP).short('q')
 }
 
 /// One word or more.

@@ -4,5 +4,5 @@
 mod command;
 
 pub use command::{
-    Audit, Check, MOST_NODES, MOST_WORKERS, Order, Place, Request, Solve, Test, read_request,
+    Audit, Check, MOST_NODES, MOST_WORKERS, Order, Place, Request, Solve, Task, Test, read_request,
 };
