@@ -9,7 +9,8 @@ use crate::whole::write_whole;
 use clap::error::ErrorKind;
 use fs_audit::{run_audit, run_mended};
 use fs_command::{
-    Audit, Check, MOST_NODES, MOST_WORKERS, Order, Place, Solve, Task, Test, read_request,
+    Audit, Check, MOST_NODES, MOST_WORKERS, Order, Place, Solve, Task, Test, completion_script,
+    read_request,
 };
 use fs_io::{Output, Status, write_text};
 use fs_kinds::Fault;
@@ -129,6 +130,10 @@ fn answer<R: Files + Input + Eprint + AllocGlobal + Clock + Threads + Wait + Syn
         Task::Solve(solve) => answer_solve(rt, solve, is_terminal),
         Task::Audit(audit) => answer_audit(rt, audit),
         Task::Check(check) => answer_check(rt, check),
+        Task::Completions(shell) => Ok(Output {
+            text: completion_script(rt.alloc(), *shell)?,
+            status: Status::Success,
+        }),
     }
 }
 

@@ -1,4 +1,5 @@
 //! The command line: its words, and what each command's help says.
+use crate::completions::{Shell, script};
 use clap::{Arg, ArgAction, ArgMatches, Command, Error, value_parser};
 use std::alloc::{AllocError, Global};
 
@@ -204,6 +205,20 @@ Faults beside those of the files: a hart has too many runs (F13), a run accesses
 address of no location (F14), there are too many candidate executions (F15; not with
 version 4).";
 
+const COMPLETIONS_ABOUT: &str = "Print a script by which a shell completes commands and options";
+
+const COMPLETIONS_HELP: &str = "\
+A shell that reads the script completes commands, options and the names of files:
+
+  source <(rvfence completions bash)      in bash
+  source <(rvfence completions zsh)       in zsh
+  rvfence completions fish | source       in fish
+
+Exit status:
+  0  the script is on standard output
+  2  a fault, or a bad command line
+  3  memory ran out (fault F19)";
+
 const PROGRAM_HELP: &str = "\
 `rvfence <COMMAND> --help` says what a command answers. With -q a command prints nothing on
 standard output, and the status tells.
@@ -231,11 +246,16 @@ const JOBS_HELP: &str = "Threads to judge files with, 1 to 16; the lines are the
 
 const JSON_HELP: &str = "Print a JSON object for each file, a line each";
 
+const SHELL_HELP: &str = "Which shell is to read it";
+
 const WRITE_HELP: &str = "Print the test with the cheapest fences in place of its own";
 
 const QUIET_HELP: &str = "Print nothing on standard output: the status tells";
 
 const NODES_HELP: &str = "Most nodes that the search may make, 1 to 1000000";
+
+/// The names of the shells.
+const SHELLS: &[&str] = &["bash", "zsh", "fish"];
 
 /// The most threads that may search, or judge files.
 pub const MOST_WORKERS: u8 = 16;
@@ -263,6 +283,8 @@ pub enum Task<'a> {
     Solve(Solve<'a>),
     Audit(Audit<'a>),
     Check(Check<'a>),
+    /// To print the script for this shell.
+    Completions(Shell),
 }
 
 /// What `test` was asked for.
@@ -350,6 +372,7 @@ fn task_of<'a>(
         "solve" => Ok(Task::Solve(solve_of(found))),
         "audit" => Ok(Task::Audit(audit_of(found))),
         "check" => Ok(Task::Check(check_of(found))),
+        "completions" => Ok(Task::Completions(shell_of(found))),
         _ => Ok(Task::Place(place_of(alloc, found)?)),
     }
 }
@@ -405,6 +428,14 @@ fn check_of<'a>(found: &ArgMatches<'a>) -> Check<'a> {
     }
 }
 
+fn shell_of(found: &ArgMatches<'_>) -> Shell {
+    match found.get_str("SHELL") {
+        Some("zsh") => Shell::Zsh,
+        Some("fish") => Shell::Fish,
+        _ => Shell::Bash,
+    }
+}
+
 fn fences_of(alloc: Global, found: &ArgMatches<'_>) -> Result<Vec<String>, AllocError> {
     words_of(alloc, found, "FENCE")
 }
@@ -429,7 +460,8 @@ fn whole_command<'a>(alloc: Global) -> Result<Command<'a>, AllocError> {
     let program = with_command(program, audit_command(alloc));
     let program = with_command(program, place_command(alloc));
     let program = with_command(program, order_command(alloc));
-    with_command(program, check_command(alloc))
+    let program = with_command(program, check_command(alloc));
+    with_command(program, completions_command(alloc))
 }
 
 /// The program with one more command, where memory was there for both.
@@ -509,6 +541,20 @@ fn check_command<'a>(alloc: Global) -> Result<Command<'a>, AllocError> {
     let command = with_argument(command, required(alloc, "PRICES", PRICES_HELP));
     let command = with_argument(command, required(alloc, "CERTIFICATE", CERTIFICATE_HELP));
     with_argument(command, quiet(alloc))
+}
+
+fn completions_command<'a>(alloc: Global) -> Result<Command<'a>, AllocError> {
+    let command = Command::new(alloc, "completions")
+        .about(COMPLETIONS_ABOUT)
+        .after_help(COMPLETIONS_HELP);
+    let shell = required(alloc, "SHELL", SHELL_HELP).value_parser(SHELLS);
+    let command = with_argument(Ok(command), shell);
+    with_argument(command, quiet(alloc))
+}
+
+/// The script by which the shell completes the words of a command line. The error is want of memory.
+pub fn completion_script(alloc: Global, shell: Shell) -> Result<String, AllocError> {
+    script(alloc, &whole_command(alloc)?, shell)
 }
 
 /// A word that must be there.
