@@ -1,5 +1,5 @@
 pub mod Families
 pub mod Filtered
-pub mod Objects
 pub mod TestFaults
 pub mod Texts
+pub mod Whole

@@ -1,7 +1,7 @@
 use Rattle.std.proofs.Common.{◌≡◌, ap, sym, ◌∙◌, subst, false}
 use Rattle.std.proofs.lemmas.Result.{IfOk-weaker}
 use Rattle.serde_json.specs.Written.{has_float, compact_text}
-use Rattle.fs_test.proofs.Objects.{no_floats}
+use Rattle.fs_test.proofs.Whole.{no_floats}
 use Rattle.fs_test.proofs.objects.object_text.Goals as goal
 
 pub returns : goal.returns
