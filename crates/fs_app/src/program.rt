@@ -16,8 +16,10 @@ use fs_io::{Output, Status, write_text};
 use fs_kinds::Fault;
 use fs_order::run_order;
 use fs_place::run_place;
-use fs_solve::{Certified, run_certified, run_certified_alone, run_solve, run_solve_alone};
-use fs_test::{test_objects, test_report};
+use fs_solve::{
+    Answered, Certified, run_certified, run_certified_alone, run_solve, run_solve_alone,
+};
+use fs_test::{test_objects, test_report, vacuous_note};
 use fs_verify::run_check;
 use std::process::ExitCode;
 use std::rt::{Clock, Env, Files};
@@ -25,6 +27,9 @@ use std::sync::Wait;
 use std::thread::Threads;
 use std::{env, io};
 use thiserror::Error;
+
+/// What `solve` prints where no fence is needed.
+const UNFENCED: &str = "fenced 0\n";
 
 /// Certificates are read up to this many bytes.
 const CERTIFICATE_LIMIT: usize = 1_073_741_824;
@@ -183,16 +188,46 @@ fn answer_solve<R: Files + Input + Eprint + AllocGlobal + Clock + Threads + Wait
     let workers = solve.workers.clamp(1, MOST_WORKERS);
     let limit = solve.nodes.clamp(1, MOST_NODES) as usize;
     let mut progress = Progress::new(rt, is_terminal);
-    let Some(path) = solve.certificate else {
-        let output = solved(rt, &test, &prices, workers, limit, &mut progress);
-        progress.wipe();
-        return output;
+    let answered = match solve.certificate {
+        Some(path) => {
+            let certified = certified(rt, &test, &prices, workers, limit, &mut progress);
+            progress.wipe();
+            let certified = certified?;
+            write_whole(rt, path, certified.certificate.as_bytes())?;
+            certified.answered
+        }
+        None => {
+            let answered = solved(rt, &test, &prices, workers, limit, &mut progress);
+            progress.wipe();
+            answered?
+        }
     };
-    let certified = certified(rt, &test, &prices, workers, limit, &mut progress);
-    progress.wipe();
-    let certified = certified?;
-    write_whole(rt, path, certified.certificate.as_bytes())?;
-    Ok(certified.output)
+    note_vacuous(rt, &test, answered.output.text.as_str())?;
+    Ok(in_form(answered.output, answered.object, solve.json))
+}
+
+/// Says on standard error that the test is vacuous, where it is. Then it needs no fence, so of other answers nothing is
+/// asked.
+fn note_vacuous<R: Eprint + AllocGlobal>(rt: &R, test: &[u8], answer: &str) -> Result<(), Fault> {
+    if answer != UNFENCED {
+        return Ok(());
+    }
+    if let Some(note) = vacuous_note(rt.alloc(), test)? {
+        let _ = rt.eprint(note.as_str());
+    }
+    Ok(())
+}
+
+/// The output, or with its status the object in its place.
+fn in_form(output: Output, object: String, is_json: bool) -> Output {
+    if is_json {
+        Output {
+            text: object,
+            status: output.status,
+        }
+    } else {
+        output
+    }
 }
 
 /// What `solve` prints. One worker needs no thread, and its search is proved to end.
@@ -203,7 +238,7 @@ fn solved<R: Eprint + AllocGlobal + Clock + Threads + Wait + Sync>(
     workers: u8,
     limit: usize,
     progress: &mut Progress<'_, R>,
-) -> Result<Output, Fault>
+) -> Result<Answered, Fault>
     requires some { 1 ≤ workers }
     requires few { workers ≤ 16 }
     requires least { 1 ≤ limit }
@@ -257,5 +292,6 @@ fn answer_check<R: Files + Input + AllocGlobal>(
     let test = read_input(rt, check.test)?;
     let prices = read_file(rt, check.prices, INPUT_LIMIT)?;
     let certificate = read_file(rt, check.certificate, CERTIFICATE_LIMIT)?;
-    run_check(rt.alloc(), &test, &prices, &certificate)
+    let checked = run_check(rt.alloc(), &test, &prices, &certificate)?;
+    Ok(in_form(checked.output, checked.object, check.json))
 }

@@ -110,6 +110,14 @@ out. Then it prints `none` and such an execution, as a witness that `order` read
   none
   {\"choices\":[[],[1,1]],\"order\":[\"P0:1\",\"P0:3\",\"P1:0\",\"P1:1\"]}
 
+With --json the answer is a JSON object, in one line:
+
+  {\"answer\":\"fenced\",\"cost\":18,\"fences\":[{\"before\":2,\"hart\":0,\"kind\":\"w,r\"},
+  {\"before\":2,\"hart\":1,\"kind\":\"w,r\"}]}
+  {\"answer\":\"none\",\"witness\":{\"choices\":[[],[1,1]],\"order\":[\"P0:1\",\"P0:3\",\"P1:0\",\"P1:1\"]}}
+
+Where the outcome is vacuous (`rvfence test --help`), a note on standard error says why.
+
 With --cert PATH a certificate of the answer is written to PATH first, which `check` reads
 and judges without a search.
 
@@ -181,6 +189,11 @@ Nothing is searched, so a yes needs no trust in the search:
   fence P0 2 w,r
   fence P1 2 w,r
 
+With --json it prints a JSON object, in one line, with the answer as `solve --json` has it:
+
+  {\"answer\":{\"answer\":\"fenced\",\"cost\":18,\"fences\":[..]},\"valid\":true}
+  {\"reason\":\"cycle 3\",\"valid\":false}
+
 A certificate is a JSON file with the answer, a cycle for each candidate execution that
 shows the outcome (in version 4 a refutation of them all), a tree in which nothing better
 than the answer is left, and the executions that the tree names. docs/CERTIFICATE.md says
@@ -244,7 +257,9 @@ const WORKERS_HELP: &str = "Threads to search with, 1 to 16";
 
 const JOBS_HELP: &str = "Threads to judge files with, 1 to 16; the lines are the same";
 
-const JSON_HELP: &str = "Print a JSON object for each file, a line each";
+const LINES_HELP: &str = "Print a JSON object for each file, a line each";
+
+const JSON_HELP: &str = "Print a JSON object";
 
 const SHELL_HELP: &str = "Which shell is to read it";
 
@@ -324,6 +339,8 @@ pub struct Solve<'a> {
     pub nodes: u32,
     /// Where a certificate of the answer is to be written.
     pub certificate: Option<&'a str>,
+    /// Whether JSON is to be printed.
+    pub json: bool,
 }
 
 /// What `audit` was asked for.
@@ -343,6 +360,8 @@ pub struct Check<'a> {
     pub test: &'a str,
     pub prices: &'a str,
     pub certificate: &'a str,
+    /// Whether JSON is to be printed.
+    pub json: bool,
 }
 
 /// The request that the words make, the program's name first. An error holds the text for the user, and help and the
@@ -408,6 +427,7 @@ fn solve_of<'a>(found: &ArgMatches<'a>) -> Solve<'a> {
         workers: found.get_one::<u8>("workers").unwrap_or(ONE_WORKER),
         nodes: found.get_one::<u32>("nodes").unwrap_or(MOST_NODES),
         certificate: found.get_str("cert"),
+        json: found.get_flag("json"),
     }
 }
 
@@ -425,6 +445,7 @@ fn check_of<'a>(found: &ArgMatches<'a>) -> Check<'a> {
         test: found.get_str("FILE").unwrap_or(""),
         prices: found.get_str("PRICES").unwrap_or(""),
         certificate: found.get_str("CERTIFICATE").unwrap_or(""),
+        json: found.get_flag("json"),
     }
 }
 
@@ -486,7 +507,7 @@ fn test_command<'a>(alloc: Global) -> Result<Command<'a>, AllocError> {
         .after_help(TEST_HELP);
     let command = with_argument(Ok(command), files(alloc, FILES_HELP));
     let command = with_argument(command, threads(alloc, "jobs", JOBS_HELP));
-    let command = with_argument(command, flag(alloc, "json", JSON_HELP));
+    let command = with_argument(command, flag(alloc, "json", LINES_HELP));
     with_argument(command, quiet(alloc))
 }
 
@@ -519,6 +540,7 @@ fn solve_command<'a>(alloc: Global) -> Result<Command<'a>, AllocError> {
     let command = with_argument(command, threads(alloc, "workers", WORKERS_HELP));
     let command = with_argument(command, nodes(alloc, NODES_HELP));
     let command = with_argument(command, option(alloc, "cert", "PATH", CERT_HELP));
+    let command = with_argument(command, flag(alloc, "json", JSON_HELP));
     with_argument(command, quiet(alloc))
 }
 
@@ -540,6 +562,7 @@ fn check_command<'a>(alloc: Global) -> Result<Command<'a>, AllocError> {
     let command = with_argument(Ok(command), required(alloc, "FILE", FILE_HELP));
     let command = with_argument(command, required(alloc, "PRICES", PRICES_HELP));
     let command = with_argument(command, required(alloc, "CERTIFICATE", CERTIFICATE_HELP));
+    let command = with_argument(command, flag(alloc, "json", JSON_HELP));
     with_argument(command, quiet(alloc))
 }
 

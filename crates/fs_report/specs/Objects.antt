@@ -31,11 +31,15 @@ abbrev pub none_value : Witness → Data
 none_value w = object (members_of ((codes "answer", string (codes "none")) ∷ (codes "witness", witness_value w) ∷ []))
 
 -- the lines of an answer, and its object
-abbrev pub AreOneAnswer : List ℕ → Data → Type 0
-AreOneAnswer lines value =
+abbrev pub SayOneAnswer : List ℕ → Data → Type 0
+SayOneAnswer lines value =
     ((cost : ℕ) × (p : List Entry) × (lines ≡ fenced_lines cost p) × (value ≡ fenced_value cost p))
     ⊎ ((w : Witness) × (lines ≡ none_lines w) × (value ≡ none_value w))
 
 -- a value in print
 abbrev pub json_line : Data → List ℕ
 json_line value = line (compact_text value)
+
+-- the lines of an answer, and its object in print
+abbrev pub AreOneAnswer : List ℕ → List ℕ → Type 0
+AreOneAnswer lines text = (value : Data) × SayOneAnswer lines value × (text ≡ json_line value)

@@ -36,7 +36,7 @@ pub(crate) fn judge(alloc: Global, test: Test) -> Result<Said, Fault>
 }
 
 // The test, to be shared.
-fn shared(alloc: Global, test: Test) -> Result<Arc<Test>, AllocError>
+pub(crate) fn shared(alloc: Global, test: Test) -> Result<Arc<Test>, AllocError>
     ensures { IfOk result (λ shared. arc_value shared ≡ test) }
 {
     Ok(Arc::new(alloc, test)?)
