@@ -1,6 +1,8 @@
 //! The program without its `main`: a run from the command line to the exit status, and what each command answers.
 #![tactic(auto)]
 
+mod input;
+mod judging;
 mod program;
 mod progress;
 mod whole;
@@ -10,9 +12,9 @@ pub use fs_io::{Output, Status, read_bytes, write_text};
 pub use fs_order::run_order;
 pub use fs_place::run_place;
 pub use fs_solve::{
-    Certified, Gate, Open, Unwatched, Watch, run_certified, run_certified_alone, run_solve,
+    Answered, Certified, Gate, Open, Unwatched, Watch, run_certified, run_certified_alone, run_solve,
     run_solve_alone,
 };
-pub use fs_test::{Kind, Line, Said, test_file, test_report};
-pub use fs_verify::run_check;
+pub use fs_test::{Kind, Line, Said, test_file, test_objects, test_report, vacuous_note};
+pub use fs_verify::{Checked, run_check};
 pub use program::run;

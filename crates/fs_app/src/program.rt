@@ -2,21 +2,25 @@
 
 ghost use Rattle.std.specs.Prelude.{◌≤◌};
 
+use crate::input::{INPUT_LIMIT, read_file, read_input};
+use crate::judging::said_of_files;
 use crate::progress::Progress;
 use crate::whole::write_whole;
 use clap::error::ErrorKind;
 use fs_audit::{run_audit, run_mended};
 use fs_command::{
-    Audit, Check, MOST_NODES, MOST_WORKERS, Order, Place, Request, Solve, Test, read_request,
+    Audit, Check, MOST_NODES, MOST_WORKERS, Order, Place, Solve, Task, Test, completion_script,
+    read_request,
 };
-use fs_io::{Output, Status, read_bytes, write_text};
+use fs_io::{Output, Status, write_text};
 use fs_kinds::Fault;
 use fs_order::run_order;
 use fs_place::run_place;
-use fs_solve::{Certified, run_certified, run_certified_alone, run_solve, run_solve_alone};
-use fs_test::{test_file, test_report};
+use fs_solve::{
+    Answered, Certified, run_certified, run_certified_alone, run_solve, run_solve_alone,
+};
+use fs_test::{test_objects, test_report, vacuous_note};
 use fs_verify::run_check;
-use std::fs::File;
 use std::process::ExitCode;
 use std::rt::{Clock, Env, Files};
 use std::sync::Wait;
@@ -24,8 +28,8 @@ use std::thread::Threads;
 use std::{env, io};
 use thiserror::Error;
 
-/// Tests, prices and witnesses are read up to this many bytes.
-const INPUT_LIMIT: usize = 1_048_576;
+/// What `solve` prints where no fence is needed.
+const UNFENCED: &str = "fenced 0\n";
 
 /// Certificates are read up to this many bytes.
 const CERTIFICATE_LIMIT: usize = 1_073_741_824;
@@ -80,8 +84,10 @@ fn status_of_run<
         Ok(request) => request,
         Err(error) => return explain(rt, error),
     };
-    let output = answer(rt, &request, is_terminal)?;
-    write_text(&mut io::writer(rt), output.text.as_bytes())?;
+    let output = answer(rt, &request.task, is_terminal)?;
+    if !request.quiet {
+        write_text(&mut io::writer(rt), output.text.as_bytes())?;
+    }
     Ok(output.status)
 }
 
@@ -119,27 +125,33 @@ fn report<R: Eprint>(rt: &R, error: &impl std::error::Error) {
 
 fn answer<R: Files + Input + Eprint + AllocGlobal + Clock + Threads + Wait + Sync>(
     rt: &R,
-    request: &Request<'_>,
+    task: &Task<'_>,
     is_terminal: bool,
 ) -> Result<Output, Fault> {
-    match request {
-        Request::Test(test) => answer_test(rt, test),
-        Request::Place(place) => answer_place(rt, place),
-        Request::Order(order) => answer_order(rt, order),
-        Request::Solve(solve) => answer_solve(rt, solve, is_terminal),
-        Request::Audit(audit) => answer_audit(rt, audit),
-        Request::Check(check) => answer_check(rt, check),
+    match task {
+        Task::Test(test) => answer_test(rt, test),
+        Task::Place(place) => answer_place(rt, place),
+        Task::Order(order) => answer_order(rt, order),
+        Task::Solve(solve) => answer_solve(rt, solve, is_terminal),
+        Task::Audit(audit) => answer_audit(rt, audit),
+        Task::Check(check) => answer_check(rt, check),
+        Task::Completions(shell) => Ok(Output {
+            text: completion_script(rt.alloc(), *shell)?,
+            status: Status::Success,
+        }),
     }
 }
 
-/// One file after the other; of each no more is kept than its line.
-fn answer_test<R: Files + Input + AllocGlobal>(rt: &R, test: &Test) -> Result<Output, Fault> {
-    let mut lines = Vec::new(rt.alloc());
-    for path in &test.files {
-        let file = read_input(rt, path.as_str());
-        lines.push(test_file(rt.alloc(), path.as_str(), file)?)?;
+fn answer_test<R: Files + Input + AllocGlobal + Threads + Wait + Sync>(
+    rt: &R,
+    test: &Test,
+) -> Result<Output, Fault> {
+    let lines = said_of_files(rt, &test.files, test.jobs)?;
+    if test.json {
+        test_objects(rt.alloc(), &lines)
+    } else {
+        test_report(rt.alloc(), &lines)
     }
-    test_report(rt.alloc(), &lines)
 }
 
 fn answer_place<R: Files + Input + AllocGlobal>(
@@ -176,16 +188,46 @@ fn answer_solve<R: Files + Input + Eprint + AllocGlobal + Clock + Threads + Wait
     let workers = solve.workers.clamp(1, MOST_WORKERS);
     let limit = solve.nodes.clamp(1, MOST_NODES) as usize;
     let mut progress = Progress::new(rt, is_terminal);
-    let Some(path) = solve.certificate else {
-        let output = solved(rt, &test, &prices, workers, limit, &mut progress);
-        progress.wipe();
-        return output;
+    let answered = match solve.certificate {
+        Some(path) => {
+            let certified = certified(rt, &test, &prices, workers, limit, &mut progress);
+            progress.wipe();
+            let certified = certified?;
+            write_whole(rt, path, certified.certificate.as_bytes())?;
+            certified.answered
+        }
+        None => {
+            let answered = solved(rt, &test, &prices, workers, limit, &mut progress);
+            progress.wipe();
+            answered?
+        }
     };
-    let certified = certified(rt, &test, &prices, workers, limit, &mut progress);
-    progress.wipe();
-    let certified = certified?;
-    write_whole(rt, path, certified.certificate.as_bytes())?;
-    Ok(certified.output)
+    note_vacuous(rt, &test, answered.output.text.as_str())?;
+    Ok(in_form(answered.output, answered.object, solve.json))
+}
+
+/// Says on standard error that the test is vacuous, where it is. Then it needs no fence, so of other answers nothing is
+/// asked.
+fn note_vacuous<R: Eprint + AllocGlobal>(rt: &R, test: &[u8], answer: &str) -> Result<(), Fault> {
+    if answer != UNFENCED {
+        return Ok(());
+    }
+    if let Some(note) = vacuous_note(rt.alloc(), test)? {
+        let _ = rt.eprint(note.as_str());
+    }
+    Ok(())
+}
+
+/// The output, or with its status the object in its place.
+fn in_form(output: Output, object: String, is_json: bool) -> Output {
+    if is_json {
+        Output {
+            text: object,
+            status: output.status,
+        }
+    } else {
+        output
+    }
 }
 
 /// What `solve` prints. One worker needs no thread, and its search is proved to end.
@@ -196,7 +238,7 @@ fn solved<R: Eprint + AllocGlobal + Clock + Threads + Wait + Sync>(
     workers: u8,
     limit: usize,
     progress: &mut Progress<'_, R>,
-) -> Result<Output, Fault>
+) -> Result<Answered, Fault>
     requires some { 1 ≤ workers }
     requires few { workers ≤ 16 }
     requires least { 1 ≤ limit }
@@ -250,21 +292,6 @@ fn answer_check<R: Files + Input + AllocGlobal>(
     let test = read_input(rt, check.test)?;
     let prices = read_file(rt, check.prices, INPUT_LIMIT)?;
     let certificate = read_file(rt, check.certificate, CERTIFICATE_LIMIT)?;
-    run_check(rt.alloc(), &test, &prices, &certificate)
-}
-
-/// The bytes of a test: of standard input where it is called `-` or `stdin`, else of the file.
-fn read_input<R: Files + Input + AllocGlobal>(rt: &R, path: &str) -> Result<Vec<u8>, Fault> {
-    if path == "-" || path == "stdin" {
-        return read_bytes(rt.alloc(), &mut rt.reader(), INPUT_LIMIT);
-    }
-    read_file(rt, path, INPUT_LIMIT)
-}
-
-/// The bytes of the file, where there are at most `limit`. One that can't be opened is a `ReadFault`.
-fn read_file<R: Files + AllocGlobal>(rt: &R, path: &str, limit: usize) -> Result<Vec<u8>, Fault> {
-    match File::open(rt, path) {
-        Ok(mut file) => read_bytes(rt.alloc(), &mut file, limit),
-        Err(_) => Err(Fault::ReadFault),
-    }
+    let checked = run_check(rt.alloc(), &test, &prices, &certificate)?;
+    Ok(in_form(checked.output, checked.object, check.json))
 }

@@ -16,6 +16,7 @@ use Rattle.fs_model.specs.Execution.{Execution}
 use Rattle.fs_model.specs.Fenced.{fenced}
 use Rattle.fs_model.specs.Placed.{fits}
 use Rattle.fs_model.specs.Printed.{printed}
+use Rattle.fs_model.specs.Witness.{Witness}
 use Rattle.fs_answer.specs.Certificate.{IsLeastCost}
 use Rattle.fs_history.specs.Sizes.{IsUnanswered}
 use Rattle.fs_io.specs.declared.status.Status.{Status}
@@ -108,7 +109,7 @@ pub record AreFound (test prices : List ℕ) (f : Findings) : Type 0 where
   pub reads : Reads test f.test
   pub priced : ArePricesOf prices f.prices
   pub stand : StandIn test f.lines
-  pub tested : (text : List ℕ) × IsTestedAs f.test f.kind text
+  pub tested : (why : List ℕ) × (witness : Option Witness) × IsTestedAs f.test f.kind why witness
   pub bare : IsSame f.bare (unfenced f.test)
   pub written : f.written ≡ taken_up f.prices (no_fences f.bare) (written_fences f.test.codes)
   pub all : f.all ≡ all_fit f.prices (no_fences f.bare) (written_fences f.test.codes)
@@ -141,7 +142,7 @@ pub record IsMended (test prices text : List ℕ) (status : Status) : Type 0 whe
 
 -- something is said of the test as it is written
 abbrev pub IsTested : Test → Type 0
-IsTested t = (k : Kind) × (text : List ℕ) × IsTestedAs t k text
+IsTested t = (k : Kind) × (why : List ℕ) × (witness : Option Witness) × IsTestedAs t k why witness
 
 -- the first fault: of the prices; else of the test as a file; else of it as it is written; else of the search for fences. Want of memory may
 -- come in place of any answer.

@@ -14,7 +14,7 @@ use Rattle.fs_io.specs.declared.status.Status.{Status}
 use Rattle.fs_io.specs.declared.status.Status.TheVariants as status
 use Rattle.fs_test.specs.declared.said.Kind.{Kind}
 use Rattle.fs_test.specs.declared.said.Kind.TheVariants as kind
-use Rattle.fs_test.specs.Report.{padded}
+use Rattle.fs_test.specs.Report.{kind_text, padded}
 use Rattle.fs_audit.specs.Advice.{advice_of, is_right}
 use Rattle.fs_audit.specs.declared.advice.Advice.{Advice}
 use Rattle.fs_audit.specs.declared.advice.Advice.TheVariants.{Needed, Enough, Instead, NotNeeded, NoSlot, Idle, Devices, Missing}
@@ -72,12 +72,6 @@ abbrev pub lines_text : List (List ℕ) → List (List Instr) → List Entry →
 lines_text lines codes p = flat_map (code_text lines p) (enumerate_from 0 codes)
 
 -- ---- the first line
-
-abbrev pub kind_text : Kind → List ℕ
-kind_text kind.Forbidden = codes "forbidden"
-kind_text kind.Allowed = codes "allowed"
-kind_text kind.Vacuous = codes "vacuous"
-kind_text kind.Faulty = codes "fault"
 
 -- what the FENCEs cost, where that is known
 abbrev pub cost_text : PriceTable → Option (List Entry) → List ℕ

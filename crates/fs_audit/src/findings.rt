@@ -1,6 +1,6 @@
 //! What `audit` finds of a test file and prices.
 
-ghost use Rattle.std.specs.Prelude.{◌≡◌, ◌≢◌, ◌≤◌, ◌++◌, ◌&&◌, ℕ, All, List as Items, Some, length, OnOk, IfOk, IfErr, IsOkUnless, IsTrue, true, false};
+ghost use Rattle.std.specs.Prelude.{◌≡◌, ◌≢◌, ◌≤◌, ◌++◌, ◌&&◌, ℕ, All, List as Items, Option, Some, length, OnOk, IfOk, IfErr, IsOkUnless, IsTrue, true, false};
 ghost use Rattle.std.specs.Arc.{arc_value};
 ghost use Rattle.fs_kinds.specs.Limits.{most_harts, most_instructions};
 ghost use Rattle.fs_kinds.specs.Placement.{slots_of};
@@ -9,6 +9,7 @@ ghost use Rattle.fs_model.specs.declared.test.Test.{Test as Tests};
 ghost use Rattle.fs_model.specs.Allows.{Allows, IsCheapest, no_fences};
 ghost use Rattle.fs_model.specs.Slots.{slots};
 ghost use Rattle.fs_model.specs.Test.{IsBounded, IsSame, IsStart, IsTest};
+ghost use Rattle.fs_model.specs.Witness.{Witness as Shown};
 ghost use Rattle.fs_answer.specs.CandidateFaults.{IsCandidateFault};
 ghost use Rattle.fs_history.specs.Sizes.{IsUnanswered};
 ghost use Rattle.fs_litmus.specs.Faults.{IsTestFault};
@@ -365,7 +366,7 @@ fn find_judged(
 ) -> Result<Findings, Fault>
     requires reads { Reads bytes.now (arc_value written) }
     requires test { IsTest (arc_value written) }
-    requires tested { (text : Items ℕ) × IsTestedAs (arc_value written) kind text }
+    requires tested { (why : Items ℕ) × (witness : Option Shown) × IsTestedAs (arc_value written) kind why witness }
     requires table { IsPriceTable prices }
     requires least { 1 ≤ limit }
     requires most { limit ≤ 1000000 }

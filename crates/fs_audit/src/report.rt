@@ -6,7 +6,7 @@ ghost use Rattle.fs_kinds.specs.Limits.{most_harts, most_instructions};
 ghost use Rattle.fs_kinds.specs.PriceTable.{are_offered};
 ghost use Rattle.fs_kinds.specs.Slot.{place_name};
 ghost use Rattle.fs_test.specs.Report.{padded};
-ghost use Rattle.fs_audit.specs.Report.{fence_letters, names_devices, about, advice_text, line_text, line_of, advised, code_text, lines_text, kind_text, cost_text, best_text, first_line, below, is_as_advised, audit_status};
+ghost use Rattle.fs_audit.specs.Report.{fence_letters, names_devices, about, advice_text, line_text, line_of, advised, code_text, lines_text, cost_text, best_text, first_line, below, is_as_advised, audit_status};
 
 use crate::advice::{Advice, advice_of, is_right};
 use fs_instr::Instr;
@@ -14,7 +14,7 @@ use fs_io::Status;
 use fs_kinds::{OperationName, Placement, Prices};
 use fs_list::List;
 use fs_litmus::Code;
-use fs_test::{Kind, padded};
+use fs_test::{Kind, kind_text, padded};
 use std::alloc::{AllocError, Global};
 
 /// The bytes that the line's number takes with its word, and the names of instructions, and the letters of FENCEs.
@@ -191,17 +191,6 @@ fn lines_text(
         text.push_str(said.as_str())?;
     }
     Ok(text)
-}
-
-fn kind_text(kind: Kind) -> &'static str
-    ensures { result.now ≡ kind_text kind }
-{
-    match kind {
-        Kind::Forbidden => "forbidden",
-        Kind::Allowed => "allowed",
-        Kind::Vacuous => "vacuous",
-        Kind::Faulty => "fault",
-    }
 }
 
 // What the FENCEs cost, where that is known.

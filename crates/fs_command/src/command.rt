@@ -1,4 +1,5 @@
 //! The command line: its words, and what each command's help says.
+use crate::completions::{Shell, script};
 use clap::{Arg, ArgAction, ArgMatches, Command, Error, value_parser};
 use std::alloc::{AllocError, Global};
 
@@ -25,6 +26,15 @@ a last line that counts them. No fence is placed, and prices are not asked for.
   examples/tests/SB-half.litmus  allowed    P1:2 comes to memory before P1:1
   examples/tests/typo.litmus     vacuous    nothing stores 1 to z
   2 tests: 1 allowed, 1 vacuous
+
+With --json it prints a JSON object for each file, a line each, and nothing counts them:
+
+  $ rvfence test examples/tests/SB-half.litmus --json
+  {\"file\":\"examples/tests/SB-half.litmus\",\"verdict\":\"allowed\",\"why\":\"P1:2 comes to memory
+  before P1:1\",\"witness\":{\"choices\":[[0],[0]],\"order\":[\"P1:2\",\"P0:1\",\"P0:3\",\"P1:1\"]}}
+
+(here in two lines). Where the outcome is allowed, the witness is an execution that shows it,
+which `order` reads.
 
 Exit status:
   0  each outcome is forbidden
@@ -100,6 +110,14 @@ out. Then it prints `none` and such an execution, as a witness that `order` read
   none
   {\"choices\":[[],[1,1]],\"order\":[\"P0:1\",\"P0:3\",\"P1:0\",\"P1:1\"]}
 
+With --json the answer is a JSON object, in one line:
+
+  {\"answer\":\"fenced\",\"cost\":18,\"fences\":[{\"before\":2,\"hart\":0,\"kind\":\"w,r\"},
+  {\"before\":2,\"hart\":1,\"kind\":\"w,r\"}]}
+  {\"answer\":\"none\",\"witness\":{\"choices\":[[],[1,1]],\"order\":[\"P0:1\",\"P0:3\",\"P1:0\",\"P1:1\"]}}
+
+Where the outcome is vacuous (`rvfence test --help`), a note on standard error says why.
+
 With --cert PATH a certificate of the answer is written to PATH first, which `check` reads
 and judges without a search.
 
@@ -171,6 +189,11 @@ Nothing is searched, so a yes needs no trust in the search:
   fence P0 2 w,r
   fence P1 2 w,r
 
+With --json it prints a JSON object, in one line, with the answer as `solve --json` has it:
+
+  {\"answer\":{\"answer\":\"fenced\",\"cost\":18,\"fences\":[..]},\"valid\":true}
+  {\"reason\":\"cycle 3\",\"valid\":false}
+
 A certificate is a JSON file with the answer, a cycle for each candidate execution that
 shows the outcome (in version 4 a refutation of them all), a tree in which nothing better
 than the answer is left, and the executions that the tree names. docs/CERTIFICATE.md says
@@ -195,8 +218,23 @@ Faults beside those of the files: a hart has too many runs (F13), a run accesses
 address of no location (F14), there are too many candidate executions (F15; not with
 version 4).";
 
+const COMPLETIONS_ABOUT: &str = "Print a script by which a shell completes commands and options";
+
+const COMPLETIONS_HELP: &str = "\
+A shell that reads the script completes commands, options and the names of files:
+
+  source <(rvfence completions bash)      in bash
+  source <(rvfence completions zsh)       in zsh
+  rvfence completions fish | source       in fish
+
+Exit status:
+  0  the script is on standard output
+  2  a fault, or a bad command line
+  3  memory ran out (fault F19)";
+
 const PROGRAM_HELP: &str = "\
-`rvfence <COMMAND> --help` says what a command answers.
+`rvfence <COMMAND> --help` says what a command answers. With -q a command prints nothing on
+standard output, and the status tells.
 
 Exit status: 0 done, yes, fenced or forbidden; 1 no, none or allowed; 2 a fault or a bad
 command line; 3 memory ran out; 4 vacuous.";
@@ -217,34 +255,61 @@ const CERT_HELP: &str = "File to write a certificate of the answer to, which `ch
 
 const WORKERS_HELP: &str = "Threads to search with, 1 to 16";
 
+const JOBS_HELP: &str = "Threads to judge files with, 1 to 16; the lines are the same";
+
+const LINES_HELP: &str = "Print a JSON object for each file, a line each";
+
+const JSON_HELP: &str = "Print a JSON object";
+
+const SHELL_HELP: &str = "Which shell is to read it";
+
 const WRITE_HELP: &str = "Print the test with the cheapest fences in place of its own";
+
+const QUIET_HELP: &str = "Print nothing on standard output: the status tells";
 
 const NODES_HELP: &str = "Most nodes that the search may make, 1 to 1000000";
 
-/// The most threads that may search.
+/// The names of the shells.
+const SHELLS: &[&str] = &["bash", "zsh", "fish"];
+
+/// The most threads that may search, or judge files.
 pub const MOST_WORKERS: u8 = 16;
 
-/// How many threads search, where the command line doesn't say.
+/// How many threads do, where the command line doesn't say.
 const ONE_WORKER: u8 = 1;
 
 /// The most nodes that a search may be allowed, and how many it is where the command line doesn't say.
 pub const MOST_NODES: u32 = 1_000_000;
 
-/// What a command line asks for. Files go by their paths.
+/// What a command line asks for.
 #[derive(Drop)]
-pub enum Request<'a> {
+pub struct Request<'a> {
+    pub task: Task<'a>,
+    /// Whether nothing is to be printed on standard output.
+    pub quiet: bool,
+}
+
+/// What is to be done. Files go by their paths.
+#[derive(Drop)]
+pub enum Task<'a> {
     Test(Test),
     Place(Place<'a>),
     Order(Order<'a>),
     Solve(Solve<'a>),
     Audit(Audit<'a>),
     Check(Check<'a>),
+    /// To print the script for this shell.
+    Completions(Shell),
 }
 
 /// What `test` was asked for.
 #[derive(Drop)]
 pub struct Test {
     pub files: Vec<String>,
+    /// How many threads judge files: from 1 to 16.
+    pub jobs: u8,
+    /// Whether JSON is to be printed.
+    pub json: bool,
 }
 
 /// What `place` was asked for.
@@ -274,6 +339,8 @@ pub struct Solve<'a> {
     pub nodes: u32,
     /// Where a certificate of the answer is to be written.
     pub certificate: Option<&'a str>,
+    /// Whether JSON is to be printed.
+    pub json: bool,
 }
 
 /// What `audit` was asked for.
@@ -293,6 +360,8 @@ pub struct Check<'a> {
     pub test: &'a str,
     pub prices: &'a str,
     pub certificate: &'a str,
+    /// Whether JSON is to be printed.
+    pub json: bool,
 }
 
 /// The request that the words make, the program's name first. An error holds the text for the user, and help and the
@@ -303,28 +372,35 @@ pub fn read_request<'a>(alloc: Global, words: &'a [String]) -> Result<Request<'a
 }
 
 fn request_of<'a>(alloc: Global, matches: &ArgMatches<'a>) -> Result<Request<'a>, AllocError> {
-    if let Some(found) = matches.subcommand_matches("test") {
-        return Ok(Request::Test(test_of(alloc, found)?));
+    let (name, found) = matches.subcommand().unwrap_or(("", matches));
+    Ok(Request {
+        task: task_of(alloc, name, found)?,
+        quiet: found.get_flag("quiet"),
+    })
+}
+
+/// What the command of this name is to do.
+fn task_of<'a>(
+    alloc: Global,
+    name: &str,
+    found: &ArgMatches<'a>,
+) -> Result<Task<'a>, AllocError> {
+    match name {
+        "test" => Ok(Task::Test(test_of(alloc, found)?)),
+        "order" => Ok(Task::Order(order_of(alloc, found)?)),
+        "solve" => Ok(Task::Solve(solve_of(found))),
+        "audit" => Ok(Task::Audit(audit_of(found))),
+        "check" => Ok(Task::Check(check_of(found))),
+        "completions" => Ok(Task::Completions(shell_of(found))),
+        _ => Ok(Task::Place(place_of(alloc, found)?)),
     }
-    if let Some(found) = matches.subcommand_matches("order") {
-        return Ok(Request::Order(order_of(alloc, found)?));
-    }
-    if let Some(found) = matches.subcommand_matches("solve") {
-        return Ok(Request::Solve(solve_of(found)));
-    }
-    if let Some(found) = matches.subcommand_matches("audit") {
-        return Ok(Request::Audit(audit_of(found)));
-    }
-    if let Some(found) = matches.subcommand_matches("check") {
-        return Ok(Request::Check(check_of(found)));
-    }
-    let found = matches.subcommand_matches("place").unwrap_or(matches);
-    Ok(Request::Place(place_of(alloc, found)?))
 }
 
 fn test_of(alloc: Global, found: &ArgMatches<'_>) -> Result<Test, AllocError> {
     Ok(Test {
         files: words_of(alloc, found, "FILE")?,
+        jobs: found.get_one::<u8>("jobs").unwrap_or(ONE_WORKER),
+        json: found.get_flag("json"),
     })
 }
 
@@ -351,6 +427,7 @@ fn solve_of<'a>(found: &ArgMatches<'a>) -> Solve<'a> {
         workers: found.get_one::<u8>("workers").unwrap_or(ONE_WORKER),
         nodes: found.get_one::<u32>("nodes").unwrap_or(MOST_NODES),
         certificate: found.get_str("cert"),
+        json: found.get_flag("json"),
     }
 }
 
@@ -368,6 +445,15 @@ fn check_of<'a>(found: &ArgMatches<'a>) -> Check<'a> {
         test: found.get_str("FILE").unwrap_or(""),
         prices: found.get_str("PRICES").unwrap_or(""),
         certificate: found.get_str("CERTIFICATE").unwrap_or(""),
+        json: found.get_flag("json"),
+    }
+}
+
+fn shell_of(found: &ArgMatches<'_>) -> Shell {
+    match found.get_str("SHELL") {
+        Some("zsh") => Shell::Zsh,
+        Some("fish") => Shell::Fish,
+        _ => Shell::Bash,
     }
 }
 
@@ -395,7 +481,8 @@ fn whole_command<'a>(alloc: Global) -> Result<Command<'a>, AllocError> {
     let program = with_command(program, audit_command(alloc));
     let program = with_command(program, place_command(alloc));
     let program = with_command(program, order_command(alloc));
-    with_command(program, check_command(alloc))
+    let program = with_command(program, check_command(alloc));
+    with_command(program, completions_command(alloc))
 }
 
 /// The program with one more command, where memory was there for both.
@@ -418,7 +505,10 @@ fn test_command<'a>(alloc: Global) -> Result<Command<'a>, AllocError> {
     let command = Command::new(alloc, "test")
         .about(TEST_ABOUT)
         .after_help(TEST_HELP);
-    with_argument(Ok(command), files(alloc, FILES_HELP))
+    let command = with_argument(Ok(command), files(alloc, FILES_HELP));
+    let command = with_argument(command, threads(alloc, "jobs", JOBS_HELP));
+    let command = with_argument(command, flag(alloc, "json", LINES_HELP));
+    with_argument(command, quiet(alloc))
 }
 
 fn place_command<'a>(alloc: Global) -> Result<Command<'a>, AllocError> {
@@ -427,7 +517,8 @@ fn place_command<'a>(alloc: Global) -> Result<Command<'a>, AllocError> {
         .after_help(PLACE_HELP);
     let command = with_argument(Ok(command), required(alloc, "FILE", FILE_HELP));
     let command = with_argument(command, fences(alloc, FENCE_HELP));
-    with_argument(command, option(alloc, "prices", "PRICES", PRICES_HELP))
+    let command = with_argument(command, option(alloc, "prices", "PRICES", PRICES_HELP));
+    with_argument(command, quiet(alloc))
 }
 
 fn order_command<'a>(alloc: Global) -> Result<Command<'a>, AllocError> {
@@ -436,7 +527,8 @@ fn order_command<'a>(alloc: Global) -> Result<Command<'a>, AllocError> {
         .after_help(ORDER_HELP);
     let command = with_argument(Ok(command), required(alloc, "FILE", FILE_HELP));
     let command = with_argument(command, required(alloc, "WITNESS", WITNESS_HELP));
-    with_argument(command, fences(alloc, FENCE_HELP))
+    let command = with_argument(command, fences(alloc, FENCE_HELP));
+    with_argument(command, quiet(alloc))
 }
 
 fn solve_command<'a>(alloc: Global) -> Result<Command<'a>, AllocError> {
@@ -445,9 +537,11 @@ fn solve_command<'a>(alloc: Global) -> Result<Command<'a>, AllocError> {
         .after_help(SOLVE_HELP);
     let command = with_argument(Ok(command), required(alloc, "FILE", FILE_HELP));
     let command = with_argument(command, required(alloc, "PRICES", PRICES_HELP));
-    let command = with_argument(command, workers(alloc, WORKERS_HELP));
+    let command = with_argument(command, threads(alloc, "workers", WORKERS_HELP));
     let command = with_argument(command, nodes(alloc, NODES_HELP));
-    with_argument(command, option(alloc, "cert", "PATH", CERT_HELP))
+    let command = with_argument(command, option(alloc, "cert", "PATH", CERT_HELP));
+    let command = with_argument(command, flag(alloc, "json", JSON_HELP));
+    with_argument(command, quiet(alloc))
 }
 
 fn audit_command<'a>(alloc: Global) -> Result<Command<'a>, AllocError> {
@@ -457,7 +551,8 @@ fn audit_command<'a>(alloc: Global) -> Result<Command<'a>, AllocError> {
     let command = with_argument(Ok(command), required(alloc, "FILE", FILE_HELP));
     let command = with_argument(command, required(alloc, "PRICES", PRICES_HELP));
     let command = with_argument(command, flag(alloc, "write", WRITE_HELP));
-    with_argument(command, nodes(alloc, NODES_HELP))
+    let command = with_argument(command, nodes(alloc, NODES_HELP));
+    with_argument(command, quiet(alloc))
 }
 
 fn check_command<'a>(alloc: Global) -> Result<Command<'a>, AllocError> {
@@ -466,7 +561,23 @@ fn check_command<'a>(alloc: Global) -> Result<Command<'a>, AllocError> {
         .after_help(CHECK_HELP);
     let command = with_argument(Ok(command), required(alloc, "FILE", FILE_HELP));
     let command = with_argument(command, required(alloc, "PRICES", PRICES_HELP));
-    with_argument(command, required(alloc, "CERTIFICATE", CERTIFICATE_HELP))
+    let command = with_argument(command, required(alloc, "CERTIFICATE", CERTIFICATE_HELP));
+    let command = with_argument(command, flag(alloc, "json", JSON_HELP));
+    with_argument(command, quiet(alloc))
+}
+
+fn completions_command<'a>(alloc: Global) -> Result<Command<'a>, AllocError> {
+    let command = Command::new(alloc, "completions")
+        .about(COMPLETIONS_ABOUT)
+        .after_help(COMPLETIONS_HELP);
+    let shell = required(alloc, "SHELL", SHELL_HELP).value_parser(SHELLS);
+    let command = with_argument(Ok(command), shell);
+    with_argument(command, quiet(alloc))
+}
+
+/// The script by which the shell completes the words of a command line. The error is want of memory.
+pub fn completion_script(alloc: Global, shell: Shell) -> Result<String, AllocError> {
+    script(alloc, &whole_command(alloc)?, shell)
 }
 
 /// A word that must be there.
@@ -490,6 +601,11 @@ fn flag<'a>(alloc: Global, name: &'a str, help: &'a str) -> Arg<'a> {
         .action(ArgAction::SetTrue)
 }
 
+/// That nothing is to be printed on standard output, which each command takes.
+fn quiet<'a>(alloc: Global) -> Arg<'a> {
+    flag(alloc, "quiet", QUIET_HELP).short('q')
+}
+
 /// One word or more.
 fn files<'a>(alloc: Global, help: &'a str) -> Arg<'a> {
     Arg::new(alloc, "FILE")
@@ -502,8 +618,9 @@ fn fences<'a>(alloc: Global, help: &'a str) -> Arg<'a> {
     Arg::new(alloc, "FENCE").help(help).num_args(0..)
 }
 
-fn workers<'a>(alloc: Global, help: &'a str) -> Arg<'a> {
-    option(alloc, "workers", "N", help)
+/// How many threads are asked for.
+fn threads<'a>(alloc: Global, name: &'a str, help: &'a str) -> Arg<'a> {
+    option(alloc, name, "N", help)
         .value_parser(value_parser!(u8).range(1..=i64::from(MOST_WORKERS)))
         .default_value("1")
 }

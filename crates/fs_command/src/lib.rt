@@ -2,7 +2,10 @@
 #![tactic(auto)]
 
 mod command;
+mod completions;
 
 pub use command::{
-    Audit, Check, MOST_NODES, MOST_WORKERS, Order, Place, Request, Solve, Test, read_request,
+    Audit, Check, MOST_NODES, MOST_WORKERS, Order, Place, Request, Solve, Task, Test, completion_script,
+    read_request,
 };
+pub use completions::Shell;

@@ -44,8 +44,8 @@ pub fn witness_text(
     value.to_string(alloc)
 }
 
-/// The JSON object of the witness.
-fn witness_value(
+/// The JSON object of the witness with these choices of each hart and this order, as `witness_text` writes it. The error is want of memory.
+pub fn witness_value(
     alloc: Global,
     choices: &ChoiceLists,
     order: &List<OperationName>,

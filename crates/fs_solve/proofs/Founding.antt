@@ -1,5 +1,5 @@
 -- From an answer that was found to what is printed of it, and to its certificate.
-use Rattle.std.proofs.Common.{◌≡◌, ℕ, Option, None, Some, MatchOption, List, Result, IfOk, Ok, Err, IfErr, refl, sym, subst, ◌∙◌, inl, inr}
+use Rattle.std.proofs.Common.{◌≡◌, ℕ, Option, None, Some, MatchOption, List, Result, false, IfOk, Ok, Err, IfErr, refl, sym, subst, ◌∙◌, inl, inr}
 use Rattle.std.specs.Prelude.{IsOkUnless}
 use Rattle.fs_kinds.specs.declared.fault.Fault.{Fault}
 use Rattle.fs_kinds.specs.declared.fault.Fault.TheVariants.{Memory}
@@ -15,6 +15,9 @@ use Rattle.fs_model.specs.Witness.{Witness}
 use Rattle.fs_answer.specs.Certificate as said
 use Rattle.fs_answer.specs.CertificateFile.{CanBeSaid, IsCertificateFile}
 use Rattle.fs_answer.specs.Texts.{certificate_text}
+use Rattle.serde_json.specs.Written.{has_float}
+use Rattle.fs_report.specs.Objects.{AreOneAnswer, SayOneAnswer, json_line}
+use Rattle.fs_report.proofs.Values.{fenced_whole, none_whole}
 use Rattle.fs_certificate.specs.declared.certificate.Certificate.{Certificate}
 use Rattle.fs_certificate.specs.Kept.{AreInRange, KeepsCertificate}
 use Rattle.fs_io.specs.declared.status.Status.{Status}
@@ -25,7 +28,7 @@ use Rattle.fs_crew.specs.Forms as answer
 use Rattle.fs_cert.specs.Certified.{Certifies, CertifiesNone}
 use Rattle.fs_solve.specs.Solve.{IsCertified, IsWitnessed, IsFirstSolveFault, IsSolved, PrintsAnswer, PrintsPlaced, of_memory}
 use Rattle.fs_solve.specs.inner.Found.{IsAskedBy, IsFound, IsFoundFor}
-use Rattle.fs_solve.specs.inner.Made.{CertifiesAnswer, HasWitness, PrintsWitness, SaysAnswer}
+use Rattle.fs_solve.specs.inner.Made.{CertifiesAnswer, HasWitness, PrintsWitness, SaysAnswer, lines_of, value_of}
 
 -- what was answered to a copy of the question
 pub found-for : (q asked given : Question) (limit : ℕ) (s : Solved) → asked ≡ q → given ≡ asked → IsBounded q.test
@@ -58,6 +61,20 @@ printed t prices None text status is = inr is
 
 abbrev pub Prints : Answer → List ℕ → Status → Type 0
 Prints a text status = (t : Test) (prices : PriceTable) → IsAnswer t prices a → PrintsPlaced t prices (placement_of a) text status
+
+say-one : (a : Answer) → SayOneAnswer (lines_of a) (value_of a)
+say-one (answer.Fenced f n) = inl (n, placement_in f, refl, refl)
+say-one (answer.None w) = inr (w.witness, refl, refl)
+
+-- what is printed of an answer in lines and as JSON
+pub one-answer : (a : Answer) (lines object : List ℕ) → lines ≡ lines_of a → object ≡ json_line (value_of a) → AreOneAnswer lines object
+one-answer a lines object shown printed =
+    (value_of a, subst (λ text. SayOneAnswer text (value_of a)) (sym shown) (say-one a), printed)
+
+-- no object of an answer has a float
+pub whole-value : (a : Answer) → has_float (value_of a) ≡ false
+whole-value (answer.Fenced f n) = fenced_whole n (placement_in f)
+whole-value (answer.None w) = none_whole w.witness
 
 witnessed : (a : Answer) (witnesses : List Witness) (text : List ℕ) → HasWitness a witnesses → PrintsWitness a text → IsWitnessed (placement_of a) witnesses text
 witnessed (answer.Fenced f n) witnesses text has prints = tt

@@ -4,4 +4,6 @@
 mod solve;
 
 pub use fs_crew::{Gate, Open, Unwatched, Watch};
-pub use solve::{Certified, run_certified, run_certified_alone, run_solve, run_solve_alone};
+pub use solve::{
+    Answered, Certified, run_certified, run_certified_alone, run_solve, run_solve_alone,
+};

@@ -6,13 +6,15 @@ ghost use Rattle.fs_kinds.specs.PriceTable.{PriceTable, IsPriceTable};
 ghost use Rattle.fs_model.specs.declared.test.Test.{Test as Tests};
 ghost use Rattle.fs_model.specs.Test.{IsTest};
 ghost use Rattle.fs_litmus.specs.Reads.{Reads};
+ghost use Rattle.serde_json.specs.View.{view};
 ghost use Rattle.fs_evidence.specs.Evidence.{Question as Asked, ShowsForbidden};
 ghost use Rattle.fs_crew.specs.Answers.{IsAnswer, placement_of};
 ghost use Rattle.fs_cert.specs.Certified.{Certifies};
 ghost use Rattle.fs_place.specs.Place.{ArePricesOf};
+ghost use Rattle.fs_report.specs.Objects.{AreOneAnswer, json_line};
 ghost use Rattle.fs_solve.specs.Solve.{PrintsPlaced, IsSolved, IsCertified, IsFirstSolveFault};
 ghost use Rattle.fs_solve.specs.inner.Found.{IsAskedBy, IsFound, IsFoundFor};
-ghost use Rattle.fs_solve.specs.inner.Made.{CertifiesAnswer, PrintsWitness, SaysAnswer};
+ghost use Rattle.fs_solve.specs.inner.Made.{CertifiesAnswer, PrintsWitness, SaysAnswer, lines_of, value_of};
 
 use fs_cert::{from_board, from_least, from_witness};
 use fs_certificate::Certificate;
@@ -21,15 +23,24 @@ use fs_evidence::{Forbidden, Question};
 use fs_io::{Output, Status};
 use fs_kinds::{Fault, Prices, read_prices};
 use fs_litmus::{Test, read_test};
-use fs_report::{fenced_text, none_text};
+use fs_report::{fenced_text, fenced_value, json_line, none_text, none_value};
+use serde_json::Value;
 use std::alloc::{AllocError, Global};
 use std::sync::{Arc, Wait};
 use std::thread::Threads;
 
+/// What `solve` prints.
+#[derive(Drop)]
+pub struct Answered {
+    pub output: Output,
+    /// The answer as a JSON object, in a line, which may be printed in place of its lines.
+    pub object: String,
+}
+
 /// What `solve` prints, and a certificate of the answer.
 #[derive(Drop)]
 pub struct Certified {
-    pub output: Output,
+    pub answered: Answered,
     /// The text of a certificate file.
     pub certificate: String,
 }
@@ -41,7 +52,7 @@ struct Found {
     solved: Solved,
 }
 
-/// What `solve` prints for a test file and a file of prices: the first of the cheapest placements of fences that rule the outcome
+/// What `solve` prints for a test file and a file of prices, in lines or as JSON: the first of the cheapest placements of fences that rule the outcome
 /// out, with its cost, and status 0; or `none`, with an execution that shows the outcome with `rw,rw` in every slot, and status 1.
 /// The files are bytes as they were read. One worker searches, without threads, and the call ends; the watch is told how far it is.
 ///
@@ -55,15 +66,16 @@ pub fn run_solve_alone<W: Watch>(
     prices: &[u8],
     limit: usize,
     watch: &mut W,
-) -> Result<Output, Fault>
+) -> Result<Answered, Fault>
     requires least { 1 ≤ limit }
     requires most { limit ≤ 1000000 }
-    ensures answer { IfOk result (λ output.
-        IsSolved test.now prices.now (string_bytes output.text) output.status) }
+    ensures answer { IfOk result (λ made.
+        IsSolved test.now prices.now (string_bytes made.output.text) made.output.status) }
+    ensures object { IfOk result (λ made. AreOneAnswer (string_bytes made.output.text) (string_bytes made.object)) }
     ensures fault { IfErr result (IsFirstSolveFault test.now prices.now limit) }
 {
     let found = find_alone(alloc, test, prices, limit, watch)?;
-    answer_output(alloc, &found.solved.answer)
+    both_forms(alloc, &found.solved.answer)
 }
 
 /// What `run_solve_alone` answers, with the text of a certificate, which is valid for the test and the prices with the answer that is
@@ -79,9 +91,12 @@ pub fn run_certified_alone<W: Watch>(
     requires least { 1 ≤ limit }
     requires most { limit ≤ 1000000 }
     ensures answer { IfOk result (λ made.
-        IsSolved test.now prices.now (string_bytes made.output.text) made.output.status) }
+        IsSolved test.now prices.now (string_bytes made.answered.output.text) made.answered.output.status) }
     ensures certificate { IfOk result (λ made.
-        IsCertified test.now prices.now (string_bytes made.output.text) made.output.status (string_bytes made.certificate)) }
+        IsCertified test.now prices.now (string_bytes made.answered.output.text) made.answered.output.status
+        (string_bytes made.certificate)) }
+    ensures object { IfOk result (λ made.
+        AreOneAnswer (string_bytes made.answered.output.text) (string_bytes made.answered.object)) }
     ensures fault { IfErr result (IsFirstSolveFault test.now prices.now limit) }
 {
     let found = find_alone(alloc, test, prices, limit, watch)?;
@@ -103,17 +118,18 @@ pub fn run_solve<R: Threads + Wait + Sync, G: Gate + Sync>(
     workers: u8,
     limit: usize,
     gate: &G,
-) -> Result<Output, Fault>
+) -> Result<Answered, Fault>
     requires some { 1 ≤ workers }
     requires few { workers ≤ 16 }
     requires least { 1 ≤ limit }
     requires most { limit ≤ 1000000 }
-    ensures answer { IfOk result (λ output.
-        IsSolved test.now prices.now (string_bytes output.text) output.status) }
+    ensures answer { IfOk result (λ made.
+        IsSolved test.now prices.now (string_bytes made.output.text) made.output.status) }
+    ensures object { IfOk result (λ made. AreOneAnswer (string_bytes made.output.text) (string_bytes made.object)) }
     ensures fault { IfErr result (IsFirstSolveFault test.now prices.now limit) }
 {
     let found = find(rt, alloc, test, prices, workers, limit, gate)?;
-    answer_output(alloc, &found.solved.answer)
+    both_forms(alloc, &found.solved.answer)
 }
 
 /// What `run_certified_alone` answers, searched by 1 to 16 workers. The faults are those of `run_solve`.
@@ -131,9 +147,12 @@ pub fn run_certified<R: Threads + Wait + Sync, G: Gate + Sync>(
     requires least { 1 ≤ limit }
     requires most { limit ≤ 1000000 }
     ensures answer { IfOk result (λ made.
-        IsSolved test.now prices.now (string_bytes made.output.text) made.output.status) }
+        IsSolved test.now prices.now (string_bytes made.answered.output.text) made.answered.output.status) }
     ensures certificate { IfOk result (λ made.
-        IsCertified test.now prices.now (string_bytes made.output.text) made.output.status (string_bytes made.certificate)) }
+        IsCertified test.now prices.now (string_bytes made.answered.output.text) made.answered.output.status
+        (string_bytes made.certificate)) }
+    ensures object { IfOk result (λ made.
+        AreOneAnswer (string_bytes made.answered.output.text) (string_bytes made.answered.object)) }
     ensures fault { IfErr result (IsFirstSolveFault test.now prices.now limit) }
 {
     let found = find(rt, alloc, test, prices, workers, limit, gate)?;
@@ -145,16 +164,19 @@ fn with_certificate(alloc: Global, found: &Found) -> Result<Certified, Fault>
     requires { (test prices : List ℕ) × (limit : ℕ) × IsFound test prices limit (arc_value found.now.question) found.now.solved }
     ensures answer { IfOk result (λ made. (test prices : List ℕ) (limit : ℕ)
         → IsFound test prices limit (arc_value found.now.question) found.now.solved
-        → IsSolved test prices (string_bytes made.output.text) made.output.status) }
+        → IsSolved test prices (string_bytes made.answered.output.text) made.answered.output.status) }
     ensures certificate { IfOk result (λ made. (test prices : List ℕ) (limit : ℕ)
         → IsFound test prices limit (arc_value found.now.question) found.now.solved
-        → IsCertified test prices (string_bytes made.output.text) made.output.status (string_bytes made.certificate)) }
+        → IsCertified test prices (string_bytes made.answered.output.text) made.answered.output.status
+            (string_bytes made.certificate)) }
+    ensures object { IfOk result (λ made.
+        AreOneAnswer (string_bytes made.answered.output.text) (string_bytes made.answered.object)) }
     ensures err { IsOkUnless result Fault.Memory }
 {
-    let output = answer_output(alloc, &found.solved.answer)?;
+    let answered = both_forms(alloc, &found.solved.answer)?;
     let certificate = certificate_text(alloc, &found.question, &found.solved)?;
     Ok(Certified {
-        output,
+        answered,
         certificate,
     })
 }
@@ -240,11 +262,43 @@ fn shared(alloc: Global, test: Test) -> Result<Arc<Test>, AllocError>
     Ok(Arc::new(alloc, test)?)
 }
 
+/// The answer in both forms.
+fn both_forms(alloc: Global, answer: &Answer) -> Result<Answered, Fault>
+    ensures answer { IfOk result (λ made. (t : Tests) (prices : PriceTable) → IsAnswer t prices answer.now
+        → PrintsPlaced t prices (placement_of answer.now) (string_bytes made.output.text) made.output.status) }
+    ensures witness { IfOk result (λ made. PrintsWitness answer.now (string_bytes made.output.text)) }
+    ensures object { IfOk result (λ made. AreOneAnswer (string_bytes made.output.text) (string_bytes made.object)) }
+    ensures err { IsOkUnless result Fault.Memory }
+{
+    let output = answer_output(alloc, answer)?;
+    let object = answer_object(alloc, answer)?;
+    Ok(Answered { output, object })
+}
+
+/// The answer as a JSON object, in a line.
+fn answer_object(alloc: Global, answer: &Answer) -> Result<String, AllocError>
+    ensures { IfOk result (λ text. string_bytes text ≡ json_line (value_of answer.now)) }
+{
+    let value = answer_value(alloc, answer)?;
+    json_line(alloc, &value)
+}
+
+/// The JSON object of the answer.
+fn answer_value(alloc: Global, answer: &Answer) -> Result<Value, AllocError>
+    ensures { IfOk result (λ value. view value ≡ value_of answer.now) }
+{
+    match answer {
+        Answer::Fenced { forbidden, cost } => fenced_value(alloc, &forbidden.placement, *cost),
+        Answer::None { witness } => none_value(alloc, &witness.choices, &witness.order),
+    }
+}
+
 /// The answer in print, and the status that goes with it.
 fn answer_output(alloc: Global, answer: &Answer) -> Result<Output, Fault>
     ensures answer { IfOk result (λ output. (t : Tests) (prices : PriceTable) → IsAnswer t prices answer.now
         → PrintsPlaced t prices (placement_of answer.now) (string_bytes output.text) output.status) }
     ensures witness { IfOk result (λ output. PrintsWitness answer.now (string_bytes output.text)) }
+    ensures lines { IfOk result (λ output. string_bytes output.text ≡ lines_of answer.now) }
     ensures err { IsOkUnless result Fault.Memory }
 {
     match answer {

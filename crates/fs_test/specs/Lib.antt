@@ -1,3 +1,4 @@
+pub mod Notes
 pub mod Verdicts
 pub mod Words
 pub mod Report

@@ -1,8 +1,12 @@
 -- What `test` prints of its files, and the exit status.
-use Rattle.std.specs.Prelude.{ℕ, ◌-◌, ◌==◌, max, Bool, List, [], ◌∷◌, ◌++◌, length, count_by, fold, codes, string_bytes, if◌then◌else◌}
+use Rattle.std.specs.Prelude.{ℕ, ◌-◌, ◌==◌, max, Bool, Option, None, Some, List, [], ◌∷◌, ◌++◌, length, count_by, fold, codes, string_bytes, if◌then◌else◌}
 use Rattle.std.specs.Fmt.{decimal}
 use Rattle.std.specs.List.{flat_map, list_any, repeat}
+use Rattle.serde_json.specs.Data.{Data, object, string}
+use Rattle.serde_json.specs.Written.{compact_text}
 use Rattle.fs_model.specs.Printed.{ended, joined}
+use Rattle.fs_answer.specs.Texts.{members_of, witness_value}
+use Rattle.fs_evidence.specs.Evidence.{Shown}
 use Rattle.fs_io.specs.declared.status.Status.{Status}
 use Rattle.fs_io.specs.declared.status.Status.TheVariants as status
 use Rattle.fs_test.specs.declared.said.Kind.{Kind}
@@ -20,9 +24,21 @@ width lines = fold (λ most line. max most (length (string_bytes line.name))) 0 
 abbrev pub padded : ℕ → List ℕ → List ℕ
 padded most name = name ++ repeat (most - length name) (codes " ")
 
+abbrev pub kind_text : Kind → List ℕ
+kind_text kind.Forbidden = codes "forbidden"
+kind_text kind.Allowed = codes "allowed"
+kind_text kind.Vacuous = codes "vacuous"
+kind_text kind.Faulty = codes "fault"
+
+-- what stands before why: the kind, but where why is the line of a fault
+abbrev pub label : Kind → List ℕ
+label kind.Faulty = []
+label k = padded 9 (kind_text k) ++ codes "  "
+
 -- the name of the file, and what is said of it
 abbrev pub line_text : ℕ → Line → List ℕ
-line_text most line = ended (padded most (string_bytes line.name) ++ codes "  " ++ string_bytes line.said.text)
+line_text most line =
+    ended (padded most (string_bytes line.name) ++ codes "  " ++ label line.said.kind ++ string_bytes line.said.why)
 
 -- ---- the last line
 
@@ -57,6 +73,26 @@ summary lines = ended (counted (length lines) (codes "test") ++ codes ": " ++ jo
 
 abbrev pub report_text : List Line → List ℕ
 report_text lines = flat_map (line_text (width lines)) lines ++ summary lines
+
+-- ---- as JSON
+
+abbrev pub witness_members : Option Shown → List (List ℕ × Data)
+witness_members None = []
+witness_members (Some shown) = (codes "witness", witness_value shown.witness) ∷ []
+
+-- the same of a file as an object
+abbrev pub line_value : Line → Data
+line_value line = object (members_of (
+    (codes "file", string (string_bytes line.name))
+    ∷ (codes "verdict", string (kind_text line.said.kind))
+    ∷ (codes "why", string (string_bytes line.said.why))
+    ∷ witness_members line.said.witness))
+
+abbrev pub json_line : Line → List ℕ
+json_line line = ended (compact_text (line_value line))
+
+abbrev pub json_text : List Line → List ℕ
+json_text = flat_map json_line
 
 -- ---- the status
 

@@ -1,6 +1,6 @@
 //! What is said of a test that was read.
 
-ghost use Rattle.std.specs.Prelude.{◌≡◌, ◌≢◌, ◌++◌, All, codes, IfOk, IfErr, IsOkUnless, string_bytes};
+ghost use Rattle.std.specs.Prelude.{◌≡◌, ◌≢◌, All, codes, IfOk, IfErr, IsOkUnless, string_bytes};
 ghost use Rattle.std.specs.Arc.{arc_value};
 ghost use Rattle.fs_kinds.specs.declared.fault.Fault.TheVariants.{Memory};
 ghost use Rattle.fs_model.specs.declared.test.Test.{Test as Tests};
@@ -8,10 +8,10 @@ ghost use Rattle.fs_model.specs.Allows.{no_fences};
 ghost use Rattle.fs_model.specs.Test.{IsBounded, IsStart, IsTest};
 ghost use Rattle.fs_answer.specs.CandidateFaults.{IsCandidateFault};
 ghost use Rattle.fs_judge.specs.Verdicts.{IsVerdict};
-ghost use Rattle.fs_test.specs.Verdicts.{Says, IsFaultOf, IsTestedAs, IsVacuous};
+ghost use Rattle.fs_test.specs.Verdicts.{Says, IsFaultOf, IsTestedAs, IsVacuous, witness_in};
 ghost use Rattle.fs_test.specs.Words.{counted};
 
-use crate::ordered::allowed_text;
+use crate::ordered::{order_words, overtaking};
 use crate::said::{Kind, Said};
 use crate::vacuous::vacuous;
 use crate::words::counted;
@@ -28,7 +28,7 @@ const PRICES: &[u8] = b"{\"rw,rw\":1}";
 // What is said of the test, or the fault of its runs or candidates.
 pub(crate) fn judge(alloc: Global, test: Test) -> Result<Said, Fault>
     requires { IsTest test }
-    ensures ok { IfOk result (λ said. IsTestedAs test said.kind (string_bytes said.text)) }
+    ensures ok { IfOk result (λ said. IsTestedAs test said.kind (string_bytes said.why) (witness_in said.witness)) }
     ensures err { IfErr result (λ f. f ≢ Memory → IsFaultOf test f) }
 {
     let test = shared(alloc, test)?;
@@ -36,7 +36,7 @@ pub(crate) fn judge(alloc: Global, test: Test) -> Result<Said, Fault>
 }
 
 // The test, to be shared.
-fn shared(alloc: Global, test: Test) -> Result<Arc<Test>, AllocError>
+pub(crate) fn shared(alloc: Global, test: Test) -> Result<Arc<Test>, AllocError>
     ensures { IfOk result (λ shared. arc_value shared ≡ test) }
 {
     Ok(Arc::new(alloc, test)?)
@@ -50,7 +50,8 @@ fn shared(alloc: Global, test: Test) -> Result<Arc<Test>, AllocError>
 pub fn judge_test(alloc: Global, test: &Arc<Test>) -> Result<Said, Fault>
     requires bounded { IsBounded (arc_value test.now) }
     requires starts { All IsStart (arc_value test.now).starts }
-    ensures ok { IfOk result (λ said. IsTestedAs (arc_value test.now) said.kind (string_bytes said.text)) }
+    ensures ok { IfOk result (λ said.
+        IsTestedAs (arc_value test.now) said.kind (string_bytes said.why) (witness_in said.witness)) }
     ensures err { IfErr result (λ f. f ≢ Memory → IsFaultOf (arc_value test.now) f) }
 {
     match vacuous(alloc, test)? {
@@ -64,11 +65,12 @@ fn judge_serious(alloc: Global, test: &Arc<Test>) -> Result<Said, Fault>
     requires bounded { IsBounded (arc_value test.now) }
     requires starts { All IsStart (arc_value test.now).starts }
     requires serious { IsVacuous (arc_value test.now) → ⊥ }
-    ensures ok { IfOk result (λ said. Says (arc_value test.now) said.kind (string_bytes said.text)) }
+    ensures ok { IfOk result (λ said.
+        Says (arc_value test.now) said.kind (string_bytes said.why) (witness_in said.witness)) }
     ensures err { IfErr result (λ f. f ≢ Memory → IsCandidateFault (arc_value test.now) f) }
 {
     let verdict = verdict(alloc, test)?;
-    said_of(alloc, &verdict)
+    said_of(alloc, verdict)
 }
 
 // Prices, as they have to be in a question.
@@ -115,29 +117,23 @@ fn verdict(alloc: Global, test: &Arc<Test>) -> Result<Verdict, Fault>
 }
 
 // The verdict in words.
-fn said_of(alloc: Global, verdict: &Verdict) -> Result<Said, Fault>
-    ensures ok { (t : Tests) → IsVerdict t (no_fences t) verdict.now → (IsVacuous t → ⊥)
-        → IfOk result (λ said. Says t said.kind (string_bytes said.text)) }
+fn said_of(alloc: Global, verdict: Verdict) -> Result<Said, Fault>
+    ensures ok { (t : Tests) → IsVerdict t (no_fences t) verdict → (IsVacuous t → ⊥)
+        → IfOk result (λ said. Says t said.kind (string_bytes said.why) (witness_in said.witness)) }
     ensures err { IsOkUnless result Memory }
 {
     match verdict {
         Verdict::Forbids(forbidden) => Ok(Said {
             kind: Kind::Forbidden,
-            text: forbidden_text(alloc, count_cycles(&forbidden.cycles))?,
+            why: counted(alloc, count_cycles(&forbidden.cycles), "cycle")?,
+            witness: None,
         }),
         Verdict::Allowed(witness) => Ok(Said {
             kind: Kind::Allowed,
-            text: allowed_text(alloc, witness.order.as_slice())?,
+            why: order_words(alloc, overtaking(witness.order.as_slice()))?,
+            witness: Some(witness),
         }),
     }
-}
-
-// That no execution shows the outcome, as so many cycles show.
-fn forbidden_text(alloc: Global, cycles: usize) -> Result<String, AllocError>
-    ensures { IfOk result (λ text. string_bytes text ≡ codes "forbidden  " ++ counted cycles (codes "cycle")) }
-{
-    let cycles = counted(alloc, cycles, "cycle")?;
-    format!(in alloc; "forbidden  {}", cycles.as_str())
 }
 
 // How many cycles there are.

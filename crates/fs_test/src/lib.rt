@@ -1,9 +1,11 @@
 //! What the command `test` answers, from the names and bytes of its files to the text that is printed: whether a test, as it is written,
-//! can show its outcome.
+//! can show its outcome. And the note that `solve` gives of a test that is vacuous.
 #![tactic(auto)]
 
 mod judged;
 mod never;
+mod note;
+mod objects;
 mod ordered;
 mod report;
 mod said;
@@ -12,6 +14,8 @@ mod vacuous;
 mod words;
 
 pub use judged::judge_test;
-pub use report::{padded, test_report};
+pub use note::vacuous_note;
+pub use objects::test_objects;
+pub use report::{kind_text, padded, test_report};
 pub use said::{Kind, Line, Said};
 pub use tested::test_file;

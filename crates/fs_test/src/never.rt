@@ -238,12 +238,11 @@ fn never_words(alloc: Global, test: &Test, atom: Option<&Outcome>) -> Result<Str
     }
 }
 
-// What is said of the test, which is vacuous.
+// Why the test is vacuous, as it is.
 pub(crate) fn vacuous_text(alloc: Global, basis: &Basis) -> Result<String, AllocError>
     ensures { IfOk result (λ text. (runs : ℕ → List (List Steps)) × AreItsRuns basis.now runs
-        × (string_bytes text ≡ codes "vacuous    " ++ never_words basis.now (never_in_outcome basis.now runs))) }
+        × (string_bytes text ≡ never_words basis.now (never_in_outcome basis.now runs))) }
 {
     let atom = never_in_outcome(basis, basis.runs());
-    let words = never_words(alloc, basis.test(), atom)?;
-    format!(in alloc; "vacuous    {}", words.as_str())
+    never_words(alloc, basis.test(), atom)
 }

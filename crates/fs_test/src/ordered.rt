@@ -1,6 +1,6 @@
 //! In which order the operations of an execution come to memory.
 
-ghost use Rattle.std.specs.Prelude.{◌≡◌, ◌++◌, Some, codes, IfOk, string_bytes};
+ghost use Rattle.std.specs.Prelude.{◌≡◌, Some, IfOk, string_bytes};
 ghost use Rattle.std.specs.List.{list_any};
 ghost use Rattle.fs_answer.specs.Regions.{same_name};
 ghost use Rattle.fs_test.specs.Words.{overtaken, overtaking, order_words, pair_at};
@@ -9,7 +9,7 @@ use fs_kinds::OperationName;
 use std::alloc::{AllocError, Global};
 
 // Two operations of one hart, the second earlier in its code.
-type Pair = (OperationName, OperationName);
+pub(crate) type Pair = (OperationName, OperationName);
 
 fn is_same_name(first: OperationName, second: OperationName) -> bool
     ensures { result ≡ same_name first second }
@@ -33,7 +33,7 @@ fn overtaken(name: OperationName, later: &[OperationName]) -> Option<u8>
 }
 
 // The first operation that stands before one which is earlier in its hart's code, and the earliest such one.
-fn overtaking(order: &[OperationName]) -> Option<Pair>
+pub(crate) fn overtaking(order: &[OperationName]) -> Option<Pair>
     ensures { result ≡ overtaking order.now }
 {
     for (index, name) in order.iter().enumerate() {
@@ -52,19 +52,11 @@ fn pair_words(alloc: Global, pair: Pair) -> Result<String, AllocError>
 }
 
 // The words for an order in which the first operation overtakes the second, if there is such a pair.
-fn order_words(alloc: Global, found: Option<Pair>) -> Result<String, AllocError>
+pub(crate) fn order_words(alloc: Global, found: Option<Pair>) -> Result<String, AllocError>
     ensures { IfOk result (λ text. string_bytes text ≡ order_words found) }
 {
     match found {
         Some(pair) => pair_words(alloc, pair),
         None => format!(in alloc; "in program order"),
     }
-}
-
-// What is said of an outcome that is possible, as an execution with this order shows.
-pub(crate) fn allowed_text(alloc: Global, order: &[OperationName]) -> Result<String, AllocError>
-    ensures { IfOk result (λ text. string_bytes text ≡ codes "allowed    " ++ order_words (overtaking order.now)) }
-{
-    let words = order_words(alloc, overtaking(order))?;
-    format!(in alloc; "allowed    {}", words.as_str())
 }

@@ -4,7 +4,7 @@ ghost use Rattle.std.specs.Prelude.{◌≡◌, ◌++◌, [], codes, length, max,
 ghost use Rattle.std.specs.List.{flat_map};
 ghost use Rattle.fs_kinds.specs.declared.fault.Fault.TheVariants.{Memory};
 ghost use Rattle.fs_model.specs.Printed.{joined};
-ghost use Rattle.fs_test.specs.Report.{width, padded, line_text, is_kind, count_of, count_text, count_piece, pieces, summary, report_text, has, report_status};
+ghost use Rattle.fs_test.specs.Report.{width, padded, kind_text, label, line_text, is_kind, count_of, count_text, count_piece, pieces, summary, report_text, has, report_status};
 
 use crate::said::{Kind, Line};
 use crate::words::counted;
@@ -52,7 +52,32 @@ fn write_line(alloc: Global, width: usize, line: &Line, text: &mut String) -> Re
     ensures { OnOk result (string_bytes text.new ≡ string_bytes text.old ++ line_text width line.now) }
 {
     let name = padded(alloc, width, line.name.as_str())?;
-    writeln!(text, "{}  {}", name.as_str(), line.said.text.as_str())
+    let label = label(line.said.kind);
+    writeln!(text, "{}  {}{}", name.as_str(), label, line.said.why.as_str())
+}
+
+/// The kind in a word.
+pub fn kind_text(kind: Kind) -> &'static str
+    ensures { result.now ≡ kind_text kind }
+{
+    match kind {
+        Kind::Forbidden => "forbidden",
+        Kind::Allowed => "allowed",
+        Kind::Vacuous => "vacuous",
+        Kind::Faulty => "fault",
+    }
+}
+
+// What stands before why.
+fn label(kind: Kind) -> &'static str
+    ensures { result.now ≡ label kind }
+{
+    match kind {
+        Kind::Forbidden => "forbidden  ",
+        Kind::Allowed => "allowed    ",
+        Kind::Vacuous => "vacuous    ",
+        Kind::Faulty => "",
+    }
 }
 
 /// The text with blanks behind it up to this many bytes; a longer text as it is.
@@ -151,7 +176,7 @@ fn has(kind: Kind, lines: &[Line]) -> bool
     lines.iter().any(|line| is_kind(kind, line.said.kind))
 }
 
-fn status_of(lines: &[Line]) -> Status
+pub(crate) fn status_of(lines: &[Line]) -> Status
     ensures { result ≡ report_status lines.now }
 {
     if has(Kind::Allowed, lines) {

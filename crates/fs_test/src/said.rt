@@ -3,8 +3,9 @@
 ghost use Rattle.std.specs.Prelude.{◌≡◌, IfOk, IsOkUnless, string_bytes};
 ghost use Rattle.fs_kinds.specs.FaultLine.{fault_line};
 ghost use Rattle.fs_kinds.specs.declared.fault.Fault.TheVariants.{Memory};
-ghost use Rattle.fs_test.specs.Verdicts.{NamesFault};
+ghost use Rattle.fs_test.specs.Verdicts.{NamesFault, witness_in};
 
+use fs_evidence::Witness;
 use fs_kinds::Fault;
 use std::alloc::{AllocError, Global};
 
@@ -25,7 +26,10 @@ pub enum Kind {
 #[derive(Drop)]
 pub struct Said {
     pub kind: Kind,
-    pub text: String,
+    /// Why it is said; of a fault its line.
+    pub why: String,
+    /// Where the outcome is possible, an execution that shows it.
+    pub witness: Option<Witness>,
 }
 
 /// What is said of the file of this name.
@@ -37,14 +41,15 @@ pub struct Line {
 
 // That it has this fault. Where that is want of memory, so is the error.
 pub(crate) fn faulty(alloc: Global, fault: Fault) -> Result<Said, Fault>
-    ensures ok { IfOk result (λ said. NamesFault fault said.kind (string_bytes said.text)) }
+    ensures ok { IfOk result (λ said. NamesFault fault said.kind (string_bytes said.why) (witness_in said.witness)) }
     ensures err { IsOkUnless result Memory }
 {
     match fault {
         Fault::Memory => Err(Fault::Memory),
         _ => Ok(Said {
             kind: Kind::Faulty,
-            text: fault_text(alloc, fault)?,
+            why: fault_text(alloc, fault)?,
+            witness: None,
         }),
     }
 }

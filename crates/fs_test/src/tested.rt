@@ -3,7 +3,7 @@
 ghost use Rattle.std.specs.Prelude.{◌≡◌, IfOk, IfErr, IsOkUnless, string_bytes};
 ghost use Rattle.fs_kinds.specs.declared.fault.Fault.TheVariants.{Memory};
 ghost use Rattle.fs_model.specs.Test.{IsTest};
-ghost use Rattle.fs_test.specs.Verdicts.{IsTested, IsFirstTestFault, SaysOfBytes, SaysOfFile};
+ghost use Rattle.fs_test.specs.Verdicts.{IsTested, IsFirstTestFault, SaysOfBytes, SaysOfFile, witness_in};
 
 use crate::judged::judge;
 use crate::said::{Line, Said, faulty};
@@ -19,7 +19,7 @@ use std::alloc::Global;
 /// `Basis::new` and for each hart `Basis::reason_against` of fs_refute, and of `Problem::new` and `Judge::verdict` of fs_judge.
 pub fn test_file(alloc: Global, name: &str, file: Result<Vec<u8>, Fault>) -> Result<Line, Fault>
     ensures name { IfOk result (λ line. string_bytes line.name ≡ name.now) }
-    ensures said { IfOk result (λ line. SaysOfFile file line.said.kind (string_bytes line.said.text)) }
+    ensures said { IfOk result (λ line. SaysOfFile file line.said.kind (string_bytes line.said.why) (witness_in line.said.witness)) }
     ensures err { IsOkUnless result Memory }
 {
     let said = said_of(alloc, file)?;
@@ -29,7 +29,7 @@ pub fn test_file(alloc: Global, name: &str, file: Result<Vec<u8>, Fault>) -> Res
 
 // The same without its name.
 fn said_of(alloc: Global, file: Result<Vec<u8>, Fault>) -> Result<Said, Fault>
-    ensures ok { IfOk result (λ said. SaysOfFile file said.kind (string_bytes said.text)) }
+    ensures ok { IfOk result (λ said. SaysOfFile file said.kind (string_bytes said.why) (witness_in said.witness)) }
     ensures err { IsOkUnless result Memory }
 {
     match file {
@@ -40,7 +40,7 @@ fn said_of(alloc: Global, file: Result<Vec<u8>, Fault>) -> Result<Said, Fault>
 
 // The same of the bytes of a file.
 fn test_bytes(alloc: Global, bytes: &[u8]) -> Result<Said, Fault>
-    ensures ok { IfOk result (λ said. SaysOfBytes bytes.now said.kind (string_bytes said.text)) }
+    ensures ok { IfOk result (λ said. SaysOfBytes bytes.now said.kind (string_bytes said.why) (witness_in said.witness)) }
     ensures err { IsOkUnless result Memory }
 {
     match judge_bytes(alloc, bytes) {
@@ -51,7 +51,7 @@ fn test_bytes(alloc: Global, bytes: &[u8]) -> Result<Said, Fault>
 
 // What is said of the test that the bytes are, or the first fault.
 fn judge_bytes(alloc: Global, bytes: &[u8]) -> Result<Said, Fault>
-    ensures ok { IfOk result (λ said. IsTested bytes.now said.kind (string_bytes said.text)) }
+    ensures ok { IfOk result (λ said. IsTested bytes.now said.kind (string_bytes said.why) (witness_in said.witness)) }
     ensures fault { IfErr result (IsFirstTestFault bytes.now) }
 {
     let test = read_test(alloc, bytes)?;

@@ -1,5 +1,5 @@
 -- What is printed of a valid certificate is what it says.
-use Rattle.std.proofs.Common.{◌≡◌, inl, inr, ℕ, List, [], ◌∷◌, ◌++◌, map, None, Some, refl, sym, ap, subst, ◌∙◌}
+use Rattle.std.proofs.Common.{◌≡◌, inl, inr, ℕ, List, [], ◌∷◌, ◌++◌, map, None, Some, Result, Ok, Err, IfOk, string_bytes, refl, sym, ap, subst, ◌∙◌}
 use Rattle.std.specs.List.{flat_map, AllZip}
 use Rattle.std.specs.Prelude.{slice_get}
 use Rattle.fs_kinds.specs.declared.placement.Entry.{Entry}
@@ -25,8 +25,13 @@ use Rattle.fs_cand.proofs.RunNames.{ranged}
 use Rattle.fs_checker.specs.declared.verdict.CheckVerdict.TheVariants.{Yes, No}
 use Rattle.fs_checker.specs.Checks.{IsCheckVerdict}
 use Rattle.fs_io.specs.declared.status.Status.TheVariants.{Success, Denied}
-use Rattle.fs_verify.specs.Check.{PrintsVerdict, refusal_line, yes_line}
+use Rattle.fs_io.specs.declared.status.Status.{Status}
+use Rattle.fs_kinds.specs.declared.fault.Fault.{Fault}
+use Rattle.fs_verify.specs.Check.{AreOneVerdict, PrintsVerdict, refusal_line, yes_line, yes_value}
+use Rattle.fs_verify.specs.declared.checked.Checked.{Checked}
+use Rattle.fs_report.specs.Objects.{fenced_value, json_line, none_value}
 use Rattle.fs_verify.specs.inner.Named.{named, given_by}
+use Rattle.fs_verify.specs.inner.Yes.{IsYesTo}
 
 -- ---- the cost
 
@@ -72,24 +77,66 @@ only_witness t kept c bounded keeps valid =
 
 -- ---- what is printed
 
-pub prints_fences : (t : Test) (prices : PriceTable) (kept : Kept) (c : Certificate) (p : List Entry) (text : List ℕ)
-    → IsCheckVerdict t prices c (Yes kept (Some p)) → text ≡ yes_line ++ fenced_lines (cost_in (answer_of kept.answer)) p
-    → PrintsVerdict t prices c text Success
-prints_fences t prices kept c p text verdict shown = inl (record {
+pub fenced_yes : (cost said : ℕ) (p : List Entry) (lines text : List ℕ) (status : Status) (made object : List ℕ) → cost ≡ said
+    → lines ≡ fenced_lines cost p → text ≡ yes_line ++ lines → status ≡ Success → made ≡ object
+    → object ≡ json_line (yes_value (fenced_value cost p)) → IsYesTo (fenced_lines said p) text status made
+fenced_yes cost said p lines text status made object same is shown ends handed printed = record {
+  shown = shown ∙ ap (λ below. yes_line ++ below) (is ∙ ap (λ n. fenced_lines n p) same);
+  ends = ends;
+  answer = fenced_value said p;
+  same = inl (said, p, refl, refl);
+  printed = handed ∙ printed ∙ ap (λ n. json_line (yes_value (fenced_value n p))) same;
+}
+
+pub none_yes : (w : Witness) (lines text : List ℕ) (status : Status) (made object : List ℕ) → lines ≡ none_lines w
+    → text ≡ yes_line ++ lines → status ≡ Success → made ≡ object → object ≡ json_line (yes_value (none_value w))
+    → IsYesTo (none_lines w) text status made
+none_yes w lines text status made object is shown ends handed printed = record {
+  shown = shown ∙ ap (λ below. yes_line ++ below) is;
+  ends = ends;
+  answer = none_value w;
+  same = inr (w, refl, refl);
+  printed = handed ∙ printed;
+}
+
+pub prints_fences : (t : Test) (prices : PriceTable) (kept : Kept) (c : Certificate) (p : List Entry) (text : List ℕ) (status : Status)
+    (object : List ℕ) → IsCheckVerdict t prices c (Yes kept (Some p))
+    → IsYesTo (fenced_lines (cost_in (answer_of kept.answer)) p) text status object → PrintsVerdict t prices c text status
+prints_fences t prices kept c p text status object verdict said = inl (record {
   placement = p;
   valid = verdict.1.0;
   best = verdict.1.1;
-  shown = shown ∙ ap (λ n. yes_line ++ fenced_lines n p) (cost_said t prices kept c p verdict.0 verdict.1.0.answered);
-  ends = refl;
+  shown = said.shown ∙ ap (λ n. yes_line ++ fenced_lines n p) (cost_said t prices kept c p verdict.0 verdict.1.0.answered);
+  ends = said.ends;
 })
 
-pub prints_none : (t : Test) (prices : PriceTable) (kept : Kept) (c : Certificate) (text : List ℕ) → IsBounded t
-    → IsCheckVerdict t prices c (Yes kept None)
-    → ((file : WitnessFile) → slice_get kept.witnesses 0 ≡ Some file → text ≡ yes_line ++ none_lines (given_by file))
-    → PrintsVerdict t prices c text Success
-prints_none t prices kept c text bounded verdict shown =
+-- what is printed of the file of the one witness
+abbrev pub ShowsFirst : Kept → List ℕ → Status → List ℕ → Type 0
+ShowsFirst kept text status object =
+    (file : WitnessFile) → slice_get kept.witnesses 0 ≡ Some file → IsYesTo (none_lines (given_by file)) text status object
+
+pub prints_none : (t : Test) (prices : PriceTable) (kept : Kept) (c : Certificate) (text : List ℕ) (status : Status) (object : List ℕ)
+    → IsBounded t → IsCheckVerdict t prices c (Yes kept None) → ShowsFirst kept text status object → PrintsVerdict t prices c text status
+prints_none t prices kept c text status object bounded verdict shown =
     let only = only_witness t kept c bounded verdict.0 verdict.1.0 in
-    inr (inl (record { valid = verdict.1.0; shown = shown only.0 only.1 ∙ ap (λ w. yes_line ++ none_lines w) only.2; ends = refl }))
+    let said = shown only.0 only.1 in
+    inr (inl (record { valid = verdict.1.0; shown = said.shown ∙ ap (λ w. yes_line ++ none_lines w) only.2; ends = said.ends }))
+
+pub one_yes : (below text : List ℕ) (status : Status) (object : List ℕ) → IsYesTo below text status object → AreOneVerdict text object
+one_yes below text status object said = inl (below, said.answer, said.same, said.shown, said.printed)
+
+pub one_none : (t : Test) (prices : PriceTable) (kept : Kept) (c : Certificate) (text : List ℕ) (status : Status) (object : List ℕ)
+    → IsBounded t → IsCheckVerdict t prices c (Yes kept None) → ShowsFirst kept text status object → AreOneVerdict text object
+one_none t prices kept c text status object bounded verdict shown =
+    let only = only_witness t kept c bounded verdict.0 verdict.1.0 in one_yes _ text status object (shown only.0 only.1)
+
+-- what holds of an answer for each file holds of it for all
+pub each_file : (kept : Kept) (r : Result Checked Fault)
+    → ((file : WitnessFile) → slice_get kept.witnesses 0 ≡ Some file → IfOk r (λ made.
+    IsYesTo (none_lines (given_by file)) (string_bytes made.output.text) made.output.status (string_bytes made.object)))
+    → IfOk r (λ made. ShowsFirst kept (string_bytes made.output.text) made.output.status (string_bytes made.object))
+each_file kept (Ok made) h = h
+each_file kept (Err fault) h = tt
 
 pub prints_refusal : (t : Test) (prices : PriceTable) (c : Certificate) (why : Reason) (text : List ℕ) → IsCheckVerdict t prices c (No why)
     → text ≡ refusal_line why → PrintsVerdict t prices c text Denied

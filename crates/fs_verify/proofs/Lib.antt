@@ -1,2 +1,3 @@
 pub mod CheckFaults
 pub mod Given
+pub mod Whole

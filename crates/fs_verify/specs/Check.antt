@@ -1,5 +1,6 @@
 -- What `check` prints, and the fault that it answers.
-use Rattle.std.specs.Prelude.{◌≡◌, ◌⊎◌, ℕ, List, ◌++◌, Some, codes}
+use Rattle.std.specs.Prelude.{◌≡◌, ◌⊎◌, ℕ, true, false, List, [], ◌∷◌, ◌++◌, Some, codes}
+use Rattle.serde_json.specs.Data.{Data, boolean, object, string}
 use Rattle.fs_kinds.specs.declared.fault.Fault.{Fault}
 use Rattle.fs_kinds.specs.declared.fault.Fault.TheVariants.{Memory}
 use Rattle.fs_kinds.specs.declared.placement.Entry.{Entry}
@@ -13,12 +14,13 @@ use Rattle.fs_answer.specs.CandidateFaults.{HasNoCyclesFault}
 use Rattle.fs_answer.specs.Certificate.{Certificate, IsBest}
 use Rattle.fs_answer.specs.CertificateFile.{IsCertificateFile}
 use Rattle.fs_answer.specs.Refusals.{IsRefusal}
-use Rattle.fs_answer.specs.Texts.{fenced_lines, none_lines}
+use Rattle.fs_answer.specs.Texts.{fenced_lines, members_of, none_lines}
 use Rattle.fs_answer.specs.Valid.{IsValidFor, IsValidForNone}
 use Rattle.fs_checker.specs.Checks.{IsCheckFault}
 use Rattle.fs_io.specs.declared.status.Status.{Status}
 use Rattle.fs_io.specs.declared.status.Status.TheVariants.{Success, Denied}
 use Rattle.fs_place.specs.Place.{ArePricesOf, IsPricesFault}
+use Rattle.fs_report.specs.Objects.{SayOneAnswer, json_line}
 
 abbrev pub yes_line : List ℕ
 yes_line = codes "yes\n"
@@ -50,6 +52,25 @@ pub record PrintsRefusal (t : Test) (prices : PriceTable) (c : Certificate) (tex
 abbrev pub PrintsVerdict : Test → PriceTable → Certificate → List ℕ → Status → Type 0
 PrintsVerdict t prices c text status =
     PrintsFences t prices c text status ⊎ (PrintsNone t c text status ⊎ PrintsRefusal t prices c text status)
+
+-- ---- the same as JSON
+
+-- a yes to a certificate of this answer
+abbrev pub yes_value : Data → Data
+yes_value answer = object (members_of ((codes "answer", answer) ∷ (codes "valid", boolean true) ∷ []))
+
+abbrev pub no_value : Reason → Data
+no_value why =
+    object (members_of ((codes "reason", string (reason_text why)) ∷ (codes "valid", boolean false) ∷ []))
+
+-- the lines of a verdict, and its object in print
+abbrev pub AreOneVerdict : (lines text : List ℕ) → Type 0
+AreOneVerdict lines text =
+    ((below : List ℕ) × (answer : Data) × SayOneAnswer below answer
+        × (lines ≡ yes_line ++ below) × (text ≡ json_line (yes_value answer)))
+    ⊎ ((why : Reason) × (lines ≡ refusal_line why) × (text ≡ json_line (no_value why)))
+
+-- ---- of files
 
 -- the bytes are a certificate file, whose cycles can be judged, and the verdict on what it says is printed
 abbrev pub PrintsFileVerdict : Test → PriceTable → (certificate : List ℕ) → List ℕ → Status → Type 0

@@ -6,11 +6,17 @@ ghost use Rattle.fs_answer.specs.CertificateFile.{cost_in};
 ghost use Rattle.fs_answer.specs.Texts.{fenced_lines, none_lines};
 ghost use Rattle.fs_answer.specs.declared.witness.WitnessFile.{WitnessFile as File};
 ghost use Rattle.fs_certificate.specs.Kept.{answer_of};
+ghost use Rattle.fs_io.specs.declared.status.Status.TheVariants.{Success};
+ghost use Rattle.fs_report.specs.Given.{given};
 ghost use Rattle.fs_verify.specs.Check.{yes_line};
 ghost use Rattle.fs_verify.specs.inner.Named.{named, given_by};
+ghost use Rattle.fs_verify.specs.inner.Yes.{IsYesTo};
 
-use fs_answer::WitnessFile;
+use crate::checked::Checked;
+use crate::objects::{fenced_object, none_object};
+use fs_answer::{ChoiceLists, WitnessFile};
 use fs_certificate::{Certificate, CertifiedAnswer};
+use fs_io::{Output, Status};
 use fs_kinds::{Fault, OperationName, Placement};
 use fs_list::List;
 use fs_report::{fenced_text, none_text};
@@ -21,35 +27,69 @@ pub(crate) fn fenced_answer(
     alloc: Global,
     certificate: &Certificate,
     placement: &Placement,
-) -> Result<String, Fault>
-    ensures ok { IfOk result (λ text. string_bytes text
-        ≡ yes_line ++ fenced_lines (cost_in (answer_of certificate.now.answer)) placement.now) }
+) -> Result<Checked, Fault>
+    ensures ok { IfOk result (λ made. IsYesTo (fenced_lines (cost_in (answer_of certificate.now.answer)) placement.now)
+        (string_bytes made.output.text) made.output.status (string_bytes made.object)) }
     ensures err { IsOkUnless result Fault.Memory }
 {
-    let lines = fenced_text(alloc, placement, cost_of(&certificate.answer))?;
-    Ok(format!(in alloc; "yes\n{}", lines.as_str())?)
+    let cost = cost_of(&certificate.answer);
+    let lines = fenced_text(alloc, placement, cost)?;
+    let object = fenced_object(alloc, placement, cost)?;
+    Ok(said_yes(alloc, lines.as_str(), object)?)
 }
 
 /// The line `yes`, and below it `none` and the certificate's witness. The error is `Memory`.
-pub(crate) fn none_answer(alloc: Global, certificate: &Certificate) -> Result<String, Fault>
+pub(crate) fn none_answer(alloc: Global, certificate: &Certificate) -> Result<Checked, Fault>
     ensures ok { (file : File) → slice_get certificate.now.witnesses 0 ≡ Some file
-        → IfOk result (λ text. string_bytes text ≡ yes_line ++ none_lines (given_by file)) }
+        → IfOk result (λ made. IsYesTo (none_lines (given_by file))
+            (string_bytes made.output.text) made.output.status (string_bytes made.object)) }
     ensures err { IsOkUnless result Fault.Memory }
 {
     match certificate.witnesses.first() {
         Some(file) => witness_answer(alloc, file),
-        None => Ok(String::new(alloc)),
+        None => Ok(said_yes(alloc, "", String::new(alloc))?),
     }
 }
 
 /// The line `yes`, and below it `none` and this witness.
-fn witness_answer(alloc: Global, file: &WitnessFile) -> Result<String, Fault>
-    ensures ok { IfOk result (λ text. string_bytes text ≡ yes_line ++ none_lines (given_by file.now)) }
+fn witness_answer(alloc: Global, file: &WitnessFile) -> Result<Checked, Fault>
+    ensures ok { IfOk result (λ made. IsYesTo (none_lines (given_by file.now))
+        (string_bytes made.output.text) made.output.status (string_bytes made.object)) }
     ensures err { IsOkUnless result Fault.Memory }
 {
     let order = List::new(names_of(alloc, file.order.as_slice())?);
-    let lines = none_text(alloc, &file.choices, &order)?;
-    Ok(format!(in alloc; "yes\n{}", lines.as_str())?)
+    named_answer(alloc, &file.choices, &order)
+}
+
+/// The same of a witness with these choices and this order.
+fn named_answer(
+    alloc: Global,
+    choices: &ChoiceLists,
+    order: &List<OperationName>,
+) -> Result<Checked, Fault>
+    ensures ok { IfOk result (λ made. IsYesTo (none_lines (given choices.now order.now))
+        (string_bytes made.output.text) made.output.status (string_bytes made.object)) }
+    ensures err { IsOkUnless result Fault.Memory }
+{
+    let lines = none_text(alloc, choices, order)?;
+    let object = none_object(alloc, choices, order)?;
+    Ok(said_yes(alloc, lines.as_str(), object)?)
+}
+
+/// The line `yes`, and these below it; and this object.
+fn said_yes(alloc: Global, lines: &str, object: String) -> Result<Checked, AllocError>
+    ensures text { IfOk result (λ made. string_bytes made.output.text ≡ yes_line ++ lines.now) }
+    ensures status { IfOk result (λ made. made.output.status ≡ Success) }
+    ensures object { IfOk result (λ made. string_bytes made.object ≡ string_bytes object) }
+{
+    let text = format!(in alloc; "yes\n{}", lines)?;
+    Ok(Checked {
+        output: Output {
+            text,
+            status: Status::Success,
+        },
+        object,
+    })
 }
 
 /// What the answer costs, as it says.

@@ -2,6 +2,9 @@
 #![tactic(auto)]
 
 mod certified;
+mod checked;
+mod objects;
 mod verdict;
 
+pub use checked::Checked;
 pub use verdict::run_check;

@@ -8,9 +8,11 @@ ghost use Rattle.fs_answer.specs.Certificate.{Certificate as Said};
 ghost use Rattle.fs_checker.specs.declared.verdict.CheckVerdict.TheVariants.{Yes, No};
 ghost use Rattle.fs_checker.specs.Checks.{IsCheckVerdict, IsCheckFault};
 ghost use Rattle.fs_place.specs.Place.{ArePricesOf};
-ghost use Rattle.fs_verify.specs.Check.{PrintsVerdict, PrintsFileVerdict, IsChecked, IsFirstCheckFault, refusal_line};
+ghost use Rattle.fs_verify.specs.Check.{AreOneVerdict, PrintsVerdict, PrintsFileVerdict, IsChecked, IsFirstCheckFault, refusal_line};
 
 use crate::certified::{fenced_answer, none_answer};
+use crate::checked::Checked;
+use crate::objects::no_object;
 use fs_certificate::Certificate;
 use fs_checker::{CheckVerdict, check};
 use fs_io::{Output, Status};
@@ -19,7 +21,7 @@ use fs_litmus::{Test, read_test};
 use std::alloc::{AllocError, Global};
 use std::sync::Arc;
 
-/// What `check` prints for a test file, a file of prices and a certificate: where the certificate is valid, `yes` and below it the
+/// What `check` prints for a test file, a file of prices and a certificate, in lines or as JSON: where the certificate is valid, `yes` and below it the
 /// answer as `solve` prints it, and status 0; else `no: ` and the first reason against it, and status 1. The files are bytes as they
 /// were read. Nothing of the search is called.
 ///
@@ -31,9 +33,10 @@ pub fn run_check(
     test: &[u8],
     prices: &[u8],
     certificate: &[u8],
-) -> Result<Output, Fault>
-    ensures answer { IfOk result (λ output.
-        IsChecked test.now prices.now certificate.now (string_bytes output.text) output.status) }
+) -> Result<Checked, Fault>
+    ensures answer { IfOk result (λ made.
+        IsChecked test.now prices.now certificate.now (string_bytes made.output.text) made.output.status) }
+    ensures object { IfOk result (λ made. AreOneVerdict (string_bytes made.output.text) (string_bytes made.object)) }
     ensures fault { IfErr result (IsFirstCheckFault test.now prices.now certificate.now) }
 {
     let table = read_prices(alloc, prices)?;
@@ -46,9 +49,10 @@ fn check_priced(
     test: &[u8],
     prices: &Prices,
     certificate: &[u8],
-) -> Result<Output, Fault>
-    ensures answer { IfOk result (λ output. (bytes : List ℕ) → ArePricesOf bytes prices.now
-        → IsChecked test.now bytes certificate.now (string_bytes output.text) output.status) }
+) -> Result<Checked, Fault>
+    ensures answer { IfOk result (λ made. (bytes : List ℕ) → ArePricesOf bytes prices.now
+        → IsChecked test.now bytes certificate.now (string_bytes made.output.text) made.output.status) }
+    ensures object { IfOk result (λ made. AreOneVerdict (string_bytes made.output.text) (string_bytes made.object)) }
     ensures fault { IfErr result (λ fault. (bytes : List ℕ) → ArePricesOf bytes prices.now
         → IsFirstCheckFault test.now bytes certificate.now fault) }
 {
@@ -62,10 +66,11 @@ fn check_test(
     test: Test,
     prices: &Prices,
     certificate: &[u8],
-) -> Result<Output, Fault>
+) -> Result<Checked, Fault>
     requires { IsTest test }
-    ensures answer { IfOk result (λ output.
-        PrintsFileVerdict test prices.now certificate.now (string_bytes output.text) output.status) }
+    ensures answer { IfOk result (λ made.
+        PrintsFileVerdict test prices.now certificate.now (string_bytes made.output.text) made.output.status) }
+    ensures object { IfOk result (λ made. AreOneVerdict (string_bytes made.output.text) (string_bytes made.object)) }
     ensures fault { IfErr result (λ fault. fault ≢ Fault.Memory → IsCheckFault test certificate.now fault) }
 {
     let test = Arc::new(alloc, test)?;
@@ -74,9 +79,12 @@ fn check_test(
 }
 
 /// The verdict in print, and the status that goes with it.
-fn verdict_output(alloc: Global, verdict: &CheckVerdict) -> Result<Output, Fault>
-    ensures answer { IfOk result (λ output. (t : Tests) (prices : PriceTable) (c : Said) → IsBounded t
-        → IsCheckVerdict t prices c verdict.now → PrintsVerdict t prices c (string_bytes output.text) output.status) }
+fn verdict_output(alloc: Global, verdict: &CheckVerdict) -> Result<Checked, Fault>
+    ensures answer { IfOk result (λ made. (t : Tests) (prices : PriceTable) (c : Said) → IsBounded t
+        → IsCheckVerdict t prices c verdict.now → PrintsVerdict t prices c (string_bytes made.output.text) made.output.status) }
+    ensures object { IfOk result (λ made. (t : Tests) (prices : PriceTable) (c : Said) → IsBounded t
+        → IsCheckVerdict t prices c verdict.now
+        → AreOneVerdict (string_bytes made.output.text) (string_bytes made.object)) }
     ensures err { IsOkUnless result Fault.Memory }
 {
     match verdict {
@@ -90,10 +98,13 @@ fn yes_output(
     alloc: Global,
     certificate: &Certificate,
     answer: &Option<Placement>,
-) -> Result<Output, Fault>
-    ensures answer { IfOk result (λ output. (t : Tests) (prices : PriceTable) (c : Said) → IsBounded t
+) -> Result<Checked, Fault>
+    ensures answer { IfOk result (λ made. (t : Tests) (prices : PriceTable) (c : Said) → IsBounded t
         → IsCheckVerdict t prices c (Yes certificate.now answer.now)
-        → PrintsVerdict t prices c (string_bytes output.text) output.status) }
+        → PrintsVerdict t prices c (string_bytes made.output.text) made.output.status) }
+    ensures object { IfOk result (λ made. (t : Tests) (prices : PriceTable) (c : Said) → IsBounded t
+        → IsCheckVerdict t prices c (Yes certificate.now answer.now)
+        → AreOneVerdict (string_bytes made.output.text) (string_bytes made.object)) }
     ensures err { IsOkUnless result Fault.Memory }
 {
     match answer {
@@ -107,41 +118,47 @@ fn fenced_output(
     alloc: Global,
     certificate: &Certificate,
     placement: &Placement,
-) -> Result<Output, Fault>
-    ensures answer { IfOk result (λ output. (t : Tests) (prices : PriceTable) (c : Said) → IsBounded t
+) -> Result<Checked, Fault>
+    ensures answer { IfOk result (λ made. (t : Tests) (prices : PriceTable) (c : Said) → IsBounded t
         → IsCheckVerdict t prices c (Yes certificate.now (Some placement.now))
-        → PrintsVerdict t prices c (string_bytes output.text) output.status) }
+        → PrintsVerdict t prices c (string_bytes made.output.text) made.output.status) }
+    ensures object { IfOk result (λ made. (t : Tests) (prices : PriceTable) (c : Said) → IsBounded t
+        → IsCheckVerdict t prices c (Yes certificate.now (Some placement.now))
+        → AreOneVerdict (string_bytes made.output.text) (string_bytes made.object)) }
     ensures err { IsOkUnless result Fault.Memory }
 {
-    Ok(Output {
-        text: fenced_answer(alloc, certificate, placement)?,
-        status: Status::Success,
-    })
+    fenced_answer(alloc, certificate, placement)
 }
 
 /// A yes to a certificate that answers none.
-fn none_output(alloc: Global, certificate: &Certificate) -> Result<Output, Fault>
-    ensures answer { IfOk result (λ output. (t : Tests) (prices : PriceTable) (c : Said) → IsBounded t
+fn none_output(alloc: Global, certificate: &Certificate) -> Result<Checked, Fault>
+    ensures answer { IfOk result (λ made. (t : Tests) (prices : PriceTable) (c : Said) → IsBounded t
         → IsCheckVerdict t prices c (Yes certificate.now None)
-        → PrintsVerdict t prices c (string_bytes output.text) output.status) }
+        → PrintsVerdict t prices c (string_bytes made.output.text) made.output.status) }
+    ensures object { IfOk result (λ made. (t : Tests) (prices : PriceTable) (c : Said) → IsBounded t
+        → IsCheckVerdict t prices c (Yes certificate.now None)
+        → AreOneVerdict (string_bytes made.output.text) (string_bytes made.object)) }
     ensures err { IsOkUnless result Fault.Memory }
 {
-    Ok(Output {
-        text: none_answer(alloc, certificate)?,
-        status: Status::Success,
-    })
+    none_answer(alloc, certificate)
 }
 
 /// A no in print, with its reason.
-fn refusal(alloc: Global, reason: Reason) -> Result<Output, Fault>
-    ensures answer { IfOk result (λ output. (t : Tests) (prices : PriceTable) (c : Said) → IsBounded t
+fn refusal(alloc: Global, reason: Reason) -> Result<Checked, Fault>
+    ensures answer { IfOk result (λ made. (t : Tests) (prices : PriceTable) (c : Said) → IsBounded t
         → IsCheckVerdict t prices c (No reason)
-        → PrintsVerdict t prices c (string_bytes output.text) output.status) }
+        → PrintsVerdict t prices c (string_bytes made.output.text) made.output.status) }
+    ensures object { IfOk result (λ made. (t : Tests) (prices : PriceTable) (c : Said) → IsBounded t
+        → IsCheckVerdict t prices c (No reason)
+        → AreOneVerdict (string_bytes made.output.text) (string_bytes made.object)) }
     ensures err { IsOkUnless result Fault.Memory }
 {
-    Ok(Output {
-        text: refusal_text(alloc, reason)?,
-        status: Status::Denied,
+    Ok(Checked {
+        output: Output {
+            text: refusal_text(alloc, reason)?,
+            status: Status::Denied,
+        },
+        object: no_object(alloc, reason)?,
     })
 }
 

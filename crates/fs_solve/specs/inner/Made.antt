@@ -3,13 +3,23 @@ use Rattle.std.specs.Prelude.{◌≡◌, ℕ, Some, List, [], ◌∷◌}
 use Rattle.fs_kinds.specs.PriceTable.{PriceTable}
 use Rattle.fs_model.specs.declared.test.Test.{Test}
 use Rattle.fs_model.specs.Witness.{Witness}
-use Rattle.fs_answer.specs.Texts.{none_lines}
+use Rattle.serde_json.specs.Data.{Data}
+use Rattle.fs_answer.specs.Texts.{fenced_lines, none_lines}
 use Rattle.fs_certificate.specs.declared.certificate.Certificate.{Certificate}
 use Rattle.fs_evidence.specs.Evidence.{placement_in}
 use Rattle.fs_crew.specs.Answers.{Answer, placement_of}
 use Rattle.fs_crew.specs.Forms as answer
 use Rattle.fs_cert.specs.Certified.{Certifies, CertifiesNone}
+use Rattle.fs_report.specs.Objects.{fenced_value, none_value}
 use Rattle.fs_solve.specs.Solve.{IsCertificateOf}
+
+abbrev pub lines_of : Answer → List ℕ
+lines_of (answer.Fenced f n) = fenced_lines n (placement_in f)
+lines_of (answer.None w) = none_lines w.witness
+
+abbrev pub value_of : Answer → Data
+value_of (answer.Fenced f n) = fenced_value n (placement_in f)
+value_of (answer.None w) = none_value w.witness
 
 abbrev pub PrintsWitness : Answer → List ℕ → Type 0
 PrintsWitness (answer.Fenced f n) text = Unit {0}

@@ -4,7 +4,7 @@ use Rattle.std.specs.Arc.{arc_value}
 use Rattle.std.proofs.lemmas.Result.{IfOk-weaker, IfErr-weaker}
 use Rattle.fs_place.proofs.Faults.{IfErr-handed}
 use Rattle.fs_test.specs.declared.said.Said.{Said}
-use Rattle.fs_test.specs.Verdicts.{IsTestedAs, IsVacuous}
+use Rattle.fs_test.specs.Verdicts.{IsTestedAs, IsVacuous, witness_in}
 use Rattle.fs_test.proofs.judged.judge_test.Goals as goal
 
 pub returns-in_err-said-clause-err : goal.returns-in_err-said-clause-err
@@ -13,7 +13,7 @@ returns-in_err-said-clause-err c =
 
 pub returns-in-Some-clause-ok : goal.returns-in-Some-clause-ok
 returns-in-Some-clause-ok c =
-    subst (λ (found : Option Said). IfSome found (λ said. IsTestedAs (arc_value c.args.test.now) said.kind (string_bytes said.text)))
+    subst (λ (found : Option Said). IfSome found (λ said. IsTestedAs (arc_value c.args.test.now) said.kind (string_bytes said.why) (witness_in said.witness)))
     c.in-Some.is c.in_ok-said.ensures.some
 
 pub judge_serious-requires-clause-serious : goal.judge_serious-requires-clause-serious

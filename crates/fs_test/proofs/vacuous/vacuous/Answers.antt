@@ -1,4 +1,4 @@
-use Rattle.std.proofs.Common.{◌≡◌, ◌++◌, ℕ, List, codes, string_bytes, subst}
+use Rattle.std.proofs.Common.{◌≡◌, ℕ, List, string_bytes, subst}
 use Rattle.std.specs.Arc.{arc_value}
 use Rattle.fs_model.specs.declared.test.Test.{Test}
 use Rattle.fs_model.specs.declared.step.Step.{Step}
@@ -14,9 +14,9 @@ returns-clause-some c =
     let text = string_bytes c.in_ok-vacuous_text.field-0 in
     let same = c.in_ok-basis.ensures.value in
     let vacuous : IsVacuous t = subst IsVacuous same (c.in_ok-is_vacuous.ensures.yes c.if-not-is_vacuous.false) in
-    let said : (runs : ℕ → List (List Step)) × AreItsRuns t runs × (text ≡ codes "vacuous    " ++ never_words t (never_in_outcome t runs)) =
+    let said : (runs : ℕ → List (List Step)) × AreItsRuns t runs × (text ≡ never_words t (never_in_outcome t runs)) =
     subst (λ (u : Test). (runs : ℕ → List (List Step)) × AreItsRuns u runs
-    × (text ≡ codes "vacuous    " ++ never_words u (never_in_outcome u runs))) same c.in_ok-vacuous_text.ensures in
+    × (text ≡ never_words u (never_in_outcome u runs))) same c.in_ok-vacuous_text.ensures in
     record {
       listed = c.in_ok-basis.ensures.listable.no_fault;
       says = record {

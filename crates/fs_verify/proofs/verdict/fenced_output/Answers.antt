@@ -1,5 +1,11 @@
-use Rattle.fs_verify.proofs.Given.{prints_fences}
+use Rattle.fs_verify.proofs.CheckFaults.{if_ok}
+use Rattle.fs_verify.proofs.Given.{one_yes, prints_fences}
 use Rattle.fs_verify.proofs.verdict.fenced_output.Goals as goal
 
 pub returns-clause-answer : goal.returns-clause-answer
-returns-clause-answer c = λ t prices said bounded verdict. prints_fences t prices _ said _ _ verdict c.in_ok-fenced_answer.ensures.ok
+returns-clause-answer c = if_ok _ _ c.fenced_answer.result c.fenced_answer.ensures.ok
+    (λ made shown t prices said bounded verdict. prints_fences t prices _ said _ _ _ _ verdict shown)
+
+pub returns-clause-object : goal.returns-clause-object
+returns-clause-object c = if_ok _ _ c.fenced_answer.result c.fenced_answer.ensures.ok
+    (λ made shown t prices said bounded verdict. one_yes _ _ _ _ shown)

@@ -1,5 +1,11 @@
-use Rattle.fs_verify.proofs.Given.{prints_none}
+use Rattle.fs_verify.proofs.CheckFaults.{if_ok}
+use Rattle.fs_verify.proofs.Given.{each_file, one_none, prints_none}
 use Rattle.fs_verify.proofs.verdict.none_output.Goals as goal
 
 pub returns-clause-answer : goal.returns-clause-answer
-returns-clause-answer c = λ t prices said bounded verdict. prints_none t prices _ said _ bounded verdict c.in_ok-none_answer.ensures.ok
+returns-clause-answer c = if_ok _ _ c.none_answer.result (each_file c.args.certificate.now c.none_answer.result c.none_answer.ensures.ok)
+    (λ made shown t prices said bounded verdict. prints_none t prices _ said _ _ _ bounded verdict shown)
+
+pub returns-clause-object : goal.returns-clause-object
+returns-clause-object c = if_ok _ _ c.none_answer.result (each_file c.args.certificate.now c.none_answer.result c.none_answer.ensures.ok)
+    (λ made shown t prices said bounded verdict. one_none t prices _ said _ _ _ bounded verdict shown)

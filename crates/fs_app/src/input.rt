@@ -1,0 +1,31 @@
+//! The files that a run reads.
+use fs_io::read_bytes;
+use fs_kinds::Fault;
+use std::fs::File;
+use std::rt::Files;
+
+/// Tests, prices and witnesses are read up to this many bytes.
+pub(crate) const INPUT_LIMIT: usize = 1_048_576;
+
+/// The bytes of a test: of standard input where it is called `-` or `stdin`, else of the file.
+pub(crate) fn read_input<R: Files + Input + AllocGlobal>(
+    rt: &R,
+    path: &str,
+) -> Result<Vec<u8>, Fault> {
+    if path == "-" || path == "stdin" {
+        return read_bytes(rt.alloc(), &mut rt.reader(), INPUT_LIMIT);
+    }
+    read_file(rt, path, INPUT_LIMIT)
+}
+
+/// The bytes of the file, where there are at most `limit`. One that can't be opened is a `ReadFault`.
+pub(crate) fn read_file<R: Files + AllocGlobal>(
+    rt: &R,
+    path: &str,
+    limit: usize,
+) -> Result<Vec<u8>, Fault> {
+    match File::open(rt, path) {
+        Ok(mut file) => read_bytes(rt.alloc(), &mut file, limit),
+        Err(_) => Err(Fault::ReadFault),
+    }
+}

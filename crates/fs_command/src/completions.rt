@@ -1,0 +1,221 @@
+//! Scripts by which a shell completes the words of a command line. They are made of what the program is told of its own command line, so
+//! each command and each option stands there.
+use clap::builder::ValueParser;
+use clap::{Arg, Command};
+use std::alloc::{AllocError, Global};
+
+/// A shell for which there is a script.
+#[derive(Clone, Copy, Debug, PartialEq, Eq)]
+pub enum Shell {
+    Bash,
+    Zsh,
+    Fish,
+}
+
+/// What stands before the cases of the bash script, and after them.
+const BASH_HEAD: &str = r#"# Completes the words of rvfence in bash, after: source <(rvfence completions bash)
+_rvfence() {
+    local word=${COMP_WORDS[COMP_CWORD]} options= values=
+    case "$((COMP_CWORD > 1)) ${COMP_WORDS[1]}" in
+"#;
+
+const BASH_TAIL: &str = r#"    esac
+    [[ $word != -* ]] || values=$options
+    COMPREPLY=($(compgen -W "$values" -- "$word"))
+}
+complete -o default -F _rvfence rvfence
+"#;
+
+/// The same of the zsh script.
+const ZSH_HEAD: &str = r#"#compdef rvfence
+# Completes the words of rvfence in zsh, after: source <(rvfence completions zsh)
+_rvfence() {
+    local -a options values
+    case "$((CURRENT > 2)) $words[2]" in
+"#;
+
+const ZSH_TAIL: &str = r#"    esac
+    if [[ $PREFIX == -* ]]; then
+        _describe -o option options
+    elif (($#values)); then
+        _describe word values
+    else
+        _files
+    fi
+}
+if [[ $funcstack[1] == _rvfence ]]; then _rvfence "$@"; else compdef _rvfence rvfence; fi
+"#;
+
+const FISH_HEAD: &str = "\
+# Completes the words of rvfence in fish, after: rvfence completions fish | source
+complete -c rvfence -s h -l help -d 'Print help'
+complete -c rvfence -n __fish_use_subcommand -s V -l version -d 'Print version'
+";
+
+/// The script for this shell. The error is want of memory.
+pub(crate) fn script(
+    alloc: Global,
+    program: &Command<'_>,
+    shell: Shell,
+) -> Result<String, AllocError> {
+    let mut text = String::new(alloc);
+    match shell {
+        Shell::Bash => write_bash(program, &mut text)?,
+        Shell::Zsh => write_zsh(alloc, program, &mut text)?,
+        Shell::Fish => write_fish(alloc, program, &mut text)?,
+    }
+    Ok(text)
+}
+
+/// Must the argument be one of some names?
+fn has_names(argument: &Arg<'_>) -> bool {
+    matches!(argument.get_value_parser(), ValueParser::Names(_))
+}
+
+/// The text as a word of each of the shells.
+fn quoted(alloc: Global, text: &str) -> Result<String, AllocError> {
+    text.replace(alloc, "'", r"'\''")
+}
+
+fn write_bash(program: &Command<'_>, text: &mut String) -> Result<(), AllocError> {
+    text.push_str(BASH_HEAD)?;
+    text.push_str("        '0 '*) options='--help --version' values='")?;
+    for command in program.get_subcommands() {
+        write!(text, "{} ", command.get_name())?;
+    }
+    text.push_str("help' ;;\n")?;
+    for command in program.get_subcommands() {
+        write_bash_case(command, text)?;
+    }
+    text.push_str(BASH_TAIL)
+}
+
+/// The options of a command, and the names that an argument of it may be.
+fn write_bash_case(command: &Command<'_>, text: &mut String) -> Result<(), AllocError> {
+    write!(text, "        '1 {}') options='", command.get_name())?;
+    for argument in command.get_arguments() {
+        if let Some(name) = argument.get_long() {
+            write!(text, "--{} ", name)?;
+        }
+    }
+    text.push_str("--help' values='")?;
+    for argument in command.get_arguments() {
+        write_names(argument, text)?;
+    }
+    text.push_str("' ;;\n")
+}
+
+/// The names of which the argument must be one, where it must, with a blank behind each.
+fn write_names(argument: &Arg<'_>, text: &mut String) -> Result<(), AllocError> {
+    if let ValueParser::Names(names) = argument.get_value_parser() {
+        for name in names {
+            write!(text, "{} ", name)?;
+        }
+    }
+    Ok(())
+}
+
+fn write_zsh(
+    alloc: Global,
+    program: &Command<'_>,
+    text: &mut String,
+) -> Result<(), AllocError> {
+    text.push_str(ZSH_HEAD)?;
+    text.push_str("        '0 '*)\n            options=(--help --version)\n            values=(\n")?;
+    for command in program.get_subcommands() {
+        let about = quoted(alloc, command.get_about().unwrap_or(""))?;
+        writeln!(text, "                '{}:{}'", command.get_name(), about.as_str())?;
+    }
+    text.push_str("                help\n            ) ;;\n")?;
+    for command in program.get_subcommands() {
+        write_zsh_case(alloc, command, text)?;
+    }
+    text.push_str(ZSH_TAIL)
+}
+
+/// The same as `write_bash_case`, with what each option is for.
+fn write_zsh_case(
+    alloc: Global,
+    command: &Command<'_>,
+    text: &mut String,
+) -> Result<(), AllocError> {
+    writeln!(text, "        '1 {}')\n            options=(", command.get_name())?;
+    for argument in command.get_arguments() {
+        write_zsh_option(alloc, argument, text)?;
+    }
+    text.push_str("                --help\n            )\n            values=(")?;
+    for argument in command.get_arguments() {
+        write_names(argument, text)?;
+    }
+    text.push_str(") ;;\n")
+}
+
+fn write_zsh_option(
+    alloc: Global,
+    argument: &Arg<'_>,
+    text: &mut String,
+) -> Result<(), AllocError> {
+    let Some(name) = argument.get_long() else {
+        return Ok(());
+    };
+    let help = quoted(alloc, argument.get_help().unwrap_or(""))?;
+    writeln!(text, "                '--{}:{}'", name, help.as_str())
+}
+
+fn write_fish(
+    alloc: Global,
+    program: &Command<'_>,
+    text: &mut String,
+) -> Result<(), AllocError> {
+    text.push_str(FISH_HEAD)?;
+    for command in program.get_subcommands() {
+        let about = quoted(alloc, command.get_about().unwrap_or(""))?;
+        writeln!(
+            text,
+            "complete -c rvfence -n __fish_use_subcommand -f -a {} -d '{}'",
+            command.get_name(),
+            about.as_str()
+        )?;
+    }
+    for command in program.get_subcommands() {
+        for argument in command.get_arguments() {
+            write_fish_argument(alloc, command.get_name(), argument, text)?;
+        }
+    }
+    Ok(())
+}
+
+/// A line for an argument of the command that must be one of some names.
+fn write_fish_names(
+    command: &str,
+    argument: &Arg<'_>,
+    text: &mut String,
+) -> Result<(), AllocError> {
+    if !has_names(argument) {
+        return Ok(());
+    }
+    write!(text, "complete -c rvfence -n '__fish_seen_subcommand_from {}' -f -a '", command)?;
+    write_names(argument, text)?;
+    text.push_str("'\n")
+}
+
+/// A line for an option of the command, or for an argument that must be one of some names.
+fn write_fish_argument(
+    alloc: Global,
+    command: &str,
+    argument: &Arg<'_>,
+    text: &mut String,
+) -> Result<(), AllocError> {
+    let Some(name) = argument.get_long() else {
+        return write_fish_names(command, argument, text);
+    };
+    let help = quoted(alloc, argument.get_help().unwrap_or(""))?;
+    write!(text, "complete -c rvfence -n '__fish_seen_subcommand_from {}'", command)?;
+    if let Some(short) = argument.get_short() {
+        write!(text, " -s {}", short)?;
+    }
+    if argument.get_action().takes_values() {
+        text.push_str(" -r")?;
+    }
+    writeln!(text, " -l {} -d '{}'", name, help.as_str())
+}
