@@ -23,9 +23,12 @@ pub(crate) fn said_of_files<R: Files + Input + AllocGlobal + Threads + Wait + Sy
     }
     let next = Mutex::new(0usize);
     let threads = files.len().min(usize::from(jobs));
-    let said = thread::map_indices(rt, rt.alloc(), threads, &|_: usize| {
-        said_by_thread(rt, files, &next)
-    })?;
+    let said = thread::map_indices(
+        rt,
+        rt.alloc(),
+        threads,
+        &|_: usize| { said_by_thread(rt, files, &next) },
+    )?;
     in_order(rt.alloc(), said)
 }
 

@@ -12,8 +12,8 @@ pub use fs_io::{Output, Status, read_bytes, write_text};
 pub use fs_order::run_order;
 pub use fs_place::run_place;
 pub use fs_solve::{
-    Answered, Certified, Gate, Open, Unwatched, Watch, run_certified, run_certified_alone, run_solve,
-    run_solve_alone,
+    Answered, Certified, Gate, Open, Unwatched, Watch, run_certified, run_certified_alone,
+    run_solve, run_solve_alone,
 };
 pub use fs_test::{Kind, Line, Said, test_file, test_objects, test_report, vacuous_note};
 pub use fs_verify::{Checked, run_check};

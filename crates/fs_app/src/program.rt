@@ -57,6 +57,15 @@ impl Failure {
     }
 }
 
+/// What is said on standard error beside faults.
+#[derive(Clone, Copy)]
+struct Voice {
+    /// Whether notes of an answer are said.
+    notes: bool,
+    /// Whether they are said on a terminal, where a line may change.
+    is_terminal: bool,
+}
+
 /// Does what the process's command line asks for, and answers the exit status: 0 where it was done or the answer is yes, fenced or
 /// forbidden, 1 where it is no, none or allowed, 2 for a fault or a bad command line, 3 where memory ran out, 4 where tests are vacuous
 /// and nothing is worse. A fault or a bad command line prints on standard error, and nothing on standard output unless it was standard
@@ -84,10 +93,12 @@ fn status_of_run<
         Ok(request) => request,
         Err(error) => return explain(rt, error),
     };
-    let output = answer(rt, &request.task, is_terminal)?;
-    if !request.quiet {
-        write_text(&mut io::writer(rt), output.text.as_bytes())?;
-    }
+    let voice = Voice {
+        notes: !request.quiet,
+        is_terminal,
+    };
+    let output = answer(rt, &request.task, voice)?;
+    write_text(&mut io::writer(rt), output.text.as_bytes())?;
     Ok(output.status)
 }
 
@@ -126,13 +137,13 @@ fn report<R: Eprint>(rt: &R, error: &impl std::error::Error) {
 fn answer<R: Files + Input + Eprint + AllocGlobal + Clock + Threads + Wait + Sync>(
     rt: &R,
     task: &Task<'_>,
-    is_terminal: bool,
+    voice: Voice,
 ) -> Result<Output, Fault> {
     match task {
         Task::Test(test) => answer_test(rt, test),
         Task::Place(place) => answer_place(rt, place),
         Task::Order(order) => answer_order(rt, order),
-        Task::Solve(solve) => answer_solve(rt, solve, is_terminal),
+        Task::Solve(solve) => answer_solve(rt, solve, voice),
         Task::Audit(audit) => answer_audit(rt, audit),
         Task::Check(check) => answer_check(rt, check),
         Task::Completions(shell) => Ok(Output {
@@ -180,14 +191,14 @@ fn answer_order<R: Files + Input + AllocGlobal>(
 fn answer_solve<R: Files + Input + Eprint + AllocGlobal + Clock + Threads + Wait + Sync>(
     rt: &R,
     solve: &Solve<'_>,
-    is_terminal: bool,
+    voice: Voice,
 ) -> Result<Output, Fault> {
     let test = read_input(rt, solve.test)?;
     let prices = read_file(rt, solve.prices, INPUT_LIMIT)?;
     // the command line has no other numbers; here it is said once more for the proof
     let workers = solve.workers.clamp(1, MOST_WORKERS);
     let limit = solve.nodes.clamp(1, MOST_NODES) as usize;
-    let mut progress = Progress::new(rt, is_terminal);
+    let mut progress = Progress::new(rt, voice.is_terminal && voice.notes);
     let answered = match solve.certificate {
         Some(path) => {
             let certified = certified(rt, &test, &prices, workers, limit, &mut progress);
@@ -202,7 +213,9 @@ fn answer_solve<R: Files + Input + Eprint + AllocGlobal + Clock + Threads + Wait
             answered?
         }
     };
-    note_vacuous(rt, &test, answered.output.text.as_str())?;
+    if voice.notes {
+        note_vacuous(rt, &test, answered.output.text.as_str())?;
+    }
     Ok(in_form(answered.output, answered.object, solve.json))
 }
 

@@ -233,8 +233,8 @@ Exit status:
   3  memory ran out (fault F19)";
 
 const PROGRAM_HELP: &str = "\
-`rvfence <COMMAND> --help` says what a command answers. With -q a command prints nothing on
-standard output, and the status tells.
+`rvfence <COMMAND> --help` says what a command answers. With -q nothing is said on standard
+error but faults.
 
 Exit status: 0 done, yes, fenced or forbidden; 1 no, none or allowed; 2 a fault or a bad
 command line; 3 memory ran out; 4 vacuous.";
@@ -265,7 +265,7 @@ const SHELL_HELP: &str = "Which shell is to read it";
 
 const WRITE_HELP: &str = "Print the test with the cheapest fences in place of its own";
 
-const QUIET_HELP: &str = "Print nothing on standard output: the status tells";
+const QUIET_HELP: &str = "Say nothing on standard error but faults";
 
 const NODES_HELP: &str = "Most nodes that the search may make, 1 to 1000000";
 
@@ -285,7 +285,7 @@ pub const MOST_NODES: u32 = 1_000_000;
 #[derive(Drop)]
 pub struct Request<'a> {
     pub task: Task<'a>,
-    /// Whether nothing is to be printed on standard output.
+    /// Whether notes of an answer are to be left out.
     pub quiet: bool,
 }
 
@@ -380,11 +380,7 @@ fn request_of<'a>(alloc: Global, matches: &ArgMatches<'a>) -> Result<Request<'a>
 }
 
 /// What the command of this name is to do.
-fn task_of<'a>(
-    alloc: Global,
-    name: &str,
-    found: &ArgMatches<'a>,
-) -> Result<Task<'a>, AllocError> {
+fn task_of<'a>(alloc: Global, name: &str, found: &ArgMatches<'a>) -> Result<Task<'a>, AllocError> {
     match name {
         "test" => Ok(Task::Test(test_of(alloc, found)?)),
         "order" => Ok(Task::Order(order_of(alloc, found)?)),

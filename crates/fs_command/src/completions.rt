@@ -13,7 +13,8 @@ pub enum Shell {
 }
 
 /// What stands before the cases of the bash script, and after them.
-const BASH_HEAD: &str = r#"# Completes the words of rvfence in bash, after: source <(rvfence completions bash)
+const BASH_HEAD: &str =
+    r#"# Completes the words of rvfence in bash, after: source <(rvfence completions bash)
 _rvfence() {
     local word=${COMP_WORDS[COMP_CWORD]} options= values=
     case "$((COMP_CWORD > 1)) ${COMP_WORDS[1]}" in
@@ -115,16 +116,19 @@ fn write_names(argument: &Arg<'_>, text: &mut String) -> Result<(), AllocError> 
     Ok(())
 }
 
-fn write_zsh(
-    alloc: Global,
-    program: &Command<'_>,
-    text: &mut String,
-) -> Result<(), AllocError> {
+fn write_zsh(alloc: Global, program: &Command<'_>, text: &mut String) -> Result<(), AllocError> {
     text.push_str(ZSH_HEAD)?;
-    text.push_str("        '0 '*)\n            options=(--help --version)\n            values=(\n")?;
+    text.push_str(
+        "        '0 '*)\n            options=(--help --version)\n            values=(\n",
+    )?;
     for command in program.get_subcommands() {
         let about = quoted(alloc, command.get_about().unwrap_or(""))?;
-        writeln!(text, "                '{}:{}'", command.get_name(), about.as_str())?;
+        writeln!(
+            text,
+            "                '{}:{}'",
+            command.get_name(),
+            about.as_str()
+        )?;
     }
     text.push_str("                help\n            ) ;;\n")?;
     for command in program.get_subcommands() {
@@ -139,7 +143,11 @@ fn write_zsh_case(
     command: &Command<'_>,
     text: &mut String,
 ) -> Result<(), AllocError> {
-    writeln!(text, "        '1 {}')\n            options=(", command.get_name())?;
+    writeln!(
+        text,
+        "        '1 {}')\n            options=(",
+        command.get_name()
+    )?;
     for argument in command.get_arguments() {
         write_zsh_option(alloc, argument, text)?;
     }
@@ -162,11 +170,7 @@ fn write_zsh_option(
     writeln!(text, "                '--{}:{}'", name, help.as_str())
 }
 
-fn write_fish(
-    alloc: Global,
-    program: &Command<'_>,
-    text: &mut String,
-) -> Result<(), AllocError> {
+fn write_fish(alloc: Global, program: &Command<'_>, text: &mut String) -> Result<(), AllocError> {
     text.push_str(FISH_HEAD)?;
     for command in program.get_subcommands() {
         let about = quoted(alloc, command.get_about().unwrap_or(""))?;
@@ -194,7 +198,11 @@ fn write_fish_names(
     if !has_names(argument) {
         return Ok(());
     }
-    write!(text, "complete -c rvfence -n '__fish_seen_subcommand_from {}' -f -a '", command)?;
+    write!(
+        text,
+        "complete -c rvfence -n '__fish_seen_subcommand_from {}' -f -a '",
+        command
+    )?;
     write_names(argument, text)?;
     text.push_str("'\n")
 }
@@ -210,7 +218,11 @@ fn write_fish_argument(
         return write_fish_names(command, argument, text);
     };
     let help = quoted(alloc, argument.get_help().unwrap_or(""))?;
-    write!(text, "complete -c rvfence -n '__fish_seen_subcommand_from {}'", command)?;
+    write!(
+        text,
+        "complete -c rvfence -n '__fish_seen_subcommand_from {}'",
+        command
+    )?;
     if let Some(short) = argument.get_short() {
         write!(text, " -s {}", short)?;
     }
