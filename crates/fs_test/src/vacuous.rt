@@ -8,7 +8,7 @@ ghost use Rattle.fs_model.specs.TooMany.{IsRunFault};
 ghost use Rattle.fs_answer.specs.Certificate.{Filter};
 ghost use Rattle.fs_answer.specs.Trees.{IsRefuted};
 ghost use Rattle.fs_evidence.specs.Inferences.{inference_of};
-ghost use Rattle.fs_test.specs.Verdicts.{HasNoRunFault, IsTestedAs, IsVacuous, witness_in};
+ghost use Rattle.fs_test.specs.Verdicts.{HasNoRunFault, IsTestedAs, IsVacuous, SaysVacuous, witness_in};
 
 use crate::never::vacuous_text;
 use crate::said::{Kind, Said};
@@ -26,6 +26,7 @@ pub(crate) fn vacuous(alloc: Global, test: &Arc<Test>) -> Result<Option<Said>, F
     requires starts { All IsStart (arc_value test.now).starts }
     ensures some { IfOk result (λ found. IfSome found (λ said.
         IsTestedAs (arc_value test.now) said.kind (string_bytes said.why) (witness_in said.witness))) }
+    ensures words { IfOk result (λ found. IfSome found (λ said. SaysVacuous (arc_value test.now) (string_bytes said.why))) }
     ensures none { IfOk result (λ found. IfNone found (IsVacuous (arc_value test.now) → ⊥)) }
     ensures clean { OnOk result (HasNoRunFault (arc_value test.now)) }
     ensures err { IfErr result (λ f. f ≢ Memory → IsRunFault (arc_value test.now) f) }

@@ -24,7 +24,7 @@ returns-in_err-best-clause-fault c =
     let bare = (arc_value c.in_ok-question.question).test in
     IfErr-handed c.from_residual-in_err-best.result _ _ c.from_residual-in_err-best.ensures.1
     (λ file priced. audit-search _ file c.args.limit c.args.prices priced (arc_value c.args.written) c.requires.reads bare
-    (c.args.kind, c.requires.tested.0, c.requires.tested.1.0, c.requires.tested.1.1) (c.in_ok-question.ensures.same _ c.requires.reads) fault
+    (c.args.kind, c.requires.tested.0, c.requires.tested.1, c.requires.tested.2) (c.in_ok-question.ensures.same _ c.requires.reads) fault
     (subst (λ (table : PriceTable). fault ≢ Memory → IsUnanswered bare table c.args.limit fault) c.in_ok-question.ensures.prices
     c.in_err-best.ensures.err))
 

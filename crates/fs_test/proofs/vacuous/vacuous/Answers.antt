@@ -27,3 +27,6 @@ returns-clause-some c =
         shown = said.2;
       };
     }
+
+pub returns-clause-words : goal.returns-clause-words
+returns-clause-words c = (returns-clause-some c).says
