@@ -2,17 +2,24 @@
 use crate::input::read_input;
 use fs_kinds::Fault;
 use fs_test::{Line, test_file};
-use std::alloc::Global;
+use std::alloc::{AllocError, Global};
 use std::rt::Files;
-use std::sync::{Mutex, Wait};
+use std::sync::Wait;
 use std::thread;
 use std::thread::Threads;
 
-/// What is said of a file, with its place among the files.
-type Placed = (usize, Line);
+/// So many files each thread judges before all go on to the next ones.
+const AT_ONCE: usize = 8;
 
-/// What is said of the files, in their order. With more than one job so many threads judge files side by side, which
-/// changes nothing of what is said.
+/// A file that was read: its name, and its bytes or why it has none.
+#[derive(Drop)]
+struct Taken<'a> {
+    name: &'a str,
+    file: Result<Vec<u8>, Fault>,
+}
+
+/// What is said of the files, in their order. With more than one job so many threads judge files side by side, which changes nothing of
+/// what is said: files are read here alone, in their order. Of up to eight files for each job the bytes are kept at once.
 pub(crate) fn said_of_files<R: Files + Input + AllocGlobal + Threads + Wait + Sync>(
     rt: &R,
     files: &[String],
@@ -21,15 +28,18 @@ pub(crate) fn said_of_files<R: Files + Input + AllocGlobal + Threads + Wait + Sy
     if jobs == 1 {
         return said_in_turn(rt, files);
     }
-    let next = Mutex::new(0usize);
-    let threads = files.len().min(usize::from(jobs));
-    let said = thread::map_indices(
-        rt,
-        rt.alloc(),
-        threads,
-        &|_: usize| { said_by_thread(rt, files, &next) },
-    )?;
-    in_order(rt.alloc(), said)
+    let mut lines = Vec::new(rt.alloc());
+    for round in files.chunks(usize::from(jobs.max(1)) * AT_ONCE) {
+        let batches = read_batches(rt, round)?;
+        let alloc = rt.alloc();
+        let said = thread::map_vec(
+            rt,
+            batches,
+            &|batch: Vec<Taken<'_>>| { said_of_batch(alloc, batch) },
+        )?;
+        add_lines(&mut lines, said)?;
+    }
+    Ok(lines)
 }
 
 /// One file after the other; of each no more is kept than what is said of it.
@@ -45,62 +55,46 @@ fn said_in_turn<R: Files + Input + AllocGlobal>(
     Ok(lines)
 }
 
-/// What a thread says of the files that it takes. Where it wants memory, no thread takes a further one.
-fn said_by_thread<R: Files + Input + AllocGlobal + Wait>(
-    rt: &R,
-    files: &[String],
-    next: &Mutex<usize>,
-) -> Result<Vec<Placed>, Fault> {
-    let said = said_of_taken(rt, files, next);
-    if said.is_err() {
-        *next.lock(rt) = files.len();
-    }
-    said
-}
-
-/// The same until there are no more files.
-fn said_of_taken<R: Files + Input + AllocGlobal + Wait>(
-    rt: &R,
-    files: &[String],
-    next: &Mutex<usize>,
-) -> Result<Vec<Placed>, Fault> {
-    let mut said = Vec::new(rt.alloc());
-    for _ in 0..files.len() {
-        let Some((place, path, file)) = taken(rt, files, next) else {
-            break;
-        };
-        let line = test_file(rt.alloc(), path, file)?;
-        said.push((place, line))?;
-    }
-    Ok(said)
-}
-
-/// The next file, read: its place, its name and its bytes. Under the lock files are read one at a time and in their
-/// order, so it makes no difference which thread reads standard input, or a pipe, that stands there twice.
-fn taken<'a, R: Files + Input + AllocGlobal + Wait>(
+/// The files, read in their order, in batches for a thread each.
+fn read_batches<'a, R: Files + Input + AllocGlobal>(
     rt: &R,
     files: &'a [String],
-    next: &Mutex<usize>,
-) -> Option<(usize, &'a str, Result<Vec<u8>, Fault>)> {
-    let mut next = next.lock(rt);
-    let place = *next;
-    let path = files.get(place)?.as_str();
-    *next = place.saturating_add(1);
-    Some((place, path, read_input(rt, path)))
+) -> Result<Vec<Vec<Taken<'a>>>, AllocError> {
+    let mut batches = Vec::new(rt.alloc());
+    for paths in files.chunks(AT_ONCE) {
+        batches.push(read_batch(rt, paths)?)?;
+    }
+    Ok(batches)
 }
 
-/// All that was said, in the order of the files. An error where a thread had one.
-fn in_order(alloc: Global, said: Vec<Result<Vec<Placed>, Fault>>) -> Result<Vec<Line>, Fault> {
-    let mut all = Vec::new(alloc);
-    for some in said {
-        for placed in some? {
-            all.push(placed)?;
-        }
+fn read_batch<'a, R: Files + Input + AllocGlobal>(
+    rt: &R,
+    paths: &'a [String],
+) -> Result<Vec<Taken<'a>>, AllocError> {
+    let mut batch = Vec::new(rt.alloc());
+    for path in paths {
+        let name = path.as_str();
+        let file = read_input(rt, name);
+        batch.push(Taken { name, file })?;
     }
-    all.sort_unstable_by_key(|placed| placed.0);
+    Ok(batch)
+}
+
+/// What is said of the files of a batch.
+fn said_of_batch(alloc: Global, batch: Vec<Taken<'_>>) -> Result<Vec<Line>, Fault> {
     let mut lines = Vec::new(alloc);
-    for (_, line) in all {
-        lines.push(line)?;
+    for Taken { name, file } in batch {
+        lines.push(test_file(alloc, name, file)?)?;
     }
     Ok(lines)
+}
+
+/// Appends what was said of the batches. An error where a thread had one.
+fn add_lines(lines: &mut Vec<Line>, said: Vec<Result<Vec<Line>, Fault>>) -> Result<(), Fault> {
+    for batch in said {
+        for line in batch? {
+            lines.push(line)?;
+        }
+    }
+    Ok(())
 }
