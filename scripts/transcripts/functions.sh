@@ -32,7 +32,7 @@ grounded() {
             echo "${first[at]} | ${second[at]} ;"
         done
         echo "exists ($4)"
-    ) examples/prices.json 2>&1 | head -n 1
+    ) examples/prices.json -q 2>&1 | head -n 1
 }
 
 # Message passing with a line below the first that fills it up to this many bytes.

@@ -168,7 +168,7 @@ fn with_certificate(alloc: Global, found: &Found) -> Result<Certified, Fault>
     ensures certificate { IfOk result (λ made. (test prices : List ℕ) (limit : ℕ)
         → IsFound test prices limit (arc_value found.now.question) found.now.solved
         → IsCertified test prices (string_bytes made.answered.output.text) made.answered.output.status
-            (string_bytes made.certificate)) }
+        (string_bytes made.certificate)) }
     ensures object { IfOk result (λ made.
         AreOneAnswer (string_bytes made.answered.output.text) (string_bytes made.answered.object)) }
     ensures err { IsOkUnless result Fault.Memory }

@@ -53,7 +53,13 @@ fn write_line(alloc: Global, width: usize, line: &Line, text: &mut String) -> Re
 {
     let name = padded(alloc, width, line.name.as_str())?;
     let label = label(line.said.kind);
-    writeln!(text, "{}  {}{}", name.as_str(), label, line.said.why.as_str())
+    writeln!(
+        text,
+        "{}  {}{}",
+        name.as_str(),
+        label,
+        line.said.why.as_str()
+    )
 }
 
 /// The kind in a word.

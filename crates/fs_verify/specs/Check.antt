@@ -67,7 +67,7 @@ no_value why =
 abbrev pub AreOneVerdict : (lines text : List ℕ) → Type 0
 AreOneVerdict lines text =
     ((below : List ℕ) × (answer : Data) × SayOneAnswer below answer
-        × (lines ≡ yes_line ++ below) × (text ≡ json_line (yes_value answer)))
+    × (lines ≡ yes_line ++ below) × (text ≡ json_line (yes_value answer)))
     ⊎ ((why : Reason) × (lines ≡ refusal_line why) × (text ≡ json_line (no_value why)))
 
 -- ---- of files

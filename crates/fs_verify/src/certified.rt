@@ -42,7 +42,7 @@ pub(crate) fn fenced_answer(
 pub(crate) fn none_answer(alloc: Global, certificate: &Certificate) -> Result<Checked, Fault>
     ensures ok { (file : File) → slice_get certificate.now.witnesses 0 ≡ Some file
         → IfOk result (λ made. IsYesTo (none_lines (given_by file))
-            (string_bytes made.output.text) made.output.status (string_bytes made.object)) }
+        (string_bytes made.output.text) made.output.status (string_bytes made.object)) }
     ensures err { IsOkUnless result Fault.Memory }
 {
     match certificate.witnesses.first() {
