@@ -1,0 +1,80 @@
+-- A walk over the bytes of a text.
+use Rattle.std.proofs.Common.{◌≡◌, ℕ, ◌+◌, ◌<◌, List, [], ◌∷◌, Option, Some, Bool, true, false, cond, refl, sym, ap, ◌∙◌, subst, suc, length, length-drop, ◌≤◌, drop, get_or, arith, option_map}
+use Rattle.std.proofs.lemmas.List.{at_drop_more, drop-drop}
+use Rattle.fs_tokens.specs.Bytes.{comment_end, tail}
+use Rattle.fs_tokens.specs.Tokens.{Tok, Front, Skip, Take, Unclosed, piece}
+use Rattle.fs_point.specs.Walks.{BeginsAt, here, skip, later, Blank, Token, shape_of, ends_comment}
+
+-- what comes after a comment, in whatever line
+abbrev pub after : List ℕ → Option (List ℕ)
+after bs = option_map (λ x. x.0) (comment_end bs 0)
+
+abbrev rest_of : Option (List ℕ × ℕ) → Option (List ℕ)
+rest_of o = option_map (λ x. x.0) o
+
+picked : (b : Bool) (rest : List ℕ) (l m : ℕ) (x y : Option (List ℕ × ℕ)) → rest_of x ≡ rest_of y → rest_of (cond b (Some (rest, l)) x) ≡ rest_of (cond b (Some (rest, m)) y)
+picked true rest l m x y e = refl
+picked false rest l m x y e = e
+
+any_line : (bs : List ℕ) (l m : ℕ) → rest_of (comment_end bs l) ≡ rest_of (comment_end bs m)
+any_line [] l m = refl
+any_line (b ∷ bs) l m = picked (ends_comment b bs) (tail bs) l m _ _ (any_line bs _ _)
+
+tail_drop : (bs : List ℕ) → tail bs ≡ drop 1 bs
+tail_drop [] = refl
+tail_drop (b ∷ bs) = refl
+
+later_one : (b : ℕ) (bs : List ℕ) → ends_comment b bs ≡ false → after (b ∷ bs) ≡ after bs
+later_one b bs e = rw e (any_line bs _ 0)
+
+pub later_comment : (bs : List ℕ) (i d : ℕ) (next : List ℕ) (ends : Bool) → i < length bs → next ≡ drop (i + 1) bs → ends ≡ ends_comment (get_or bs i d) next → ends ≡ false → after (drop (i + 1) bs) ≡ after (drop i bs)
+later_comment bs i d next ends h same is last =
+    let e = subst (λ l. ends_comment (get_or bs i d) l ≡ false) same (sym is ∙ last) in
+    sym (at_drop_more after bs i d h ∙ later_one (get_or bs i d) (drop (i + 1) bs) e)
+
+ends_here : (b : ℕ) (bs : List ℕ) → ends_comment b bs ≡ true → after (b ∷ bs) ≡ Some (tail bs)
+ends_here b bs e = rw e refl
+
+pub comment_here : (bs : List ℕ) (i d : ℕ) (next : List ℕ) (ends : Bool) → i < length bs → next ≡ drop (i + 1) bs → ends ≡ ends_comment (get_or bs i d) next → ends ≡ true → Some (drop (i + 2) bs) ≡ after (drop i bs)
+comment_here bs i d next ends h same is last =
+    let e = subst (λ l. ends_comment (get_or bs i d) l ≡ true) same (sym is ∙ last) in
+    let two : drop (i + 2) bs ≡ drop 1 (drop (i + 1) bs) = simp drop-drop (ap (λ n. drop n bs) (omega arith)) in
+    ap Some (two ∙ sym (tail_drop (drop (i + 1) bs))) ∙ sym (at_drop_more after bs i d h ∙ ends_here (get_or bs i d) (drop (i + 1) bs) e)
+
+-- ---- from token to token
+
+blank_of : (f : Front) (rest : List ℕ) → Blank rest ≡ shape_of f → (next : ℕ) × (f ≡ Skip rest next)
+blank_of (Skip r n) rest e = let same : r ≡ rest = cc in (n, ap (λ l. Skip l n) same)
+blank_of (Take t r) rest e = absurd (cc)
+blank_of Unclosed rest e = absurd (cc)
+
+token_of : (f : Front) (rest : List ℕ) → Token rest ≡ shape_of f → (t : Tok) × (f ≡ Take t rest)
+token_of (Skip r n) rest e = absurd (cc)
+token_of (Take t r) rest e = let same : r ≡ rest = cc in (t, ap (λ l. Take t l) same)
+token_of Unclosed rest e = absurd (cc)
+
+further : (text all : List ℕ) (i len : ℕ) → all ≡ drop i text → drop (i + len) text ≡ drop len all
+further text all i len e = sym (ap (drop len) e ∙ drop-drop len i text)
+
+pub blank_step : (text all after at : List ℕ) (i len left b : ℕ) → all ≡ drop i text → all ≡ b ∷ after → Blank (drop len (b ∷ after)) ≡ shape_of (piece b after 0) → BeginsAt left (drop (i + len) text) at → BeginsAt left (drop i text) at
+blank_step text all behind at i len left b begun split e h =
+    let f = blank_of _ _ e in
+    let next = subst (λ l. BeginsAt left l at) (further text all i len begun ∙ ap (drop len) split) h in
+    subst (λ l. BeginsAt left l at) (sym split ∙ begun) (skip f.1 next)
+
+pub token_step : (text all after at : List ℕ) (i len left less b : ℕ) → all ≡ drop i text → all ≡ b ∷ after → Token (drop len (b ∷ after)) ≡ shape_of (piece b after 0) → left ≡ suc less → BeginsAt less (drop (i + len) text) at → BeginsAt left (drop i text) at
+token_step text all behind at i len left less b begun split e count h =
+    let f = token_of _ _ e in
+    let next = subst (λ l. BeginsAt less l at) (further text all i len begun ∙ ap (drop len) split) h in
+    subst (λ n. BeginsAt n (drop i text) at) (sym count) (subst (λ l. BeginsAt (suc less) l at) (sym split ∙ begun) (later f.1 next))
+
+pub token_here : (text all after : List ℕ) (i len left b : ℕ) → all ≡ drop i text → all ≡ b ∷ after → Token (drop len (b ∷ after)) ≡ shape_of (piece b after 0) → left ≡ 0 → BeginsAt left (drop i text) (drop i text)
+token_here text all behind i len left b begun split e none =
+    let f = token_of _ _ e in
+    subst (λ n. BeginsAt n (drop i text) (drop i text)) (sym none) (subst (λ l. BeginsAt 0 l l) (sym split ∙ begun) (here f.1))
+
+-- so many bytes are left
+pub bytes_left : (text all after : List ℕ) (i b : ℕ) → all ≡ drop i text → all ≡ b ∷ after → i + (length after + 1) ≤ length text
+bytes_left text all behind i b begun split =
+    let e : length (drop i text) ≡ length (b ∷ behind) = ap length (sym begun ∙ split) in
+    omega (arith, length-drop i text, e)

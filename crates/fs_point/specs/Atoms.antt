@@ -1,0 +1,69 @@
+-- Atoms of a condition that can't be true or false, since a hart or a register isn't there or a number is out of range (herd7's format of
+-- litmus tests).
+use Rattle.std.specs.Prelude.{◌≡◌, ℕ, ◌+◌, List, [], ◌∷◌, Option, Bool, true, false, ◌&&◌, nat_lt, None, Some, length, take, drop}
+use Rattle.fs_tokens.specs.Tokens.{Tok, Sign, Lined}
+use Rattle.fs_tokens.specs.declared.token.Mark.TheVariants.{Colon, OpenBracket, Equals}
+use Rattle.fs_tokens.specs.Values.{Target, Value, IsTarget, IsValue}
+use Rattle.fs_form.specs.Form.{Form, IsForm}
+use Rattle.fs_condition.specs.Grammar.{Syntax, IsCondition}
+use Rattle.fs_litmus.specs.Locations.{Names}
+use Rattle.fs_litmus.specs.Settings.{setting_of}
+use Rattle.fs_litmus.specs.Reads.{HasTokens}
+
+-- whatever locations there are, these aren't a register or a location and its word
+abbrev pub IsBad : ℕ → Target → Value → Type 0
+IsBad columns target value = (names : Names) → setting_of columns names (target, value) ≡ None
+
+-- the number of a hart that is there
+abbrev pub is_hart_number : ℕ → Option ℕ → Bool
+is_hart_number columns None = false
+is_hart_number columns (Some n) = nat_lt n columns
+
+-- a number that no word is, or is the negative of
+abbrev pub is_far : Bool → Option ℕ → Bool
+is_far negative None = true
+is_far negative (Some n) = negative && nat_lt 2147483648 n
+
+-- the tokens begin with a target, =, and a value, which are bad
+pub record BeginsBad (columns : ℕ) (tokens : List Lined) : Type 0 where
+  pub target : Target
+  pub value : Value
+  pub line : ℕ
+  pub middle : List Lined
+  pub after : List Lined
+  pub is_target : IsTarget tokens target ((Sign Equals, line) ∷ middle)
+  pub is_value : IsValue middle value after
+  pub is_bad : IsBad columns target value
+
+-- a token within a target, behind which the target goes on
+abbrev pub opens : Tok → Bool
+opens (Sign Colon) = true
+opens (Sign OpenBracket) = true
+opens _ = false
+
+abbrev pub ends_open : List Lined → Bool
+ends_open [] = false
+ends_open (t ∷ []) = opens t.0
+ends_open (t ∷ u ∷ ts) = ends_open (u ∷ ts)
+
+-- a bad atom begins behind so many tokens of these, and no target before it goes on there
+pub record IsBadAfter (columns : ℕ) (tokens : List Lined) (i : ℕ) : Type 0 where
+  pub whole : ends_open (take i tokens) ≡ false
+  pub begins : BeginsBad columns (drop i tokens)
+
+-- The tokens are those of a test file, and a bad atom of its condition begins with token number n.
+pub record IsBadAtom (tokens : List Lined) (n : ℕ) : Type 0 where
+  pub form : Form
+  pub syntax_of : Syntax
+  pub rest : List Lined
+  pub is_form : IsForm tokens form rest
+  pub is_condition : IsCondition rest syntax_of
+  -- how many tokens of the condition stand before it
+  pub before : ℕ
+  pub is_bad : IsBadAfter form.columns rest before
+  pub number : n + length rest ≡ length tokens + before
+
+pub record IsBadAtomOf (bytes : List ℕ) (n : ℕ) : Type 0 where
+  pub tokens : List Lined
+  pub has_tokens : HasTokens bytes tokens true
+  pub is_bad_atom : IsBadAtom tokens n

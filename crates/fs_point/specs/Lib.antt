@@ -1,0 +1,7 @@
+pub mod Places
+pub mod Walks
+pub mod Apart
+pub mod Points
+pub mod Atoms
+pub mod Messages
+pub mod Explained

@@ -1,0 +1,68 @@
+-- Which token of a test file a fault is of, and where it begins (herd7's format of litmus tests).
+use Rattle.std.specs.Prelude.{◌≡◌, ℕ, ◌+◌, ◌-◌, ◌≤◌, ◌==◌, List, Bool, false, Option, None, Some, length, drop, slice_get, if◌then◌else◌}
+use Rattle.std.specs.Str.{IsUtf8, IsValidUpTo}
+use Rattle.fs_kinds.specs.declared.fault.Fault.{Fault}
+use Rattle.fs_kinds.specs.declared.fault.Fault.TheVariants.{BadUtf8, NotRiscv, BadCondition, Syntax, UnknownInstr, BadAnnotation, BadLabel, BadInit}
+use Rattle.fs_tokens.specs.Tokens.{Lined}
+use Rattle.fs_litmus.specs.Title.{after_line, IsBody}
+use Rattle.fs_litmus.specs.Reads.{HasTokens}
+use Rattle.fs_litmus.specs.Faults.{IsTestFault}
+use Rattle.fs_point.specs.Apart.{apart, renumbered}
+use Rattle.fs_point.specs.Atoms.{IsBadAtomOf}
+use Rattle.fs_point.specs.Walks.{BeginsAt}
+use Rattle.fs_point.specs.declared.point.Point.{Point}
+use Rattle.fs_point.specs.declared.point.Point.TheVariants.{Token, Byte}
+
+-- the fault in another line
+abbrev pub in_line : Fault → ℕ → Fault
+in_line (Syntax line) n = Syntax n
+in_line (UnknownInstr line) n = UnknownInstr n
+in_line (BadAnnotation line) n = BadAnnotation n
+in_line (BadLabel line) n = BadLabel n
+in_line (BadInit line) n = BadInit n
+in_line fault n = fault
+
+-- The fault is of token number n, from 0 on: where each token of the file stands in a line of its own, it is in the line of this one; or, where there are n tokens, it is of the end of the file.
+pub record IsFaultOf (bytes : List ℕ) (f : Fault) (n : ℕ) : Type 0 where
+  pub tokens : List Lined
+  pub closed : Bool
+  pub has_tokens : HasTokens bytes tokens closed
+  pub apart_alike : HasTokens (apart tokens closed) (renumbered 2 tokens) closed
+  pub is_fault : IsTestFault (apart tokens closed) (in_line f (n + 2))
+
+-- token number n of a test file begins at this offset
+pub record IsTokenAt (bytes : List ℕ) (n offset : ℕ) : Type 0 where
+  pub doc : List ℕ
+  pub after_title : after_line bytes ≡ Some doc
+  pub body : List ℕ
+  pub line : ℕ
+  pub is_body : IsBody doc 2 body line
+  pub begins : BeginsAt n body (drop offset bytes)
+
+-- there is no token of this number
+pub record IsPastTokens (bytes : List ℕ) (n : ℕ) : Type 0 where
+  pub tokens : List Lined
+  pub closed : Bool
+  pub has_tokens : HasTokens bytes tokens closed
+  pub past : length tokens ≤ n
+
+abbrev pub is_line_end : Option ℕ → Bool
+is_line_end None = false
+is_line_end (Some b) = b == 10
+
+-- the offset behind the last line; an LF at the end of the file begins none
+abbrev pub end_of : List ℕ → ℕ
+end_of bytes = if is_line_end (slice_get bytes (length bytes - 1)) then length bytes - 1 else length bytes
+
+-- where a fault is pointed at
+pub data IsPoint (bytes : List ℕ) : Fault → Point → Type 0 where
+  -- the first byte that isn't UTF-8
+  encoding : {n : ℕ} → ¬ IsUtf8 bytes → IsValidUpTo bytes n → IsPoint bytes BadUtf8 (Byte n)
+  -- the first byte of the file
+  title : IsPoint bytes NotRiscv (Byte 0)
+  -- the token that the fault is of
+  token : {f : Fault} {n offset : ℕ} → IsFaultOf bytes f n → IsTokenAt bytes n offset → IsPoint bytes f (Token n offset)
+  -- the first token of an atom that can't be true or false
+  atom : {n offset : ℕ} → IsBadAtomOf bytes n → IsTokenAt bytes n offset → IsPoint bytes BadCondition (Token n offset)
+  -- the end, where no token is
+  finish : {f : Fault} {n : ℕ} → IsFaultOf bytes f n → IsPastTokens bytes n → IsPoint bytes f (Byte (end_of bytes))

@@ -1,0 +1,24 @@
+//! Where in a file a fault is, and what is said of it beside its line: the place, the line of the file, and what to
+//! write.
+#![tactic(auto)]
+
+mod apart;
+mod atoms;
+mod bindings;
+mod condition;
+mod fences;
+mod file;
+mod hints;
+mod json;
+mod message;
+mod places;
+mod point;
+mod slices;
+mod title;
+mod walk;
+mod words;
+
+pub use fences::{explain_fences, explain_unread};
+pub use file::{explain, explain_test};
+pub use json::explain_json;
+pub use point::{Point, point_of};

@@ -1,0 +1,119 @@
+//! What is said of an instruction that isn't of the profile, or whose operands aren't. These words promise nothing.
+
+use fs_instr::Op;
+
+// Words of calls and of jumps to registers.
+fn is_call(word: &str) -> bool {
+    matches!(
+        word,
+        "call" | "tail" | "ret" | "jalr" | "jr" | "ecall" | "ebreak"
+    )
+}
+
+// Words of accesses of a byte or of half a word.
+fn is_narrow(word: &str) -> bool {
+    matches!(word, "lb" | "lbu" | "lh" | "lhu" | "sb" | "sh")
+}
+
+// Branches that stand for others with the registers swapped.
+fn is_swapped(word: &str) -> bool {
+    matches!(word, "bgt" | "ble" | "bgtu" | "bleu")
+}
+
+// Branches that stand for others with x0.
+fn is_with_zero(word: &str) -> bool {
+    matches!(word, "bgtz" | "blez" | "bgez" | "bltz")
+}
+
+// Words that stand for others, but for branches.
+fn is_short(word: &str) -> bool {
+    matches!(
+        word,
+        "neg" | "not" | "seqz" | "snez" | "sltz" | "sgtz" | "zext.b"
+    )
+}
+
+// Accesses of 64 bits.
+fn is_wide(word: &str) -> bool {
+    matches!(word, "ld" | "sd" | "lwu") || word.ends_with(".d") || word.contains(".d.")
+}
+
+// The name of an instruction of the table with a w behind it.
+fn is_of_rv64(word: &str) -> bool {
+    match word.strip_suffix("w") {
+        Some(name) => Op::of(name).is_some(),
+        None => false,
+    }
+}
+
+/// What is said of a word that is no mnemonic of the profile.
+pub(crate) fn unknown_words(word: &str) -> &'static str {
+    if is_wide(word) {
+        return "accesses of 64 bits are left out: write the one of a word, as `lw`, `sw` or `amoadd.w`";
+    }
+    if is_narrow(word) {
+        return "accesses of less than a word are left out: write `lw` or `sw`";
+    }
+    if is_of_rv64(word) {
+        return "registers have 32 bits here: write the mnemonic without its `w`";
+    }
+    if is_call(word) {
+        return "calls and jumps to registers are left out: write the code in line";
+    }
+    if is_swapped(word) {
+        return "not of this profile: write `blt`, `bge`, `bltu` or `bgeu` with the registers swapped";
+    }
+    if is_with_zero(word) {
+        return "not of this profile: write `blt` or `bge` with x0";
+    }
+    if is_short(word) {
+        return "not of this profile: write what it stands for, as `xori x5,x6,-1` for `not x5,x6`";
+    }
+    other_words(word)
+}
+
+fn other_words(word: &str) -> &'static str {
+    if word == "la" {
+        return "addresses are initial values: write `0:x6=x;` between the braces";
+    }
+    if word == "fence.i" {
+        return "`fence.i` orders the fetching of instructions, which isn't modelled: leave it out";
+    }
+    if word.starts_with("fence.") {
+        return "the letters are operands: write `fence rw,w`, or `fence.tso`";
+    }
+    if word.starts_with("lw.") || word.starts_with("sw.") {
+        return "`lw` and `sw` take no suffix: write a fence, or `lr.w`, `sc.w` or an AMO";
+    }
+    "no mnemonic of this profile: docs/FORMAT.md, section 2, lists them"
+}
+
+/// What the operands of an instruction of the table must be.
+pub(crate) fn operand_words(op: Op) -> &'static str {
+    match op {
+        Op::Register(_) => "expected three registers, as `x5,x6,x7`, and no more",
+        Op::Immediate(_) => "expected `x5,x6,imm`, imm from -2048 to 2047, and no more",
+        Op::Shift(_) => "expected `x5,x6,n`, n from 0 to 31, and no more",
+        Op::Lui => "expected `x5,n`, n from 0 to 1048575, and no more",
+        Op::Li => "expected a register and a number, as `x5,1`, and no more",
+        Op::Lw => "expected `x5,imm(x6)`, imm from -2048 to 2047, and no more",
+        Op::Sw => "expected `x5,imm(x6)`, imm from -2048 to 2047, and no more",
+        Op::Lr(_) => "expected `x5,(x6)`, no other offset than 0, and no more",
+        Op::Sc(_) => "expected `x5,x7,(x6)`, no other offset than 0, and no more",
+        Op::Amo(_, _) => "expected `x5,x7,(x6)`, no other offset than 0, and no more",
+        Op::Branch(_) => "expected two registers and a label, as `x5,x6,L`, and no more",
+        _ => other_operands(op),
+    }
+}
+
+fn other_operands(op: Op) -> &'static str {
+    match op {
+        Op::Jal => "expected `x0,L`: a jump that links is left out",
+        Op::Fence => "expected letters of `iorw` in this order, as `rw,w`, and no more",
+        Op::FenceAll => "expected letters of `iorw` in this order, as `rw,w`, and no more",
+        Op::Mv => "expected two registers, as `x5,x6`, and no more",
+        Op::BranchZero(_) => "expected a register and a label, as `x5,L`, and no more",
+        Op::J => "expected a label, and no more",
+        _ => "expected no operands, and no more in this cell",
+    }
+}

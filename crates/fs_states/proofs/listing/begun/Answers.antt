@@ -1,0 +1,16 @@
+use Rattle.std.proofs.Common.{◌≡◌, ◌∙◌, ap, sym, subst, List, [], ◌∷◌, ◌++◌}
+use Rattle.fs_states.specs.declared.part.Atom.{Atom}
+use Rattle.fs_states.specs.declared.state.State.{State}
+use Rattle.fs_states.specs.inner.Parts.{IsListed}
+use Rattle.fs_states.proofs.Covered.{begins}
+use Rattle.fs_states.proofs.listing.begun.Goals as goal
+
+pub returns : goal.returns
+returns c = λ t p places.
+    let whole : c.new-all.result ≡ [] = c.new-all.ensures ∙ c.new.ensures.items in
+    let parts : c.push.new.self.items ≡ [] ∷ [] =
+    c.in_ok-push.ensures.items
+    ∙ ap (λ (ps : List (List Atom)). ps ++ c.new-all.result ∷ []) c.new-parts.ensures.items
+    ∙ ap (λ (part : List Atom). part ∷ []) whole in
+    subst (λ (known : List State). IsListed t p places known c.push.new.self.items) (sym c.new-known.ensures.items)
+    (subst (λ (ps : List (List Atom)). IsListed t p places [] ps) (sym parts) (begins t p places))

@@ -1,0 +1,17 @@
+//! Which final states a test allows, each with an execution that ends in it.
+#![tactic(auto)]
+
+mod asked;
+mod condition;
+mod ended;
+mod known;
+mod listing;
+mod part;
+mod place;
+mod sought;
+mod splitting;
+mod state;
+
+pub use listing::states;
+pub use place::Place;
+pub use state::State;
