@@ -1,5 +1,6 @@
 //! What `test` says of files, one after the other or side by side.
 use crate::input::read_input;
+use crate::papers::message_of_file;
 use fs_kinds::Fault;
 use fs_test::{Line, test_file};
 use std::alloc::{AllocError, Global};
@@ -18,41 +19,89 @@ struct Taken<'a> {
     file: Result<Vec<u8>, Fault>,
 }
 
-/// What is said of the files, in their order. With more than one job so many threads judge files side by side, which changes nothing of
-/// what is said: files are read here alone, in their order. Of up to eight files for each job the bytes are kept at once.
-pub(crate) fn said_of_files<R: Files + Input + AllocGlobal + Threads + Wait + Sync>(
+/// What is said of files, in their order: a line of each, and messages of those that aren't tests, or weren't read.
+#[derive(Drop)]
+pub(crate) struct Judged {
+    pub lines: Vec<Line>,
+    pub messages: Vec<String>,
+}
+
+impl Judged {
+    fn new(alloc: Global) -> Self {
+        Judged {
+            lines: Vec::new(alloc),
+            messages: Vec::new(alloc),
+        }
+    }
+
+    /// Adds what is said of a file, with its message where that is asked for. Where there is no memory for a message it
+    /// is left out.
+    fn judge(&mut self, alloc: Global, taken: Taken<'_>, explains: bool) -> Result<(), Fault> {
+        let Taken { name, file } = taken;
+        if explains {
+            self.add_message(message_of_file(alloc, name, &file));
+        }
+        self.lines.push(test_file(alloc, name, file)?)?;
+        Ok(())
+    }
+
+    fn add_message(&mut self, message: Option<String>) {
+        if let Some(message) = message {
+            let _ = self.messages.push(message);
+        }
+    }
+
+    /// Adds what was said of later files.
+    fn add(&mut self, later: Judged) -> Result<(), AllocError> {
+        for line in later.lines {
+            self.lines.push(line)?;
+        }
+        for message in later.messages {
+            self.add_message(Some(message));
+        }
+        Ok(())
+    }
+}
+
+/// Judges the files, in their order, and explains their faults where that is asked for. With more than one job so many
+/// threads judge files side by side, which changes nothing of what is said: files are read here alone, in their order.
+/// Of up to eight files for each job the bytes are kept at once.
+pub(crate) fn judge_files<R: Files + Input + AllocGlobal + Threads + Wait + Sync>(
     rt: &R,
     files: &[String],
     jobs: u8,
-) -> Result<Vec<Line>, Fault> {
+    explains: bool,
+) -> Result<Judged, Fault> {
     if jobs == 1 {
-        return said_in_turn(rt, files);
+        return judge_in_turn(rt, files, explains);
     }
-    let mut lines = Vec::new(rt.alloc());
+    let mut judged = Judged::new(rt.alloc());
     for round in files.chunks(usize::from(jobs.max(1)) * AT_ONCE) {
         let batches = read_batches(rt, round)?;
         let alloc = rt.alloc();
         let said = thread::map_vec(
             rt,
             batches,
-            &|batch: Vec<Taken<'_>>| { said_of_batch(alloc, batch) },
+            &|batch: Vec<Taken<'_>>| { judge_batch(alloc, batch, explains) },
         )?;
-        add_lines(&mut lines, said)?;
+        add_batches(&mut judged, said)?;
     }
-    Ok(lines)
+    Ok(judged)
 }
 
 /// One file after the other; of each no more is kept than what is said of it.
-fn said_in_turn<R: Files + Input + AllocGlobal>(
+fn judge_in_turn<R: Files + Input + AllocGlobal>(
     rt: &R,
     files: &[String],
-) -> Result<Vec<Line>, Fault> {
-    let mut lines = Vec::new(rt.alloc());
+    explains: bool,
+) -> Result<Judged, Fault> {
+    let mut judged = Judged::new(rt.alloc());
     for path in files {
-        let file = read_input(rt, path.as_str());
-        lines.push(test_file(rt.alloc(), path.as_str(), file)?)?;
+        let name = path.as_str();
+        let file = read_input(rt, name);
+        judged.judge(rt.alloc(), Taken { name, file }, explains)?;
     }
-    Ok(lines)
+    Ok(judged)
 }
 
 /// The files, read in their order, in batches for a thread each.
@@ -81,20 +130,18 @@ fn read_batch<'a, R: Files + Input + AllocGlobal>(
 }
 
 /// What is said of the files of a batch.
-fn said_of_batch(alloc: Global, batch: Vec<Taken<'_>>) -> Result<Vec<Line>, Fault> {
-    let mut lines = Vec::new(alloc);
-    for Taken { name, file } in batch {
-        lines.push(test_file(alloc, name, file)?)?;
+fn judge_batch(alloc: Global, batch: Vec<Taken<'_>>, explains: bool) -> Result<Judged, Fault> {
+    let mut judged = Judged::new(alloc);
+    for taken in batch {
+        judged.judge(alloc, taken, explains)?;
     }
-    Ok(lines)
+    Ok(judged)
 }
 
-/// Appends what was said of the batches. An error where a thread had one.
-fn add_lines(lines: &mut Vec<Line>, said: Vec<Result<Vec<Line>, Fault>>) -> Result<(), Fault> {
+/// Adds what was said of the batches. An error where a thread had one.
+fn add_batches(judged: &mut Judged, said: Vec<Result<Judged, Fault>>) -> Result<(), Fault> {
     for batch in said {
-        for line in batch? {
-            lines.push(line)?;
-        }
+        judged.add(batch?)?;
     }
     Ok(())
 }

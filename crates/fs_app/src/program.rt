@@ -2,15 +2,18 @@
 
 ghost use Rattle.std.specs.Prelude.{◌≤◌};
 
-use crate::input::{INPUT_LIMIT, read_file, read_input};
-use crate::judging::said_of_files;
+use crate::failure::Failure;
+use crate::input::INPUT_LIMIT;
+use crate::judging::judge_files;
+use crate::papers::Papers;
 use crate::progress::Progress;
+use crate::states::{answer_log, answer_states};
 use crate::whole::write_whole;
 use clap::error::ErrorKind;
 use fs_audit::{run_audit, run_mended};
 use fs_command::{
-    Audit, Check, MOST_NODES, MOST_WORKERS, Order, Place, Solve, Task, Test, completion_script,
-    read_request,
+    Audit, Check, MOST_NODES, MOST_WORKERS, Order, Place, Request, Solve, Task, Test,
+    completion_script, read_request,
 };
 use fs_io::{Output, Status, write_text};
 use fs_kinds::Fault;
@@ -21,12 +24,12 @@ use fs_solve::{
 };
 use fs_test::{test_objects, test_report, vacuous_note};
 use fs_verify::run_check;
+use std::alloc::Global;
 use std::process::ExitCode;
 use std::rt::{Clock, Env, Files};
 use std::sync::Wait;
 use std::thread::Threads;
 use std::{env, io};
-use thiserror::Error;
 
 /// What `solve` prints where no fence is needed.
 const UNFENCED: &str = "fenced 0\n";
@@ -34,43 +37,39 @@ const UNFENCED: &str = "fenced 0\n";
 /// Certificates are read up to this many bytes.
 const CERTIFICATE_LIMIT: usize = 1_073_741_824;
 
-/// Why a run ends without an answer. It reads as the lines that standard error gets, their ends included.
-#[derive(Debug, Drop, Error)]
-enum Failure {
-    /// A word of the command line isn't text.
-    #[error("error: a word of the command line is not UTF-8\n")]
-    NotUtf8,
-    /// The words make no request.
-    #[error(transparent)]
-    NoRequest(#[from] clap::Error),
-    /// The request has no answer, or it can't be printed.
-    #[error("{0}\n")]
-    NoAnswer(#[from] Fault),
-}
-
-impl Failure {
-    fn status(&self) -> Status {
-        match self {
-            Failure::NotUtf8 | Failure::NoRequest(_) => Status::Failure,
-            Failure::NoAnswer(fault) => Status::of_fault(*fault),
-        }
-    }
-}
-
-/// What is said on standard error beside faults.
+/// What is said on standard error beside the line of a fault.
 #[derive(Clone, Copy)]
-struct Voice {
+pub(crate) struct Voice {
     /// Whether notes of an answer are said.
     notes: bool,
-    /// Whether they are said on a terminal, where a line may change.
-    is_terminal: bool,
+    /// Whether a message explains a fault.
+    pub explains: bool,
+    /// Whether a line says how far a search is.
+    shows_progress: bool,
+}
+
+impl Voice {
+    /// What is said for a request, of which some depends on whether standard error is a terminal. `quiet` outdoes all
+    /// else. Whoever writes a test has `test`, `states` and `audit` judge it, so there faults are always explained.
+    fn of(request: &Request<'_>, is_terminal: bool) -> Voice {
+        let notes = !request.quiet;
+        let judges = matches!(
+            request.task,
+            Task::Test(_) | Task::States(_) | Task::Audit(_)
+        );
+        Voice {
+            notes,
+            explains: notes && (request.verbose || is_terminal || judges),
+            shows_progress: notes && is_terminal,
+        }
+    }
 }
 
 /// Does what the process's command line asks for, and answers the exit status: 0 where it was done or the answer is yes, fenced or
 /// forbidden, 1 where it is no, none or allowed, 2 for a fault or a bad command line, 3 where memory ran out, 4 where tests are vacuous
 /// and nothing is worse. A fault or a bad command line prints on standard error, and nothing on standard output unless it was standard
-/// output that failed; but a fault of a file of `test` stands in its line. Where standard error is a terminal, as the caller says, a long
-/// search has a line there while it goes on.
+/// output that failed; but a fault of a file of `test` stands in its line. Where standard error is a terminal, as the caller
+/// says, a message explains a fault, and a long search has a line there while it goes on.
 pub fn run<R: Env + Files + Input + Print + Eprint + AllocGlobal + Clock + Threads + Wait + Sync>(
     rt: &R,
     is_terminal: bool,
@@ -93,13 +92,34 @@ fn status_of_run<
         Ok(request) => request,
         Err(error) => return explain(rt, error),
     };
-    let voice = Voice {
-        notes: !request.quiet,
-        is_terminal,
-    };
-    let output = answer(rt, &request.task, voice)?;
+    let voice = Voice::of(&request, is_terminal);
+    let mut papers = Papers::new(rt.alloc());
+    match answer(rt, &request.task, voice, &mut papers) {
+        Ok(output) => print(rt, &output),
+        Err(fault) => Err(failure_of(rt.alloc(), fault, voice, &papers)),
+    }
+}
+
+/// Prints the answer, and gives its status.
+fn print<R: Print>(rt: &R, output: &Output) -> Result<Status, Failure> {
     write_text(&mut io::writer(rt), output.text.as_bytes())?;
     Ok(output.status)
+}
+
+/// The failure of a run that a fault ended, with its message where that is said.
+pub(crate) fn failure_of(
+    alloc: Global,
+    fault: Fault,
+    voice: Voice,
+    papers: &Papers<'_>,
+) -> Failure {
+    if !voice.explains {
+        return Failure::NoAnswer(fault);
+    }
+    match papers.message(alloc, fault) {
+        Some(message) => Failure::Told(fault, message),
+        None => Failure::NoAnswer(fault),
+    }
 }
 
 /// The words of the command line, the program's name first.
@@ -130,22 +150,28 @@ fn explain<R: Print>(rt: &R, error: clap::Error) -> Result<Status, Failure> {
 }
 
 /// Prints the error on standard error. Where that fails too, the status alone tells.
-fn report<R: Eprint>(rt: &R, error: &impl std::error::Error) {
+pub(crate) fn report<R: Eprint>(rt: &R, error: &impl std::error::Error) {
     let _ = rt.eprint(error);
 }
 
-fn answer<R: Files + Input + Eprint + AllocGlobal + Clock + Threads + Wait + Sync>(
+/// What the command answers. What it reads it leaves in `papers`, also where it has a fault.
+fn answer<'a, R: Files + Input + Eprint + AllocGlobal + Clock + Threads + Wait + Sync>(
     rt: &R,
-    task: &Task<'_>,
+    task: &'a Task<'a>,
     voice: Voice,
+    papers: &mut Papers<'a>,
 ) -> Result<Output, Fault> {
     match task {
-        Task::Test(test) => answer_test(rt, test),
-        Task::Place(place) => answer_place(rt, place),
-        Task::Order(order) => answer_order(rt, order),
-        Task::Solve(solve) => answer_solve(rt, solve, voice),
-        Task::Audit(audit) => answer_audit(rt, audit),
-        Task::Check(check) => answer_check(rt, check),
+        Task::Test(test) => answer_test(rt, test, voice),
+        Task::States(states) => match states.log {
+            Some(path) => answer_log(rt, states, path, voice, papers),
+            None => answer_states(rt, states, voice),
+        },
+        Task::Place(place) => answer_place(rt, place, papers),
+        Task::Order(order) => answer_order(rt, order, papers),
+        Task::Solve(solve) => answer_solve(rt, solve, voice, papers),
+        Task::Audit(audit) => answer_audit(rt, audit, papers),
+        Task::Check(check) => answer_check(rt, check, papers),
         Task::Completions(shell) => Ok(Output {
             text: completion_script(rt.alloc(), *shell)?,
             status: Status::Success,
@@ -153,68 +179,89 @@ fn answer<R: Files + Input + Eprint + AllocGlobal + Clock + Threads + Wait + Syn
     }
 }
 
-fn answer_test<R: Files + Input + AllocGlobal + Threads + Wait + Sync>(
+/// Messages come before the lines, and only where there is memory for these.
+fn answer_test<R: Files + Input + Eprint + AllocGlobal + Threads + Wait + Sync>(
     rt: &R,
     test: &Test,
+    voice: Voice,
 ) -> Result<Output, Fault> {
-    let lines = said_of_files(rt, &test.files, test.jobs)?;
-    if test.json {
-        test_objects(rt.alloc(), &lines)
+    let judged = judge_files(rt, &test.files, test.jobs, voice.explains)?;
+    let output = if test.json {
+        test_objects(rt.alloc(), &judged.lines)?
     } else {
-        test_report(rt.alloc(), &lines)
-    }
-}
-
-fn answer_place<R: Files + Input + AllocGlobal>(
-    rt: &R,
-    place: &Place<'_>,
-) -> Result<Output, Fault> {
-    let test = read_input(rt, place.test)?;
-    let prices = match place.prices {
-        Some(path) => Some(read_file(rt, path, INPUT_LIMIT)?),
-        None => None,
+        test_report(rt.alloc(), &judged.lines)?
     };
-    let prices = prices.as_ref().map(|bytes| bytes.as_slice());
-    run_place(rt.alloc(), &test, prices, &place.fences)
+    for message in &judged.messages {
+        let _ = rt.eprint(message.as_str());
+    }
+    Ok(output)
 }
 
-fn answer_order<R: Files + Input + AllocGlobal>(
+fn answer_place<'a, R: Files + Input + AllocGlobal>(
     rt: &R,
-    order: &Order<'_>,
+    place: &'a Place<'a>,
+    papers: &mut Papers<'a>,
 ) -> Result<Output, Fault> {
-    let test = read_input(rt, order.test)?;
-    let witness = read_file(rt, order.witness, INPUT_LIMIT)?;
-    run_order(rt.alloc(), &test, &witness, &order.fences)
+    papers.fences = &place.fences;
+    papers.read_test(rt, place.test)?;
+    if let Some(path) = place.prices {
+        papers.read_prices(rt, path)?;
+    }
+    placed(rt.alloc(), papers)
+}
+
+/// The test that was read, with the fences.
+fn placed(alloc: Global, papers: &Papers<'_>) -> Result<Output, Fault> {
+    run_place(alloc, &papers.test.bytes, papers.offered(), papers.fences)
+}
+
+fn answer_order<'a, R: Files + Input + AllocGlobal>(
+    rt: &R,
+    order: &'a Order<'a>,
+    papers: &mut Papers<'a>,
+) -> Result<Output, Fault> {
+    papers.fences = &order.fences;
+    papers.read_test(rt, order.test)?;
+    papers.read_evidence(rt, order.witness, INPUT_LIMIT)?;
+    run_order(
+        rt.alloc(),
+        &papers.test.bytes,
+        &papers.evidence.bytes,
+        papers.fences,
+    )
 }
 
 /// While it searches it says how far it is, and wipes that before anything else is printed.
-fn answer_solve<R: Files + Input + Eprint + AllocGlobal + Clock + Threads + Wait + Sync>(
+fn answer_solve<'a, R: Files + Input + Eprint + AllocGlobal + Clock + Threads + Wait + Sync>(
     rt: &R,
-    solve: &Solve<'_>,
+    solve: &'a Solve<'a>,
     voice: Voice,
+    papers: &mut Papers<'a>,
 ) -> Result<Output, Fault> {
-    let test = read_input(rt, solve.test)?;
-    let prices = read_file(rt, solve.prices, INPUT_LIMIT)?;
+    papers.read_test(rt, solve.test)?;
+    papers.read_prices(rt, solve.prices)?;
+    let test = papers.test.bytes.as_slice();
+    let prices = papers.prices.bytes.as_slice();
     // the command line has no other numbers; here it is said once more for the proof
     let workers = solve.workers.clamp(1, MOST_WORKERS);
     let limit = solve.nodes.clamp(1, MOST_NODES) as usize;
-    let mut progress = Progress::new(rt, voice.is_terminal && voice.notes);
+    let mut progress = Progress::new(rt, voice.shows_progress);
     let answered = match solve.certificate {
         Some(path) => {
-            let certified = certified(rt, &test, &prices, workers, limit, &mut progress);
+            let certified = certified(rt, test, prices, workers, limit, &mut progress);
             progress.wipe();
             let certified = certified?;
             write_whole(rt, path, certified.certificate.as_bytes())?;
             certified.answered
         }
         None => {
-            let answered = solved(rt, &test, &prices, workers, limit, &mut progress);
+            let answered = solved(rt, test, prices, workers, limit, &mut progress);
             progress.wipe();
             answered?
         }
     };
     if voice.notes {
-        note_vacuous(rt, &test, answered.output.text.as_str())?;
+        note_vacuous(rt, test, answered.output.text.as_str())?;
     }
     Ok(in_form(answered.output, answered.object, solve.json))
 }
@@ -283,28 +330,37 @@ fn certified<R: Eprint + AllocGlobal + Clock + Threads + Wait + Sync>(
     run_certified(rt, rt.alloc(), test, prices, workers, limit, progress)
 }
 
-fn answer_audit<R: Files + Input + AllocGlobal>(
+fn answer_audit<'a, R: Files + Input + AllocGlobal>(
     rt: &R,
-    audit: &Audit<'_>,
+    audit: &'a Audit<'a>,
+    papers: &mut Papers<'a>,
 ) -> Result<Output, Fault> {
-    let test = read_input(rt, audit.test)?;
-    let prices = read_file(rt, audit.prices, INPUT_LIMIT)?;
+    papers.read_test(rt, audit.test)?;
+    papers.read_prices(rt, audit.prices)?;
+    let test = papers.test.bytes.as_slice();
+    let prices = papers.prices.bytes.as_slice();
     // the command line has no other numbers; here it is said once more for the proof
     let limit = audit.nodes.clamp(1, MOST_NODES) as usize;
     if audit.write {
-        run_mended(rt.alloc(), &test, &prices, limit)
+        run_mended(rt.alloc(), test, prices, limit)
     } else {
-        run_audit(rt.alloc(), &test, &prices, limit)
+        run_audit(rt.alloc(), test, prices, limit)
     }
 }
 
-fn answer_check<R: Files + Input + AllocGlobal>(
+fn answer_check<'a, R: Files + Input + AllocGlobal>(
     rt: &R,
-    check: &Check<'_>,
+    check: &'a Check<'a>,
+    papers: &mut Papers<'a>,
 ) -> Result<Output, Fault> {
-    let test = read_input(rt, check.test)?;
-    let prices = read_file(rt, check.prices, INPUT_LIMIT)?;
-    let certificate = read_file(rt, check.certificate, CERTIFICATE_LIMIT)?;
-    let checked = run_check(rt.alloc(), &test, &prices, &certificate)?;
+    papers.read_test(rt, check.test)?;
+    papers.read_prices(rt, check.prices)?;
+    papers.read_evidence(rt, check.certificate, CERTIFICATE_LIMIT)?;
+    let checked = run_check(
+        rt.alloc(),
+        &papers.test.bytes,
+        &papers.prices.bytes,
+        &papers.evidence.bytes,
+    )?;
     Ok(in_form(checked.output, checked.object, check.json))
 }

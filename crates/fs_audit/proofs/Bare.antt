@@ -11,7 +11,7 @@ use Rattle.fs_instr.specs.declared.instr.Instr.TheVariants as instr
 use Rattle.fs_model.specs.declared.test.Test.{Test}
 use Rattle.fs_model.specs.Condition.{SpeaksOf, condition_of}
 use Rattle.fs_model.specs.Test.{GoesForward, IsBounded, IsTest}
-use Rattle.fs_audit.specs.Unfenced.{is_kept, position, moved, unfenced_code, unfenced}
+use Rattle.fs_unfenced.specs.Unfenced.{is_kept, position, moved, unfenced_code, unfenced}
 
 -- ---- counting what is kept
 

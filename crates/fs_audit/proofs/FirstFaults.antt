@@ -12,8 +12,8 @@ use Rattle.fs_litmus.specs.Faults.{IsBroken, IsTestFault}
 use Rattle.fs_litmus.proofs.FrontFaults.{unbroken}
 use Rattle.fs_place.specs.Place.{ArePricesOf, IsPricesFault}
 use Rattle.fs_place.proofs.Faults.{is_memory}
-use Rattle.fs_test.specs.Verdicts.{IsFaultOf}
-use Rattle.fs_audit.specs.Unfenced.{unfenced}
+use Rattle.fs_said.specs.Verdicts.{IsFaultOf}
+use Rattle.fs_unfenced.specs.Unfenced.{unfenced}
 use Rattle.fs_audit.specs.Audit.{IsTested, IsFirstAuditFault, of_prices, of_test, of_written, of_search, of_memory}
 
 -- bytes that read as a test are of the form

@@ -9,7 +9,7 @@ use Rattle.fs_kinds.specs.declared.slot.Slot.{Slot}
 use Rattle.fs_kinds.specs.Placement.{has_slot, kind_at}
 use Rattle.fs_model.specs.Numbers.{is_same, numbers_below}
 use Rattle.fs_model.specs.Slots.{slot_at, is_memory_at}
-use Rattle.fs_audit.specs.Unfenced.{memory_kind, position}
+use Rattle.fs_unfenced.specs.Unfenced.{memory_kind, position}
 use Rattle.fs_audit.specs.Standing.{is_at, is_fence_at, access_after, answering, covers, is_of, is_between_accesses}
 use Rattle.fs_audit.specs.declared.advice.Advice.{Advice}
 use Rattle.fs_audit.specs.declared.advice.Advice.TheVariants.{Needed, Enough, Instead, NotNeeded, NoSlot, Idle, Devices, Missing}

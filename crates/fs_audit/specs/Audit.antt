@@ -24,9 +24,9 @@ use Rattle.fs_litmus.specs.Reads.{Reads}
 use Rattle.fs_litmus.specs.Lines.{StandIn}
 use Rattle.fs_litmus.specs.Faults.{IsTestFault}
 use Rattle.fs_place.specs.Place.{ArePricesOf, IsPricesFault}
-use Rattle.fs_test.specs.declared.said.Kind.{Kind}
-use Rattle.fs_test.specs.Verdicts.{IsFaultOf, IsTestedAs}
-use Rattle.fs_audit.specs.Unfenced.{is_fence, memory_kind, unfenced}
+use Rattle.fs_said.specs.declared.said.Kind.{Kind}
+use Rattle.fs_said.specs.Verdicts.{IsFaultOf, IsTestedAs}
+use Rattle.fs_unfenced.specs.Unfenced.{is_fence, memory_kind, unfenced}
 use Rattle.fs_audit.specs.Advice.{slot_of}
 use Rattle.fs_audit.specs.Standing.{access_after}
 use Rattle.fs_audit.specs.Report.{audit_status, below, first_line}

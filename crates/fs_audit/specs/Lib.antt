@@ -1,4 +1,3 @@
-pub mod Unfenced
 pub mod Standing
 pub mod Advice
 pub mod Report

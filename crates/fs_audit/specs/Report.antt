@@ -12,8 +12,8 @@ use Rattle.fs_kinds.specs.declared.placement.Entry.{Entry}
 use Rattle.fs_model.specs.Printed.{ended}
 use Rattle.fs_io.specs.declared.status.Status.{Status}
 use Rattle.fs_io.specs.declared.status.Status.TheVariants as status
-use Rattle.fs_test.specs.declared.said.Kind.{Kind}
-use Rattle.fs_test.specs.declared.said.Kind.TheVariants as kind
+use Rattle.fs_said.specs.declared.said.Kind.{Kind}
+use Rattle.fs_said.specs.declared.said.Kind.TheVariants as kind
 use Rattle.fs_test.specs.Report.{kind_text, padded}
 use Rattle.fs_audit.specs.Advice.{advice_of, is_right}
 use Rattle.fs_audit.specs.declared.advice.Advice.{Advice}

@@ -9,7 +9,7 @@ use Rattle.fs_kinds.specs.Kind.{no_stronger}
 use Rattle.fs_model.specs.Numbers.{is_same, numbers_below}
 use Rattle.fs_model.specs.Printed.{is_target}
 use Rattle.fs_model.specs.Slots.{is_memory_at}
-use Rattle.fs_audit.specs.Unfenced.{is_fence, memory_kind}
+use Rattle.fs_unfenced.specs.Unfenced.{is_fence, memory_kind}
 
 -- ---- where it stands
 

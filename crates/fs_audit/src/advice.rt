@@ -10,10 +10,10 @@ ghost use Rattle.fs_audit.specs.Advice.{graded, kind_there, advice_for, missing,
 use crate::standing::{
     access_after, answering, covers, is_between_accesses, is_fence_at, is_memory_at, is_of,
 };
-use crate::unfenced::{memory_kind, position};
 use fs_instr::Instr;
 use fs_kinds::{Kind, Placement, Slot};
 use fs_litmus::Code;
+use fs_unfenced::{memory_kind, position};
 
 /// What is advised of a FENCE, or of an access at which none stands, by fences that rule an outcome out at the least cost.
 #[derive(Clone, Copy, Debug, PartialEq, Eq)]

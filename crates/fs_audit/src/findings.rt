@@ -16,22 +16,22 @@ ghost use Rattle.fs_litmus.specs.Faults.{IsTestFault};
 ghost use Rattle.fs_litmus.specs.Lines.{StandIn};
 ghost use Rattle.fs_litmus.specs.Reads.{Reads};
 ghost use Rattle.fs_place.specs.Place.{ArePricesOf};
-ghost use Rattle.fs_audit.specs.Unfenced.{unfenced};
-ghost use Rattle.fs_test.specs.Verdicts.{IsTestedAs};
+ghost use Rattle.fs_unfenced.specs.Unfenced.{unfenced};
+ghost use Rattle.fs_said.specs.Verdicts.{IsTestedAs};
 ghost use Rattle.fs_audit.specs.Audit.{AreFound, IsAdvised, IsKept, IsFirstAuditFault, fence_there, written_fence, code_fences, written_fences, fits_one, with_one, taken_up, all_fit, costs_there, costs_everywhere};
 ghost use Rattle.fs_audit.specs.inner.Made.{IsSound, findings_of};
 
 use crate::advice::slot_of;
 use crate::standing::access_after;
-use crate::unfenced::{is_fence, memory_kind, unfenced};
 use fs_evidence::{Forbidden, Question};
 use fs_instr::Instr;
-use fs_judge::{Problem, Verdict};
 use fs_kinds::{Entry, Fault, Kind as FenceKind, Placement, Prices, Slot, read_prices};
 use fs_list::List;
 use fs_litmus::{Code, Test, read_lines, read_test, slots};
+use fs_said::{Kind, forbids};
 use fs_search::{Answer, Unwatched, solve};
-use fs_test::{Kind, judge_test};
+use fs_test::judge_test;
+use fs_unfenced::{is_fence, memory_kind, unfenced};
 use std::alloc::{AllocError, Global};
 use std::sync::Arc;
 
@@ -197,22 +197,6 @@ fn own_fences(
 }
 
 // ---- the fences that are advised
-
-// Does the placement forbid the outcome?
-fn forbids(alloc: Global, question: &Arc<Question>, placement: &Placement) -> Result<bool, Fault>
-    requires bounded { IsBounded (arc_value question.now).test }
-    requires starts { All IsStart (arc_value question.now).test.starts }
-    requires slots { slots_of placement.now ≡ slots (arc_value question.now).test }
-    ensures yes { IfOk result (λ is. is ≡ true → Allows (arc_value question.now).test placement.now → ⊥) }
-    ensures no { IfOk result (λ is. is ≡ false → Allows (arc_value question.now).test placement.now) }
-    ensures err { IfErr result (λ f. f ≢ Fault.Memory → IsCandidateFault (arc_value question.now).test f) }
-{
-    let problem = Problem::new(alloc, Arc::try_clone(question)?)?;
-    match problem.verdict(alloc, placement, &[])? {
-        Verdict::Forbids(_) => Ok(true),
-        Verdict::Allowed(_) => Ok(false),
-    }
-}
 
 fn costs_there(prices: &Prices, entry: &Entry) -> bool
     ensures { result ≡ costs_there prices.now entry.now }

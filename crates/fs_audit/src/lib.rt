@@ -6,9 +6,7 @@ mod advice;
 mod audit;
 mod findings;
 mod report;
-mod slices;
 mod standing;
-mod unfenced;
 
 pub use advice::Advice;
 pub use audit::{run_audit, run_mended};

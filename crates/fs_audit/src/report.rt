@@ -14,7 +14,8 @@ use fs_io::Status;
 use fs_kinds::{OperationName, Placement, Prices};
 use fs_list::List;
 use fs_litmus::Code;
-use fs_test::{Kind, kind_text, padded};
+use fs_said::Kind;
+use fs_test::{kind_text, padded};
 use std::alloc::{AllocError, Global};
 
 /// The bytes that the line's number takes with its word, and the names of instructions, and the letters of FENCEs.

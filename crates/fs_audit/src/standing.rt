@@ -7,12 +7,12 @@ ghost use Rattle.fs_model.specs.Numbers.{numbers_below};
 ghost use Rattle.fs_model.specs.Printed.{goes_to, is_target};
 ghost use Rattle.fs_model.specs.Slots.{is_memory_at};
 ghost use Rattle.fs_audit.specs.Standing.{is_at, is_fence_at, leads_on, is_stop, reached, access_after, stands_at, is_between_accesses, covers, is_of, first_at, answering};
-ghost use Rattle.fs_audit.specs.Unfenced.{memory_kind};
+ghost use Rattle.fs_unfenced.specs.Unfenced.{memory_kind};
 
-use crate::slices::{before, from};
-use crate::unfenced::{is_fence, memory_kind};
 use fs_instr::Instr;
 use fs_kinds::Kind;
+use fs_unfenced::slices::{before, from};
+use fs_unfenced::{is_fence, memory_kind};
 
 pub(crate) fn is_fence_at(code: &[Instr], at: usize) -> bool
     ensures { result ≡ is_fence_at code.now at }

@@ -1,9 +1,6 @@
 -- The tree with all that backs it, and what closing, splitting and posting make of it.
-use Rattle.std.specs.Prelude.{◌≡◌, ℕ, Bool, true, Option, None, Some, option_map, IfSome, List, ◌++◌, map, slice_get, slice_set}
-use Rattle.fs_kinds.specs.PriceTable.{PriceTable}
-use Rattle.fs_kinds.specs.declared.placement.Entry.{Entry}
+use Rattle.std.specs.Prelude.{◌≡◌, ℕ, Option, Some, option_map, IfSome, List, ◌++◌, map, slice_get, slice_set}
 use Rattle.fs_model.specs.declared.test.Test.{Test}
-use Rattle.fs_model.specs.Allows.{is_better}
 use Rattle.fs_model.specs.Execution.{Execution}
 use Rattle.fs_answer.specs.Parts.{Part}
 use Rattle.fs_history.specs.Board.{Board, Node, Status, Open}
@@ -48,8 +45,3 @@ with_bound bound t = record t { bound = bound }
 
 abbrev pub with_more : List Shown → Tree → Tree
 with_more witnesses t = record t { witnesses = t.witnesses ++ witnesses }
-
--- the placement is better than the bound, or there is none
-abbrev pub is_best : PriceTable → (bound : Option (List Entry)) → List Entry → Bool
-is_best prices None p = true
-is_best prices (Some q) p = is_better prices p q

@@ -12,7 +12,8 @@ ghost use Rattle.fs_history.specs.Board.{Node as NodeValue, Event as EventValue,
 ghost use Rattle.fs_history.specs.Histories.{Steps, IsHistory, with_witnesses};
 ghost use Rattle.fs_board.specs.Counts.{count_of};
 ghost use Rattle.fs_evidence.specs.Evidence.{Shown, IsWitnessFor, ShowsForbidden, witness_in, placement_in};
-ghost use Rattle.fs_board.specs.Growth.{AreWitnesses, is_best};
+ghost use Rattle.fs_parts.specs.Bests.{is_best};
+ghost use Rattle.fs_board.specs.Growth.{AreWitnesses};
 ghost use Rattle.fs_board.specs.View.{Answers, status_of, event_of, reply_of};
 ghost use Rattle.fs_board.specs.Asking.{IsMade, Tells};
 ghost use Rattle.fs_board.specs.inner.Breaks.{is_bounded, widths_in};
@@ -26,7 +27,7 @@ use fs_evidence::{Forbidden, Question, Witness};
 use fs_kinds::{Entry, Fault, Kind, Prices, Slot};
 use fs_list::List;
 use fs_model::slots;
-use fs_parts::{Decision, OPTIONS, cost, is_better, is_kept, is_same, precedes};
+use fs_parts::{Decision, OPTIONS, cost, is_best, is_kept, is_same, precedes};
 use std::alloc::{AllocError, Global};
 use std::marker::Model;
 use std::sync::Arc;
@@ -474,10 +475,7 @@ impl Board {
     fn is_best(&self, placement: &[Entry]) -> bool
         ensures { result ≡ is_best self.now.question.prices self.now.board.bound placement.now }
     {
-        match self.tree.bound() {
-            None => true,
-            Some(bound) => is_better(&self.question.prices, placement, bound.placement.as_slice()),
-        }
+        is_best(&self.question.prices, self.bound(), placement)
     }
 
     /// Shows the bound with its cycles, how many witnesses there are, and those from this number on with their widths. It takes time of

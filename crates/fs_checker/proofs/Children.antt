@@ -9,8 +9,8 @@ use Rattle.fs_kinds.specs.Slot.{is_same_slot}
 use Rattle.fs_model.specs.declared.test.Test.{Test}
 use Rattle.fs_model.specs.Slots.{slots}
 use Rattle.fs_answer.specs.Parts.{Part, decide, child_parts, options}
-use Rattle.fs_checker.specs.inner.Breaks.{all_options}
-use Rattle.fs_checker.specs.inner.Leaves.{slots_in_part}
+use Rattle.fs_claims.specs.Breaks.{all_options}
+use Rattle.fs_claims.specs.Leaves.{slots_in_part}
 use Rattle.fs_checker.specs.inner.Walks.{AreOfTest}
 
 offered_first : (prices : PriceTable) (f : Option Kind → Part) (kind : Option Kind) (kinds : List (Option Kind)) → is_offered prices kind ≡ true

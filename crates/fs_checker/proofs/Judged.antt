@@ -22,12 +22,12 @@ use Rattle.fs_certificate.specs.declared.certificate.CertifiedCycles.{CertifiedC
 use Rattle.fs_certificate.specs.declared.certificate.CertifiedCycles.TheVariants.{Listed as KeptList, Inferred as KeptInferences}
 use Rattle.fs_certificate.specs.Kept.{KeepsCertificate, KeepsCycles, item_of}
 use Rattle.fs_evidence.specs.Inferences.{inference_of}
-use Rattle.fs_checker.specs.inner.Cycles.{IsCyclesVerdict, count_in}
+use Rattle.fs_claims.specs.Cycles.{IsCyclesVerdict, count_in}
 use Rattle.fs_checker.specs.inner.Filled.{IsPlacementFor}
 use Rattle.fs_checker.specs.inner.Judgements.{IsPlacedVerdict}
-use Rattle.fs_checker.specs.inner.Leaves.{Decides, slots_in_part}
+use Rattle.fs_claims.specs.Leaves.{Decides, slots_in_part}
 use Rattle.fs_checker.specs.inner.Walks.{IsWalked}
-use Rattle.fs_checker.proofs.Against.{is_of_cycles, of_cycles}
+use Rattle.fs_claims.proofs.Against.{is_of_cycles, of_cycles}
 use Rattle.fs_checker.proofs.Walking.{undecided_at, slots_undecided}
 
 -- ---- refusals by the tree

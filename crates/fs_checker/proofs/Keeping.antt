@@ -9,7 +9,7 @@ use Rattle.fs_model.specs.Witness.{Witness}
 use Rattle.fs_answer.specs.declared.witness.WitnessFile.{WitnessFile}
 use Rattle.fs_answer.specs.WitnessFile.{KeepsWitness}
 use Rattle.fs_evidence.specs.declared.evidence.Pairs.{Pairs}
-use Rattle.fs_checker.specs.inner.Leaves.{ShowsWidths, AreShown}
+use Rattle.fs_claims.specs.Leaves.{ShowsWidths, AreShown}
 
 module _ (t : Test) where
   pub none_shown : (ws : List Witness) → AreShown t (take 0 ws) []

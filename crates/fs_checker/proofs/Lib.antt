@@ -1,13 +1,6 @@
-pub mod Against
 pub mod Bearing
-pub mod Breaks
 pub mod Children
 pub mod Keeping
-pub mod Pruned
-pub mod Refuting
-pub mod Looked
-pub mod Linked
-pub mod Verdicts
 pub mod Words
 pub mod Filled
 pub mod Walking

@@ -13,7 +13,7 @@ use Rattle.fs_answer.specs.Certificate.{Certificate, Item, SplitAt}
 use Rattle.fs_certificate.specs.declared.certificate.Item.{Item as CodeItem}
 use Rattle.fs_certificate.specs.Kept.{item_of}
 use Rattle.fs_checker.proofs.Children.{children_of_test}
-use Rattle.fs_checker.specs.inner.Leaves.{slots_in_part}
+use Rattle.fs_claims.specs.Leaves.{slots_in_part}
 use Rattle.fs_checker.specs.inner.Walks.{AreOfTest, LeadsTo, IsTaken, IsWalked}
 
 -- a split at a slot that is there and undecided leaves the children

@@ -1,7 +1,7 @@
 //! What it costs to break a witness at a slot: an execution whose order doesn't keep a pair there is ruled out by a fence that orders it.
 
 ghost use Rattle.std.specs.Prelude.{◌≡◌, ℕ, ◌≤◌, IfOk, IfSome};
-ghost use Rattle.fs_checker.specs.inner.Breaks.{widths_in, break_at, breaks_of, all_breaks};
+ghost use Rattle.fs_claims.specs.Breaks.{widths_in, break_at, breaks_of, all_breaks};
 
 use fs_evidence::Pairs;
 use fs_kinds::{Prices, Slot};

@@ -8,16 +8,16 @@ ghost use Rattle.fs_model.specs.Test.{IsBounded, IsStart};
 ghost use Rattle.fs_answer.specs.Certificate.{Certificate as Said, Fenced, IsAnswered};
 ghost use Rattle.fs_answer.specs.Parts.{undecided};
 ghost use Rattle.fs_certificate.specs.Kept.{KeepsCertificate};
-ghost use Rattle.fs_checker.specs.inner.Held.{test_in, HasListing, Holds};
+ghost use Rattle.fs_claims.specs.Held.{test_in, HasListing, Holds};
 ghost use Rattle.fs_checker.specs.inner.Judgements.{IsPlacedVerdict, IsJudgement};
 ghost use Rattle.fs_checker.specs.inner.Walks.{IsWalked};
 
 use crate::answer::answered_placement;
 use crate::breaking::all_breaks;
-use crate::held::Held;
 use crate::tree::Grounds;
 use crate::witness::shown_widths;
 use fs_certificate::Certificate;
+use fs_claims::Held;
 use fs_kinds::{Fault, Placement, Prices, Reason};
 use fs_model::{Test, slots};
 use std::alloc::Global;

@@ -3,12 +3,9 @@
 #![tactic(auto)]
 
 mod answer;
-mod bounds;
 mod breaking;
 mod costs;
-mod cycles;
 mod fenced;
-mod held;
 mod laws;
 mod stack;
 mod tree;

@@ -8,15 +8,15 @@ ghost use Rattle.fs_answer.specs.Parts.{undecided, is_undecided};
 ghost use Rattle.fs_answer.specs.Certificate.{Certificate, SplitAt, Costly, Refuted, Bounded};
 ghost use Rattle.fs_answer.specs.Valid.{is_costly};
 ghost use Rattle.fs_answer.specs.Refusals.{is_free};
-ghost use Rattle.fs_checker.specs.inner.Breaks.{all_breaks};
-ghost use Rattle.fs_checker.specs.inner.Leaves.{slots_in_part, AreShown};
+ghost use Rattle.fs_claims.specs.Breaks.{all_breaks};
+ghost use Rattle.fs_claims.specs.Leaves.{slots_in_part, AreShown};
 ghost use Rattle.fs_certificate.specs.Kept.{version_of, item_of};
 ghost use Rattle.fs_checker.specs.inner.Walks.{AreOfTest, AreGrounds, IsTaken, IsLeaf, IsWalked};
 
-use crate::bounds::{Bounding, judge_bounded, refutes};
 use crate::costs::{is_dearer, is_no_better};
 use crate::stack::{Stack, is_undecided};
 use fs_certificate::{Item, Version};
+use fs_claims::{Bounding, judge_bounded, refutes};
 use fs_evidence::Pairs;
 use fs_kinds::{Entry, Prices, Reason, Slot};
 use fs_list::List;

@@ -9,15 +9,15 @@ ghost use Rattle.fs_model.specs.Test.{IsBounded, IsStart};
 ghost use Rattle.fs_answer.specs.Certificate.{Certificate as Said, NoneForbids};
 ghost use Rattle.fs_answer.specs.Valid.{Refutes};
 ghost use Rattle.fs_certificate.specs.Kept.{KeepsCertificate};
-ghost use Rattle.fs_checker.specs.inner.Cycles.{count_in};
+ghost use Rattle.fs_claims.specs.Cycles.{count_in};
 ghost use Rattle.fs_checker.specs.inner.Judgements.{IsJudgement};
-ghost use Rattle.fs_checker.specs.inner.Leaves.{Decides};
+ghost use Rattle.fs_claims.specs.Leaves.{Decides};
 
-use crate::bounds::refutes;
 use crate::fenced::Judgement;
 use crate::stack::undecided;
 use crate::witness::shown_widths;
 use fs_certificate::{Certificate, CertifiedCycles};
+use fs_claims::refutes;
 use fs_kinds::{Fault, Kind, Reason};
 use fs_model::{Test, slots};
 use std::alloc::Global;

@@ -11,14 +11,14 @@ ghost use Rattle.fs_answer.specs.Certificate.{Certificate as Said};
 ghost use Rattle.fs_thin_air.specs.ThinAir.{CanBeListed};
 ghost use Rattle.fs_certificate.specs.Kept.{KeepsCertificate};
 ghost use Rattle.fs_checker.specs.Checks.{IsCheckVerdict, IsJudged, IsCheckFault};
-ghost use Rattle.fs_checker.specs.inner.Held.{test_in, HasListing, Holds};
+ghost use Rattle.fs_claims.specs.Held.{test_in, HasListing, Holds};
 ghost use Rattle.fs_checker.specs.inner.Judgements.{IsJudgement};
 
 use crate::fenced::{Judgement, judge_fenced};
-use crate::held::{Held, hold};
 use crate::laws::valid_is_right;
 use crate::unforbidden::judge_none;
 use fs_certificate::{Certificate, CertifiedAnswer};
+use fs_claims::{Held, hold};
 use fs_kinds::{Fault, Placement, Prices, Reason};
 use fs_model::Test;
 use std::alloc::Global;

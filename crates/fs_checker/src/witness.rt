@@ -14,7 +14,7 @@ ghost use Rattle.fs_answer.specs.WitnessFile.{KeepsWitness};
 ghost use Rattle.fs_answer.specs.Widths.{width};
 ghost use Rattle.fs_check.specs.Ordered.{IsOrdered, execution_in, runs_in};
 ghost use Rattle.fs_evidence.specs.Evidence.{pairs_at, widths_of};
-ghost use Rattle.fs_checker.specs.inner.Leaves.{ShowsWidths, AreShown};
+ghost use Rattle.fs_claims.specs.Leaves.{ShowsWidths, AreShown};
 ghost use Rattle.fs_checker.specs.inner.Bearing.{is_turned, turned_after, all_turned, is_borne};
 
 use fs_answer::WitnessFile;

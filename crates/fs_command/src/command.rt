@@ -20,7 +20,8 @@ a last line that counts them. No fence is placed, and prices are not asked for.
              model: in some hart no run ends so, whatever its loads return of the words
              that are stored at all. Why: the first atom of the condition that nothing
              makes true, mostly a slip of the pen
-  fault      the file isn't read, or not answered, and why
+  fault      the file isn't read, or not answered, and why; a message on standard error
+             shows where, and what was expected
 
   $ rvfence test examples/tests/SB-half.litmus examples/tests/typo.litmus
   examples/tests/SB-half.litmus  allowed    P1:2 comes to memory before P1:1
@@ -46,6 +47,51 @@ Faults beside those of the files: a hart has too many runs (F13), a run accesses
 address of no location (F14), there are too many candidate executions (F15), a file
 can't be read (F20).";
 
+const STATES_ABOUT: &str = "Which final states does the memory model allow?";
+
+const STATES_HELP: &str = "\
+Prints for each test, in herd7's form, all final states of what its condition and its
+`locations [..]` name: each state in which some execution under RVWMO ends, and no other.
+
+  $ rvfence states examples/SB.litmus
+  Test SB Allowed
+  States 4
+  0:x7=0; 1:x7=0;
+  0:x7=0; 1:x7=1;
+  0:x7=1; 1:x7=0;
+  0:x7=1; 1:x7=1;
+  Ok
+  Witnesses
+  Positive: 1 Negative: 3
+  Condition exists (0:x7=0 /\\ 1:x7=0)
+  Observation SB Sometimes 1 3
+
+Positive and Negative count the states that make the condition true, and false (herd7 counts
+executions there). `Ok`: the condition with its `exists`, `~exists` or `forall` holds of them.
+
+A word as P0:3=w,w is a fence, which is placed in each test as `place` does it.
+
+With --all the states have all registers that are written, and all locations. With
+--witnesses each state has an execution below it, which `order` reads.
+
+With --log LOG the states are not printed, but held against those that herd7 or litmus7 wrote
+to the file, for what it shows of each test:
+
+  $ rvfence states --log examples/logs/CoRR-forbidden.log examples/CoRR.litmus
+  CoRR: 2 seen, 3 allowed
+    forbidden, 12 seen  1:x5=1; 1:x7=0;
+    not seen   1:x5=0; 1:x7=0;
+    not seen   1:x5=0; 1:x7=1;
+
+Exit status:
+  0  done; with --log, each state that was seen is allowed
+  1  with --log, a state was seen that isn't allowed
+  2  a file has a fault, or the log, or a bad command line; the other files are answered
+  3  memory ran out (fault F19)
+Faults beside those of the files: a hart has too many runs (F13), a run accesses an
+address of no location (F14), there are too many candidate executions (F15), a file
+can't be read (F20).";
+
 const PLACE_ABOUT: &str = "Print a litmus test with fences placed in it";
 
 const PLACE_HELP: &str = "\
@@ -58,8 +104,8 @@ its hart. Kinds: r,r r,w r,rw w,r w,w w,rw rw,r rw,w rw,rw tso.
 
 Exit status:
   0  the fenced test is on standard output
-  2  a fault, one line on standard error as `fault F6 BadLabel line 5`, or a bad
-     command line
+  2  a fault, one line on standard error as `fault F6 BadLabel line 5` (with -v a message
+     explains it), or a bad command line
   3  memory ran out (fault F19)
 A fault leaves standard output empty, unless standard output itself failed.";
 
@@ -84,7 +130,8 @@ Reasons:
 Exit status:
   0  yes
   1  no
-  2  a fault, one line on standard error as `fault F17 BadWitness`, or a bad command line
+  2  a fault, one line on standard error as `fault F17 BadWitness` (with -v a message
+     explains it), or a bad command line
   3  memory ran out (fault F19)";
 
 const SOLVE_ABOUT: &str = "Find the cheapest fences that rule an outcome out";
@@ -130,7 +177,8 @@ PRICES offers kinds, each for 1 to 1000000, and rw,rw must be one of them, as in
 Exit status:
   0  fenced
   1  none
-  2  a fault, one line on standard error as `fault F16 NodeLimit`, or a bad command line
+  2  a fault, one line on standard error as `fault F16 NodeLimit` (with -v a message
+     explains it), or a bad command line
   3  memory ran out (fault F19)
 Faults beside those of the files: a hart has too many runs (F13), a run accesses an
 address of no location (F14), there are too many candidate executions (F15), the search
@@ -171,7 +219,8 @@ With --write the test is printed with the cheapest fences in place of its own.
 Exit status:
   0  each FENCE is needed, and none is missing
   1  there is something to change, or the outcome can happen as the test is written
-  2  a fault, one line on standard error as `fault F11 NoTop`, or a bad command line
+  2  a fault, a line on standard error as `fault F11 NoTop` and a message that explains
+     it, or a bad command line
   3  memory ran out (fault F19)
   4  the outcome is vacuous, as `test` says it
 Faults are those of `test` and of `solve`.";
@@ -211,8 +260,8 @@ Reasons, where K counts from 0:
 Exit status:
   0  yes
   1  no
-  2  a fault, one line on standard error as `fault F18 BadCertificate`, or a bad command
-     line
+  2  a fault, one line on standard error as `fault F18 BadCertificate` (with -v a message
+     explains it), or a bad command line
   3  memory ran out (fault F19)
 Faults beside those of the files: a hart has too many runs (F13), a run accesses an
 address of no location (F14), there are too many candidate executions (F15; not with
@@ -233,8 +282,10 @@ Exit status:
   3  memory ran out (fault F19)";
 
 const PROGRAM_HELP: &str = "\
-`rvfence <COMMAND> --help` says what a command answers. With -q nothing is said on standard
-error but faults.
+`rvfence <COMMAND> --help` says what a command answers. A fault is a line on standard error.
+With -v, and on a terminal, a message below it shows where in a file it is, and what was
+expected; `test`, `audit` and `states` always say this. With -q only the line of a fault is
+said.
 
 Exit status: 0 done, yes, fenced or forbidden; 1 no, none or allowed; 2 a fault or a bad
 command line; 3 memory ran out; 4 vacuous.";
@@ -242,6 +293,15 @@ command line; 3 memory ran out; 4 vacuous.";
 const FILE_HELP: &str = "Litmus test in herd7's RISC-V format; `-` or `stdin` is standard input";
 
 const FILES_HELP: &str = "Litmus tests in herd7's RISC-V format; `-` or `stdin` is standard input";
+
+const FILES_AND_FENCES_HELP: &str =
+    "Litmus tests in herd7's RISC-V format, and fences to place in each, as P0:3=w,w";
+
+const ALL_HELP: &str = "Show all registers that are written, and all locations";
+
+const WITNESSES_HELP: &str = "Print an execution below each state, which `order` reads";
+
+const LOG_HELP: &str = "File that herd7 or litmus7 wrote, to hold the states against";
 
 const FENCE_HELP: &str = "Fence to place, as P0:3=w,w: hart, instruction (from 0) and kind";
 
@@ -265,7 +325,9 @@ const SHELL_HELP: &str = "Which shell is to read it";
 
 const WRITE_HELP: &str = "Print the test with the cheapest fences in place of its own";
 
-const QUIET_HELP: &str = "Say nothing on standard error but faults";
+const QUIET_HELP: &str = "Say nothing on standard error but the line of a fault";
+
+const VERBOSE_HELP: &str = "Explain a fault: where it is, and what was expected";
 
 const NODES_HELP: &str = "Most nodes that the search may make, 1 to 1000000";
 
@@ -285,14 +347,17 @@ pub const MOST_NODES: u32 = 1_000_000;
 #[derive(Drop)]
 pub struct Request<'a> {
     pub task: Task<'a>,
-    /// Whether notes of an answer are to be left out.
+    /// Whether all but the line of a fault is to be left out on standard error.
     pub quiet: bool,
+    /// Whether a message is to explain a fault.
+    pub verbose: bool,
 }
 
 /// What is to be done. Files go by their paths.
 #[derive(Drop)]
 pub enum Task<'a> {
     Test(Test),
+    States(States<'a>),
     Place(Place<'a>),
     Order(Order<'a>),
     Solve(Solve<'a>),
@@ -310,6 +375,19 @@ pub struct Test {
     pub jobs: u8,
     /// Whether JSON is to be printed.
     pub json: bool,
+}
+
+/// What `states` was asked for.
+#[derive(Drop)]
+pub struct States<'a> {
+    pub files: Vec<String>,
+    pub fences: Vec<String>,
+    /// Whether the states have all registers that are written, and all locations.
+    pub all: bool,
+    /// Whether each state gets its execution.
+    pub witnesses: bool,
+    /// The log that the states are held against, in place of being printed.
+    pub log: Option<&'a str>,
 }
 
 /// What `place` was asked for.
@@ -376,6 +454,7 @@ fn request_of<'a>(alloc: Global, matches: &ArgMatches<'a>) -> Result<Request<'a>
     Ok(Request {
         task: task_of(alloc, name, found)?,
         quiet: found.get_flag("quiet"),
+        verbose: found.get_flag("verbose"),
     })
 }
 
@@ -383,6 +462,7 @@ fn request_of<'a>(alloc: Global, matches: &ArgMatches<'a>) -> Result<Request<'a>
 fn task_of<'a>(alloc: Global, name: &str, found: &ArgMatches<'a>) -> Result<Task<'a>, AllocError> {
     match name {
         "test" => Ok(Task::Test(test_of(alloc, found)?)),
+        "states" => Ok(Task::States(states_of(alloc, found)?)),
         "order" => Ok(Task::Order(order_of(alloc, found)?)),
         "solve" => Ok(Task::Solve(solve_of(found))),
         "audit" => Ok(Task::Audit(audit_of(found))),
@@ -398,6 +478,43 @@ fn test_of(alloc: Global, found: &ArgMatches<'_>) -> Result<Test, AllocError> {
         jobs: found.get_one::<u8>("jobs").unwrap_or(ONE_WORKER),
         json: found.get_flag("json"),
     })
+}
+
+fn states_of<'a>(alloc: Global, found: &ArgMatches<'a>) -> Result<States<'a>, AllocError> {
+    let (files, fences) = files_and_fences(alloc, found.get_strs("FILE").unwrap_or(&[]))?;
+    Ok(States {
+        files,
+        fences,
+        all: found.get_flag("all"),
+        witnesses: found.get_flag("witnesses"),
+        log: found.get_str("log"),
+    })
+}
+
+/// The words that name files, and those that are FENCE words. The first is a file's.
+fn files_and_fences(
+    alloc: Global,
+    words: &[&str],
+) -> Result<(Vec<String>, Vec<String>), AllocError> {
+    let mut files = Vec::new(alloc);
+    let mut fences = Vec::new(alloc);
+    for word in words {
+        let copy = String::from_str(alloc, word)?;
+        if !files.is_empty() && is_fence(word) {
+            fences.push(copy)?;
+        } else {
+            files.push(copy)?;
+        }
+    }
+    Ok((files, fences))
+}
+
+/// Does the word begin as a FENCE word does, with `P`, a digit and some `:` behind them?
+fn is_fence(word: &str) -> bool {
+    match word.as_bytes() {
+        [b'P', digit, rest @ ..] => digit.is_ascii_digit() && rest.contains(&b':'),
+        _ => false,
+    }
 }
 
 fn place_of<'a>(alloc: Global, found: &ArgMatches<'a>) -> Result<Place<'a>, AllocError> {
@@ -475,6 +592,7 @@ fn whole_command<'a>(alloc: Global) -> Result<Command<'a>, AllocError> {
     let program = with_command(Ok(program), test_command(alloc));
     let program = with_command(program, solve_command(alloc));
     let program = with_command(program, audit_command(alloc));
+    let program = with_command(program, states_command(alloc));
     let program = with_command(program, place_command(alloc));
     let program = with_command(program, order_command(alloc));
     let program = with_command(program, check_command(alloc));
@@ -497,6 +615,15 @@ fn with_argument<'a>(
     command?.arg(argument)
 }
 
+/// The command with what each takes: how much is to be said on standard error.
+fn with_voice<'a>(
+    alloc: Global,
+    command: Result<Command<'a>, AllocError>,
+) -> Result<Command<'a>, AllocError> {
+    let command = with_argument(command, flag(alloc, "quiet", QUIET_HELP).short('q'));
+    with_argument(command, flag(alloc, "verbose", VERBOSE_HELP).short('v'))
+}
+
 fn test_command<'a>(alloc: Global) -> Result<Command<'a>, AllocError> {
     let command = Command::new(alloc, "test")
         .about(TEST_ABOUT)
@@ -504,7 +631,18 @@ fn test_command<'a>(alloc: Global) -> Result<Command<'a>, AllocError> {
     let command = with_argument(Ok(command), files(alloc, FILES_HELP));
     let command = with_argument(command, threads(alloc, "jobs", JOBS_HELP));
     let command = with_argument(command, flag(alloc, "json", LINES_HELP));
-    with_argument(command, quiet(alloc))
+    with_voice(alloc, command)
+}
+
+fn states_command<'a>(alloc: Global) -> Result<Command<'a>, AllocError> {
+    let command = Command::new(alloc, "states")
+        .about(STATES_ABOUT)
+        .after_help(STATES_HELP);
+    let command = with_argument(Ok(command), files(alloc, FILES_AND_FENCES_HELP));
+    let command = with_argument(command, flag(alloc, "all", ALL_HELP));
+    let command = with_argument(command, flag(alloc, "witnesses", WITNESSES_HELP));
+    let command = with_argument(command, option(alloc, "log", "LOG", LOG_HELP));
+    with_voice(alloc, command)
 }
 
 fn place_command<'a>(alloc: Global) -> Result<Command<'a>, AllocError> {
@@ -514,7 +652,7 @@ fn place_command<'a>(alloc: Global) -> Result<Command<'a>, AllocError> {
     let command = with_argument(Ok(command), required(alloc, "FILE", FILE_HELP));
     let command = with_argument(command, fences(alloc, FENCE_HELP));
     let command = with_argument(command, option(alloc, "prices", "PRICES", PRICES_HELP));
-    with_argument(command, quiet(alloc))
+    with_voice(alloc, command)
 }
 
 fn order_command<'a>(alloc: Global) -> Result<Command<'a>, AllocError> {
@@ -524,7 +662,7 @@ fn order_command<'a>(alloc: Global) -> Result<Command<'a>, AllocError> {
     let command = with_argument(Ok(command), required(alloc, "FILE", FILE_HELP));
     let command = with_argument(command, required(alloc, "WITNESS", WITNESS_HELP));
     let command = with_argument(command, fences(alloc, FENCE_HELP));
-    with_argument(command, quiet(alloc))
+    with_voice(alloc, command)
 }
 
 fn solve_command<'a>(alloc: Global) -> Result<Command<'a>, AllocError> {
@@ -537,7 +675,7 @@ fn solve_command<'a>(alloc: Global) -> Result<Command<'a>, AllocError> {
     let command = with_argument(command, nodes(alloc, NODES_HELP));
     let command = with_argument(command, option(alloc, "cert", "PATH", CERT_HELP));
     let command = with_argument(command, flag(alloc, "json", JSON_HELP));
-    with_argument(command, quiet(alloc))
+    with_voice(alloc, command)
 }
 
 fn audit_command<'a>(alloc: Global) -> Result<Command<'a>, AllocError> {
@@ -548,7 +686,7 @@ fn audit_command<'a>(alloc: Global) -> Result<Command<'a>, AllocError> {
     let command = with_argument(command, required(alloc, "PRICES", PRICES_HELP));
     let command = with_argument(command, flag(alloc, "write", WRITE_HELP));
     let command = with_argument(command, nodes(alloc, NODES_HELP));
-    with_argument(command, quiet(alloc))
+    with_voice(alloc, command)
 }
 
 fn check_command<'a>(alloc: Global) -> Result<Command<'a>, AllocError> {
@@ -559,7 +697,7 @@ fn check_command<'a>(alloc: Global) -> Result<Command<'a>, AllocError> {
     let command = with_argument(command, required(alloc, "PRICES", PRICES_HELP));
     let command = with_argument(command, required(alloc, "CERTIFICATE", CERTIFICATE_HELP));
     let command = with_argument(command, flag(alloc, "json", JSON_HELP));
-    with_argument(command, quiet(alloc))
+    with_voice(alloc, command)
 }
 
 fn completions_command<'a>(alloc: Global) -> Result<Command<'a>, AllocError> {
@@ -568,7 +706,7 @@ fn completions_command<'a>(alloc: Global) -> Result<Command<'a>, AllocError> {
         .after_help(COMPLETIONS_HELP);
     let shell = required(alloc, "SHELL", SHELL_HELP).value_parser(SHELLS);
     let command = with_argument(Ok(command), shell);
-    with_argument(command, quiet(alloc))
+    with_voice(alloc, command)
 }
 
 /// The script by which the shell completes the words of a command line. The error is want of memory.
@@ -595,11 +733,6 @@ fn flag<'a>(alloc: Global, name: &'a str, help: &'a str) -> Arg<'a> {
         .help(help)
         .long(name)
         .action(ArgAction::SetTrue)
-}
-
-/// That nothing is to be printed on standard output, which each command takes.
-fn quiet<'a>(alloc: Global) -> Arg<'a> {
-    flag(alloc, "quiet", QUIET_HELP).short('q')
 }
 
 /// One word or more.

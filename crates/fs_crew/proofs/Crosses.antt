@@ -20,7 +20,7 @@ use Rattle.fs_board.proofs.tree.Tree.TheSendSync as tree
 use Rattle.fs_board.proofs.event.LogEntry.TheSendSync as entry
 use Rattle.fs_kinds.proofs.reason.OperationName.TheSendSync as named
 use Rattle.fs_alone.specs.contracts.lone.Lone as Lone
-use Rattle.fs_refute.specs.contracts.basis.Basis as Basis
+use Rattle.fs_split.specs.contracts.basis.Basis as Basis
 use Rattle.fs_search.proofs.Problems as problem
 use Rattle.fs_crew.proofs.Outcomes.{hole_send, hole_sync}
 

@@ -141,7 +141,7 @@ impl Hunter {
 
     /// A refutation of the test under the placement, or an execution that shows the outcome with the placed fences; or
     /// it gives up where the refutation would have more than so many inferences. Nothing is promised of either: the
-    /// one is checked by `Basis::reason_against`, the other by `shown_by` of fs_check. The cost is exponential in the
+    /// one is checked by `reason_against`, the other by `shown_by` of fs_check. The cost is exponential in the
     /// memory instructions; the memory is that of the refutation, and of the regions that are open at once. The error
     /// is F19.
     pub fn hunt(&self, alloc: Global, placement: &Placement, most: usize) -> Result<Found, Fault>

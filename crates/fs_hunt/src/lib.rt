@@ -1,5 +1,5 @@
 //! Hunts for what decides a test under a placement of fences: a refutation, or an execution that shows the outcome.
-//! Both are checked elsewhere (`Basis::reason_against` of fs_refute, `shown_by` of fs_check); of what is here it is
+//! Both are checked elsewhere (`reason_against` of fs_refute, `shown_by` of fs_check); of what is here it is
 //! proved that it is safe and ends.
 #![tactic(auto)]
 

@@ -13,7 +13,7 @@ use fs_examples::{
 use fs_hunt::{Execution, Found, Hunter};
 use fs_kinds::{Fault, Placement};
 use fs_litmus::{Test, read_test};
-use fs_refute::Basis;
+use fs_refute::{Basis, reason_against};
 use std::alloc::{AllocError, Global};
 use std::sync::Arc;
 use std::test::Fail;
@@ -73,7 +73,7 @@ fn told(
     let mut text = String::new(alloc);
     match found {
         Found::Refuted(tree) => {
-            let why = basis.reason_against(alloc, placement, tree.as_slice())?;
+            let why = reason_against(alloc, basis, placement, tree.as_slice())?;
             write!(text, "refuted, {why:?}")?;
         }
         Found::Shown(execution) => {

@@ -181,7 +181,7 @@ impl Problem {
     /// the outcome the one whose candidate comes first, whose witness is widened at the first slots before the others. What is answered
     /// doesn't depend on earlier calls, unlike what a `Judge` answers. Where the hunt gives up, after 1,000,000 inferences, all
     /// candidates are judged in turn, and F15 comes where they are too many; else the error is F19. The cost is that of `Hunter::first`,
-    /// and that of checking what it finds: of `Basis::reason_against`, or of `shown_by` and `widest_witness`.
+    /// and that of checking what it finds: of `reason_against`, or of `shown_by` and `widest_witness`.
     pub fn verdict(
         &self,
         alloc: Global,

@@ -15,7 +15,7 @@ use fs_hunt::{Execution, Found};
 use fs_kinds::{Fault, OperationName, Placement};
 use fs_list::List;
 use fs_model::Test;
-use fs_refute::Basis;
+use fs_refute::{Basis, reason_against};
 use std::alloc::{AllocError, Global};
 
 /// What was found for a placement.
@@ -39,7 +39,7 @@ fn refuted(
     ensures ok { IfOk result (IsSought basis.now placement.now) }
     ensures err { IsOkUnless result Memory }
 {
-    match basis.reason_against(alloc, placement, inferences.as_slice())? {
+    match reason_against(alloc, basis, placement, inferences.as_slice())? {
         None => Ok(Sought::Refuted(inferences)),
         Some(_) => Ok(Sought::Nothing),
     }
@@ -96,7 +96,7 @@ fn shown(
     }
 }
 
-// What is left of a hunt's finding: the refutation or the execution, where it is one. The cost is that of `Basis::reason_against`,
+// What is left of a hunt's finding: the refutation or the execution, where it is one. The cost is that of `reason_against`,
 // or of `shown_by`. The error is F19.
 pub(crate) fn checked(
     alloc: Global,

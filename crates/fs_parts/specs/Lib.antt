@@ -1,1 +1,2 @@
+pub mod Bests
 pub mod Breaks

@@ -1,13 +1,17 @@
 //! Costs of placements and of the floors of parts, and which of two placements is better.
 
-ghost use Rattle.std.specs.Prelude.{◌≡◌, ◌≤◌, ◌*◌, IsTrue, length};
+ghost use Rattle.std.specs.Prelude.{◌≡◌, ◌≤◌, ◌*◌, IsTrue, length, option_map};
 ghost use Rattle.fs_kinds.specs.Placement.{rank, precedes};
 ghost use Rattle.fs_kinds.specs.PriceTable.{kind_cost, entry_cost, cost};
 ghost use Rattle.fs_model.specs.Allows.{is_better};
 ghost use Rattle.fs_answer.specs.Parts.{floor};
+ghost use Rattle.fs_evidence.specs.Evidence.{placement_in};
+ghost use Rattle.fs_parts.specs.Bests.{is_best};
 
 use crate::decision::Decision;
+use fs_evidence::Forbidden;
 use fs_kinds::{Entry, Kind, Prices};
+use std::sync::Arc;
 
 /// What a kind costs where it is offered, and none costs nothing.
 pub fn kind_cost(prices: &Prices, kind: Option<Kind>) -> u32
@@ -82,6 +86,16 @@ pub fn is_better(prices: &Prices, placement: &[Entry], other: &[Entry]) -> bool
     let mine = cost(prices, placement);
     let theirs = cost(prices, other);
     mine < theirs || mine == theirs && precedes(placement, other)
+}
+
+/// Is the placement better than the best one posted, or is there none?
+pub fn is_best(prices: &Prices, bound: Option<&Arc<Forbidden>>, placement: &[Entry]) -> bool
+    ensures { result ≡ is_best prices.now (option_map (λ f. placement_in f.now) bound.entry) placement.now }
+{
+    match bound {
+        None => true,
+        Some(bound) => is_better(prices, placement, bound.placement.as_slice()),
+    }
 }
 
 /// Are both the same placement? It calls itself once for each slot.

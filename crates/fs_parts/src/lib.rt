@@ -8,6 +8,6 @@ mod decision;
 mod options;
 
 pub use breaks::{is_break, is_kept, least_of, lesser};
-pub use costs::{cost, floor_cost, floor_precedes, is_better, is_same, precedes};
+pub use costs::{cost, floor_cost, floor_precedes, is_best, is_better, is_same, precedes};
 pub use decision::Decision;
 pub use options::{OPTIONS, is_offered};

@@ -22,3 +22,4 @@ pub use fences::{explain_fences, explain_unread};
 pub use file::{explain, explain_test};
 pub use json::explain_json;
 pub use point::{Point, point_of};
+pub use title::body_start;

@@ -1,6 +1,6 @@
 //! Where the tokens of a test file begin.
 
-ghost use Rattle.std.specs.Prelude.{◌≡◌, ◌+◌, ◌<◌, ◌≤◌, ◌^◌, ℕ, List, length, drop, Some, IfSome, option_map};
+ghost use Rattle.std.specs.Prelude.{◌≡◌, ◌+◌, ◌<◌, ◌≤◌, ◌^◌, ℕ, List, length, drop, Some, IfSome, IsNone, option_map};
 ghost use Rattle.std.specs.List.{prefix_len};
 ghost use Rattle.fs_tokens.specs.Bytes.{is_blank};
 ghost use Rattle.fs_litmus.specs.Title.{after_line, unindented, IsBody};
@@ -34,9 +34,11 @@ fn line_len(bytes: &[u8]) -> Option<usize>
     None
 }
 
-/// The offset at which the block of initial values begins, and its line.
-pub(crate) fn body_start(bytes: &[u8]) -> Option<(usize, usize)>
+/// The offset at which the block of initial values begins, with the tokens of a test file, and its line; nothing where no line below the
+/// first begins with `{` past its blanks. Linear in the bytes.
+pub fn body_start(bytes: &[u8]) -> Option<(usize, usize)>
     ensures value { IfSome result (λ b. (doc : List ℕ) × (after_line bytes.now ≡ Some doc) × IsBody doc 2 (drop b.0 bytes.now) b.1) }
+    ensures absent { IsNone result → (doc body : List ℕ) → (at : ℕ) → after_line bytes.now ≡ Some doc → ¬ IsBody doc 2 body at }
     ensures within { IfSome result (λ b. b.0 ≤ length bytes.now) }
     ensures few { IfSome result (λ b. b.1 ≤ b.0 + 1) }
 {

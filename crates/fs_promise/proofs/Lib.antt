@@ -16,6 +16,7 @@ mod LineEnds
 mod Meaning
 mod Mending
 mod OneAnswer
+mod Outcomes
 mod Placing
 mod ReadLines
 mod SameCertificates

@@ -12,7 +12,7 @@ use Rattle.fs_litmus.specs.Reads.{Reads}
 use Rattle.fs_litmus.proofs.ReadsTest.{is_test}
 use Rattle.fs_kinds.specs.PriceTable.{PriceTable}
 use Rattle.fs_audit.specs.Audit.{IsAdvised, IsMended, fenced_text}
-use Rattle.fs_audit.specs.Unfenced.{unfenced}
+use Rattle.fs_unfenced.specs.Unfenced.{unfenced}
 use Rattle.fs_audit.proofs.Bare.{test_unfenced}
 use Rattle.fs_promise.specs.Audits.{IsMendedTest, IsNothingOrMended}
 use Rattle.fs_promise.proofs.Kept.{Keeps, carried}

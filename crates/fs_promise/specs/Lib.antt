@@ -3,3 +3,4 @@ pub mod Audits
 pub mod Checked
 pub mod Headline
 pub mod Lines
+pub mod States

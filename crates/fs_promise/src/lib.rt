@@ -1,8 +1,8 @@
 //! The promises of the commands, as laws over the bytes of files: what an answer of `solve` means, that `order` agrees with it,
 //! that `solve` and `order` have one answer, that printed lines say one answer, what a yes of `check` means, and that the certificate of
-//! `solve --cert` gets one; that a certificate has one verdict; that the fences which `audit` advises rule the outcome out; and that two
-//! tests that are the same wherever the parts of their conditions lie in memory have all else alike. No other crate stands on this one,
-//! and nothing in it runs.
+//! `solve --cert` gets one; that a certificate has one verdict; that the fences which `audit` advises rule the outcome out; what final
+//! states tell of the outcome; and that two tests that are the same wherever the parts of their conditions lie in memory have all else
+//! alike. No other crate stands on this one, and nothing in it runs.
 #![tactic(auto)]
 
 mod agreement;
@@ -11,6 +11,7 @@ mod audits;
 mod checked;
 mod lines;
 mod promise;
+mod states;
 mod verdict;
 
 pub use agreement::{order_agrees, order_answers_once, words_place_fences};
@@ -22,4 +23,5 @@ pub use audits::mended_is_ruled_out;
 pub use checked::{certified_is_accepted, yes_is_true};
 pub use lines::{lines_say_one_answer, solve_answers_once};
 pub use promise::headline;
+pub use states::states_tell_the_outcome;
 pub use verdict::one_verdict;

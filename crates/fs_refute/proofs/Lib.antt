@@ -1,10 +1,3 @@
-pub mod Alike
 pub mod Chains
-pub mod Each
-pub mod Listed
-pub mod Lists
-pub mod Pairs
-pub mod Regions
-pub mod Rises
-pub mod Roots
+pub mod Stacks
 pub mod Walked

@@ -12,10 +12,11 @@ use Rattle.fs_answer.specs.Regions.{Region}
 use Rattle.fs_answer.specs.Certificate.{Inference}
 use Rattle.fs_answer.specs.Trees.{follows, left_after, refutes, roots, AreItsRuns}
 use Rattle.fs_answer.specs.Refusals.{first_wrong}
-use Rattle.fs_refute.specs.declared.region.Region.{Region as CodeRegion}
-use Rattle.fs_refute.specs.Runs.{AreRoots}
-use Rattle.fs_refute.specs.Views.{regions_of, stacked}
-use Rattle.fs_refute.proofs.Roots.{stacked_all}
+use Rattle.fs_split.specs.declared.region.Region.{Region as CodeRegion}
+use Rattle.fs_split.specs.Runs.{AreRoots}
+use Rattle.fs_split.specs.Views.{regions_of}
+use Rattle.fs_refute.specs.inner.Stacks.{stacked}
+use Rattle.fs_refute.proofs.Stacks.{stacked_all}
 
 module _ (t : Test) (p : List Entry) where
   -- the reason, where these regions are open before inference number k

@@ -1,3 +1,1 @@
-pub mod Runs
-pub mod Views
 pub mod inner

@@ -1,15 +1,9 @@
 //! Checks a refutation, a tree of inferences over regions: each inference is looked at once, and nothing is searched for.
 #![tactic(auto)]
 
-mod basis;
-mod filters;
+mod causes;
 pub mod laws;
-mod musts;
-mod outcome;
-mod parted;
-mod ready;
-mod region;
-mod splits;
 mod walk;
 
-pub use basis::Basis;
+pub use fs_split::Basis;
+pub use walk::reason_against;

@@ -1,36 +1,30 @@
 //! The walk over a tree of inferences.
 
-ghost use Rattle.std.specs.Prelude.{◌≡◌, ◌++◌, ◌∷◌, [], ℕ, List, map, true, length, nat_lt, slice_get, drop, IfOk, OnOk, IsOkUnless};
+ghost use Rattle.std.specs.Prelude.{◌≡◌, ◌++◌, ◌∷◌, [], ℕ, List, map, true, drop, IfOk, OnOk, IsOkUnless};
 ghost use Rattle.std.specs.List.{list_all, zip};
 ghost use Rattle.fs_kinds.specs.declared.placement.Entry.{Entry};
 ghost use Rattle.fs_kinds.specs.declared.fault.Fault.TheVariants.{Memory};
 ghost use Rattle.fs_model.specs.declared.step.Step.{Step};
 ghost use Rattle.fs_model.specs.declared.test.Test.{Test};
-ghost use Rattle.fs_model.specs.Condition.{condition_of};
 ghost use Rattle.fs_model.specs.Shows.{is_outcome};
 ghost use Rattle.fs_answer.specs.Musts.{must};
-ghost use Rattle.fs_answer.specs.Splits.{ways_of};
 ghost use Rattle.fs_answer.specs.Certificate.{ByOrder};
 ghost use Rattle.fs_answer.specs.Trees.{must_be_cycle, follows, left_after, roots, AreItsRuns};
 ghost use Rattle.fs_answer.specs.Refusals.{first_wrong};
 ghost use Rattle.fs_evidence.specs.Inferences.{inference_of};
-ghost use Rattle.fs_refute.specs.Runs.{IsRoot, AreRoots};
-ghost use Rattle.fs_refute.specs.Views.{region_of, regions_of, lists_in, all_wanted, stacked, IsOf, AreOf};
-ghost use Rattle.fs_refute.specs.inner.Asked.{values_in};
+ghost use Rattle.fs_split.specs.Views.{region_of, regions_of, IsOf, AreOf};
+ghost use Rattle.fs_refute.specs.inner.Stacks.{stacked};
 
-use crate::basis::Basis;
-use crate::musts::{
-    Access, is_before_source, is_same_name, must, must_meet, must_pair, overwrites,
-};
-use crate::region::{Region, Runs, Wanted};
-use crate::splits::{add_open, by_cases, by_choice, by_order, by_outcome, by_source, has_parts};
-use fs_alone::{Lone, is_name};
+use crate::causes::must;
+use fs_alone::is_name;
 use fs_evidence::{Inference, Link};
 use fs_kinds::{Fault, OperationName, Placement, Reason};
-use fs_list::List;
 use fs_model::Quantifier;
+use fs_split::{
+    Access, Basis, Region, by_cases, by_choice, by_order, by_outcome, by_source, has_cases,
+    is_before_source, is_same_name, must_meet, must_pair, overwrites, roots,
+};
 use std::alloc::{AllocError, Global};
-use std::sync::Arc;
 
 // The greatest number of links of a cycle.
 const MOST_LINKS: usize = 64;
@@ -88,16 +82,6 @@ fn must_be_cycle(basis: &Basis, placement: &Placement, region: &Region<'_>, link
         return false;
     };
     links.len() <= MOST_LINKS && is_chain(basis, placement, region, links, first)
-}
-
-// Is there a condition of this number that is wanted, and has it parts?
-fn has_cases(region: &Region<'_>, number: usize) -> bool
-    ensures { result ≡ nat_lt 0 (length (ways_of (slice_get (region_of region.now).wanted number))) }
-{
-    match region.wanted.get(number) {
-        Some(wanted) => has_parts(wanted.condition, wanted.truth),
-        None => false,
-    }
 }
 
 // May the two stores be put in an order?
@@ -180,50 +164,7 @@ fn push_all<'a>(stack: &mut Vec<Region<'a>>, mut left: Vec<Region<'a>>) -> Resul
     Ok(())
 }
 
-// For each hart all of its runs.
-fn all_runs<'a>(alloc: Global, listed: &'a [List<Lone>]) -> Result<Vec<Arc<Runs<'a>>>, AllocError>
-    ensures { IfOk result (λ runs. map values_in (lists_in runs.items) ≡ listed.now) }
-{
-    let mut runs = Vec::new(alloc);
-    for list in listed {
-        runs.push(Arc::new(alloc, all_of(alloc, list.as_slice())?)?)?;
-    }
-    Ok(runs)
-}
-
-// The condition with the truth value that the outcome has.
-fn outcome<'a>(alloc: Global, basis: &'a Basis) -> Result<List<Wanted<'a>>, AllocError>
-    ensures { IfOk result (λ wanted. all_wanted wanted
-        ≡ (condition_of basis.now.condition, is_outcome basis.now.quantifier true) ∷ []) }
-{
-    let test = basis.test();
-    let truth = is_outcome(test.quantifier);
-    let mut wanted = Vec::new(alloc);
-    wanted.push(Wanted {
-        condition: &test.condition,
-        truth,
-    })?;
-    Ok(List::new(wanted))
-}
-
-// All candidates with the outcome that is to be ruled out.
-fn root<'a>(alloc: Global, basis: &'a Basis) -> Result<Region<'a>, AllocError>
-    ensures region { IfOk result (λ region. IsRoot basis.now (region_of region)) }
-    ensures of { IfOk result (IsOf basis.now) }
-{
-    let runs = all_runs(alloc, basis.runs())?;
-    let wanted = outcome(alloc, basis)?;
-    let sources = Arc::new(alloc, List::new(Vec::new(alloc)))?;
-    let orders = Arc::new(alloc, List::new(Vec::new(alloc)))?;
-    let wanted = Arc::new(alloc, wanted)?;
-    Ok(Region {
-        runs,
-        sources,
-        orders,
-        wanted,
-    })
-}
-
+// The truth value that the condition has in the outcome.
 fn is_outcome(quantifier: Quantifier) -> bool
     ensures { result ≡ is_outcome quantifier true }
 {
@@ -233,60 +174,40 @@ fn is_outcome(quantifier: Quantifier) -> bool
     }
 }
 
-// All of the runs.
-fn all_of<'a>(alloc: Global, runs: &'a [Lone]) -> Result<Runs<'a>, AllocError>
-    ensures { IfOk result (λ all. values_in all ≡ runs.now) }
+/// The reason against the inferences as a refutation of the test under the placement, if there is one: the first
+/// that can't be drawn from its region, by its number from 0, or that one is left over, whichever comes first; or
+/// else that one is missing. Without a reason the placement forbids the outcome.
+///
+/// Each inference is looked at once. The cost: of a split, the tests that it makes of the runs of its harts, for
+/// each region that it gives; of a source in another hart, besides a sort of the runs of both; of an end, the runs
+/// of the harts that it speaks of. The memory is that of the regions that are open at once. A region shares the
+/// lists of the one that it is split from, and takes besides the runs of the harts whose runs it drops. The error
+/// is F19.
+pub fn reason_against(
+    alloc: Global,
+    basis: &Basis,
+    placement: &Placement,
+    inferences: &[Inference],
+) -> Result<Option<Reason>, Fault>
+    ensures exact { IfOk result (λ why. (runs : ℕ → List (List Step)) × AreItsRuns basis.now runs
+        × (why ≡ first_wrong basis.now placement.now (roots basis.now runs) (map inference_of inferences.now) 0)) }
+    ensures err { IsOkUnless result Memory }
 {
-    let all = runs.iter().collect(alloc)?;
-    Ok(List::new(all))
-}
-
-// All candidates, if there can be one.
-fn roots<'a>(alloc: Global, basis: &'a Basis) -> Result<Vec<Region<'a>>, AllocError>
-    ensures regions { IfOk result (λ left. AreRoots basis.now (regions_of left.items)) }
-    ensures of { IfOk result (λ left. AreOf basis.now left.items) }
-{
-    let all = root(alloc, basis)?;
-    let mut left = Vec::new(alloc);
-    add_open(basis, &mut left, all)?;
-    Ok(left)
-}
-
-impl Basis {
-    /// The reason against the inferences as a refutation of the test under the placement, if there is one: the first
-    /// that can't be drawn from its region, by its number from 0, or that one is left over, whichever comes first; or
-    /// else that one is missing. Without a reason the placement forbids the outcome.
-    ///
-    /// Each inference is looked at once. The cost: of a split, the tests that it makes of the runs of its harts, for
-    /// each region that it gives; of a source in another hart, besides a sort of the runs of both; of an end, the runs
-    /// of the harts that it speaks of. The memory is that of the regions that are open at once. A region shares the
-    /// lists of the one that it is split from, and takes besides the runs of the harts whose runs it drops. The error
-    /// is F19.
-    pub fn reason_against(
-        &self,
-        alloc: Global,
-        placement: &Placement,
-        inferences: &[Inference],
-    ) -> Result<Option<Reason>, Fault>
-        ensures exact { IfOk result (λ why. (runs : ℕ → List (List Step)) × AreItsRuns self.now runs
-            × (why ≡ first_wrong self.now placement.now (roots self.now runs) (map inference_of inferences.now) 0)) }
-        ensures err { IsOkUnless result Memory }
-    {
-        let mut stack = Vec::new(alloc);
-        push_all(&mut stack, roots(alloc, self)?)?;
-        for (index, inference) in inferences.iter().enumerate() {
-            let Some(region) = stack.pop() else {
-                return Ok(Some(Reason::Cycles)); // one too many
-            };
-            if !follows(self, placement, &region, inference) {
-                return Ok(Some(Reason::Cycle { index }));
-            }
-            push_all(&mut stack, left_after(alloc, self, &region, inference)?)?;
+    let truth = is_outcome(basis.test().quantifier);
+    let mut stack = Vec::new(alloc);
+    push_all(&mut stack, roots(alloc, basis, truth)?)?;
+    for (index, inference) in inferences.iter().enumerate() {
+        let Some(region) = stack.pop() else {
+            return Ok(Some(Reason::Cycles)); // one too many
+        };
+        if !follows(basis, placement, &region, inference) {
+            return Ok(Some(Reason::Cycle { index }));
         }
-        if stack.is_empty() {
-            Ok(None)
-        } else {
-            Ok(Some(Reason::Cycles))
-        }
+        push_all(&mut stack, left_after(alloc, basis, &region, inference)?)?;
+    }
+    if stack.is_empty() {
+        Ok(None)
+    } else {
+        Ok(Some(Reason::Cycles))
     }
 }

@@ -5,7 +5,7 @@ use fs_examples::{LRSC, SB, placement_of};
 use fs_kinds::{Fault, OperationName};
 use fs_list::List;
 use fs_litmus::read_test;
-use fs_refute::Basis;
+use fs_refute::{Basis, reason_against};
 use std::alloc::Global;
 use std::sync::Arc;
 use std::test::Fail;
@@ -25,7 +25,7 @@ fn found(
     let test = Arc::new(alloc, read_test(alloc, text.as_bytes())?)?;
     let placement = placement_of(alloc, &test, fences)?;
     let basis = Basis::new(alloc, &test)?;
-    let why = basis.reason_against(alloc, &placement, inferences)?;
+    let why = reason_against(alloc, &basis, &placement, inferences)?;
     Ok(format!(in alloc; "{why:?}")?)
 }
 

@@ -24,6 +24,7 @@ use Rattle.fs_tree.proofs.Final.{final}
 use Rattle.fs_bound.proofs.Floors.{floor-best}
 use Rattle.fs_evidence.specs.Evidence.{Question}
 use Rattle.fs_board.specs.View.{Search}
+pub use Rattle.fs_scout.proofs.Handed.{handed}
 use Rattle.fs_search.specs.Answers.{IsEndFault, IsSearchFault, IsSolveFault}
 use Rattle.fs_search.specs.Histories.{GoesOn}
 
@@ -78,24 +79,12 @@ all-allowed s q same table history finished is =
 
 -- ---- faults
 
--- what holds of the error handed on holds of the result
-pub handed : {T : Type 0} (r : Result T Fault) (fault : Fault) (P : Fault → Type 0) → IsErrAnd r (λ f. f ≡ fault) → P fault → IfErr r P
-handed (Ok x) fault P h p = tt
-handed (Err f) fault P h p = subst P (sym h) p
-
 -- what the error shows goes on to hold
 pub if-err : {T : Type 0} (r : Result T Fault) (P Q : Fault → Type 0) → IfErr r P → ((f : Fault) → P f → Q f) → IfErr r Q
 if-err (Ok x) P Q p go = tt
 if-err (Err f) P Q p go = go f p
 
--- so does a fault of the candidates of what is equal
-pub candidates-handed : {T : Type 0} (r : Result T Fault) (fault : Fault) (p q : Question) → p ≡ q → IsErrAnd r (λ f. f ≡ fault)
-    → (fault ≢ Memory → IsCandidateFault p.test fault) → IfErr r (λ f. f ≢ Memory → IsCandidateFault q.test f)
-candidates-handed r fault p q same is why =
-    handed r fault (λ f. f ≢ Memory → IsCandidateFault q.test f) is
-    (λ other. subst (λ (x : Question). IsCandidateFault x.test fault) same (why other))
-
--- it is one of a search
+-- a fault of the candidates is one of a search
 pub search-handed : {T : Type 0} (r : Result T Fault) (fault : Fault) (s : Search) (q : Question) → s.question ≡ q → IsErrAnd r (λ f. f ≡ fault)
     → (fault ≢ Memory → IsCandidateFault q.test fault) → IfErr r (λ f. f ≢ Memory → IsSearchFault s f)
 search-handed r fault s q same is why =

@@ -2,4 +2,3 @@ pub mod Ends
 pub mod Goes
 pub mod Problems
 pub mod Replied
-pub mod Scouts

@@ -13,7 +13,7 @@ use Rattle.fs_evidence.specs.Evidence.{witness_in}
 use Rattle.fs_board.specs.declared.event.Event.{Event as CodeEvent}
 use Rattle.fs_board.specs.declared.event.Event.TheVariants as event
 use Rattle.fs_board.specs.View.{Search, Answers, event_of}
-use Rattle.fs_search.specs.Tries.{is_try, IsLast}
+use Rattle.fs_scout.specs.Tries.{is_try, IsLast}
 use Rattle.fs_search.specs.inner.Steps.{Stays, IsTried, is_end, is_given}
 use Rattle.fs_search.proofs.Goes.{goes-on, done-now, done-more, IsHandedOut, handed-open, handed-held}
 

@@ -1,4 +1,3 @@
 pub mod Answers
 pub mod Histories
-pub mod Tries
 pub mod inner

@@ -10,10 +10,10 @@ ghost use Rattle.fs_search.specs.Answers.{IsSearchFault};
 ghost use Rattle.fs_search.specs.Histories.{GoesOn};
 ghost use Rattle.fs_search.specs.inner.Steps.{IsTried, MovesOn, IsTaken, is_end};
 
-use crate::next_node::{Child, Taken, WORKER, push_children};
-use crate::scout::{Scout, Way};
+use crate::next_node::WORKER;
 use fs_board::{Board, Reply};
 use fs_kinds::Fault;
+use fs_scout::{Child, Scout, Taken, Way, push_children};
 use std::alloc::Global;
 
 /// Was the node closed or split?

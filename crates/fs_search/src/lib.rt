@@ -4,17 +4,12 @@
 
 mod answer;
 mod closing;
-mod floor_and_filled;
 mod next_node;
-mod scout;
 mod solving;
 mod sweep;
-mod watch;
 
 pub use answer::{Answer, Solved};
 pub use fs_judge::Problem;
-pub use next_node::{Child, Taken, push_children};
-pub use scout::{Scout, TRIES, Way};
+pub use fs_scout::{Child, Scout, TRIES, Taken, Unwatched, Watch, Way, push_children};
 pub use solving::{conclude, solve};
 pub use sweep::search;
-pub use watch::{Unwatched, Watch};

@@ -17,12 +17,12 @@ ghost use Rattle.fs_search.specs.Histories.{GoesOn};
 
 use crate::answer::{Answer, Solved};
 use crate::sweep::search;
-use crate::watch::Watch;
 use fs_board::Board;
 use fs_evidence::{Forbidden, Question};
 use fs_judge::{Problem, Verdict};
 use fs_kinds::{Fault, Kind, Placement, Prices};
 use fs_model::slots;
+use fs_scout::Watch;
 use std::alloc::Global;
 use std::sync::Arc;
 

@@ -8,13 +8,12 @@ ghost use Rattle.fs_search.specs.Histories.{GoesOn};
 ghost use Rattle.fs_search.specs.inner.Steps.{MovesOn, IsTaken};
 
 use crate::closing::{close_or_split, try_way};
-use crate::next_node::{Child, Taken, next_node};
-use crate::scout::{Scout, TRIES};
-use crate::watch::Watch;
+use crate::next_node::next_node;
 use fs_board::Board;
 use fs_judge::Problem;
 use fs_kinds::Fault;
 use fs_parts::cost;
+use fs_scout::{Child, Scout, TRIES, Taken, Watch};
 use std::alloc::Global;
 use std::sync::Arc;
 

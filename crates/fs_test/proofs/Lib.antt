@@ -1,5 +1,4 @@
-pub mod Families
-pub mod Filtered
+pub mod Forbidden
 pub mod TestFaults
 pub mod Texts
 pub mod Whole

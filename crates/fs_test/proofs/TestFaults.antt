@@ -6,7 +6,8 @@ use Rattle.fs_model.specs.declared.test.Test.{Test}
 use Rattle.fs_litmus.specs.Reads.{Reads}
 use Rattle.fs_litmus.specs.Faults.{IsTestFault}
 use Rattle.fs_place.proofs.Faults.{is_memory}
-use Rattle.fs_test.specs.Verdicts.{IsFaultOf, IsFirstTestFault, of_test, of_runs, of_candidates, of_memory}
+use Rattle.fs_said.specs.Verdicts.{IsFaultOf}
+use Rattle.fs_test.specs.Verdicts.{IsFirstTestFault, of_test, of_runs, of_candidates, of_memory}
 
 module _ (test : List ℕ) where
   pub test-memory : (f : Fault) → f ≡ Memory → IsFirstTestFault test f

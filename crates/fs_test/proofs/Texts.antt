@@ -8,7 +8,7 @@ use Rattle.fs_model.specs.declared.test.Test.{Test}
 use Rattle.fs_model.specs.Shows.{final_register}
 use Rattle.fs_alone.specs.Alone.{RunOf}
 use Rattle.fs_answer.specs.Musts.{traces_of}
-use Rattle.fs_refute.specs.Runs.{AreOfHart}
+use Rattle.fs_split.specs.Runs.{AreOfHart}
 use Rattle.fs_test.specs.inner.Parts.{ends_with}
 
 pub map_or : {X Y : Type 0} (f : X → Y) (first second : Option X)

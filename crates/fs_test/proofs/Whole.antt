@@ -4,7 +4,7 @@ use Rattle.serde_json.specs.Written.{has_float, members_have_float}
 use Rattle.fs_answer.specs.Texts.{members_of}
 use Rattle.fs_evidence.specs.Evidence.{Shown}
 use Rattle.fs_report.proofs.Depths.{no_float}
-use Rattle.fs_test.specs.declared.said.Line.{Line}
+use Rattle.fs_said.specs.declared.said.Line.{Line}
 use Rattle.fs_test.specs.Report.{line_value, witness_members}
 
 members_whole : (found : Option Shown) → members_have_float (members_of (witness_members found)) ≡ false

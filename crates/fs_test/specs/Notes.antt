@@ -3,7 +3,7 @@ use Rattle.std.specs.Prelude.{◌≡◌, ℕ, List, ◌++◌, codes}
 use Rattle.fs_model.specs.declared.test.Test.{Test}
 use Rattle.fs_model.specs.Printed.{ended}
 use Rattle.fs_litmus.specs.Reads.{Reads}
-use Rattle.fs_test.specs.Verdicts.{IsVacuous, SaysVacuous}
+use Rattle.fs_said.specs.Verdicts.{IsVacuous, SaysVacuous}
 
 -- that it is vacuous, and why
 abbrev pub note_line : List ℕ → List ℕ

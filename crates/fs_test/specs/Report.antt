@@ -1,18 +1,17 @@
--- What `test` prints of its files, and the exit status.
-use Rattle.std.specs.Prelude.{ℕ, ◌-◌, ◌==◌, max, Bool, Option, None, Some, List, [], ◌∷◌, ◌++◌, length, count_by, fold, codes, string_bytes, if◌then◌else◌}
+-- What `test` prints of its files.
+use Rattle.std.specs.Prelude.{ℕ, ◌-◌, ◌==◌, max, Option, None, Some, List, [], ◌∷◌, ◌++◌, length, count_by, fold, codes, string_bytes, if◌then◌else◌}
 use Rattle.std.specs.Fmt.{decimal}
-use Rattle.std.specs.List.{flat_map, list_any, repeat}
+use Rattle.std.specs.List.{flat_map, repeat}
 use Rattle.serde_json.specs.Data.{Data, object, string}
 use Rattle.serde_json.specs.Written.{compact_text}
 use Rattle.fs_model.specs.Printed.{ended, joined}
 use Rattle.fs_answer.specs.Texts.{members_of, witness_value}
 use Rattle.fs_evidence.specs.Evidence.{Shown}
-use Rattle.fs_io.specs.declared.status.Status.{Status}
-use Rattle.fs_io.specs.declared.status.Status.TheVariants as status
-use Rattle.fs_test.specs.declared.said.Kind.{Kind}
-use Rattle.fs_test.specs.declared.said.Kind.TheVariants as kind
-use Rattle.fs_test.specs.declared.said.Line.{Line}
-use Rattle.fs_test.specs.Words.{counted}
+use Rattle.fs_said.specs.declared.said.Kind.{Kind}
+use Rattle.fs_said.specs.declared.said.Kind.TheVariants as kind
+use Rattle.fs_said.specs.declared.said.Line.{Line}
+use Rattle.fs_said.specs.Status.{is_kind}
+use Rattle.fs_said.specs.Words.{counted}
 
 -- ---- lines
 
@@ -41,13 +40,6 @@ line_text most line =
     ended (padded most (string_bytes line.name) ++ codes "  " ++ label line.said.kind ++ string_bytes line.said.why)
 
 -- ---- the last line
-
-abbrev pub is_kind : Kind → Kind → Bool
-is_kind kind.Forbidden kind.Forbidden = Bool.true
-is_kind kind.Allowed kind.Allowed = Bool.true
-is_kind kind.Vacuous kind.Vacuous = Bool.true
-is_kind kind.Faulty kind.Faulty = Bool.true
-is_kind _ _ = Bool.false
 
 abbrev pub count_of : Kind → List Line → ℕ
 count_of k = count_by (λ line. is_kind k line.said.kind)
@@ -93,14 +85,3 @@ json_line line = ended (compact_text (line_value line))
 
 abbrev pub json_text : List Line → List ℕ
 json_text = flat_map json_line
-
--- ---- the status
-
-abbrev pub has : Kind → List Line → Bool
-has k = list_any (λ line. is_kind k line.said.kind)
-
--- 1 where an outcome is possible; else 2 where a file has a fault; else 4 where an outcome is vacuous; else 0
-abbrev pub report_status : List Line → Status
-report_status lines =
-    if has kind.Allowed lines then status.Denied else if has kind.Faulty lines then status.Failure
-    else if has kind.Vacuous lines then status.Vacuous else status.Success

@@ -1,24 +1,20 @@
 //! What is said of a test that was read.
 
-ghost use Rattle.std.specs.Prelude.{◌≡◌, ◌≢◌, All, codes, IfOk, IfErr, IsOkUnless, string_bytes};
+ghost use Rattle.std.specs.Prelude.{◌≡◌, ◌≢◌, All, IfOk, IfErr, IsOkUnless, string_bytes};
 ghost use Rattle.std.specs.Arc.{arc_value};
 ghost use Rattle.fs_kinds.specs.declared.fault.Fault.TheVariants.{Memory};
-ghost use Rattle.fs_model.specs.declared.test.Test.{Test as Tests};
 ghost use Rattle.fs_model.specs.Allows.{no_fences};
 ghost use Rattle.fs_model.specs.Test.{IsBounded, IsStart, IsTest};
 ghost use Rattle.fs_answer.specs.CandidateFaults.{IsCandidateFault};
 ghost use Rattle.fs_judge.specs.Verdicts.{IsVerdict};
-ghost use Rattle.fs_test.specs.Verdicts.{Says, IsFaultOf, IsTestedAs, IsVacuous, witness_in};
-ghost use Rattle.fs_test.specs.Words.{counted};
+ghost use Rattle.fs_said.specs.Verdicts.{Says, IsFaultOf, IsTestedAs, IsVacuous, witness_in};
 
-use crate::ordered::{order_words, overtaking};
-use crate::said::{Kind, Said};
 use crate::vacuous::vacuous;
-use crate::words::counted;
-use fs_evidence::{Cycles, Inference, Question};
+use fs_evidence::Question;
 use fs_judge::{Judge, Problem, Verdict};
 use fs_kinds::{Fault, Placement, Prices, read_prices};
 use fs_model::{Test, slots};
+use fs_said::{Said, said_of};
 use std::alloc::{AllocError, Global};
 use std::sync::Arc;
 
@@ -45,7 +41,7 @@ pub(crate) fn shared(alloc: Global, test: Test) -> Result<Arc<Test>, AllocError>
 /// What is said of a test as it is written, with no fence placed: whether it can show its outcome, and why.
 ///
 /// The first fault in this order: `TooManyTraces` and `Astray`; `TooManyCandidates`, which doesn't come where the test is vacuous. `Memory`
-/// may come in place of any answer. The cost is that of `Basis::new` and for each hart `Basis::reason_against` of fs_refute, and of
+/// may come in place of any answer. The cost is that of `Basis::new` and for each hart `reason_against` of fs_refute, and of
 /// `Problem::new` and `Judge::verdict` of fs_judge.
 pub fn judge_test(alloc: Global, test: &Arc<Test>) -> Result<Said, Fault>
     requires bounded { IsBounded (arc_value test.now) }
@@ -114,39 +110,4 @@ fn verdict(alloc: Global, test: &Arc<Test>) -> Result<Verdict, Fault>
     let problem = Problem::shared(alloc, question(alloc, test)?)?;
     let mut judge = Judge::new(alloc, problem);
     judge.verdict(alloc, &placement, &[])
-}
-
-// The verdict in words.
-fn said_of(alloc: Global, verdict: Verdict) -> Result<Said, Fault>
-    ensures ok { (t : Tests) → IsVerdict t (no_fences t) verdict → (IsVacuous t → ⊥)
-        → IfOk result (λ said. Says t said.kind (string_bytes said.why) (witness_in said.witness)) }
-    ensures err { IsOkUnless result Memory }
-{
-    match verdict {
-        Verdict::Forbids(forbidden) => Ok(Said {
-            kind: Kind::Forbidden,
-            why: counted(alloc, count_cycles(&forbidden.cycles), "cycle")?,
-            witness: None,
-        }),
-        Verdict::Allowed(witness) => Ok(Said {
-            kind: Kind::Allowed,
-            why: order_words(alloc, overtaking(witness.order.as_slice()))?,
-            witness: Some(witness),
-        }),
-    }
-}
-
-// How many cycles there are.
-fn count_cycles(cycles: &Cycles) -> usize {
-    match cycles {
-        Cycles::Listed(listed) => listed.len(),
-        Cycles::Inferred(inferences) => inferences
-            .iter()
-            .filter(|inference| is_cycle(inference))
-            .count(),
-    }
-}
-
-fn is_cycle(inference: &Inference) -> bool {
-    matches!(inference, Inference::Cycle(_))
 }

@@ -6,16 +6,14 @@ mod judged;
 mod never;
 mod note;
 mod objects;
-mod ordered;
 mod report;
-mod said;
 mod tested;
 mod vacuous;
 mod words;
 
+pub use fs_said::{Kind, Line, Said};
 pub use judged::judge_test;
 pub use note::vacuous_note;
 pub use objects::test_objects;
 pub use report::{kind_text, padded, test_report};
-pub use said::{Kind, Line, Said};
 pub use tested::test_file;

@@ -10,9 +10,9 @@ ghost use Rattle.fs_model.specs.declared.step.Step.{Step as Steps};
 ghost use Rattle.fs_model.specs.Printed.{name_of, value_text};
 ghost use Rattle.fs_model.specs.Shows.{is_outcome};
 ghost use Rattle.fs_answer.specs.Trees.{AreItsRuns};
-ghost use Rattle.fs_refute.specs.Runs.{runs_over, AreOfEach};
+ghost use Rattle.fs_split.specs.Runs.{runs_over, AreOfEach};
 ghost use Rattle.fs_test.specs.inner.Parts.{ends_with};
-ghost use Rattle.fs_test.specs.Words.{stores_word, ends_as, is_stored, can_have, first_never, never_in_outcome, never_words};
+ghost use Rattle.fs_said.specs.Words.{stores_word, ends_as, is_stored, can_have, first_never, never_in_outcome, never_words};
 
 use crate::words::value_text;
 use fs_alone::Lone;

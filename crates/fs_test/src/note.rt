@@ -6,18 +6,19 @@ ghost use Rattle.fs_kinds.specs.declared.fault.Fault.TheVariants.{Memory};
 ghost use Rattle.fs_model.specs.Test.{IsTest};
 ghost use Rattle.fs_model.specs.TooMany.{IsRunFault};
 ghost use Rattle.fs_test.specs.Notes.{IsNoted, IsSerious, Notes, note_line};
-ghost use Rattle.fs_test.specs.Verdicts.{IsFirstTestFault, IsVacuous};
+ghost use Rattle.fs_said.specs.Verdicts.{IsVacuous};
+ghost use Rattle.fs_test.specs.Verdicts.{IsFirstTestFault};
 
 use crate::judged::shared;
-use crate::said::Said;
 use crate::vacuous::vacuous;
 use fs_kinds::Fault;
 use fs_litmus::read_test;
 use fs_model::Test;
+use fs_said::Said;
 use std::alloc::{AllocError, Global};
 
 /// A line that says of a test file that its test is vacuous, and why, as `test` does. None where it isn't. The cost is that of `read_test`,
-/// and of `Basis::new` and for each hart `Basis::reason_against` of fs_refute.
+/// and of `Basis::new` and for each hart `reason_against` of fs_refute.
 ///
 /// The first fault in this order: those of a test file by number and then line; `TooManyTraces` and `Astray`. `Memory` may come in place of
 /// any answer.

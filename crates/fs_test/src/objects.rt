@@ -4,14 +4,15 @@ ghost use Rattle.std.specs.Prelude.{◌≡◌, ◌++◌, IfOk, OnOk, IsOkUnless,
 ghost use Rattle.serde_json.specs.View.{view};
 ghost use Rattle.serde_json.specs.Written.{compact_text};
 ghost use Rattle.fs_kinds.specs.declared.fault.Fault.TheVariants.{Memory};
-ghost use Rattle.fs_test.specs.Report.{kind_text, line_value, json_line, json_text, report_status};
+ghost use Rattle.fs_said.specs.Status.{report_status};
+ghost use Rattle.fs_test.specs.Report.{kind_text, line_value, json_line, json_text};
 ghost use Rattle.fs_test.specs.inner.Objects.{plain_object, witness_object};
 
-use crate::report::{kind_text, status_of};
-use crate::said::{Kind, Line};
+use crate::report::kind_text;
 use fs_io::Output;
 use fs_kinds::Fault;
 use fs_report::witness_value;
+use fs_said::{Kind, Line, status_of};
 use serde_json::{Value, json};
 use std::alloc::{AllocError, Global};
 

@@ -4,12 +4,12 @@ ghost use Rattle.std.specs.Prelude.{◌≡◌, ◌++◌, [], codes, length, max,
 ghost use Rattle.std.specs.List.{flat_map};
 ghost use Rattle.fs_kinds.specs.declared.fault.Fault.TheVariants.{Memory};
 ghost use Rattle.fs_model.specs.Printed.{joined};
-ghost use Rattle.fs_test.specs.Report.{width, padded, kind_text, label, line_text, is_kind, count_of, count_text, count_piece, pieces, summary, report_text, has, report_status};
+ghost use Rattle.fs_said.specs.Status.{report_status};
+ghost use Rattle.fs_test.specs.Report.{width, padded, kind_text, label, line_text, count_of, count_text, count_piece, pieces, summary, report_text};
 
-use crate::said::{Kind, Line};
-use crate::words::counted;
-use fs_io::{Output, Status};
+use fs_io::Output;
 use fs_kinds::Fault;
+use fs_said::{Kind, Line, counted, is_kind, status_of};
 use std::alloc::{AllocError, Global};
 
 /// The lines of the files, a last line that counts them, and the status: 1 where an outcome is possible; else 2 where a file has a fault;
@@ -96,17 +96,6 @@ pub fn padded(alloc: Global, width: usize, text: &str) -> Result<String, AllocEr
     Ok(padding)
 }
 
-fn is_kind(kind: Kind, other: Kind) -> bool
-    ensures { result ≡ is_kind kind other }
-{
-    match kind {
-        Kind::Forbidden => matches!(other, Kind::Forbidden),
-        Kind::Allowed => matches!(other, Kind::Allowed),
-        Kind::Vacuous => matches!(other, Kind::Vacuous),
-        Kind::Faulty => matches!(other, Kind::Faulty),
-    }
-}
-
 // How many of the lines are of the kind.
 fn count_of(kind: Kind, lines: &[Line]) -> usize
     ensures { result ≡ count_of kind lines.now }
@@ -173,25 +162,4 @@ fn summary(alloc: Global, lines: &[Line]) -> Result<String, AllocError>
     let tests = counted(alloc, lines.len(), "test")?;
     let pieces = joined_pieces(alloc, lines)?;
     format!(in alloc; "{}: {}\n", tests.as_str(), pieces.as_str())
-}
-
-// Is some line of the kind?
-fn has(kind: Kind, lines: &[Line]) -> bool
-    ensures { result ≡ has kind lines.now }
-{
-    lines.iter().any(|line| is_kind(kind, line.said.kind))
-}
-
-pub(crate) fn status_of(lines: &[Line]) -> Status
-    ensures { result ≡ report_status lines.now }
-{
-    if has(Kind::Allowed, lines) {
-        Status::Denied
-    } else if has(Kind::Faulty, lines) {
-        Status::Failure
-    } else if has(Kind::Vacuous, lines) {
-        Status::Vacuous
-    } else {
-        Status::Success
-    }
 }

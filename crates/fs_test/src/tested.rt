@@ -1,22 +1,24 @@
 //! From a file to what is said of it.
 
 ghost use Rattle.std.specs.Prelude.{◌≡◌, IfOk, IfErr, IsOkUnless, string_bytes};
+ghost use Rattle.fs_kinds.specs.FaultLine.{fault_line};
 ghost use Rattle.fs_kinds.specs.declared.fault.Fault.TheVariants.{Memory};
 ghost use Rattle.fs_model.specs.Test.{IsTest};
-ghost use Rattle.fs_test.specs.Verdicts.{IsTested, IsFirstTestFault, SaysOfBytes, SaysOfFile, witness_in};
+ghost use Rattle.fs_said.specs.Verdicts.{witness_in};
+ghost use Rattle.fs_test.specs.Verdicts.{IsTested, IsFirstTestFault, NamesFault, SaysOfBytes, SaysOfFile};
 
 use crate::judged::judge;
-use crate::said::{Line, Said, faulty};
 use fs_kinds::Fault;
 use fs_litmus::read_test;
-use std::alloc::Global;
+use fs_said::{Kind, Line, Said};
+use std::alloc::{AllocError, Global};
 
 /// What is said of the file of this name: whether its test, as it is written and with no fence placed, can show its outcome, and why; or
 /// the first fault. The file is its bytes as they were read, or the fault of reading it.
 ///
 /// The first fault of a file in this order: those of a test file by number and then line; `TooManyTraces` and `Astray`;
 /// `TooManyCandidates`, which doesn't come where the test is vacuous. The error is `Memory`. The cost is that of `read_test`, of
-/// `Basis::new` and for each hart `Basis::reason_against` of fs_refute, and of `Problem::new` and `Judge::verdict` of fs_judge.
+/// `Basis::new` and for each hart `reason_against` of fs_refute, and of `Problem::new` and `Judge::verdict` of fs_judge.
 pub fn test_file(alloc: Global, name: &str, file: Result<Vec<u8>, Fault>) -> Result<Line, Fault>
     ensures name { IfOk result (λ line. string_bytes line.name ≡ name.now) }
     ensures said { IfOk result (λ line. SaysOfFile file line.said.kind (string_bytes line.said.why) (witness_in line.said.witness)) }
@@ -56,4 +58,26 @@ fn judge_bytes(alloc: Global, bytes: &[u8]) -> Result<Said, Fault>
 {
     let test = read_test(alloc, bytes)?;
     judge(alloc, test)
+}
+
+// That it has this fault. Where that is want of memory, so is the error.
+fn faulty(alloc: Global, fault: Fault) -> Result<Said, Fault>
+    ensures ok { IfOk result (λ said. NamesFault fault said.kind (string_bytes said.why) (witness_in said.witness)) }
+    ensures err { IsOkUnless result Memory }
+{
+    match fault {
+        Fault::Memory => Err(Fault::Memory),
+        _ => Ok(Said {
+            kind: Kind::Faulty,
+            why: fault_text(alloc, fault)?,
+            witness: None,
+        }),
+    }
+}
+
+// The line of the fault, without its end.
+fn fault_text(alloc: Global, fault: Fault) -> Result<String, AllocError>
+    ensures { IfOk result (λ text. string_bytes text ≡ fault_line fault) }
+{
+    format!(in alloc; "{}", fault)
 }

@@ -14,8 +14,8 @@ use Rattle.fs_answer.specs.Refusals.{Fails}
 use Rattle.fs_evidence.specs.declared.evidence.Pairs.{Pairs}
 use Rattle.fs_certificate.specs.declared.certificate.Version.{Version as CodeVersion}
 use Rattle.fs_certificate.specs.Kept.{version_of}
-use Rattle.fs_checker.specs.inner.Breaks.{all_breaks}
-use Rattle.fs_checker.specs.inner.Leaves.{slots_in_part, AreShown}
+use Rattle.fs_claims.specs.Breaks.{all_breaks}
+use Rattle.fs_claims.specs.Leaves.{slots_in_part, AreShown}
 
 -- each part has the slots of the test
 abbrev pub AreOfTest : Test → List Part → Type 0

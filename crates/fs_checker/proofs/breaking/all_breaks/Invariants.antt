@@ -1,5 +1,5 @@
 use Rattle.std.proofs.Common.{◌≡◌, take}
-use Rattle.fs_checker.specs.inner.Breaks.{all_breaks}
+use Rattle.fs_claims.specs.Breaks.{all_breaks}
 use Rattle.fs_checker.proofs.breaking.all_breaks.Given as goal
 
 abbrev pub invariant-loop-kept : goal.invariant-loop-kept

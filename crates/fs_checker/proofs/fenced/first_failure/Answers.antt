@@ -2,7 +2,7 @@ use Rattle.std.proofs.Common.{◌∷◌, [], IfOk, sym, ◌∙◌, subst}
 use Rattle.std.proofs.lemmas.Result.{IfOk-weaker}
 use Rattle.fs_model.specs.declared.test.Test.{Test}
 use Rattle.fs_answer.specs.Parts.{undecided}
-use Rattle.fs_checker.specs.inner.Held.{test_in}
+use Rattle.fs_claims.specs.Held.{test_in}
 use Rattle.fs_checker.specs.inner.Walks.{IsWalked}
 use Rattle.fs_checker.proofs.Judged.{cycles_against, tree_against}
 use Rattle.fs_checker.proofs.fenced.first_failure.Goals as goal

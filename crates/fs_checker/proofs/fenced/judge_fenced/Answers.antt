@@ -1,6 +1,6 @@
 use Rattle.std.proofs.Common.{map, string_bytes}
 use Rattle.fs_answer.specs.Certificate.{Fenced}
-use Rattle.fs_checker.specs.inner.Held.{test_in}
+use Rattle.fs_claims.specs.Held.{test_in}
 use Rattle.fs_checker.proofs.Judged.{bad_answer, good_answer}
 use Rattle.fs_checker.proofs.fenced.judge_fenced.Goals as goal
 

@@ -2,7 +2,7 @@ use Rattle.std.proofs.Common.{List, ◌∙◌, sym, subst}
 use Rattle.std.specs.List.{AllZip}
 use Rattle.fs_answer.specs.declared.witness.WitnessFile.{WitnessFile}
 use Rattle.fs_answer.specs.WitnessFile.{KeepsWitness}
-use Rattle.fs_checker.specs.inner.Leaves.{AreShown}
+use Rattle.fs_claims.specs.Leaves.{AreShown}
 use Rattle.fs_checker.proofs.Judged.{decides_all}
 use Rattle.fs_checker.proofs.unforbidden.refutes_all.Goals as goal
 

@@ -1,6 +1,6 @@
 use Rattle.std.proofs.Common.{◌+◌, ◌<◌, ◌≤◌, length, take, sym, subst, arith}
 use Rattle.fs_answer.specs.WitnessFile.{KeepsWitness}
-use Rattle.fs_checker.specs.inner.Leaves.{AreShown}
+use Rattle.fs_claims.specs.Leaves.{AreShown}
 use Rattle.fs_checker.proofs.Keeping.{one_more, all_kept}
 use Rattle.fs_checker.proofs.witness.shown_widths.Goals as goal
 

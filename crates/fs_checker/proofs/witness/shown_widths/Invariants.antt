@@ -2,7 +2,7 @@ use Rattle.std.proofs.Common.{List, take}
 use Rattle.std.specs.List.{AllZip}
 use Rattle.fs_model.specs.Witness.{Witness}
 use Rattle.fs_answer.specs.WitnessFile.{KeepsWitness}
-use Rattle.fs_checker.specs.inner.Leaves.{AreShown}
+use Rattle.fs_claims.specs.Leaves.{AreShown}
 use Rattle.fs_checker.proofs.witness.shown_widths.Given as goal
 
 abbrev pub invariant-loop-file : goal.invariant-loop-file

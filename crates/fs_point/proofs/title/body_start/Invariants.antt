@@ -9,6 +9,7 @@ invariant-loop-rest l = record {
   doc : List ℕ;
   below : after_line l.bytes ≡ Some doc;
   found : (text : List ℕ) (n : ℕ) → IsBody (drop l.at l.bytes) l.line text n → IsBody doc 2 text n;
+  kept : (text : List ℕ) (n : ℕ) → IsBody doc 2 text n → IsBody (drop l.at l.bytes) l.line text n;
 }
 
 abbrev pub decreases-loop-rest : goal.decreases-loop-rest

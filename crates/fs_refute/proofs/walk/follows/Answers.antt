@@ -2,7 +2,7 @@ use Rattle.std.proofs.Common.{◌∙◌, ap, sym}
 use Rattle.fs_answer.specs.Trees.{follows}
 use Rattle.fs_evidence.specs.declared.inference.Inference.{Inference}
 use Rattle.fs_evidence.specs.Inferences.{inference_of}
-use Rattle.fs_refute.specs.Views.{region_of}
+use Rattle.fs_split.specs.Views.{region_of}
 use Rattle.fs_refute.proofs.walk.follows.Goals as goal
 
 pub returns-in-ByOrder : goal.returns-in-ByOrder

@@ -2,7 +2,7 @@ use Rattle.std.proofs.Common.{◌≡◌, ◌∙◌, ◌+◌, Bool, get_or, ap, s
 use Rattle.std.specs.Borrow.{Bor}
 use Rattle.fs_answer.specs.Certificate.{Link}
 use Rattle.fs_answer.specs.Musts.{must}
-use Rattle.fs_refute.specs.Views.{region_of}
+use Rattle.fs_split.specs.Views.{region_of}
 use Rattle.fs_refute.proofs.Chains.{behind_option, chain_stop, chain_go, chain_end}
 use Rattle.fs_refute.proofs.walk.is_chain.Goals as goal
 

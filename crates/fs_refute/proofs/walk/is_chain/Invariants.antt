@@ -1,7 +1,7 @@
 use Rattle.std.proofs.Common.{◌≡◌, ◌++◌, ◌∷◌, [], true, take, drop}
 use Rattle.std.specs.List.{list_all, zip}
 use Rattle.fs_answer.specs.Musts.{must}
-use Rattle.fs_refute.specs.Views.{region_of}
+use Rattle.fs_split.specs.Views.{region_of}
 use Rattle.fs_refute.proofs.walk.is_chain.Given as goal
 
 abbrev pub invariant-loop-number : goal.invariant-loop-number

@@ -1,7 +1,7 @@
 use Rattle.std.proofs.Common.{◌∙◌, Some, subst, sym}
 use Rattle.std.proofs.lemmas.List.Elements.{All-pop, All-push}
-use Rattle.fs_refute.specs.Views.{AreOf, IsOf}
-use Rattle.fs_refute.proofs.Roots.{moved}
+use Rattle.fs_split.specs.Views.{AreOf, IsOf}
+use Rattle.fs_refute.proofs.Stacks.{moved}
 use Rattle.fs_refute.proofs.walk.push_all.Goals as goal
 
 pub loop-region-preserved : goal.loop-region-preserved

@@ -1,8 +1,8 @@
 use Rattle.std.proofs.Common.{◌≡◌, ◌++◌}
 use Rattle.std.proofs.Common.{vec_len}
 use Rattle.fs_model.specs.declared.test.Test.{Test}
-use Rattle.fs_refute.specs.Views.{regions_of, AreOf}
-use Rattle.fs_refute.specs.Views.{stacked}
+use Rattle.fs_split.specs.Views.{regions_of, AreOf}
+use Rattle.fs_refute.specs.inner.Stacks.{stacked}
 use Rattle.fs_refute.proofs.walk.push_all.Given as goal
 
 abbrev pub invariant-loop-region : goal.invariant-loop-region

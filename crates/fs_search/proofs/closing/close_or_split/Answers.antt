@@ -1,7 +1,7 @@
 use Rattle.std.proofs.Common.{◌∙◌, inl, refl, sym, subst}
 use Rattle.fs_evidence.specs.Evidence.{Question}
 use Rattle.fs_board.specs.View.{event_of, reply_of}
-use Rattle.fs_search.specs.Tries.{IsLast}
+use Rattle.fs_scout.specs.Tries.{IsLast}
 use Rattle.fs_search.specs.inner.Steps.{IsTried}
 use Rattle.fs_search.proofs.Ends.{search-handed}
 use Rattle.fs_search.proofs.Replied.{tried, last-large}

@@ -1,7 +1,7 @@
 use Rattle.std.proofs.Common.{sym, subst}
 use Rattle.std.specs.Prelude.{IfSome}
 use Rattle.fs_board.specs.View.{event_of, reply_of}
-use Rattle.fs_search.specs.Tries.{IsTry}
+use Rattle.fs_scout.specs.Tries.{IsTry}
 use Rattle.fs_search.specs.inner.Steps.{IsTried}
 use Rattle.fs_search.proofs.Goes.{goes-on}
 use Rattle.fs_search.proofs.Replied.{tried}

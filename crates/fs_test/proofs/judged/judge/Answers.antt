@@ -1,7 +1,7 @@
 use Rattle.std.proofs.Common.{◌≢◌, IfOk, IfErr, string_bytes, subst}
 use Rattle.fs_kinds.specs.declared.fault.Fault.TheVariants.{Memory}
 use Rattle.fs_model.specs.declared.test.Test.{Test}
-use Rattle.fs_test.specs.Verdicts.{IsTestedAs, IsFaultOf, witness_in}
+use Rattle.fs_said.specs.Verdicts.{IsTestedAs, IsFaultOf, witness_in}
 use Rattle.fs_test.proofs.judged.judge.Goals as goal
 
 pub returns-clause-ok : goal.returns-clause-ok

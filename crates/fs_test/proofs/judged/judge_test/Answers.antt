@@ -3,8 +3,8 @@ use Rattle.std.specs.Prelude.{IfNone}
 use Rattle.std.specs.Arc.{arc_value}
 use Rattle.std.proofs.lemmas.Result.{IfOk-weaker, IfErr-weaker}
 use Rattle.fs_place.proofs.Faults.{IfErr-handed}
-use Rattle.fs_test.specs.declared.said.Said.{Said}
-use Rattle.fs_test.specs.Verdicts.{IsTestedAs, IsVacuous, witness_in}
+use Rattle.fs_said.specs.declared.said.Said.{Said}
+use Rattle.fs_said.specs.Verdicts.{IsTestedAs, IsVacuous, witness_in}
 use Rattle.fs_test.proofs.judged.judge_test.Goals as goal
 
 pub returns-in_err-said-clause-err : goal.returns-in_err-said-clause-err

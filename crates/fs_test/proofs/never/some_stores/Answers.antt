@@ -3,8 +3,8 @@ use Rattle.std.proofs.lemmas.Iterator.{YieldsList-from_slice}
 use Rattle.std.proofs.lemmas.Iterator.Search.{any_from_yields_List}
 use Rattle.std.specs.List.{list_any}
 use Rattle.fs_alone.specs.Alone.{RunOf}
-use Rattle.fs_refute.proofs.Lists.{any_seen}
-use Rattle.fs_test.specs.Words.{stores_word}
+use Rattle.fs_split.proofs.Lists.{any_seen}
+use Rattle.fs_said.specs.Words.{stores_word}
 use Rattle.fs_test.proofs.never.some_stores.Goals as goal
 
 pub returns : goal.returns

@@ -1,8 +1,8 @@
 use Rattle.std.proofs.Common.{Option, IfSome, string_bytes, subst}
 use Rattle.std.specs.Arc.{arc_value}
 use Rattle.fs_model.specs.declared.test.Test.{Test}
-use Rattle.fs_test.specs.declared.said.Said.{Said}
-use Rattle.fs_test.specs.Verdicts.{SaysVacuous}
+use Rattle.fs_said.specs.declared.said.Said.{Said}
+use Rattle.fs_said.specs.Verdicts.{SaysVacuous}
 use Rattle.fs_test.proofs.note.note_of.Goals as goal
 
 pub returns-in-Some-clause-some : goal.returns-in-Some-clause-some

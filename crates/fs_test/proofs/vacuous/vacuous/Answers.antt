@@ -3,9 +3,9 @@ use Rattle.std.specs.Arc.{arc_value}
 use Rattle.fs_model.specs.declared.test.Test.{Test}
 use Rattle.fs_model.specs.declared.step.Step.{Step}
 use Rattle.fs_answer.specs.Trees.{AreItsRuns}
-use Rattle.fs_test.specs.Verdicts.{IsVacuous}
-use Rattle.fs_test.specs.Words.{never_in_outcome, never_words}
-use Rattle.fs_test.proofs.Filtered.{vacuous_forbids}
+use Rattle.fs_said.specs.Verdicts.{IsVacuous}
+use Rattle.fs_said.specs.Words.{never_in_outcome, never_words}
+use Rattle.fs_test.proofs.Forbidden.{vacuous_forbids}
 use Rattle.fs_test.proofs.vacuous.vacuous.Goals as goal
 
 pub returns-clause-some : goal.returns-clause-some

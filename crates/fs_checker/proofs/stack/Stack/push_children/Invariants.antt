@@ -2,7 +2,7 @@ use Rattle.std.proofs.Common.{◌≡◌, ◌++◌, map, drop}
 use Rattle.std.specs.Prelude.{filter}
 use Rattle.fs_kinds.specs.PriceTable.{is_offered}
 use Rattle.fs_answer.specs.Parts.{decide}
-use Rattle.fs_checker.specs.inner.Breaks.{all_options}
+use Rattle.fs_claims.specs.Breaks.{all_options}
 use Rattle.fs_checker.proofs.stack.Stack.push_children.Given as goal
 
 abbrev pub invariant-loop-way : goal.invariant-loop-way

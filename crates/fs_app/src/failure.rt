@@ -1,0 +1,34 @@
+//! Why a run ends without an answer.
+use fs_io::Status;
+use fs_kinds::Fault;
+use fs_log::LogError;
+use thiserror::Error;
+
+/// Why a run ends without an answer. It reads as the lines that standard error gets, their ends included.
+#[derive(Debug, Drop, Error)]
+pub(crate) enum Failure {
+    /// A word of the command line isn't text.
+    #[error("error: a word of the command line is not UTF-8\n")]
+    NotUtf8,
+    /// The words make no request.
+    #[error(transparent)]
+    NoRequest(#[from] clap::Error),
+    /// The request has no answer, or it can't be printed.
+    #[error("{0}\n")]
+    NoAnswer(#[from] Fault),
+    /// A log isn't of its form, or doesn't fit a test.
+    #[error("{0}\n")]
+    BadLog(LogError),
+    /// The request has no answer, and a message explains the fault.
+    #[error("{0}\n{1}")]
+    Told(Fault, String),
+}
+
+impl Failure {
+    pub(crate) fn status(&self) -> Status {
+        match self {
+            Failure::NotUtf8 | Failure::NoRequest(_) | Failure::BadLog(_) => Status::Failure,
+            Failure::NoAnswer(fault) | Failure::Told(fault, _) => Status::of_fault(*fault),
+        }
+    }
+}

@@ -1,0 +1,172 @@
+//! What `states` answers: the states of each file, or what a log has of them.
+use crate::failure::Failure;
+use crate::papers::Papers;
+use crate::program::{Voice, failure_of, report};
+use fs_command::States;
+use fs_io::{Output, Status};
+use fs_kinds::Fault;
+use fs_log::{Compared, Log, LogError, MOST_BYTES, compare, left_over, read_log};
+use fs_point::explain_test;
+use fs_shown::{Shown, run_states};
+use std::alloc::Global;
+use std::rt::Files;
+
+/// The states of each file, in their order. The fault of one is said on standard error, and the others go on.
+pub(crate) fn answer_states<R: Files + Input + Eprint + AllocGlobal>(
+    rt: &R,
+    states: &States<'_>,
+    voice: Voice,
+) -> Result<Output, Fault> {
+    let mut output = nothing(rt);
+    let asked = Shown {
+        all: states.all,
+        witnesses: states.witnesses,
+    };
+    for path in &states.files {
+        let mut papers = Papers::new(rt.alloc());
+        papers.fences = &states.fences;
+        match states_of_file(rt, path.as_str(), asked, &mut papers) {
+            Ok(block) => output.text.push_str(block.as_str())?,
+            Err(fault) => {
+                say_fault(rt, fault, voice, &papers)?;
+                output.status = Status::Failure;
+            }
+        }
+    }
+    Ok(output)
+}
+
+/// No text, and that all is well.
+fn nothing<R: AllocGlobal>(rt: &R) -> Output {
+    Output {
+        text: String::new(rt.alloc()),
+        status: Status::Success,
+    }
+}
+
+fn states_of_file<'a, R: Files + Input + AllocGlobal>(
+    rt: &R,
+    path: &'a str,
+    asked: Shown,
+    papers: &mut Papers<'a>,
+) -> Result<String, Fault> {
+    papers.read_test(rt, path)?;
+    run_states(rt.alloc(), &papers.test.bytes, papers.fences, asked)
+}
+
+/// Says the fault of a file on standard error, unless it ends the run.
+fn say_fault<R: Eprint + AllocGlobal>(
+    rt: &R,
+    fault: Fault,
+    voice: Voice,
+    papers: &Papers<'_>,
+) -> Result<(), Fault> {
+    if fault == Fault::Memory {
+        return Err(fault);
+    }
+    report(rt, &failure_of_file(rt.alloc(), fault, voice, papers));
+    Ok(())
+}
+
+/// The failure of a file. An item of `locations` is refused beside the reader of tests, so of it there is no message.
+fn failure_of_file(alloc: Global, fault: Fault, voice: Voice, papers: &Papers<'_>) -> Failure {
+    if !matches!(fault, Fault::Syntax { .. }) || !voice.explains {
+        return failure_of(alloc, fault, voice, papers);
+    }
+    match explain_test(alloc, papers.test.name, &papers.test.bytes).unwrap_or(None) {
+        Some(message) => Failure::Told(fault, message),
+        None => Failure::NoAnswer(fault),
+    }
+}
+
+/// What the log at this path has of the tests of the files, in their order, and of others.
+pub(crate) fn answer_log<'a, R: Files + Input + Eprint + AllocGlobal>(
+    rt: &R,
+    states: &'a States<'a>,
+    path: &'a str,
+    voice: Voice,
+    papers: &mut Papers<'a>,
+) -> Result<Output, Fault> {
+    papers.read_evidence(rt, path, MOST_BYTES)?;
+    match read_log(rt.alloc(), &papers.evidence.bytes) {
+        Ok(log) => compare_files(rt, &states.files, &states.fences, &log, voice),
+        Err(LogError::Fault(fault)) => Err(fault),
+        Err(error) => {
+            report(rt, &Failure::BadLog(error));
+            let mut output = nothing(rt);
+            output.status = Status::Failure;
+            Ok(output)
+        }
+    }
+}
+
+/// What is said of the files beside the log, and of the tests of the log that none of them has.
+fn compare_files<'a, R: Files + Input + Eprint + AllocGlobal>(
+    rt: &R,
+    files: &'a [String],
+    fences: &'a [String],
+    log: &Log<'_>,
+    voice: Voice,
+) -> Result<Output, Fault> {
+    let mut output = nothing(rt);
+    let mut names = Vec::new(rt.alloc());
+    for path in files {
+        if let Some(compared) = compare_file(rt, path.as_str(), fences, log, voice)? {
+            output.text.push_str(compared.text.as_str())?;
+            output.status = worse(output.status, compared.status);
+            names.push(compared.name)?;
+        } else {
+            output.status = worse(output.status, Status::Failure);
+        }
+    }
+    // a file that has a fault may be of any test of the log
+    if names.len() == files.len() {
+        output
+            .text
+            .push_str(left_over(rt.alloc(), log, &names)?.as_str())?;
+    }
+    Ok(output)
+}
+
+/// That a forbidden state was seen is the worst, and then that a file has a fault.
+fn worse(status: Status, other: Status) -> Status {
+    match status {
+        Status::Denied => status,
+        Status::Success => other,
+        _ if other == Status::Denied => other,
+        _ => status,
+    }
+}
+
+/// What is said of a file. None where it, or what the log has of its test, has a fault, which is said on standard error.
+fn compare_file<'a, R: Files + Input + Eprint + AllocGlobal>(
+    rt: &R,
+    path: &'a str,
+    fences: &'a [String],
+    log: &Log<'_>,
+    voice: Voice,
+) -> Result<Option<Compared>, Fault> {
+    let mut papers = Papers::new(rt.alloc());
+    papers.fences = fences;
+    match compared_file(rt, path, log, &mut papers) {
+        Ok(compared) => Ok(Some(compared)),
+        Err(LogError::Fault(fault)) => {
+            say_fault(rt, fault, voice, &papers)?;
+            Ok(None)
+        }
+        Err(error) => {
+            report(rt, &Failure::BadLog(error));
+            Ok(None)
+        }
+    }
+}
+
+fn compared_file<'a, R: Files + Input + AllocGlobal>(
+    rt: &R,
+    path: &'a str,
+    log: &Log<'_>,
+    papers: &mut Papers<'a>,
+) -> Result<Compared, LogError> {
+    papers.read_test(rt, path)?;
+    compare(rt.alloc(), log, &papers.test.bytes, papers.fences)
+}

@@ -1,0 +1,7 @@
+pub mod Looked
+pub mod Linked
+pub mod Verdicts
+pub mod Against
+pub mod Breaks
+pub mod Pruned
+pub mod Refuting

@@ -1,0 +1,4 @@
+pub mod Cycles
+pub mod Held
+pub mod Breaks
+pub mod Leaves

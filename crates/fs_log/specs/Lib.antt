@@ -1,0 +1,5 @@
+pub mod Errors
+pub mod Tallies
+pub mod Rows
+pub mod Compared
+pub mod Left

@@ -1,0 +1,78 @@
+//! What a verdict comes to.
+
+ghost use Rattle.std.specs.Prelude.{◌≡◌, ◌≢◌, All, true, false, IfOk, IfErr, IsOkUnless, string_bytes};
+ghost use Rattle.std.specs.Arc.{arc_value};
+ghost use Rattle.fs_kinds.specs.Placement.{slots_of};
+ghost use Rattle.fs_kinds.specs.declared.fault.Fault.TheVariants.{Memory};
+ghost use Rattle.fs_model.specs.declared.test.Test.{Test as Tests};
+ghost use Rattle.fs_model.specs.Allows.{Allows, no_fences};
+ghost use Rattle.fs_model.specs.Slots.{slots};
+ghost use Rattle.fs_model.specs.Test.{IsBounded, IsStart};
+ghost use Rattle.fs_answer.specs.CandidateFaults.{IsCandidateFault};
+ghost use Rattle.fs_judge.specs.Verdicts.{IsVerdict};
+ghost use Rattle.fs_said.specs.Verdicts.{Says, IsVacuous, witness_in};
+
+use crate::ordered::{order_words, overtaking};
+use crate::said::{Kind, Said};
+use crate::words::counted;
+use fs_evidence::{Cycles, Inference, Question};
+use fs_judge::{Problem, Verdict};
+use fs_kinds::{Fault, Placement};
+use std::alloc::Global;
+use std::sync::Arc;
+
+/// Does the placement forbid the outcome? The fault is that of the test's candidates, or `Memory`. The cost is that of `Problem::new` and
+/// `Problem::verdict` of fs_judge.
+pub fn forbids(
+    alloc: Global,
+    question: &Arc<Question>,
+    placement: &Placement,
+) -> Result<bool, Fault>
+    requires bounded { IsBounded (arc_value question.now).test }
+    requires starts { All IsStart (arc_value question.now).test.starts }
+    requires slots { slots_of placement.now ≡ slots (arc_value question.now).test }
+    ensures yes { IfOk result (λ is. is ≡ true → Allows (arc_value question.now).test placement.now → ⊥) }
+    ensures no { IfOk result (λ is. is ≡ false → Allows (arc_value question.now).test placement.now) }
+    ensures err { IfErr result (λ f. f ≢ Memory → IsCandidateFault (arc_value question.now).test f) }
+{
+    let problem = Problem::new(alloc, Arc::try_clone(question)?)?;
+    match problem.verdict(alloc, placement, &[])? {
+        Verdict::Forbids(_) => Ok(true),
+        Verdict::Allowed(_) => Ok(false),
+    }
+}
+
+/// What is said of a test that isn't vacuous, by the verdict on it with no fence placed. Fails only for want of memory.
+pub fn said_of(alloc: Global, verdict: Verdict) -> Result<Said, Fault>
+    ensures ok { (t : Tests) → IsVerdict t (no_fences t) verdict → (IsVacuous t → ⊥)
+        → IfOk result (λ said. Says t said.kind (string_bytes said.why) (witness_in said.witness)) }
+    ensures err { IsOkUnless result Memory }
+{
+    match verdict {
+        Verdict::Forbids(forbidden) => Ok(Said {
+            kind: Kind::Forbidden,
+            why: counted(alloc, count_cycles(&forbidden.cycles), "cycle")?,
+            witness: None,
+        }),
+        Verdict::Allowed(witness) => Ok(Said {
+            kind: Kind::Allowed,
+            why: order_words(alloc, overtaking(witness.order.as_slice()))?,
+            witness: Some(witness),
+        }),
+    }
+}
+
+// How many cycles there are.
+fn count_cycles(cycles: &Cycles) -> usize {
+    match cycles {
+        Cycles::Listed(listed) => listed.len(),
+        Cycles::Inferred(inferences) => inferences
+            .iter()
+            .filter(|inference| is_cycle(inference))
+            .count(),
+    }
+}
+
+fn is_cycle(inference: &Inference) -> bool {
+    matches!(inference, Inference::Cycle(_))
+}

@@ -1,0 +1,43 @@
+//! Nodes of the board, as one who searches keeps them.
+
+use fs_board::{Part, Reply};
+use fs_kinds::Slot;
+use std::alloc::AllocError;
+use std::sync::Arc;
+
+/// A node that the searcher made, and the slot at which its parent was split.
+#[derive(Clone, Copy)]
+pub struct Child {
+    pub node: usize,
+    pub slot: Slot,
+}
+
+/// A node that the searcher holds, its part, and the slot at which its parent was split, where this searcher split it.
+#[derive(Drop)]
+pub struct Taken {
+    pub node: usize,
+    pub part: Arc<Part>,
+    pub slot: Option<Slot>,
+}
+
+/// Puts the children that a reply gives to the node on the stack, the first one last, but for the one that comes next, which is on top.
+/// That one is named by its number among them.
+pub fn push_children(
+    children: &mut Vec<Child>,
+    taken: &Taken,
+    reply: &Reply,
+    next: Option<usize>,
+) -> Result<(), AllocError> {
+    let Reply::Children(first, count) = reply else {
+        return Ok(());
+    };
+    let Some(slot) = taken.part.first_undecided() else {
+        return Ok(());
+    };
+    let next = next.filter(|k| k < count);
+    for k in (0..*count).rev().filter(|k| Some(*k) != next).chain(next) {
+        let node = first.saturating_add(k);
+        children.push(Child { node, slot })?;
+    }
+    Ok(())
+}

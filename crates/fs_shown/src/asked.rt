@@ -1,0 +1,10 @@
+//! What is asked for beside the states.
+
+/// What is printed beside the places of the condition and of `locations`, and beside the words of a state.
+#[derive(Clone, Copy, Debug, PartialEq, Eq)]
+pub struct Shown {
+    /// Each register that an instruction of its hart writes, and all locations.
+    pub all: bool,
+    /// Below each state an execution that ends in it, as the JSON text of a witness.
+    pub witnesses: bool,
+}

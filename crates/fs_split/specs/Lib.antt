@@ -1,0 +1,4 @@
+pub mod Orders
+pub mod Runs
+pub mod Views
+pub mod inner

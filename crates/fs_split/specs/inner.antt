@@ -1,0 +1,4 @@
+-- What only inner functions and proofs need.
+pub mod Asked
+pub mod Each
+pub mod Pairs
