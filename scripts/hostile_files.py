@@ -31,6 +31,9 @@ PRICES = "fault F10 BadPrices"
 NO_FENCE = "fault F12 BadFence"
 WITNESS = "fault F17 BadWitness"
 CERTIFICATE = "fault F18 BadCertificate"
+# What `states` says of a log that has no block of SB, and of any log.
+ABSENT = "SB: not in the log"
+LOGGED = "what is seen and allowed, or an error of the log"
 TOO_LONG = "fault F20 ReadFault"
 
 
@@ -485,6 +488,26 @@ def fences():
     yield "a fence 5,000 times", ["P0:3=w,w"] * 5_000, NO_FENCE
     yield "5,000 words of no fence", ["w"] * 5_000, NO_FENCE
     yield "two fences", ["P1:1=r,r", "P0:3=w,w"], READ
+
+
+def logs():
+    """Logs for SB: floods, blocks that break off, many blocks, states and items, and what isn't UTF-8."""
+    head = b"Test SB Allowed\nStates %d\n"
+    yield "a log of nothing", b"", ABSENT
+    for sign in [b"x", b"\n", b";", b"0:x7=0; ", b"Test SB Allowed ", b"\r"]:
+        yield f"{sign!r} for a log", sign * (MEBIBYTE // len(sign)), ABSENT
+        yield f"{sign!r} for a state", head % 1 + sign * (MEBIBYTE // len(sign)) + b"\nOk\n", LOGGED
+    yield "a million states and none", head % 1_000_000, "error: log line 2: expected a state"
+    yield "a count of 400,000 digits", b"Test SB Allowed\nStates " + b"9" * 400_000 + b"\n", LOGGED
+    yield "a block without an end", head % 1 + b"0:x7=0; 1:x7=0;\n", LOGGED
+    yield "a value of 400,000 digits", head % 1 + b"0:x7=" + b"9" * 400_000 + b"; 1:x7=0;\nOk\n", LOGGED
+    blocks = b"".join(b"Test T%d Allowed\nStates 0\nOk\n" % number for number in range(20_000))
+    yield "20,000 blocks of other tests", blocks, LOGGED
+    states = b"".join(b"0:x7=%d; 1:x7=0;\n" % number for number in range(40_000))
+    yield "40,000 states", head % 40_000 + states + b"Ok\n", LOGGED
+    yield "40,000 blocks of the test", (head % 1 + b"0:x7=0; 1:x7=0;\nOk\n") * 15_000, LOGGED
+    yield "a byte that isn't UTF-8", b"\xff", "error: the log isn't UTF-8"
+    yield "noise for a log", random.Random(4).randbytes(MEBIBYTE), "error: the log isn't UTF-8"
 
 
 def witness_signs():

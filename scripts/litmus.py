@@ -175,15 +175,19 @@ class Maker:
 
 def state_of(candidate):
     """The words at the end, as atoms: of registers that come from memory, and of locations."""
-    operations, place = candidate.operations, candidate.place
+    operations = candidate.operations
     from_memory = [(hart, instruction.rd) for hart, code in enumerate(operations.test.code)
                    for instruction in code if instruction.is_memory() and instruction.rd]
     atoms = ['%d:x%d=%d' % (hart, register, operations.runs[hart].registers[register])
              for hart, register in from_memory]
-    for name, address in operations.test.addresses.items():
-        stores = [operations.initial[address]] + operations.stores_to(address)
-        atoms.append('%s=%d' % (name, max(stores, key=lambda store: place[store.number]).stored))
+    atoms += ['%s=%d' % (name, last_word(candidate, address)) for name, address in operations.test.addresses.items()]
     return tuple(atoms)
+
+
+def last_word(candidate, address):
+    """The word that the last store to this address wrote."""
+    stores = [candidate.operations.initial[address]] + candidate.operations.stores_to(address)
+    return max(stores, key=lambda store: candidate.place[store.number]).stored
 
 
 def repeated(first, firsts, second, seconds, condition):

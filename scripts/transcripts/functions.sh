@@ -74,3 +74,15 @@ audited() {
         echo "exists ($3)"
     } | rvfence audit - "${prices:-examples/prices.json}" "${@:4}"
 }
+
+# What `place -v` says of a test of these lines.
+explained() { printf '%s\n' "$@" | rvfence place -v -; }
+
+# What `states` prints, and its status, with (blank) for a blank line.
+states() (
+    set -o pipefail
+    rvfence states "$@" | sed 's/^$/(blank)/'
+)
+
+# The same of store buffering with these lines behind its rows, the first of which is line 13, and with further words.
+asked() { states <(sed -e '1s/SB/asked/' -e '$d' examples/SB.litmus && echo "$1") "${@:2}"; }
