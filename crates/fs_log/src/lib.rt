@@ -19,8 +19,3 @@ pub use error::{Expected, LogError};
 pub use left::left_over;
 pub use log::{Block, Item, Log, Seen};
 pub use reader::{MOST_BYTES, read_log};
-
-#[cfg(test)]
-mod comparing;
-#[cfg(test)]
-mod reading;

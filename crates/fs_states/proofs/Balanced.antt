@@ -4,7 +4,7 @@ use Rattle.std.specs.Prelude.{◌&&◌}
 use Rattle.std.proofs.lemmas.List.{take_all, take-append-drop, length-take, length-drop}
 use Rattle.std.proofs.lemmas.List.Elements.{All-take, All-drop}
 use Rattle.std.proofs.lemmas.List.Folds.{list_all-append}
-use Rattle.fs_model.specs.Condition.{Condition, Both, nesting}
+use Rattle.fs_model.specs.Condition.{Condition, Both, Deny, nesting}
 use Rattle.fs_model.specs.Shows.{holds}
 use Rattle.fs_states.specs.declared.part.Atom.{Atom}
 use Rattle.fs_states.specs.declared.place.Place.{Place}
@@ -68,3 +68,9 @@ pub both_deep : (depth : ℕ) (made left right : Condition) → made ≡ Both le
     → nesting left ≤ depth - 1 + 1 → nesting right ≤ depth - 1 + 1 → nesting made ≤ depth + 1
 both_deep depth made left right is some l r =
     let whole = ap nesting is in omega (arith, whole, some, l, r)
+
+-- ---- in one part and not in another
+
+pub apart_deep : (made left right : Condition) → made ≡ Both left (Deny right) → nesting left ≤ 61 → nesting right ≤ 61 → nesting made ≤ 64
+apart_deep made left right is l r =
+    let whole = ap nesting is in omega (arith, whole, l, r)

@@ -4,4 +4,5 @@ pub mod Balanced
 pub mod Ending
 pub mod Conditions
 pub mod Asking
+pub mod Only
 pub mod Covered

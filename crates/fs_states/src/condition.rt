@@ -4,7 +4,7 @@ ghost use Rattle.std.specs.Prelude.{◌≡◌, ◌<◌, ◌≤◌, ◌+◌, ◌^
 ghost use Rattle.fs_model.specs.Condition.{Both, condition_of, nesting, SpeaksOf};
 ghost use Rattle.fs_model.specs.Shows.{holds};
 ghost use Rattle.fs_states.specs.States.{word_of, IsPlaceOf};
-ghost use Rattle.fs_states.specs.inner.Parts.{as_wanted, is_so, is_in, IsPartOf};
+ghost use Rattle.fs_states.specs.inner.Parts.{as_wanted, is_so, is_in, is_in_but, IsPartOf, IsTrueIn};
 
 use crate::part::Atom;
 use crate::place::Place;
@@ -96,6 +96,26 @@ fn all_of(
     }
 }
 
+// The condition that a state is in the part, and not in the other one. Linear in the atoms.
+pub(crate) fn condition_apart(
+    alloc: Global,
+    places: &[Place],
+    part: &[Atom],
+    other: &[Atom],
+) -> Result<Outcome, AllocError>
+    requires part { IsPartOf (length places.now) part.now }
+    requires other { IsPartOf (length places.now) other.now }
+    ensures holds { IfOk result (λ made. IsTrueIn places.now made (is_in_but part.now other.now)) }
+    ensures depth { IfOk result (λ made. nesting (condition_of made) ≤ 64) }
+    ensures speaks { IfOk result (λ made. (harts locations : ℕ) → All (IsPlaceOf harts locations) places.now
+        → SpeaksOf harts locations (condition_of made)) }
+{
+    let inside = all_of(alloc, places, part, MOST_DEPTH)?;
+    let within = all_of(alloc, places, other, MOST_DEPTH)?;
+    let outside = Outcome::Deny(Box::new(alloc, within)?);
+    both(alloc, inside, outside)
+}
+
 // The condition that a state is in the part. Linear in the atoms.
 pub(crate) fn condition(
     alloc: Global,
@@ -103,8 +123,7 @@ pub(crate) fn condition(
     part: &[Atom],
 ) -> Result<Outcome, AllocError>
     requires places { IsPartOf (length places.now) part.now }
-    ensures holds { IfOk result (λ made. (r : ℕ → ℕ → ℕ) (w : ℕ → ℕ)
-        → holds r w (condition_of made) ≡ is_in part.now (map (word_of r w) places.now)) }
+    ensures holds { IfOk result (λ made. IsTrueIn places.now made (is_in part.now)) }
     ensures depth { IfOk result (λ made. nesting (condition_of made) ≤ 64) }
     ensures speaks { IfOk result (λ made. (harts locations : ℕ) → All (IsPlaceOf harts locations) places.now
         → SpeaksOf harts locations (condition_of made)) }

@@ -1,7 +1,6 @@
 //! Logs worked by hand: what is read of them, in one text.
 
-use crate::log::{Log, Seen};
-use crate::reader::read_log;
+use fs_log::{Log, Seen, read_log};
 use std::alloc::{AllocError, Global};
 
 // A state: its line, how often it was seen, and its items.

@@ -1,9 +1,7 @@
 //! Test files held against logs, worked by hand.
 
-use crate::comparison::compare;
-use crate::left::left_over;
-use crate::reader::read_log;
 use fs_io::Status;
+use fs_log::{compare, left_over, read_log};
 use std::alloc::{AllocError, Global};
 
 /// Store buffering: of its four states none is forbidden, and with w,r at both slots only the one without a 1.
