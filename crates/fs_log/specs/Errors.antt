@@ -10,6 +10,10 @@ use Rattle.fs_log.specs.declared.error.LogError.TheVariants as error
 abbrev pub most_bytes : ℕ
 most_bytes = 1073741824
 
+-- the bytes may be those of a log: they are no more than that, and UTF-8
+abbrev pub IsLogText : List ℕ → Type 0
+IsLogText bytes = (length bytes ≤ most_bytes) × IsUtf8 bytes
+
 -- the bytes are too long or not UTF-8, or the line is one of theirs, counted from 1; or memory ran out
 abbrev pub IsLogError : List ℕ → LogError → Type 0
 IsLogError bytes error.TooLong = most_bytes < length bytes

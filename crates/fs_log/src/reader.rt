@@ -1,8 +1,8 @@
 //! Reads a log, line by line.
 
-ghost use Rattle.std.specs.Prelude.{◌≡◌, length, map, IsOk, IfOk, IfErr};
+ghost use Rattle.std.specs.Prelude.{◌≡◌, length, map, IsOk, IfOk, IfErr, OnOk};
 ghost use Rattle.std.specs.Str.Lines.{lines};
-ghost use Rattle.fs_log.specs.Errors.{IsLogError, IsAtLine, IsWithin};
+ghost use Rattle.fs_log.specs.Errors.{IsLogText, IsLogError, IsAtLine, IsWithin};
 ghost use Rattle.fs_log.specs.declared.reader.Next.TheVariants.{Title};
 
 use crate::error::{Expected, LogError};
@@ -200,7 +200,8 @@ fn lines_of<'a>(alloc: Global, text: &'a str) -> Result<Vec<&'a str>, AllocError
 /// The error is `TooLong` or `NotUtf8`; else the first line that isn't what it should be, or the last line where the
 /// log ends within a block; or want of memory.
 pub fn read_log<'a>(alloc: Global, bytes: &'a [u8]) -> Result<Log<'a>, LogError>
-    ensures { IfErr result (IsLogError bytes.now) }
+    ensures text { OnOk result (IsLogText bytes.now) }
+    ensures error { IfErr result (IsLogError bytes.now) }
 {
     if bytes.len() > MOST_BYTES {
         return Err(LogError::TooLong);

@@ -34,7 +34,7 @@ fn read(alloc: Global, log: &str) -> Result<String, AllocError> {
 }
 
 // Logs, and what is read of them.
-const LOGS: [(&str, &str); 14] = [
+const LOGS: [(&str, &str); 15] = [
     ("", ""),
     (
         "Test SB Allowed\nStates 2\n0:x7=0; 1:x7=0;\n0:x7=0; 1:x7=1;\nOk\nWitnesses\n",
@@ -70,6 +70,10 @@ const LOGS: [(&str, &str); 14] = [
     (
         "Test SB Allowed\nStates 2\nx=1;\n",
         "error: log line 3: expected a state",
+    ),
+    (
+        "Test SB Allowed\nStates 1\nx=1;\n",
+        "error: log line 3: expected `Ok` or `No`",
     ),
     (
         "Test SB Allowed\nStates 1\nx=1\nOk\n",
