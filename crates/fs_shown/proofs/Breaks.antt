@@ -1,5 +1,5 @@
 -- Where a text is split at its last LF, in the words of `rsplit_once`.
-use Rattle.std.proofs.Common.{◌≡◌, ◌≢◌, ℕ, zero, suc, ◌+◌, ◌-◌, ◌≤◌, ◌<◌, true, false, eqb, List, [], ◌∷◌, length, get_or, take, drop, Option, Some, None, MatchOption, refl, sym, ap, ⊎_elim, ◌∙◌, arith, Bor, eqb-true, eq-eqb, ne_eqb, length-drop, get_or-drop, option_map}
+use Rattle.std.proofs.Common.{◌≡◌, ℕ, zero, suc, ◌+◌, ◌-◌, ◌≤◌, ◌<◌, List, length, get_or, take, drop, Option, Some, None, MatchOption, refl, sym, ap, ⊎_elim, ◌∙◌, arith, Bor, eq-eqb, ne_eqb, length-drop, get_or-drop, option_map}
 use Rattle.std.specs.Str.Pattern.{RFindsChar}
 use Rattle.std.specs.Path.{rfind_below, rsplit_once}
 use Rattle.std.proofs.lemmas.Str.Pattern.{NoCharPasses-char}

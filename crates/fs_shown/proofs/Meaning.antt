@@ -1,8 +1,7 @@
 -- What the condition says of a state is what it says of each execution that ends in it.
-use Rattle.std.proofs.Common.{◌≡◌, ◌∙◌, sym, subst, ap, refl, ℕ, zero, suc, ◌+◌, ◌<◌, ◌≤◌, ◌==◌, List, [], ◌∷◌, ◌++◌, map, filter, flat_map, length, Bool, true, false, not, ◌&&◌, ◌||◌, Option, Some, None, option_map, unwrap_or, if◌then◌else◌, inl, inr, arith}
-use Rattle.std.specs.Prelude.{◌⊎◌, All}
+use Rattle.std.proofs.Common.{◌≡◌, ◌∙◌, sym, subst, ap, refl, ℕ, zero, suc, ◌+◌, ◌<◌, ◌≤◌, ◌==◌, List, [], ◌∷◌, map, filter, flat_map, length, Bool, true, false, not, ◌||◌, if◌then◌else◌, inl, inr, arith}
 use Rattle.std.specs.List.{list_any, range_with_len}
-use Rattle.std.proofs.lemmas.Bool.{false≢true, and_parts, and_from, or_cases, or_left, or_right, cases_Bool, eqb-true}
+use Rattle.std.proofs.lemmas.Bool.{false≢true, and_parts, and_from, or_cases, or_left, or_right, eqb-true}
 use Rattle.std.proofs.lemmas.List.Folds.{list_any-append}
 use Rattle.std.proofs.lemmas.Map.Views.{any-filter_same}
 use Rattle.std.proofs.lemmas.List.Concat.{flat_map-cons}
@@ -12,9 +11,8 @@ use Rattle.fs_model.specs.Numbers.{numbers_below}
 use Rattle.fs_model.specs.Shows.{holds}
 use Rattle.fs_states.specs.declared.place.Place.{Place}
 use Rattle.fs_states.specs.declared.place.Place.TheVariants.{Register, Location}
-use Rattle.fs_tokens.specs.Tokens.{Lined}
 use Rattle.fs_shown.specs.declared.columns.Column.{Column}
-use Rattle.fs_shown.specs.Places.{is_place, speaks_of, is_shown, all_places, shown_places, column_of, AreColumns}
+use Rattle.fs_shown.specs.Places.{is_place, speaks_of, is_shown, all_places, shown_places, AreColumns}
 use Rattle.fs_shown.specs.Report.{word_in, is_true}
 use Rattle.fs_shown.specs.Shown.{places_of}
 use Rattle.fs_shown.proofs.Showing.{places_made}

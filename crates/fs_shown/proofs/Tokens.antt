@@ -1,5 +1,5 @@
 -- The tokens of a file: where they begin, where the items of `locations` stand, and which of these names no place.
-use Rattle.std.proofs.Common.{◌≡◌, ◌∙◌, sym, ap, subst, ℕ, ◌+◌, ◌<◌, List, ◌∷◌, Bool, true, Option, Some, None, drop, map, length, get_or, if◌then◌else◌, arith}
+use Rattle.std.proofs.Common.{◌≡◌, ◌∙◌, sym, ap, subst, ℕ, ◌+◌, ◌<◌, List, ◌∷◌, Bool, true, Some, None, drop, map, length, get_or, if◌then◌else◌, arith}
 use Rattle.std.specs.Option.{is_none}
 use Rattle.std.specs.List.{find}
 use Rattle.std.proofs.lemmas.Bool.{and_from}
@@ -8,7 +8,7 @@ use Rattle.fs_litmus.specs.Title.{after_line, IsBody}
 use Rattle.fs_litmus.specs.Reads.{HasTokens}
 use Rattle.fs_model.specs.declared.test.Test.{Test}
 use Rattle.fs_tokens.specs.declared.token.Token as tokens
-use Rattle.fs_tokens.specs.Tokens.{AreTokens, kind_of, view, views, Lined}
+use Rattle.fs_tokens.specs.Tokens.{AreTokens, kind_of, view, views}
 use Rattle.fs_shown.specs.Listed.{is_locations_word, begins_with_bracket, behind}
 use Rattle.fs_shown.specs.Names.{place_of}
 

@@ -1,5 +1,5 @@
 -- Places of a test under their names, and a state in print.
-use Rattle.std.specs.Prelude.{◌≡◌, ℕ, ◌<◌, ◌==◌, nat_lt, Bool, false, ◌&&◌, Option, None, Some, option_map, option_and_then, List, [], ◌∷◌, ◌++◌, length, map, find, codes, if◌then◌else◌}
+use Rattle.std.specs.Prelude.{◌≡◌, ℕ, nat_lt, Bool, Option, None, Some, option_map, option_and_then, List, [], ◌∷◌, ◌++◌, length, map, find, codes, if◌then◌else◌}
 use Rattle.std.specs.List.{zip}
 use Rattle.std.specs.Str.{bytes_eq}
 use Rattle.fs_instr.specs.Registers.{register_of}

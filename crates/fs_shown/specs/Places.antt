@@ -1,5 +1,5 @@
 -- Which places of a test are shown, in which order, and under which names.
-use Rattle.std.specs.Prelude.{◌≡◌, ℕ, ◌==◌, Bool, true, false, ◌&&◌, ◌||◌, Some, List, [], ◌∷◌, ◌++◌, length, map, filter}
+use Rattle.std.specs.Prelude.{◌≡◌, ℕ, ◌==◌, Bool, true, false, ◌&&◌, ◌||◌, Some, List, [], ◌++◌, length, map, filter}
 use Rattle.std.specs.List.{flat_map, list_any, slice_index_or}
 use Rattle.fs_instr.specs.Instructions.{dest_of}
 use Rattle.fs_kinds.specs.declared.fault.Fault.{Fault}

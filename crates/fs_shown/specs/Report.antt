@@ -1,5 +1,5 @@
 -- What `states` prints of a test file, in herd7's form.
-use Rattle.std.specs.Prelude.{ℕ, ◌==◌, Bool, not, Option, None, Some, option_map, unwrap_or, List, [], ◌∷◌, ◌++◌, length, count_by, codes, if◌then◌else◌}
+use Rattle.std.specs.Prelude.{ℕ, ◌==◌, Bool, not, option_map, unwrap_or, List, [], ◌∷◌, ◌++◌, length, count_by, codes, if◌then◌else◌}
 use Rattle.std.specs.Fmt.{decimal}
 use Rattle.std.specs.List.{flat_map}
 use Rattle.std.specs.Path.{rsplit_once}

@@ -1,5 +1,5 @@
 -- What `states` answers of a test file, and its fault.
-use Rattle.std.specs.Prelude.{◌≡◌, ◌⊎◌, ℕ, Bool, None, Some, List, All, map}
+use Rattle.std.specs.Prelude.{◌≡◌, ℕ, None, Some, List, All, map}
 use Rattle.fs_kinds.specs.declared.fault.Fault.{Fault}
 use Rattle.fs_kinds.specs.declared.fault.Fault.TheVariants.{BadFence, Memory}
 use Rattle.fs_kinds.specs.declared.placement.Entry.{Entry}
