@@ -1,14 +1,11 @@
 use Rattle.std.proofs.Common.{sym, subst}
 use Rattle.std.proofs.lemmas.Result.{IfOk-weaker}
-use Rattle.fs_model.specs.Condition.{condition_of, SpeaksOf}
-use Rattle.fs_model.specs.declared.outcome.Outcome.{Outcome}
+use Rattle.fs_model.specs.Condition.{SpeaksOf}
 use Rattle.fs_states.proofs.condition.condition_apart.Goals as goal
 
 pub returns-clause-speaks : goal.returns-clause-speaks
 returns-clause-speaks c =
     IfOk-weaker c.both.result _ _
-    (λ made is harts locations all. subst (SpeaksOf harts locations) (sym is) (
-      c.in_ok-inside.ensures.speaks harts locations all,
-      subst (λ (o : Outcome). SpeaksOf harts locations (condition_of o)) (sym c.in_ok-new.ensures.ok) (c.in_ok-within.ensures.speaks harts locations all),
-    ))
+    (λ made is harts locations all. subst (SpeaksOf harts locations) (sym is)
+    (c.in_ok-inside.ensures.speaks harts locations all, c.in_ok-outside.ensures.speaks harts locations all))
     c.both.ensures
