@@ -1,5 +1,5 @@
--- What the test with another condition tells of the test.
-use Rattle.std.proofs.Common.{◌≡◌, ◌∙◌, ap, sym, subst, ◌≤◌, Option, None, Some, List, All, Result, Ok, Err, IfErr, length}
+-- What the test that asks for a part of the states tells of the test.
+use Rattle.std.proofs.Common.{◌≡◌, ◌∙◌, ap, sym, subst, ℕ, ◌≤◌, true, Option, None, Some, List, All, Result, Ok, Err, IfErr, length, map}
 use Rattle.std.specs.Prelude.{IfNone, IfOk, IfSome}
 use Rattle.std.specs.Result.{IsErrAnd}
 use Rattle.fs_kinds.specs.declared.fault.Fault.{Fault}
@@ -10,14 +10,15 @@ use Rattle.fs_model.specs.declared.test.Quantifier.TheVariants.{Exists}
 use Rattle.fs_model.specs.Allows.{Allows, Shows}
 use Rattle.fs_model.specs.Condition.{condition_of, nesting, SpeaksOf}
 use Rattle.fs_model.specs.Execution.{pre_execution}
-use Rattle.fs_model.specs.Shows.{final_register, final_word}
+use Rattle.fs_model.specs.Shows.{holds, final_register, final_word}
 use Rattle.fs_model.specs.Slots.{slots}
 use Rattle.fs_model.specs.Test.{IsBounded, IsStart}
 use Rattle.fs_answer.specs.CandidateFaults.{IsCandidateFault}
+use Rattle.fs_states.specs.declared.part.Atom.{Atom}
 use Rattle.fs_states.specs.declared.place.Place.{Place}
 use Rattle.fs_states.specs.declared.state.State.{State}
-use Rattle.fs_states.specs.States.{IsPlaceOf, IsShownState}
-use Rattle.fs_states.specs.inner.Parts.{with_condition, AsksFor, IsNowhere}
+use Rattle.fs_states.specs.States.{word_of, IsPlaceOf, IsShownState, IsState}
+use Rattle.fs_states.specs.inner.Parts.{is_in, with_condition, AsksFor}
 use Rattle.fs_states.proofs.Conditions.{back, candidate_fault, execution, given}
 
 -- what holds of the error handed on holds of the result
@@ -25,25 +26,27 @@ pub handed : {T : Type 0} (r : Result T Fault) (fault : Fault) (P : Fault → Ty
 handed (Ok x) fault P h p = tt
 handed (Err f) fault P h p = subst P (sym h) p
 
--- the test with a condition that speaks of its places
-pub asks : (t : Test) (condition : Outcome) (made : Test) → made ≡ with_condition condition t
-    → IsBounded t → nesting (condition_of condition) ≤ 64
-    → SpeaksOf (length t.codes) (length t.locations) (condition_of condition)
-    → AsksFor t condition made
-asks t condition made same bounded deep speaks =
+-- the test with a condition that is true where the state is in the part
+pub asks : (t : Test) (places : List Place) (part : List Atom) (condition : Outcome) (made : Test) → made ≡ with_condition condition t
+    → IsBounded t → All (IsPlaceOf (length t.codes) (length t.locations)) places
+    → ((r : ℕ → ℕ → ℕ) (w : ℕ → ℕ) → holds r w (condition_of condition) ≡ is_in part (map (word_of r w) places))
+    → nesting (condition_of condition) ≤ 64
+    → ((harts locations : ℕ) → All (IsPlaceOf harts locations) places → SpeaksOf harts locations (condition_of condition))
+    → AsksFor t places part made
+asks t places part condition made same bounded all says deep speaks =
     let own : IsBounded (with_condition condition t) = record {
       starts = bounded.starts;
       forward = bounded.forward;
-      atoms = speaks;
+      atoms = speaks (length t.codes) (length t.locations) all;
       harts = bounded.harts;
       lengths = bounded.lengths;
       accesses = bounded.accesses;
       locations = bounded.locations;
       depth = deep;
     } in
-    record { same = same; bounded = subst IsBounded (sym same) own }
+    record { condition = condition; same = same; bounded = subst IsBounded (sym same) own; holds = says }
 
-module _ (t : Test) (places : List Place) (condition : Outcome) (asked : Test) (asks_for : AsksFor t condition asked) where
+module _ (t : Test) (places : List Place) (part : List Atom) (asked : Test) (asks_for : AsksFor t places part asked) where
   pub same_starts : All IsStart t.starts → All IsStart asked.starts
   same_starts all = subst (λ (u : Test). All IsStart u.starts) (sym asks_for.same) all
 
@@ -56,29 +59,29 @@ module _ (t : Test) (places : List Place) (condition : Outcome) (asked : Test) (
 
   pub same_state : (p : List Entry) (state : State) → IsShownState asked p places state → IsShownState t p places state
   same_state p state h =
-      let own : IsShownState (with_condition condition t) p places state =
+      let own : IsShownState (with_condition asks_for.condition t) p places state =
       subst (λ (u : Test). IsShownState u p places state) asks_for.same h in (
         own.0,
-        back (λ u. _) (given state.witness.witness own.0) t Exists condition own.1,
-        back (λ u. _) (execution p own.0) t Exists condition own.2,
+        back (λ u. _) (given state.witness.witness own.0) t Exists asks_for.condition own.1,
+        back (λ u. _) (execution p own.0) t Exists asks_for.condition own.2,
         own.3,
       )
 
-  pub nowhere : (p : List Entry) → (Allows asked p → ⊥) → IsNowhere t p places condition
-  nowhere p forbidden wanted true_in s h inside =
+  pub none_in : (p : List Entry) → (Allows asked p → ⊥) → (s : List ℕ) → IsState t p places s → is_in part s ≡ true → ⊥
+  none_in p forbidden s h inside =
       let e = h.0 in
-      let own : Shows (with_condition condition t) p e = record {
-        execution = execution p e t Exists condition h.1;
+      let own : Shows (with_condition asks_for.condition t) p e = record {
+        execution = execution p e t Exists asks_for.condition h.1;
         outcome =
-            true_in (final_register t e.traces) (final_word (pre_execution t e.traces) e.order)
-            ∙ ap wanted h.2
+            asks_for.holds (final_register t e.traces) (final_word (pre_execution t e.traces) e.order)
+            ∙ ap (is_in part) h.2
             ∙ inside;
       } in
       forbidden (e, subst (λ (u : Test). Shows u p e) (sym asks_for.same) own)
 
   pub same_fault : (f : Fault) → IsCandidateFault asked f → IsCandidateFault t f
   same_fault f h =
-      back (λ u. IsCandidateFault u f) (candidate_fault f) t Exists condition
+      back (λ u. IsCandidateFault u f) (candidate_fault f) t Exists asks_for.condition
       (subst (λ (u : Test). IsCandidateFault u f) asks_for.same h)
 
 if_some : {X : Type 0} (found : Option X) (P Q : X → Type 0) → ((x : X) → P x → Q x) → IfSome found P → IfSome found Q

@@ -1,10 +1,10 @@
 -- Conditions on many atoms, as trees of few levels.
-use Rattle.std.proofs.Common.{◌≡◌, ◌∙◌, ap, sym, refl, ℕ, zero, suc, ◌+◌, ◌-◌, ◌*◌, ◌/◌, ◌^◌, ◌<◌, ◌≤◌, Bool, true, false, not, List, length, map, take, drop, arith}
-use Rattle.std.specs.Prelude.{◌&&◌, ◌||◌}
+use Rattle.std.proofs.Common.{◌≡◌, ◌∙◌, ap, sym, ℕ, zero, suc, ◌+◌, ◌-◌, ◌/◌, ◌^◌, ◌<◌, ◌≤◌, List, length, map, take, drop, arith}
+use Rattle.std.specs.Prelude.{◌&&◌}
 use Rattle.std.proofs.lemmas.List.{take_all, take-append-drop, length-take, length-drop}
 use Rattle.std.proofs.lemmas.List.Elements.{All-take, All-drop}
 use Rattle.std.proofs.lemmas.List.Folds.{list_all-append}
-use Rattle.fs_model.specs.Condition.{Condition, Both, Either, nesting}
+use Rattle.fs_model.specs.Condition.{Condition, Both, nesting}
 use Rattle.fs_model.specs.Shows.{holds}
 use Rattle.fs_states.specs.declared.part.Atom.{Atom}
 use Rattle.fs_states.specs.declared.place.Place.{Place}
@@ -68,31 +68,3 @@ pub both_deep : (depth : ℕ) (made left right : Condition) → made ≡ Both le
     → nesting left ≤ depth - 1 + 1 → nesting right ≤ depth - 1 + 1 → nesting made ≤ depth + 1
 both_deep depth made left right is some l r =
     let whole = ap nesting is in omega (arith, whole, some, l, r)
-
--- ---- what the tree of cases says
-
-not_both : (l r : Bool) → (not l || (l && not r)) ≡ not (l && r)
-not_both true r = refl
-not_both false r = refl
-
-pub cases_hold : (atoms : List Atom) (k : ℕ) (places : List Place) (made early left right : Condition) → made ≡ Either early (Both left right)
-    → ((r : ℕ → ℕ → ℕ) (w : ℕ → ℕ) → holds r w early ≡ not (is_in (take k atoms) (map (word_of r w) places)))
-    → ((r : ℕ → ℕ → ℕ) (w : ℕ → ℕ) → holds r w left ≡ is_in (take k atoms) (map (word_of r w) places))
-    → ((r : ℕ → ℕ → ℕ) (w : ℕ → ℕ) → holds r w right ≡ not (is_in (take (length atoms - k) (drop k atoms)) (map (word_of r w) places)))
-    → (r : ℕ → ℕ → ℕ) (w : ℕ → ℕ) → holds r w made ≡ not (is_in atoms (map (word_of r w) places))
-cases_hold atoms k places made early left right is e f g r w =
-    let s = map (word_of r w) places in
-    let within = is_in (take k atoms) s in
-    let behind = is_in (take (length atoms - k) (drop k atoms)) s in
-    ap (holds r w) is
-    ∙ ap (λ b. b || (holds r w left && holds r w right)) (e r w)
-    ∙ ap (λ b. not within || (b && holds r w right)) (f r w)
-    ∙ ap (λ b. not within || (within && b)) (g r w)
-    ∙ not_both within behind
-    ∙ ap not (in_both atoms k s)
-
-pub cases_deep : (depth : ℕ) (made early left right : Condition) → made ≡ Either early (Both left right) → 1 ≤ depth
-    → nesting early ≤ 2 * (depth - 1) + 1 → nesting left ≤ depth - 1 + 1 → nesting right ≤ 2 * (depth - 1) + 1
-    → nesting made ≤ 2 * depth + 1
-cases_deep depth made early left right is some e l r =
-    let whole = ap nesting is in omega (arith, whole, some, e, l, r)

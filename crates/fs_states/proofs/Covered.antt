@@ -1,6 +1,6 @@
 -- How far a listing is, step by step.
-use Rattle.std.proofs.Common.{◌≡◌, ◌∙◌, ap, sym, refl, subst, ℕ, ◌-◌, ◌<◌, true, Some, List, [], ◌∷◌, ◌++◌, All, length, take, inl, inr, arith}
-use Rattle.std.specs.Prelude.{◌⊎◌}
+use Rattle.std.proofs.Common.{◌≡◌, ◌∙◌, ap, sym, refl, subst, ℕ, zero, suc, ◌-◌, ◌<◌, true, Some, List, [], ◌∷◌, ◌++◌, All, length, take, inl, inr, arith}
+use Rattle.std.specs.Prelude.{◌⊎◌, slice_get}
 use Rattle.std.specs.List.{Contains, slice_index_or}
 use Rattle.std.specs.List.Sorted.{IsStrictlySortedBy}
 use Rattle.std.specs.Ordering.{nat_cmp}
@@ -14,7 +14,7 @@ use Rattle.fs_states.specs.declared.part.Atom.{Atom}
 use Rattle.fs_states.specs.declared.place.Place.{Place}
 use Rattle.fs_states.specs.declared.state.State.{State}
 use Rattle.fs_states.specs.States.{AreStates, IsShownState, IsState, word_at, words_of}
-use Rattle.fs_states.specs.inner.Parts.{is_in, IsListed, IsPartOf, Splits}
+use Rattle.fs_states.specs.inner.Parts.{is_in, IsListed, IsPartOf, SplitsBy}
 use Rattle.fs_states.proofs.Halves.{left_cases}
 
 module _ (t : Test) (p : List Entry) (places : List Place) where
@@ -51,17 +51,16 @@ module _ (t : Test) (p : List Entry) (places : List Place) where
     pub part_of : IsPartOf (length places) part
     part_of = asked_before.1
 
-    -- each state in the part is known
-    pub dropped : ((s : List ℕ) → IsState t p places s → is_in part s ≡ true → Contains (words_of known) s)
-        → IsListed t p places known parts
-    dropped all = record {
+    -- no state is in the part
+    pub dropped : ((s : List ℕ) → IsState t p places s → is_in part s ≡ true → ⊥) → IsListed t p places known parts
+    dropped none = record {
       rising = h.rising;
       shown = h.shown;
       asked = asked_before.0;
       covered =
           λ s is. elim (h.covered s is) [
             | inl there ↦ inl there
-            | inr left ↦ elim (left_cases parts part s left) [ inl before ↦ inr before | inr inside ↦ inl (all s is inside) ]
+            | inr left ↦ elim (left_cases parts part s left) [ inl before ↦ inr before | inr inside ↦ absurd (none s is inside) ]
           ];
     }
 
@@ -83,31 +82,48 @@ module _ (t : Test) (p : List Entry) (places : List Place) where
       covered = λ s is. elim (h.covered s is) [ inl there ↦ inl (old s there) | inr left ↦ inr left ];
     }
 
-    -- the part is split in two
-    pub split : (new : List (List Atom)) → Splits (length places) part parts new → IsListed t p places known new
-    split new splits = record {
-      rising = h.rising;
-      shown = h.shown;
-      asked = splits.parts asked_before.0;
-      covered =
-          λ s is. elim (h.covered s is) [
-            | inl listed ↦ inl listed
-            | inr left ↦ elim (left_cases parts part s left) [ inl before ↦ inr (splits.kept s before) | inr inside ↦ inr (splits.halves s inside) ]
-          ];
-    }
+    -- ---- the part is split by a known state
 
-    -- the known states have a word for each place
-    long_state : (state : State) → IsShownState t p places state → length state.words ≡ length places
-    long_state state is = sym (ap length is.3) ∙ length-map places (word_at t is.0)
+    long_state : (s : List ℕ) → IsState t p places s → length s ≡ length places
+    long_state s is = sym (ap length is.2) ∙ length-map places (word_at t is.0)
 
-    pub long : All (λ state. length state.words ≡ length places) known
-    long = All-weaker (IsShownState t p places) (λ state. length state.words ≡ length places) long_state known h.shown
+    module _ (index : ℕ) (state : State) (low : index < length known) (there : state ≡ slice_index_or known index state) where
+      known_state : IsShownState t p places state
+      known_state = subst (IsShownState t p places) (sym there) (h.shown index state low)
 
-pub known_words : (known : List State) (index : ℕ) (state : State) → index < length known → state ≡ slice_index_or known index state
-    → Contains (words_of known) state.words
-known_words known index state low there =
-    let long = length-map known (λ (one : State). one.words) in
-    (index, omega (arith, low, long), get_or-map (λ one. one.words) known index state state.words low ∙ ap (λ (one : State). one.words) (sym there))
+      pub long_known : length state.words ≡ length places
+      long_known = long_state state.words (shown_state state known_state)
+
+      known_words : Contains (words_of known) state.words
+      known_words =
+          let long = length-map known (λ (one : State). one.words) in
+          (index, omega (arith, low, long), get_or-map (λ one. one.words) known index state state.words low ∙ ap (λ (one : State). one.words) (sym there))
+
+      pub split : (new : List (List Atom)) → SplitsBy part state.words parts new → IsListed t p places known new
+      split new splits = record {
+        rising = h.rising;
+        shown = h.shown;
+        asked = subst (λ n. All (IsPartOf n) new) long_known (splits.parts (subst (λ n. All (IsPartOf n) parts) (sym long_known) asked_before.0));
+        covered =
+            λ s is. elim (h.covered s is) [
+              | inl listed ↦ inl listed
+              | inr left ↦ elim (left_cases parts part s left) [
+                | inl before ↦ inr (splits.kept s before)
+                | inr inside ↦ elim (splits.halves s (long_state s is ∙ sym long_known) inside) [
+                  | inl same ↦ inl (subst (Contains (words_of known)) (sym same) known_words)
+                  | inr later ↦ inr later
+                ]
+              ]
+            ];
+      }
+
+      pub part_fits : IsPartOf (length state.words) part
+      part_fits = subst (λ n. IsPartOf n part) (sym long_known) part_of
+
+pub some_at : (known : List State) (index : ℕ) → index < length known → (state : State) × (slice_get known index ≡ Some state)
+some_at [] index low = absurd (omega (arith, low))
+some_at (state ∷ known) zero low = (state, refl)
+some_at (state ∷ known) (suc index) low = some_at known index (omega (arith, low))
 
 pub none_left : (parts rest : List (List Atom)) (n : ℕ) → n ≡ 0 → rest ≡ take (n - 1) parts → parts ≡ rest ++ [] → parts ≡ []
 none_left parts rest n none before all =

@@ -4,5 +4,4 @@ pub mod Balanced
 pub mod Ending
 pub mod Conditions
 pub mod Asking
-pub mod Only
 pub mod Covered

@@ -1,10 +1,10 @@
 //! Conditions that single out a part of the states.
 
-ghost use Rattle.std.specs.Prelude.{◌≡◌, ◌<◌, ◌≤◌, ◌+◌, ◌*◌, ◌^◌, ◌==◌, not, ℕ, All, length, map, IfOk};
-ghost use Rattle.fs_model.specs.Condition.{Both, Either, condition_of, nesting, SpeaksOf};
+ghost use Rattle.std.specs.Prelude.{◌≡◌, ◌<◌, ◌≤◌, ◌+◌, ◌^◌, ◌==◌, ℕ, All, length, map, IfOk};
+ghost use Rattle.fs_model.specs.Condition.{Both, condition_of, nesting, SpeaksOf};
 ghost use Rattle.fs_model.specs.Shows.{holds};
 ghost use Rattle.fs_states.specs.States.{word_of, IsPlaceOf};
-ghost use Rattle.fs_states.specs.inner.Parts.{as_wanted, is_so, is_in, is_in_but, IsPartOf, IsTrueIn};
+ghost use Rattle.fs_states.specs.inner.Parts.{as_wanted, is_so, is_in, IsPartOf};
 
 use crate::part::Atom;
 use crate::place::Place;
@@ -13,9 +13,6 @@ use std::alloc::{AllocError, Global};
 
 /// The greatest depth of a tree of atoms, which would be 2^60 of them: more than memory has.
 const MOST_DEPTH: u32 = 60;
-
-/// The same of a tree of cases: a test has fewer places than 2^16.
-const CASES_DEPTH: u32 = 16;
 
 // The place ends with the word.
 fn ends_with(place: Place, word: u32) -> Outcome
@@ -99,97 +96,6 @@ fn all_of(
     }
 }
 
-// The atom is false.
-fn not_one_of(alloc: Global, places: &[Place], atom: &Atom) -> Result<Outcome, AllocError>
-    requires { atom.now.index < length places.now }
-    ensures holds { IfOk result (λ made. (r : ℕ → ℕ → ℕ) (w : ℕ → ℕ)
-        → holds r w (condition_of made) ≡ not (is_so (map (word_of r w) places.now) atom.now)) }
-    ensures flat { IfOk result (λ made. nesting (condition_of made) ≤ 1) }
-    ensures speaks { IfOk result (λ made. (harts locations : ℕ) → All (IsPlaceOf harts locations) places.now
-        → SpeaksOf harts locations (condition_of made)) }
-{
-    atom_condition(alloc, places[atom.index], atom.word, !atom.is)
-}
-
-// One condition, or the other two.
-fn or_both(
-    alloc: Global,
-    first: Outcome,
-    left: Outcome,
-    right: Outcome,
-) -> Result<Outcome, AllocError>
-    ensures { IfOk result (λ made.
-        condition_of made ≡ Either (condition_of first) (Both (condition_of left) (condition_of right))) }
-{
-    let both = both(alloc, left, right)?;
-    let first = Box::new(alloc, first)?;
-    let both = Box::new(alloc, both)?;
-    Ok(Outcome::Either(first, both))
-}
-
-// Some atom is false, as a tree of cases of which no two are true together: a hunt follows each case by itself.
-fn not_all_of(
-    alloc: Global,
-    places: &[Place],
-    atoms: &[Atom],
-    depth: u32,
-) -> Result<Outcome, AllocError>
-    requires few { length atoms.now ≤ 2 ^ depth }
-    requires places { IsPartOf (length places.now) atoms.now }
-    ensures holds { IfOk result (λ made. (r : ℕ → ℕ → ℕ) (w : ℕ → ℕ)
-        → holds r w (condition_of made) ≡ not (is_in atoms.now (map (word_of r w) places.now))) }
-    ensures depth { IfOk result (λ made. nesting (condition_of made) ≤ 2 * depth + 1) }
-    ensures speaks { IfOk result (λ made. (harts locations : ℕ) → All (IsPlaceOf harts locations) places.now
-        → SpeaksOf harts locations (condition_of made)) }
-{
-    match atoms {
-        [] => Ok(Outcome::Never),
-        [atom] => not_one_of(alloc, places, atom),
-        _ => {
-            let middle = atoms.len() / 2;
-            let early = not_all_of(alloc, places, &atoms[..middle], depth - 1)?;
-            let left = all_of(alloc, places, &atoms[..middle], depth - 1)?;
-            let right = not_all_of(alloc, places, &atoms[middle..], depth - 1)?;
-            or_both(alloc, early, left, right)
-        }
-    }
-}
-
-// Some atom is false.
-fn outside(alloc: Global, places: &[Place], atoms: &[Atom]) -> Result<Outcome, AllocError>
-    requires { IsPartOf (length places.now) atoms.now }
-    ensures holds { IfOk result (λ made. (r : ℕ → ℕ → ℕ) (w : ℕ → ℕ)
-        → holds r w (condition_of made) ≡ not (is_in atoms.now (map (word_of r w) places.now))) }
-    ensures depth { IfOk result (λ made. nesting (condition_of made) ≤ 62) }
-    ensures speaks { IfOk result (λ made. (harts locations : ℕ) → All (IsPlaceOf harts locations) places.now
-        → SpeaksOf harts locations (condition_of made)) }
-{
-    if atoms.len() <= 1 << CASES_DEPTH {
-        return not_all_of(alloc, places, atoms, CASES_DEPTH);
-    }
-    let within = all_of(alloc, places, atoms, MOST_DEPTH)?;
-    Ok(Outcome::Deny(Box::new(alloc, within)?))
-}
-
-// The condition that a state is in the part, and not in the other one. Linear in the atoms.
-pub(crate) fn condition_apart(
-    alloc: Global,
-    places: &[Place],
-    part: &[Atom],
-    other: &[Atom],
-) -> Result<Outcome, AllocError>
-    requires part { IsPartOf (length places.now) part.now }
-    requires other { IsPartOf (length places.now) other.now }
-    ensures holds { IfOk result (λ made. IsTrueIn places.now made (is_in_but part.now other.now)) }
-    ensures depth { IfOk result (λ made. nesting (condition_of made) ≤ 64) }
-    ensures speaks { IfOk result (λ made. (harts locations : ℕ) → All (IsPlaceOf harts locations) places.now
-        → SpeaksOf harts locations (condition_of made)) }
-{
-    let inside = all_of(alloc, places, part, MOST_DEPTH)?;
-    let outside = outside(alloc, places, other)?;
-    both(alloc, inside, outside)
-}
-
 // The condition that a state is in the part. Linear in the atoms.
 pub(crate) fn condition(
     alloc: Global,
@@ -197,7 +103,8 @@ pub(crate) fn condition(
     part: &[Atom],
 ) -> Result<Outcome, AllocError>
     requires places { IsPartOf (length places.now) part.now }
-    ensures holds { IfOk result (λ made. IsTrueIn places.now made (is_in part.now)) }
+    ensures holds { IfOk result (λ made. (r : ℕ → ℕ → ℕ) (w : ℕ → ℕ)
+        → holds r w (condition_of made) ≡ is_in part.now (map (word_of r w) places.now)) }
     ensures depth { IfOk result (λ made. nesting (condition_of made) ≤ 64) }
     ensures speaks { IfOk result (λ made. (harts locations : ℕ) → All (IsPlaceOf harts locations) places.now
         → SpeaksOf harts locations (condition_of made)) }

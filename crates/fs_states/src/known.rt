@@ -1,49 +1,28 @@
 //! The states that are known, in their order.
 
-ghost use Rattle.std.specs.Prelude.{◌≡◌, ℕ, ◌<◌, ◌⊎◌, List, All, IfNone, IfSome, OnOk, length};
+ghost use Rattle.std.specs.Prelude.{◌≡◌, ℕ, ◌<◌, ◌⊎◌, true, Some, List, All, IfNone, IfSome, OnOk, slice_get, length};
 ghost use Rattle.std.specs.List.{Contains};
 ghost use Rattle.std.specs.List.Sorted.{IsStrictlySortedBy};
 ghost use Rattle.std.specs.Ordering.{nat_cmp};
 ghost use Rattle.std.specs.Cmp.Lexicographic.{slice_cmp};
+ghost use Rattle.fs_states.specs.declared.state.State.{State as States};
 ghost use Rattle.fs_states.specs.States.{words_of};
-ghost use Rattle.fs_states.specs.inner.Parts.{IsPlaceFor};
+ghost use Rattle.fs_states.specs.inner.Parts.{is_in, IsPlaceFor};
 
 use crate::part::{Atom, is_in};
-use crate::splitting::Cut;
 use crate::state::State;
 use std::alloc::AllocError;
 use std::cmp::Ordering;
 
 // The number of the first state in the part.
 pub(crate) fn first_in(known: &[State], part: &[Atom]) -> Option<usize>
-    ensures { IfSome result (λ index. index < length known.now) }
+    ensures low { IfSome result (λ index. index < length known.now) }
+    ensures some { IfSome result (λ index. (state : States) → slice_get known.now index ≡ Some state
+        → is_in part.now state.words ≡ true) }
 {
     known
         .iter()
         .position(|state| is_in(part, state.words.as_slice()))
-}
-
-// The first of so many places at which the words differ, and the word of the first ones there.
-fn cut_between(words: &[u32], others: &[u32], places: usize) -> Option<Cut>
-    ensures { IfSome result (λ cut. cut.index < places) }
-{
-    for (index, word) in words.iter().enumerate() {
-        if index < places && others.get(index).copied() != Some(*word) {
-            return Some(Cut { index, word: *word });
-        }
-    }
-    None
-}
-
-// Where the first two states in the part differ, at one of so many places. Linear in the states.
-pub(crate) fn cut_in(known: &[State], part: &[Atom], places: usize) -> Option<Cut>
-    ensures { IfSome result (λ cut. cut.index < places) }
-{
-    let first = first_in(known, part)?;
-    let rest = &known[first + 1..];
-    let second = first_in(rest, part)?;
-    let words = known[first].words.as_slice();
-    cut_between(words, rest[second].words.as_slice(), places)
 }
 
 // Where a state of these words stands among the states, which rise; none where there is one already.

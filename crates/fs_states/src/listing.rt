@@ -1,25 +1,26 @@
 //! The list of all final states.
 
-ghost use Rattle.std.specs.Prelude.{◌≡◌, ◌≢◌, ◌++◌, ◌∷◌, [], ℕ, true, List, All, length, IfOk, IfErr, IfNone, IfSome, OnOk};
-ghost use Rattle.std.specs.List.{Contains};
+ghost use Rattle.std.specs.Prelude.{◌≡◌, ◌≢◌, ◌<◌, ◌++◌, ◌∷◌, [], true, Some, List, All, length, slice_get};
+ghost use Rattle.std.specs.Prelude.{IfOk, IfErr, OnOk};
 ghost use Rattle.std.specs.Arc.{arc_value};
 ghost use Rattle.fs_kinds.specs.declared.fault.Fault.{Fault as Faults};
 ghost use Rattle.fs_kinds.specs.declared.placement.Entry.{Entry};
 ghost use Rattle.fs_model.specs.declared.test.Test.{Test as Tests};
 ghost use Rattle.fs_states.specs.declared.place.Place.{Place as Places};
+ghost use Rattle.fs_states.specs.declared.state.State.{State as States};
 ghost use Rattle.fs_kinds.specs.declared.fault.Fault.TheVariants.{Memory};
 ghost use Rattle.fs_kinds.specs.Placement.{slots_of};
 ghost use Rattle.fs_model.specs.Slots.{slots};
 ghost use Rattle.fs_model.specs.Test.{IsBounded, IsStart};
 ghost use Rattle.fs_model.specs.TooMany.{IsRunFault};
 ghost use Rattle.fs_answer.specs.CandidateFaults.{IsCandidateFault};
-ghost use Rattle.fs_states.specs.States.{AreStates, ArePlacesOf, IsShownState, IsState, IsStatesFault, words_of};
-ghost use Rattle.fs_states.specs.inner.Parts.{is_in, IsListed, IsPartOf};
+ghost use Rattle.fs_states.specs.States.{AreStates, ArePlacesOf, IsShownState, IsStatesFault, words_of};
+ghost use Rattle.fs_states.specs.inner.Parts.{is_in, IsListed, IsPartOf, SplitsBy};
 
-use crate::known::{cut_in, first_in, keep};
+use crate::known::{first_in, keep};
 use crate::part::{Atom, Part};
 use crate::place::Place;
-use crate::sought::{sought, sought_but};
+use crate::sought::sought;
 use crate::splitting::split;
 use crate::state::State;
 use fs_kinds::{Fault, Placement};
@@ -39,6 +40,21 @@ struct Listing {
     parts: Vec<Part>,
 }
 
+impl Listing {
+    // Splits the part by the known state of this number, which is in it.
+    fn split(&mut self, alloc: Global, part: &[Atom], index: usize) -> Result<(), AllocError>
+        requires low { index < length self.old.known.items }
+        requires part { (state : States) → slice_get self.old.known.items index ≡ Some state
+            → IsPartOf (length state.words) part.now × (is_in part.now state.words ≡ true) }
+        ensures known { self.new.known.items ≡ self.old.known.items }
+        ensures ok { (state : States) → slice_get self.old.known.items index ≡ Some state
+            → OnOk result (SplitsBy part.now state.words self.old.parts.items self.new.parts.items) }
+    {
+        let state = &self.known[index];
+        split(alloc, &mut self.parts, part, state.words.as_slice())
+    }
+}
+
 // All states, before any is known: one part has them all.
 fn begun(alloc: Global) -> Result<Listing, AllocError>
     ensures { (t : Tests) (p : List Entry) (places : List Places)
@@ -51,36 +67,7 @@ fn begun(alloc: Global) -> Result<Listing, AllocError>
     Ok(Listing { known, parts })
 }
 
-// A state in the part that isn't known; none where each state in it is.
-fn unknown(
-    alloc: Global,
-    test: &Test,
-    placement: &Placement,
-    places: &[Place],
-    known: &[State],
-    part: &[Atom],
-) -> Result<Option<State>, Fault>
-    requires bounded { IsBounded test.now }
-    requires starts { All IsStart test.now.starts }
-    requires placement { slots_of placement.now ≡ slots test.now }
-    requires places { ArePlacesOf test.now places.now }
-    requires known { All (λ state. length state.words ≡ length places.now) known.now }
-    requires part { IsPartOf (length places.now) part.now }
-    ensures some { IfOk result (λ found. IfSome found (IsShownState test.now placement.now places.now)) }
-    ensures none { IfOk result (λ found. IfNone found ((s : List ℕ) → IsState test.now placement.now places.now s
-        → is_in part.now s ≡ true → Contains (words_of known.now) s)) }
-    ensures err { IfErr result (λ f. f ≢ Memory → IsCandidateFault test.now f) }
-{
-    match first_in(known, part) {
-        Some(index) => {
-            let words = known[index].words.as_slice();
-            sought_but(alloc, test, placement, places, part, words)
-        }
-        None => sought(alloc, test, placement, places, part),
-    }
-}
-
-// Asks for a state in the part that isn't known. Where there is one, it is known from then on.
+// Asks for a state in the part, of which no known one is. Where there is one, it is known from then on.
 fn extend(
     alloc: Global,
     test: &Test,
@@ -99,22 +86,14 @@ fn extend(
         (IsListed test.now placement.now places.now listing.new.known.items listing.new.parts.items) }
     ensures err { IfErr result (λ f. f ≢ Memory → IsCandidateFault test.now f) }
 {
-    let found = unknown(
-        alloc,
-        test,
-        placement,
-        places,
-        &listing.known,
-        part.as_slice(),
-    )?;
-    if let Some(state) = found {
+    if let Some(state) = sought(alloc, test, placement, places, part.as_slice())? {
         keep(&mut listing.known, state)?;
         listing.parts.push(part)?;
     }
     Ok(())
 }
 
-// Takes this part on: it is split where two known states in it differ; or else another state in it is asked for.
+// Takes this part on: it is split by a known state in it, or another one is sought.
 fn advance(
     alloc: Global,
     test: &Test,
@@ -133,9 +112,9 @@ fn advance(
         (IsListed test.now placement.now places.now listing.new.known.items listing.new.parts.items) }
     ensures err { IfErr result (λ f. f ≢ Memory → IsCandidateFault test.now f) }
 {
-    match cut_in(&listing.known, part.as_slice(), places.len()) {
-        Some(cut) => Ok(split(alloc, &mut listing.parts, part.as_slice(), cut)?),
+    match first_in(&listing.known, part.as_slice()) {
         None => extend(alloc, test, placement, places, listing, part),
+        Some(index) => Ok(listing.split(alloc, part.as_slice(), index)?),
     }
 }
 
@@ -148,8 +127,8 @@ fn advance(
 /// more and there are too many candidates or lists of runs, where no hunt gives a verdict and there are too many
 /// candidates, or where the listing is given up after 1,000,000 steps; or F19.
 ///
-/// The cost: two verdicts for each state, on the test with another condition: one that finds it, and one that finds no
-/// other state in its part. No verdict shares anything with another one: each is that of `Problem::new` and
+/// The cost: a verdict for each state, and one for each beginning of a state that isn't whole, on the test with
+/// another condition. No verdict shares anything with another one: each is that of `Problem::new` and
 /// `Judge::verdict` of fs_judge. Each step is linear in the states that are known.
 pub fn states(
     alloc: Global,

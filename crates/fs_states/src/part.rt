@@ -1,7 +1,9 @@
 //! Parts of the states of a test: those that have some words at some places, and don't have others at others.
 
-ghost use Rattle.std.specs.Prelude.{◌≡◌, ◌++◌, ◌∷◌, [], true, false, filter, not, ◌==◌, IfOk};
-ghost use Rattle.fs_states.specs.inner.Parts.{as_wanted, is_so, is_in, atom_at, exactly};
+ghost use Rattle.std.specs.Prelude.{◌≡◌, ◌<◌, ◌++◌, ◌∷◌, [], true, false, filter, not, ◌==◌, IfOk, IfSome};
+ghost use Rattle.std.specs.List.{find, list_any};
+ghost use Rattle.fs_model.specs.Numbers.{numbers_below};
+ghost use Rattle.fs_states.specs.inner.Parts.{as_wanted, is_so, is_in, is_fixing, is_open_at};
 
 use fs_list::List;
 use std::alloc::{AllocError, Global};
@@ -38,31 +40,39 @@ pub(crate) fn is_in(part: &[Atom], state: &[u32]) -> bool
     part.iter().all(|atom| is_so(state, atom))
 }
 
-// The place of this number has its word.
-fn atom_at(words: &[u32], index: usize) -> Atom
-    ensures { result ≡ atom_at words.now index }
+// Does the atom say which word the place has?
+fn is_fixing(index: usize, atom: &Atom) -> bool
+    ensures { result ≡ is_fixing index atom.now }
 {
-    Atom {
-        index,
-        word: words.get(index).copied().unwrap_or(0),
-        is: true,
-    }
+    atom.is && atom.index == index
 }
 
-// Each place has its word.
-fn atoms_of(alloc: Global, words: &[u32]) -> Result<Vec<Atom>, AllocError>
-    ensures { IfOk result (λ atoms. atoms.items ≡ exactly words.now) }
+// Does some atom of the part say so?
+fn is_fixed_at(part: &[Atom], index: usize) -> bool
+    ensures { result ≡ list_any (is_fixing index) part.now }
 {
-    (0..words.len())
-        .map(|index| atom_at(words, index))
-        .collect(alloc)
+    part.iter().any(|atom| is_fixing(index, atom))
 }
 
-// The part in which a state of these words is, and no other one.
-pub(crate) fn exactly(alloc: Global, words: &[u32]) -> Result<Part, AllocError>
-    ensures { IfOk result (λ made. made ≡ exactly words.now) }
+// Does no atom of the part say so?
+fn is_open_at(part: &[Atom], index: usize) -> bool
+    ensures { result ≡ is_open_at part.now index }
 {
-    Ok(List::new(atoms_of(alloc, words)?))
+    !is_fixed_at(part, index)
+}
+
+fn find_open(part: &[Atom], places: usize) -> Option<usize>
+    ensures { result ≡ find (is_open_at part.now) (numbers_below places) }
+{
+    (0..places).find(|index| is_open_at(part, *index))
+}
+
+// The first of so many places whose word no atom says.
+pub(crate) fn first_open(part: &[Atom], places: usize) -> Option<usize>
+    ensures low { IfSome result (λ index. index < places) }
+    ensures first { result ≡ find (is_open_at part.now) (numbers_below places) }
+{
+    find_open(part, places)
 }
 
 fn is_elsewhere(index: usize, atom: &Atom) -> bool

@@ -1,28 +1,27 @@
-//! Asking the judge for a state.
+//! Asking the judge for a state that isn't known yet.
 
-ghost use Rattle.std.specs.Prelude.{◌≡◌, ◌≢◌, ◌≤◌, true, ℕ, All, List, length, IfOk, IfErr, IfNone, IfSome, IsOkUnless};
+ghost use Rattle.std.specs.Prelude.{◌≡◌, ◌≢◌, true, ℕ, All, List, length, IfOk, IfErr, IfNone, IfSome, IsOkUnless};
 ghost use Rattle.std.specs.Arc.{arc_value};
 ghost use Rattle.fs_kinds.specs.declared.fault.Fault.TheVariants.{Memory};
 ghost use Rattle.fs_kinds.specs.Placement.{slots_of};
 ghost use Rattle.fs_model.specs.Allows.{Allows};
-ghost use Rattle.fs_model.specs.Condition.{condition_of, nesting, SpeaksOf};
 ghost use Rattle.fs_model.specs.Slots.{slots};
 ghost use Rattle.fs_model.specs.Test.{IsBounded, IsStart};
 ghost use Rattle.fs_answer.specs.CandidateFaults.{IsCandidateFault};
 ghost use Rattle.fs_judge.specs.Verdicts.{IsVerdict};
 ghost use Rattle.fs_states.specs.States.{ArePlacesOf, IsShownState, IsState};
-ghost use Rattle.fs_states.specs.inner.Parts.{is_in, AsksFor, IsNowhere, IsPartOf};
+ghost use Rattle.fs_states.specs.inner.Parts.{is_in, AsksFor, IsPartOf};
 
 use crate::asked::asked;
-use crate::condition::{condition, condition_apart};
+use crate::condition::condition;
 use crate::ended::ended;
-use crate::part::{Atom, exactly};
+use crate::part::Atom;
 use crate::place::Place;
 use crate::state::State;
 use fs_evidence::Question;
 use fs_judge::{Judge, Problem, Verdict};
 use fs_kinds::{Fault, Placement, Prices, read_prices};
-use fs_model::{Outcome, Test};
+use fs_model::Test;
 use std::alloc::Global;
 use std::sync::Arc;
 
@@ -83,44 +82,22 @@ fn shown_state(
     }
 }
 
-// The test, asking for a state in which the condition is true.
-fn asking(alloc: Global, test: &Test, condition: Outcome) -> Result<Arc<Test>, Fault>
+// The test, asking for a state in the part.
+fn asking(alloc: Global, test: &Test, places: &[Place], part: &[Atom]) -> Result<Arc<Test>, Fault>
     requires bounded { IsBounded test.now }
-    requires depth { nesting (condition_of condition) ≤ 64 }
-    requires speaks { SpeaksOf (length test.now.codes) (length test.now.locations) (condition_of condition) }
-    ensures ok { IfOk result (λ made. AsksFor test.now condition (arc_value made)) }
+    requires places { ArePlacesOf test.now places.now }
+    requires part { IsPartOf (length places.now) part.now }
+    ensures ok { IfOk result (λ made. AsksFor test.now places.now part.now (arc_value made)) }
     ensures err { IsOkUnless result Memory }
 {
+    let condition = condition(alloc, places, part)?;
     let asked = asked(alloc, test, condition)?;
     Ok(Arc::new(alloc, asked)?)
 }
 
-// A state in which the test can end with these fences and the condition is true; none where there is no such state. The
-// cost is that of copying the test, of `Problem::new` and `Judge::verdict` of fs_judge, and of `ended`. The fault is that
-// of the test's candidates, or F19.
-fn sought_where(
-    alloc: Global,
-    test: &Test,
-    placement: &Placement,
-    places: &[Place],
-    condition: Outcome,
-) -> Result<Option<State>, Fault>
-    requires bounded { IsBounded test.now }
-    requires starts { All IsStart test.now.starts }
-    requires placement { slots_of placement.now ≡ slots test.now }
-    requires places { ArePlacesOf test.now places.now }
-    requires depth { nesting (condition_of condition) ≤ 64 }
-    requires speaks { SpeaksOf (length test.now.codes) (length test.now.locations) (condition_of condition) }
-    ensures some { IfOk result (λ found. IfSome found (IsShownState test.now placement.now places.now)) }
-    ensures none { IfOk result (λ found. IfNone found (IsNowhere test.now placement.now places.now condition)) }
-    ensures err { IfErr result (λ f. f ≢ Memory → IsCandidateFault test.now f) }
-{
-    let asked = asking(alloc, test, condition)?;
-    shown_state(alloc, &asked, placement, places)
-}
-
-// A state in the part in which the test can end with these fences; none where there is no such state. Cost and fault are
-// those of `sought_where`.
+// A state in the part in which the test can end with these fences; none where there is no such state. The cost is
+// that of copying the test, of `Problem::new` and `Judge::verdict` of fs_judge, and of `ended`. The fault is that of
+// the test's candidates, or F19.
 pub(crate) fn sought(
     alloc: Global,
     test: &Test,
@@ -138,31 +115,6 @@ pub(crate) fn sought(
         → is_in part.now s ≡ true → ⊥)) }
     ensures err { IfErr result (λ f. f ≢ Memory → IsCandidateFault test.now f) }
 {
-    let condition = condition(alloc, places, part)?;
-    sought_where(alloc, test, placement, places, condition)
-}
-
-// The same, but of a state of other words than these.
-pub(crate) fn sought_but(
-    alloc: Global,
-    test: &Test,
-    placement: &Placement,
-    places: &[Place],
-    part: &[Atom],
-    words: &[u32],
-) -> Result<Option<State>, Fault>
-    requires bounded { IsBounded test.now }
-    requires starts { All IsStart test.now.starts }
-    requires placement { slots_of placement.now ≡ slots test.now }
-    requires places { ArePlacesOf test.now places.now }
-    requires part { IsPartOf (length places.now) part.now }
-    requires words { length words.now ≡ length places.now }
-    ensures some { IfOk result (λ found. IfSome found (IsShownState test.now placement.now places.now)) }
-    ensures none { IfOk result (λ found. IfNone found ((s : List ℕ) → IsState test.now placement.now places.now s
-        → is_in part.now s ≡ true → s ≡ words.now)) }
-    ensures err { IfErr result (λ f. f ≢ Memory → IsCandidateFault test.now f) }
-{
-    let other = exactly(alloc, words)?;
-    let condition = condition_apart(alloc, places, part, other.as_slice())?;
-    sought_where(alloc, test, placement, places, condition)
+    let asked = asking(alloc, test, places, part)?;
+    shown_state(alloc, &asked, placement, places)
 }

@@ -1,5 +1,5 @@
 -- Parts of the states that words at some of the places single out, and the test that asks for one of them.
-use Rattle.std.specs.Prelude.{◌≡◌, ℕ, ◌<◌, ◌≤◌, ◌⊎◌, Bool, true, false, not, ◌&&◌, Some, List, [], All, length, map, slice_get}
+use Rattle.std.specs.Prelude.{◌≡◌, ℕ, ◌<◌, ◌≤◌, ◌==◌, ◌⊎◌, Bool, true, false, not, ◌&&◌, Some, List, [], All, length, map, slice_get}
 use Rattle.std.specs.List.{Contains, list_all, list_any, slice_index_or}
 use Rattle.std.specs.List.Sorted.{IsStrictlySortedBy}
 use Rattle.std.specs.Ordering.{nat_cmp}
@@ -11,7 +11,7 @@ use Rattle.fs_model.specs.declared.test.Test.{Test}
 use Rattle.fs_model.specs.declared.test.Quantifier.TheVariants.{Exists}
 use Rattle.fs_model.specs.declared.step.Choice.{Choice}
 use Rattle.fs_model.specs.Condition.{condition_of}
-use Rattle.fs_model.specs.Numbers.{is_same, numbers_below}
+use Rattle.fs_model.specs.Numbers.{is_same}
 use Rattle.fs_model.specs.Shows.{holds}
 use Rattle.fs_model.specs.Test.{IsBounded}
 use Rattle.fs_model.specs.Execution.{Execution, IsExecution}
@@ -35,17 +35,13 @@ is_so s atom = as_wanted atom.is (is_same (slice_get s atom.index) (Some atom.wo
 abbrev pub is_in : List Atom → List ℕ → Bool
 is_in part s = list_all (is_so s) part
 
--- the place of this number has its word
-abbrev pub atom_at : List ℕ → ℕ → Atom
-atom_at words index = record { index = index; word = slice_index_or words index 0; is = true }
+-- the atom says which word the place of this number has
+abbrev pub is_fixing : ℕ → Atom → Bool
+is_fixing index atom = atom.is && (atom.index == index)
 
--- the part in which a state of these words is, and no other one
-abbrev pub exactly : List ℕ → List Atom
-exactly words = map (atom_at words) (numbers_below (length words))
-
--- the state is in the first part, and not in the other one
-abbrev pub is_in_but : (part other : List Atom) → List ℕ → Bool
-is_in_but part other s = is_in part s && not (is_in other s)
+-- no atom of the part does
+abbrev pub is_open_at : List Atom → ℕ → Bool
+is_open_at part index = not (list_any (is_fixing index) part)
 
 -- its atoms are on the first so many places
 abbrev pub IsPartOf : ℕ → List Atom → Type 0
@@ -55,22 +51,14 @@ IsPartOf places part = All (λ atom. atom.index < places) part
 abbrev pub with_condition : Outcome → Test → Test
 with_condition condition t = record t { quantifier = Exists; condition = condition }
 
--- it is that test
-pub record AsksFor (t : Test) (condition : Outcome) (asked : Test) : Type 0 where
+-- it is such a test, whose condition is true where the state is in the part
+pub record AsksFor (t : Test) (places : List Place) (part : List Atom) (asked : Test) : Type 0 where
+  pub condition : Outcome
   pub same : asked ≡ with_condition condition t
   pub bounded : IsBounded asked
-
--- the condition is true where this is so of the words at the places
-abbrev pub IsTrueIn : List Place → Outcome → (List ℕ → Bool) → Type 0
-IsTrueIn places condition wanted =
-    (register : ℕ → ℕ → ℕ) (word : ℕ → ℕ)
-    → holds register word (condition_of condition) ≡ wanted (map (word_of register word) places)
-
--- the condition is true in no state of the test with these fences
-abbrev pub IsNowhere : Test → List Entry → List Place → Outcome → Type 0
-IsNowhere t p places condition =
-    (wanted : List ℕ → Bool) → IsTrueIn places condition wanted
-    → (s : List ℕ) → IsState t p places s → wanted s ≡ true → ⊥
+  pub holds :
+      (register : ℕ → ℕ → ℕ) (word : ℕ → ℕ)
+      → holds register word (condition_of condition) ≡ is_in part (map (word_of register word) places)
 
 -- ---- witnesses
 
@@ -98,11 +86,11 @@ pub record IsListed (t : Test) (p : List Entry) (places : List Place) (known : L
   pub asked : All (IsPartOf (length places)) parts
   pub covered : (s : List ℕ) → IsState t p places s → Contains (words_of known) s ⊎ IsLeft parts s
 
--- a part of these places is split in two: each of its states is left
-pub record Splits (places : ℕ) (part : List Atom) (old new : List (List Atom)) : Type 0 where
+-- what follows when a part is split by a state in it: its states are this one, or left
+pub record SplitsBy (part : List Atom) (state : List ℕ) (old new : List (List Atom)) : Type 0 where
   pub kept : (s : List ℕ) → IsLeft old s → IsLeft new s
-  pub halves : (s : List ℕ) → is_in part s ≡ true → IsLeft new s
-  pub parts : All (IsPartOf places) old → All (IsPartOf places) new
+  pub halves : (s : List ℕ) → length s ≡ length state → is_in part s ≡ true → (s ≡ state) ⊎ IsLeft new s
+  pub parts : All (IsPartOf (length state)) old → All (IsPartOf (length state)) new
 
 -- the words stand before this place among rising ones, and after all before it
 pub record IsPlaceFor (lists : List (List ℕ)) (words : List ℕ) (index : ℕ) : Type 0 where

@@ -1,12 +1,22 @@
-use Rattle.std.proofs.Common.{length}
-use Rattle.fs_states.specs.inner.Parts.{is_in}
-use Rattle.fs_states.proofs.Asking.{ok_none}
+use Rattle.std.specs.Arc.{arc_value}
+use Rattle.std.proofs.lemmas.Result.{IfErr-weaker}
+use Rattle.fs_states.proofs.Asking.{same_state, none_in, same_fault, ok_some, ok_none}
 use Rattle.fs_states.proofs.sought.sought.Goals as goal
+
+pub returns-clause-some : goal.returns-clause-some
+returns-clause-some c =
+    ok_some c.shown_state.result _ _
+    (same_state c.args.test.now c.args.places.now c.args.part.now (arc_value c.in_ok-asked.asked) c.in_ok-asked.ensures.ok c.args.placement.now)
+    c.shown_state.ensures.some
 
 pub returns-clause-none : goal.returns-clause-none
 returns-clause-none c =
-    ok_none c.sought_where.result _ _ (λ nowhere. nowhere (is_in c.args.part.now) c.in_ok-condition.ensures.holds) c.sought_where.ensures.none
+    ok_none c.shown_state.result _ _
+    (none_in c.args.test.now c.args.places.now c.args.part.now (arc_value c.in_ok-asked.asked) c.in_ok-asked.ensures.ok c.args.placement.now)
+    c.shown_state.ensures.none
 
-pub sought_where-requires-clause-speaks : goal.sought_where-requires-clause-speaks
-sought_where-requires-clause-speaks c =
-    c.in_ok-condition.ensures.speaks (length c.args.test.now.codes) (length c.args.test.now.locations) c.requires.places
+pub returns-clause-err : goal.returns-clause-err
+returns-clause-err c =
+    IfErr-weaker c.shown_state.result _ _
+    (λ fault h other. same_fault c.args.test.now c.args.places.now c.args.part.now (arc_value c.in_ok-asked.asked) c.in_ok-asked.ensures.ok fault (h other))
+    c.shown_state.ensures.err
