@@ -70,6 +70,29 @@ impl<'a, R: Clock + Eprint> Progress<'a, R> {
         let _ = self.rt.eprint(format_args!("\r{line}\x1b[K"));
     }
 
+    /// Says how far the plan of one worker is, which asks for one more verdict.
+    fn say_of_plan(&self) {
+        self.verdicts.fetch_add(1, Ordering::SeqCst);
+        if self.is_due() {
+            let verdicts = self.verdicts.load(Ordering::SeqCst);
+            self.say(format_args!("{verdicts} verdicts to plan"));
+        }
+    }
+
+    /// Says how far the search by one worker is.
+    fn say_of_one(&self, nodes: usize, best: Option<u64>) {
+        if !self.is_due() {
+            return;
+        }
+        let verdicts = self.verdicts.load(Ordering::SeqCst);
+        match best {
+            Some(cost) => self.say(format_args!(
+                "{verdicts} verdicts to plan, {nodes} nodes, best cost {cost}"
+            )),
+            None => self.say(format_args!("{verdicts} verdicts to plan, {nodes} nodes")),
+        }
+    }
+
     /// Says what several workers have told of.
     fn say_of_many(&self) {
         if self.is_due() {
@@ -89,31 +112,26 @@ impl<'a, R: Clock + Eprint> Progress<'a, R> {
 
 impl<R: Clock + Eprint> Watch for Progress<'_, R> {
     fn planned(&mut self) {
-        self.verdicts.fetch_add(1, Ordering::SeqCst);
-        if self.is_due() {
-            let verdicts = self.verdicts.load(Ordering::SeqCst);
-            self.say(format_args!("{verdicts} verdicts to plan"));
-        }
+        self.say_of_plan();
     }
 
     fn searched(&mut self, nodes: usize, best: Option<u64>) {
-        if !self.is_due() {
-            return;
-        }
-        let verdicts = self.verdicts.load(Ordering::SeqCst);
-        match best {
-            Some(cost) => self.say(format_args!(
-                "{verdicts} verdicts to plan, {nodes} nodes, best cost {cost}"
-            )),
-            None => self.say(format_args!("{verdicts} verdicts to plan, {nodes} nodes")),
-        }
+        self.say_of_one(nodes, best);
     }
 }
 
-/// The best cost is under the lock, so no line has it.
+/// As long as one worker is alone, its lines are those of a watch. Then the best cost is under the lock, so no line has it.
 impl<R: Clock + Eprint> Gate for Progress<'_, R> {
-    fn nodes_alone(&self) -> usize {
-        Open.nodes_alone()
+    fn begins_alone(&self) -> bool {
+        Open.begins_alone()
+    }
+
+    fn planned(&self) {
+        self.say_of_plan();
+    }
+
+    fn searched(&self, nodes: usize, best: Option<u64>) {
+        self.say_of_one(nodes, best);
     }
 
     fn before(&self, _worker: u8) {

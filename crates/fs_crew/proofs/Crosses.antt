@@ -15,6 +15,7 @@ use Rattle.fs_pool.specs.declared.Asked as asked
 use Rattle.fs_pool.specs.contracts.shared.Shared as Shared
 use Rattle.fs_pool.specs.contracts.desk.Desk as Desk
 use Rattle.fs_evidence.specs.contracts.question.Question as Question
+use Rattle.fs_evidence.specs.contracts.evidence.Witness as Witness
 use Rattle.fs_board.specs.contracts.board.Board as Board
 use Rattle.fs_board.proofs.tree.Tree.TheSendSync as tree
 use Rattle.fs_board.proofs.event.LogEntry.TheSendSync as entry
@@ -69,3 +70,9 @@ problem_send = search (question_send, question_sync, basis_send, crosses, sendab
 
 pub problem_sync : IsSync problem.the_row
 problem_sync = search (question_send, question_sync, basis_sync, crosses, sendable) depth 40 fits 100000
+
+pub witness_send : IsSend Witness.the_row
+witness_send = search (list.the_send, named.the_send, crosses, sendable) depth 40 fits 100000
+
+pub witness_sync : IsSync Witness.the_row
+witness_sync = search (list.the_sync, named.the_sync, crosses, sendable) depth 40 fits 100000

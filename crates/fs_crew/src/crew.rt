@@ -1,27 +1,35 @@
 //! The answer to a question, searched by many workers.
 
-ghost use Rattle.std.specs.Prelude.{◌≡◌, ◌≢◌, ◌≤◌, [], IfOk, IfErr, IfSome, IsOkUnless, OnOk, All};
+ghost use Rattle.std.specs.Prelude.{◌≡◌, ◌≢◌, ◌≤◌, IfOk, IfErr, IfSome, IsOkUnless, OnOk, All, map};
 ghost use Rattle.std.specs.Arc.{arc_value};
 ghost use Rattle.fs_kinds.specs.PriceTable.{IsPriceTable};
 ghost use Rattle.fs_model.specs.Test.{IsBounded, IsStart};
 ghost use Rattle.fs_history.specs.Sizes.{HasNoRunFault};
+ghost use Rattle.fs_board.specs.Growth.{AreWitnesses};
 ghost use Rattle.fs_pool.specs.Asked.{IsAsked};
 ghost use Rattle.fs_search.specs.Answers.{IsAnswer, IsSolveFault, Rests};
 ghost use Rattle.fs_search.specs.Histories.{GoesOn};
 
-use crate::gate::Gate;
+use crate::gate::{Alone, Gate};
 use crate::work::Workplace;
 use fs_board::Board;
-use fs_evidence::Question;
+use fs_evidence::{Question, Witness};
 use fs_hands::{Hand, hands};
 use fs_kinds::Fault;
 use fs_pool::{Asked, Desk, Pass, finish};
-use fs_search::{Problem, Solved, Unwatched, conclude};
+use fs_search::{Problem, Solved, Unwatched, conclude, search_alone};
 use std::alloc::{AllocError, Global};
 use std::marker::Brand;
 use std::sync::{Arc, Wait};
 use std::thread;
 use std::thread::Threads;
+
+/// A board that one worker has begun to search, and the witnesses that it has met.
+#[derive(Drop)]
+struct Begun {
+    board: Board,
+    met: Vec<Arc<Witness>>,
+}
 
 /// Passes and hands side by side.
 fn side_by_side<A: Asked>(
@@ -50,6 +58,7 @@ fn work_together<A: Asked + Send + Sync, R: Threads + Wait + Sync, G: Gate + Syn
     workers: u8,
 ) -> Result<Vec<Pass<A>>, Fault>
     requires same { arc_value problem.now ≡ A.question }
+    requires met { AreWitnesses A.question.test (map arc_value place.now.met.now.items) }
     requires some { 1 ≤ workers }
     ensures { IsOkUnless result Fault.Memory }
 {
@@ -57,6 +66,7 @@ fn work_together<A: Asked + Send + Sync, R: Threads + Wait + Sync, G: Gate + Syn
     let alloc = place.alloc;
     let desk = place.desk;
     let gate = place.gate;
+    let met = place.met;
     let jobs = side_by_side(alloc, passes, hands(alloc, workers)?)?;
     let came = thread::map_vec(
         rt,
@@ -68,44 +78,12 @@ fn work_together<A: Asked + Send + Sync, R: Threads + Wait + Sync, G: Gate + Syn
                 alloc,
                 desk,
                 gate,
+                met,
             };
-            let (pass, _) = place.work(pass, hand, None, problem);
-            pass
+            place.work(pass, hand, problem)
         },
     )?;
     Ok(came)
-}
-
-/// The first worker searches alone for so many nodes as the gate says, and where that isn't all, all of them search.
-fn work_all<A: Asked + Send + Sync, R: Threads + Wait + Sync, G: Gate + Sync>(
-    place: &Workplace<'_, A, R, G>,
-    problem: &Arc<Problem>,
-    passes: Vec<Pass<A>>,
-    workers: u8,
-) -> Result<Vec<Pass<A>>, Fault>
-    requires same { arc_value problem.now ≡ A.question }
-    requires some { 1 ≤ workers }
-    ensures { IsOkUnless result Fault.Memory }
-{
-    let nodes = place.gate.nodes_alone();
-    if nodes == 0 {
-        return work_together(place, problem, passes, workers);
-    }
-    let mut passes = passes;
-    let mut ring = hands(place.alloc, 1)?;
-    let Some(hand) = ring.pop() else {
-        return Ok(passes);
-    };
-    if passes.is_empty() {
-        return Ok(passes);
-    }
-    let pass = passes.remove(0);
-    let (pass, goes_on) = place.work(pass, hand, Some(nodes), problem);
-    passes.push(pass)?;
-    if !goes_on {
-        return Ok(passes);
-    }
-    work_together(place, problem, passes, workers)
 }
 
 /// Some board of the question: the one that the workers searched and `finish` handed out, with nodes that are open or held
@@ -116,26 +94,28 @@ fn search_together<A: Asked + Send + Sync, R: Threads + Wait + Sync, G: Gate + S
     rt: &R,
     alloc: Global,
     problem: &Arc<Problem>,
-    board: Board,
+    begun: Begun,
     workers: u8,
     gate: &G,
 ) -> Result<Option<Board>, Fault>
-    requires asked { IsAsked board A.question A.limit }
+    requires asked { IsAsked begun.board A.question A.limit }
     requires same { arc_value problem.now ≡ A.question }
-    requires empty { board.log ≡ [] }
+    requires met { AreWitnesses A.question.test (map arc_value begun.met.items) }
     requires some { 1 ≤ workers }
     requires few { workers ≤ 16 }
     ensures asked { IfOk result (λ left. IfSome left (λ b. IsAsked b A.question A.limit)) }
     ensures err { IsOkUnless result Fault.Memory }
 {
+    let Begun { board, met } = begun;
     let (desk, passes) = Desk::<A>::new(alloc, board, workers)?;
     let place = Workplace {
         rt,
         alloc,
         desk: &desk,
         gate,
+        met: &met,
     };
-    let passes = work_all(&place, problem, passes, workers)?;
+    let passes = work_together(&place, problem, passes, workers)?;
     Ok(finish(desk, passes).ok())
 }
 
@@ -144,7 +124,6 @@ fn opened(alloc: Global, problem: &Problem, limit: usize) -> Result<Board, Fault
     requires test { IsBounded problem.now.test }
     requires limit { limit ≤ 1000000 }
     ensures asked { IfOk result (λ b. IsAsked b problem.now limit) }
-    ensures empty { IfOk result (λ b. b.log ≡ []) }
     ensures err { IsOkUnless result Fault.Memory }
 {
     let question = Arc::try_clone(problem.question())?;
@@ -203,11 +182,34 @@ fn concluded<G: Gate>(
     Ok(solved)
 }
 
-/// The answer to a question, as `fs_search::solve` gives it, searched by up to this many workers. One worker needs neither
-/// threads nor a desk. More of them search together first, and what they leave is searched as
-/// by one: all of it, where the board's log and what they saw of it don't agree. The faults are those of `fs_search::solve`.
-/// Several workers may make more nodes, and so come to F16 where one has the answer. A thread that never comes back is waited
-/// for without an end.
+/// One worker searches the board alone, unless all are to begin together. Where others may help now the witnesses that it has met come
+/// back; none where the board is finished, or has no room left. The faults are those of verdicts, and F19.
+fn begin<G: Gate>(
+    alloc: Global,
+    problem: &Arc<Problem>,
+    board: &mut Board,
+    gate: &G,
+) -> Result<Option<Vec<Arc<Witness>>>, Fault>
+    requires { board.old.question ≡ arc_value problem.now }
+    ensures goes { GoesOn board.old board.new }
+    ensures met { IfOk result (λ found. IfSome found (λ met. AreWitnesses (arc_value problem.now).test (map arc_value met.items))) }
+    ensures err { IfErr result (λ f. f ≢ Fault.Memory → IsSolveFault (arc_value problem.now) board.old.board.limit f) }
+{
+    if !gate.begins_alone() {
+        return Ok(Some(Vec::new(alloc)));
+    }
+    let shared = Arc::try_clone(problem)?;
+    match search_alone(alloc, shared, board, &mut Alone { gate }) {
+        Ok(found) => Ok(found),
+        Err(Fault::NodeLimit) => Ok(None),
+        Err(fault) => Err(fault),
+    }
+}
+
+/// The answer to a question, as `fs_search::solve` gives it, searched by up to this many workers. The first one is alone at first, and
+/// needs neither threads nor a desk; where judging takes long all of them search together, and what they leave is searched as by one: all
+/// of it, where the board's log and what they saw of it don't agree. The faults are those of `fs_search::solve`. Several workers may make
+/// more nodes, and so come to F16 where one has the answer. A thread that never comes back is waited for without an end.
 pub fn solve<R: Threads + Wait + Sync, G: Gate + Sync>(
     rt: &R,
     alloc: Global,
@@ -229,11 +231,16 @@ pub fn solve<R: Threads + Wait + Sync, G: Gate + Sync>(
     ensures err { IfErr result (λ f. f ≢ Fault.Memory → IsSolveFault (arc_value question) limit f) }
 {
     if workers == 1 {
-        return fs_search::solve(alloc, question, limit, &mut Unwatched);
+        return fs_search::solve(alloc, question, limit, &mut Alone { gate });
     }
     let problem = Problem::shared(alloc, question)?;
-    let board = opened(alloc, &problem, limit)?;
-    let left = search_together::<Brand, R, G>(rt, alloc, &problem, board, workers, gate)?;
+    let mut board = opened(alloc, &problem, limit)?;
+    let Some(met) = begin(alloc, &problem, &mut board, gate)? else {
+        let solved = conclude(alloc, problem, board, &mut Unwatched)?;
+        return Ok(solved);
+    };
+    let begun = Begun { board, met };
+    let left = search_together::<Brand, R, G>(rt, alloc, &problem, begun, workers, gate)?;
     let solved = concluded(alloc, problem, left, limit, gate)?;
     Ok(solved)
 }

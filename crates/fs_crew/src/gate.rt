@@ -1,10 +1,20 @@
 //! Where tests look on, and hold a worker up.
 
-/// It says when the other workers join the first one. It is told when a worker calls the desk, but for `leave`, and when it judges: by
-/// several threads at once; and once, when all have stopped, what they left. A call of it that doesn't return stops the search.
+use fs_search::Watch;
+
+/// It says how a search begins. It is told how far the first worker is, as long as that is alone; then when a worker calls the desk, but
+/// for `leave`, and when it judges: by several threads at once; and once, when all have stopped, what they left. A call of it that doesn't
+/// return stops the search.
 pub trait Gate {
-    /// How many nodes the first worker is done with before the others join. Where it is none, all begin together.
-    fn nodes_alone(&self) -> usize;
+    /// Does the first worker begin alone? Then others join where they may help. Else all begin together.
+    fn begins_alone(&self) -> bool;
+
+    /// The first worker is alone, and its plan asks for one more verdict.
+    fn planned(&self);
+
+    /// The first worker is alone, and takes one more node. The board has so many, and the cheapest fences posted so far cost this; none
+    /// where none are posted yet.
+    fn searched(&self, nodes: usize, best: Option<u64>);
 
     /// The worker will call the desk.
     fn before(&self, worker: u8);
@@ -20,18 +30,18 @@ pub trait Gate {
     fn ended(&self, logged: Option<usize>);
 }
 
-/// How many nodes one worker is done with before others are of use: few searches are longer, and where nodes cost little, workers
-/// wait for the lock.
-const NODES_ALONE: usize = 50_000;
-
 /// A gate that holds nobody up.
 #[derive(Clone, Copy)]
 pub struct Open;
 
 impl Gate for Open {
-    fn nodes_alone(&self) -> usize {
-        NODES_ALONE
+    fn begins_alone(&self) -> bool {
+        true
     }
+
+    fn planned(&self) {}
+
+    fn searched(&self, _nodes: usize, _best: Option<u64>) {}
 
     fn before(&self, _worker: u8) {}
 
@@ -40,4 +50,20 @@ impl Gate for Open {
     fn after(&self, _worker: u8) {}
 
     fn ended(&self, _logged: Option<usize>) {}
+}
+
+/// Tells a gate what the first worker tells as long as it is alone.
+#[derive(Clone, Copy)]
+pub(crate) struct Alone<'a, G> {
+    pub(crate) gate: &'a G,
+}
+
+impl<G: Gate> Watch for Alone<'_, G> {
+    fn planned(&mut self) {
+        self.gate.planned();
+    }
+
+    fn searched(&mut self, nodes: usize, best: Option<u64>) {
+        self.gate.searched(nodes, best);
+    }
 }

@@ -1,17 +1,19 @@
 //! What a worker does: it takes nodes, its own or stolen ones, and is done with each, until there are none or something fails.
 
-ghost use Rattle.std.specs.Prelude.{◌≡◌, IfOk, IfSome};
+ghost use Rattle.std.specs.Prelude.{◌≡◌, IfOk, IfSome, map};
 ghost use Rattle.std.specs.Arc.{arc_value};
 ghost use Rattle.fs_model.specs.Slots.{slots};
 ghost use Rattle.fs_bound.specs.Bounds.{slots_in_part};
 ghost use Rattle.fs_board.specs.Asking.{IsMade};
+ghost use Rattle.fs_board.specs.Growth.{AreWitnesses};
 
 use crate::gate::Gate;
 use fs_board::{Event, Part, Reply};
+use fs_evidence::Witness;
 use fs_hands::Hand;
 use fs_kinds::Slot;
 use fs_pool::{Asked, Desk, Pass};
-use fs_search::{Child, Problem, Scout, TRIES, Taken, Way, push_children};
+use fs_search::{Child, Problem, Scout, TRIES, Taken, Way};
 use std::alloc::{AllocError, Global};
 use std::sync::{Arc, Wait};
 
@@ -77,37 +79,30 @@ fn own_or_stolen(hand: &mut Hand, children: &mut Vec<Child>) -> Option<(usize, O
     Some((node, None))
 }
 
-/// Puts the children that the desk made last on the stack, the one of this number among them on top. False where memory lacks.
+/// Puts the children that the desk made last on the stack, as the scout does. False where memory lacks.
 fn keep_children<A: Asked>(
     pass: &Pass<A>,
+    scout: &Scout,
     children: &mut Vec<Child>,
     taken: &Taken,
-    next: Option<usize>,
 ) -> bool {
-    match pass.reply() {
-        Some(reply) => push_children(children, taken, reply, next).is_ok(),
-        None => true,
-    }
+    let Some(last) = pass.receipts().last() else {
+        return true;
+    };
+    scout
+        .keep_children(children, taken, last.event(), last.reply())
+        .is_ok()
 }
 
-/// The scout of a worker, which makes a plan where it is alone.
-fn scout_of(alloc: Global, problem: Arc<Problem>, is_alone: bool) -> Scout
-    ensures { result ≡ arc_value problem }
-{
-    if is_alone {
-        Scout::planner(alloc, problem)
-    } else {
-        Scout::new(alloc, problem)
-    }
-}
-
-/// What a worker is lent: where it may wait, what it allocates with, the desk, and the gate that is told of its calls.
+/// What a worker is lent: where it may wait, what it allocates with, the desk, the gate that is told of its calls, and the witnesses that
+/// were met before all began together.
 #[derive(Drop)]
 pub(crate) struct Workplace<'a, A: Asked, R, G> {
     pub(crate) rt: &'a R,
     pub(crate) alloc: Global,
     pub(crate) desk: &'a Desk<A>,
     pub(crate) gate: &'a G,
+    pub(crate) met: &'a Vec<Arc<Witness>>,
 }
 
 impl<A: Asked, R: Wait, G: Gate> Workplace<'_, A, R, G> {
@@ -223,47 +218,23 @@ impl<A: Asked, R: Wait, G: Gate> Workplace<'_, A, R, G> {
         (pass, is_learned)
     }
 
-    /// A round of the plan, of which the gate is told. False where it fails.
-    fn plan_round(&self, pass: &Pass<A>, scout: &mut Scout, taken: &Taken) -> bool
+    /// Meets the witnesses that were met before, and sees what the others have found, where the worker hasn't yet. False where memory
+    /// lacks.
+    fn look_first(&self, pass: Pass<A>, scout: &mut Scout, part: &Part) -> (Pass<A>, bool)
         requires question { scout.old ≡ A.question }
-        requires slots { slots_in_part (arc_value taken.now.part) ≡ slots A.question.test }
-        ensures value { scout.new ≡ scout.old }
-    {
-        self.gate.judging(pass.worker(), taken.node);
-        scout.plan(self.alloc, taken).is_ok()
-    }
-
-    /// Makes the plan, where one is still to be made. False where this fails.
-    fn prepare(&self, pass: &Pass<A>, scout: &mut Scout, taken: &Taken) -> bool
-        requires question { scout.old ≡ A.question }
-        requires slots { slots_in_part (arc_value taken.now.part) ≡ slots A.question.test }
-        ensures value { scout.new ≡ scout.old }
-    {
-        for _ in 0..scout.rounds_left() {
-            if scout.rounds_left() == 0 {
-                break;
-            }
-            if !self.plan_round(pass, scout, taken) {
-                return false;
-            }
-        }
-        true
-    }
-
-    /// Sees what the others have found, and makes its plan, where the worker hasn't yet. False where memory lacks, or a verdict can't be
-    /// made.
-    fn look_first(&self, pass: Pass<A>, scout: &mut Scout, taken: &Taken) -> (Pass<A>, bool)
-        requires question { scout.old ≡ A.question }
-        requires slots { slots_in_part (arc_value taken.now.part) ≡ slots A.question.test }
+        requires met { AreWitnesses A.question.test (map arc_value self.now.met.now.items) }
         ensures value { scout.new ≡ scout.old }
     {
         if scout.has_looked() {
             return (pass, true);
         }
-        if !self.prepare(&pass, scout, taken) {
+        if scout
+            .meet(self.alloc, part.as_slice(), self.met.as_slice())
+            .is_err()
+        {
             return (pass, false);
         }
-        self.look_round(pass, scout, &taken.part)
+        self.look_round(pass, scout, part)
     }
 
     /// Is done with a node, and sees what the others have found where it was split or posted, and before its first node. False where the
@@ -277,9 +248,10 @@ impl<A: Asked, R: Wait, G: Gate> Workplace<'_, A, R, G> {
     ) -> (Pass<A>, bool)
         requires question { scout.old ≡ A.question }
         requires slots { slots_in_part (arc_value taken.now.part) ≡ slots A.question.test }
+        requires met { AreWitnesses A.question.test (map arc_value self.now.met.now.items) }
         ensures value { scout.new ≡ scout.old }
     {
-        let (pass, is_learned) = self.look_first(pass, scout, taken);
+        let (pass, is_learned) = self.look_first(pass, scout, &taken.part);
         if !is_learned {
             return (pass, false);
         }
@@ -287,58 +259,47 @@ impl<A: Asked, R: Wait, G: Gate> Workplace<'_, A, R, G> {
         if step != Step::Moved {
             return (pass, step == Step::Closed);
         }
-        if !keep_children(&pass, children, taken, scout.planned_child(taken)) {
+        if !keep_children(&pass, scout, children, taken) {
             return (pass, false);
         }
         self.look_round(pass, scout, &taken.part)
     }
 
-    /// Takes nodes and is done with each, up to so many of them. True where it could go on.
-    fn rounds(&self, pass: Pass<A>, hand: Hand, scout: Scout, nodes: usize) -> (Pass<A>, bool)
-        requires { scout ≡ A.question }
+    /// Takes nodes and is done with each, until there are none or something fails.
+    fn rounds(&self, pass: Pass<A>, hand: Hand, scout: Scout) -> Pass<A>
+        requires question { scout ≡ A.question }
+        requires met { AreWitnesses A.question.test (map arc_value self.now.met.now.items) }
     {
         let mut hand = hand;
         let mut scout = scout;
         let mut pass = pass;
         let mut children = Vec::new(self.alloc);
-        for _ in 0..nodes {
+        for _ in 0..usize::MAX {
             let (after, next) = self.next_node(pass, &mut hand, &mut children);
             pass = after;
             let Some(taken) = next else {
-                return (pass, false);
+                return pass;
             };
             let (after, goes_on) = self.handle(pass, &mut scout, &mut children, &taken);
             pass = after;
             if !goes_on {
-                return (pass, false);
+                return pass;
             }
             offer(&mut hand, &mut children);
         }
-        (pass, true)
+        pass
     }
 
-    /// Works until there is nothing to do or something fails, and leaves; a node that it isn't done with stays held. A worker that is
-    /// alone, with so many nodes to do, plans, and comes back when it is done with these, and holds none: then the answer is true, and it
-    /// may be sent to work again.
-    pub(crate) fn work(
-        &self,
-        pass: Pass<A>,
-        hand: Hand,
-        alone: Option<usize>,
-        problem: &Arc<Problem>,
-    ) -> (Pass<A>, bool)
-        requires { arc_value problem.now ≡ A.question }
+    /// Works until there is nothing to do or something fails, and leaves; a node that it isn't done with stays held.
+    pub(crate) fn work(&self, pass: Pass<A>, hand: Hand, problem: &Arc<Problem>) -> Pass<A>
+        requires question { arc_value problem.now ≡ A.question }
+        requires met { AreWitnesses A.question.test (map arc_value self.now.met.now.items) }
     {
-        let (pass, goes_on) = match Arc::try_clone(problem) {
-            Ok(shared) => {
-                let scout = scout_of(self.alloc, shared, alone.is_some());
-                self.rounds(pass, hand, scout, alone.unwrap_or(usize::MAX))
-            }
-            Err(_) => (pass, false),
+        let pass = match Arc::try_clone(problem) {
+            Ok(shared) => self.rounds(pass, hand, Scout::new(self.alloc, shared)),
+            Err(_) => pass,
         };
-        if !goes_on {
-            self.desk.leave(self.rt, &pass);
-        }
-        (pass, goes_on)
+        self.desk.leave(self.rt, &pass);
+        pass
     }
 }

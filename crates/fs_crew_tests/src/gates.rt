@@ -72,9 +72,13 @@ struct FirstCall<'a, C> {
 }
 
 impl<'a, C: Clock> Gate for FirstCall<'a, C> {
-    fn nodes_alone(&self) -> usize {
-        0
+    fn begins_alone(&self) -> bool {
+        false
     }
+
+    fn planned(&self) {}
+
+    fn searched(&self, _nodes: usize, _best: Option<u64>) {}
 
     fn before(&self, worker: u8) {
         self.held.hold(self.clock, worker);
@@ -99,9 +103,13 @@ struct Overlap<'a, C> {
 }
 
 impl<'a, C: Clock> Gate for Overlap<'a, C> {
-    fn nodes_alone(&self) -> usize {
-        0
+    fn begins_alone(&self) -> bool {
+        false
     }
+
+    fn planned(&self) {}
+
+    fn searched(&self, _nodes: usize, _best: Option<u64>) {}
 
     fn before(&self, _worker: u8) {}
 

@@ -34,9 +34,13 @@ impl Ends {
 }
 
 impl Gate for Ends {
-    fn nodes_alone(&self) -> usize {
-        0
+    fn begins_alone(&self) -> bool {
+        false
     }
+
+    fn planned(&self) {}
+
+    fn searched(&self, _nodes: usize, _best: Option<u64>) {}
 
     fn before(&self, _worker: u8) {}
 

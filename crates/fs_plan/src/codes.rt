@@ -1,5 +1,6 @@
 //! What placements order and what executions keep, in four bits for each slot.
 
+use fs_board::Decision;
 use fs_evidence::Pairs;
 use fs_kinds::{Classes, Entry, Kind};
 
@@ -27,8 +28,11 @@ fn bits(pairs: Pairs) -> u64 {
         | u64::from(pairs.write_write).wrapping_shl(3)
 }
 
-/// The pairs that a kind of fence orders, a bit for each.
-fn bits_of_kind(kind: Kind) -> u64 {
+/// The pairs that a kind of fence, or none, orders, a bit for each.
+pub(crate) fn bits_of_kind(kind: Option<Kind>) -> u64 {
+    let Some(kind) = kind else {
+        return 0;
+    };
     bits(Pairs {
         read_read: kind.orders(READ, READ),
         read_write: kind.orders(READ, WRITE),
@@ -51,13 +55,27 @@ impl Codes {
         }
     }
 
+    /// The bits that are missing at the slot of this number, as a number below 16.
+    pub(crate) fn lacking_at(&self, slot: usize) -> u32 {
+        let shift = 4 * (slot % 16) as u32;
+        let word = self.words.get(slot / 16).copied().unwrap_or(0);
+        (!word.wrapping_shr(shift) & 15) as u32
+    }
+
     /// What a placement orders at each slot.
     pub fn of_placement(entries: &[Entry]) -> Codes {
         let mut codes = Codes::new();
         for (slot, entry) in entries.iter().enumerate() {
-            if let Some(kind) = entry.kind {
-                codes.put(slot, bits_of_kind(kind));
-            }
+            codes.put(slot, bits_of_kind(entry.kind));
+        }
+        codes
+    }
+
+    /// What the least placement of these decisions orders at each slot.
+    pub(crate) fn of_floor(decisions: &[Decision]) -> Codes {
+        let mut codes = Codes::new();
+        for (slot, decision) in decisions.iter().enumerate() {
+            codes.put(slot, bits_of_kind(decision.decided.unwrap_or(None)));
         }
         codes
     }

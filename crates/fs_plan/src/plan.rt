@@ -6,7 +6,7 @@ ghost use Rattle.std.specs.Prelude.{◌≡◌, IfOk, IfSome};
 ghost use Rattle.fs_kinds.specs.Placement.{slots_of};
 ghost use Rattle.fs_bound.specs.Bounds.{slots_in_part};
 
-use crate::codes::Codes;
+use crate::codes::{Codes, bits_of_kind};
 use crate::store::{Limit, Store, Sum, cost};
 use fs_board::{Decision, Part};
 use fs_kinds::{Entry, Kind, Placement, Prices};
@@ -16,11 +16,11 @@ use std::alloc::{AllocError, Global};
 /// So many steps are made before a plan is given up.
 pub const MOST_STEPS: usize = 50_000;
 
-/// The number of a slot that is decided, and that of the option which is next there.
+/// The number of a slot that is decided, and the options that are left to try there, a bit for each.
 #[derive(Clone, Copy)]
 struct Level {
     slot: usize,
-    next: usize,
+    left: u32,
 }
 
 /// What the stored witnesses tell of the placements that have all that is decided.
@@ -30,8 +30,8 @@ enum Outlook {
     Closed,
     /// The least of them is, and does.
     Breaks,
-    /// A witness isn't broken yet, and is breakable at the undecided slot of this number.
-    Open(usize),
+    /// A witness isn't broken yet, and is breakable at this undecided slot, by some of these options.
+    Open(Level),
 }
 
 /// What a placement is planned by.
@@ -86,7 +86,8 @@ impl Walk {
         }
     }
 
-    /// What is known of the placements that have what is decided. At a witness that is breakable at the fewest slots it goes on.
+    /// What is known of the placements that have what is decided. At a witness that is breakable at the fewest slots it goes on,
+    /// with the last of them.
     fn outlook(&self, planner: Planner<'_>) -> Result<Outlook, AllocError> {
         let mut sum = Sum::of(cost(planner.prices, &self.floor));
         if sum.passes(&self.limit) {
@@ -104,10 +105,14 @@ impl Walk {
                 }
             }
         }
-        match offers.first() {
-            Some(offer) => Ok(Outlook::Open(offer.first_place())),
-            None => Ok(Outlook::Breaks),
-        }
+        let Some(offer) = offers.first() else {
+            return Ok(Outlook::Breaks);
+        };
+        let Some(slot) = offer.last_place() else {
+            return Ok(Outlook::Closed);
+        };
+        let left = planner.worth_trying(planner.store.lacks(&offers, slot));
+        Ok(Outlook::Open(Level { slot, left }))
     }
 
     /// Decides the newest slot that has an option left in the next way. False where there is none: all placements were gone through.
@@ -117,8 +122,8 @@ impl Walk {
                 return false;
             };
             let slot = level.slot;
-            let option = options.get(level.next).copied();
-            level.next = level.next.saturating_add(1);
+            let option = options.get(level.left.trailing_zeros() as usize).copied();
+            level.left &= level.left.wrapping_sub(1);
             self.put(slot, option);
             if option.is_some() {
                 return true;
@@ -150,7 +155,7 @@ impl Walk {
                     }
                     self.limit = Limit::below(cost(planner.prices, &self.floor));
                 }
-                Outlook::Open(slot) => self.levels.push(Level { slot, next: 0 })?,
+                Outlook::Open(level) => self.levels.push(level)?,
             }
             if !self.go_on(planner.options) {
                 return Ok(Walked::Ended(best));
@@ -176,6 +181,18 @@ fn options_of(alloc: Global, prices: &Prices) -> Result<Vec<Option<Kind>>, Alloc
     Ok(options)
 }
 
+/// Which of these sets of pairs, a bit for each, have a pair that the option orders.
+fn broken_by(option: Option<Kind>, sets: u16) -> u16 {
+    let orders = bits_of_kind(option);
+    let mut broken: u16 = 0;
+    for set in 0..16u32 {
+        if u64::from(set) & orders != 0 {
+            broken |= sets & 1u16.wrapping_shl(set);
+        }
+    }
+    broken
+}
+
 /// Nothing is decided at these slots.
 fn all_open(alloc: Global, slots: &[Decision]) -> Result<Vec<Decision>, AllocError> {
     let mut open = Vec::new(alloc);
@@ -186,6 +203,26 @@ fn all_open(alloc: Global, slots: &[Decision]) -> Result<Vec<Decision>, AllocErr
 }
 
 impl Planner<'_> {
+    /// The options that are worth a try at a slot, a bit for each, where these are the sets of pairs that unbroken witnesses don't keep
+    /// there: none, and each but those that break no more than one before them, which costs no more.
+    fn worth_trying(self, sets: u16) -> u32 {
+        let mut worth: u32 = 0;
+        let mut bit: u32 = 1;
+        for (number, option) in self.options.iter().enumerate() {
+            let broken = broken_by(*option, sets);
+            let is_spared = self
+                .options
+                .iter()
+                .take(number)
+                .any(|before| broken & !broken_by(*before, sets) == 0);
+            if !is_spared {
+                worth |= bit;
+            }
+            bit = bit.wrapping_shl(1);
+        }
+        worth
+    }
+
     /// The slots before the one of this number are decided as the placement has them, and that one so.
     fn decided(
         self,

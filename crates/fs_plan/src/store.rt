@@ -9,7 +9,7 @@ use crate::codes::Codes;
 use fs_board::{Decision, Part};
 use fs_evidence::{Forbidden, Pairs, Witness};
 use fs_kinds::{Entry, Prices, Slot};
-use fs_parts::{OPTIONS, least_of, precedes};
+use fs_parts::{OPTIONS, floor_precedes, least_of};
 use std::alloc::{AllocError, Global};
 use std::marker::Model;
 use std::sync::Arc;
@@ -60,10 +60,34 @@ pub struct Offer {
 }
 
 impl Offer {
-    /// The number of the first slot that is breakable.
-    pub fn first_place(&self) -> usize {
-        self.places.trailing_zeros() as usize
+    /// The number of the last slot that is breakable. None where there is none.
+    pub fn last_place(&self) -> Option<usize> {
+        last_of(self.places)
     }
+
+    /// The number of the last breakable slot that is among these, or else of the last one. None where there is none.
+    fn last_place_among(&self, places: u64) -> Option<usize> {
+        last_of(self.places & places).or(self.last_place())
+    }
+}
+
+/// The number of the last of these places.
+fn last_of(places: u64) -> Option<usize> {
+    let place = 63u32.checked_sub(places.leading_zeros())?;
+    Some(place as usize)
+}
+
+/// The slots where the placement has a fence, as bits.
+fn fenced_places(placement: &[Entry]) -> u64 {
+    let mut places: u64 = 0;
+    let mut place: u64 = 1;
+    for entry in placement {
+        if entry.kind.is_some() {
+            places |= place;
+        }
+        place = place.wrapping_shl(1);
+    }
+    places
 }
 
 /// What the cheapest offered kind costs that orders a pair at the slot which isn't among these.
@@ -74,6 +98,11 @@ fn least_break(prices: &Prices, slot: Slot, kept: Pairs) -> u64 {
 /// What the placement costs. At the highest prices and weights that is far below what never is.
 pub fn cost(prices: &Prices, placement: &[Entry]) -> u64 {
     u64::try_from(fs_parts::cost(prices, placement)).unwrap_or(NEVER)
+}
+
+/// What the least placement of these decisions costs.
+fn floor_cost(prices: &Prices, decisions: &[Decision]) -> u64 {
+    u64::try_from(fs_parts::floor_cost(prices, decisions)).unwrap_or(NEVER)
 }
 
 impl Known {
@@ -230,12 +259,11 @@ impl Store {
     ) -> Result<Vec<Arc<Witness>>, AllocError>
         ensures { IfOk result (λ picked. (t : Test) → AreWitnesses t self.now → AreWitnesses t (map arc_value picked.items)) }
     {
-        let floor = part.floor(alloc)?;
-        let codes = Codes::of_placement(floor.as_slice());
-        let offers = self.offers(alloc, &codes, part.as_slice())?;
+        let decisions = part.as_slice();
+        let offers = self.offers(alloc, &Codes::of_floor(decisions), decisions)?;
         let best = bound.map(|bound| bound.placement.as_slice());
-        let limit = Limit::of(prices, best, floor.as_slice());
-        let mut sum = Sum::of(cost(prices, floor.as_slice()));
+        let limit = Limit::of(prices, best, decisions);
+        let mut sum = Sum::of(floor_cost(prices, decisions));
         let mut picked = Vec::new(alloc);
         for offer in &offers {
             self.take(&mut picked, &mut sum, offer)?;
@@ -244,6 +272,49 @@ impl Store {
             }
         }
         Ok(Vec::new(alloc))
+    }
+
+    /// The slot at which a node of this part is best split. Of the witnesses that show the outcome under its least placement one is
+    /// breakable at the fewest slots: of these it is the last one where the best placement known has a fence, or else the last one. So the
+    /// tree has few branches, and at equal cost the best placement closes most of them, as first placements have their fences late. None
+    /// where no stored witness shows the outcome there, or no fence breaks it. The cost is that of `pick`.
+    pub fn slot_to_split(
+        &self,
+        alloc: Global,
+        best: Option<&Arc<Forbidden>>,
+        part: &Part,
+    ) -> Result<Option<Slot>, AllocError> {
+        let decisions = part.as_slice();
+        let offers = self.offers(alloc, &Codes::of_floor(decisions), decisions)?;
+        let Some(offer) = offers.first() else {
+            return Ok(None);
+        };
+        let fenced = best.map_or(0, |best| fenced_places(best.placement.as_slice()));
+        let place = offer.last_place_among(fenced);
+        let decision = place.and_then(|place| decisions.get(place));
+        Ok(decision.map(|decision| decision.slot))
+    }
+
+    /// What the offered witnesses don't keep at the slot of this number: a bit for each set of pairs, by the bits of the pairs.
+    pub(crate) fn lacks(&self, offers: &[Offer], place: usize) -> u16 {
+        let mut lacks: u16 = 0;
+        for offer in offers {
+            if let Some(known) = self.known.get(offer.number) {
+                lacks |= 1u16.wrapping_shl(known.kept.lacking_at(place));
+            }
+        }
+        lacks
+    }
+
+    /// The witnesses, the newest last.
+    pub fn witnesses(&self, alloc: Global) -> Result<Vec<Arc<Witness>>, AllocError>
+        ensures { IfOk result (λ all. map arc_value all.items ≡ self.now) }
+    {
+        let mut all = Vec::new(alloc);
+        for known in &self.known {
+            all.push(Arc::try_clone(&known.witness)?)?;
+        }
+        Ok(all)
     }
 }
 
@@ -323,14 +394,14 @@ impl Limit {
         }
     }
 
-    /// The limit at a node of this floor: at equal cost the best placement so far wins where the floor isn't before it. Where there is
-    /// none it is what can't be had at all.
-    pub fn of(prices: &Prices, best: Option<&[Entry]>, floor: &[Entry]) -> Limit {
+    /// The limit at a node of these decisions: at equal cost the best placement so far wins where the node's least placement isn't
+    /// before it. Where there is none it is what can't be had at all.
+    fn of(prices: &Prices, best: Option<&[Entry]>, decisions: &[Decision]) -> Limit {
         match best {
             None => Limit::never(),
             Some(best) => Limit {
                 cost: cost(prices, best),
-                is_enough: !precedes(floor, best),
+                is_enough: !floor_precedes(decisions, best),
             },
         }
     }

@@ -1,6 +1,6 @@
 //! The desk: the board under its lock.
 
-ghost use Rattle.std.specs.Prelude.{◌≡◌, ◌<◌, ◌≤◌, ◌++◌, ◌∷◌, [], ℕ, Some, IfOk, IfErr, vec_len, map, slice_get};
+ghost use Rattle.std.specs.Prelude.{◌≡◌, ◌<◌, ◌≤◌, ◌++◌, ◌∷◌, [], ℕ, Some, IfOk, IfErr, length, vec_len, map, slice_get};
 ghost use Rattle.std.specs.Vec.{vec_capacity};
 ghost use Rattle.std.specs.Arc.{arc_value};
 ghost use Rattle.fs_kinds.specs.declared.fault.Fault.TheVariants.{Memory};
@@ -44,31 +44,31 @@ fn ends_waits(made: &Result<(usize, Reply), AllocError>) -> bool {
     }
 }
 
-/// One board for many workers. Contracts see for how many.
+/// One board for many workers. Contracts see for how many, and how many entries its log had before it was made.
 #[derive(Drop)]
 pub struct Desk<A: Asked> {
     workers: u8,
+    since: usize,
     shared: Mutex<Shared<A>>,
     changed: Condvar,
 }
 
 impl<A: Asked> Model for Desk<A> {
-    ghost use Rattle.std.specs.Prelude.{ℕ};
+    ghost use Rattle.fs_pool.specs.Ends.{Opened};
 
-    ghost Value = { ℕ };
+    ghost Value = { Opened };
 
-    ghost view = { λ d. d.workers };
+    ghost view = { λ d. record { workers = d.workers; since = d.since } };
 }
 
 impl<A: Asked> Desk<A> {
-    /// The desk of a board on which nothing was done yet, and a pass for each worker, from 0 on. There may be 16 workers. The error is
-    /// F19.
+    /// The desk of a board, on which something may be done already, and a pass for each worker, from 0 on. There may be 16 workers. The
+    /// error is F19.
     pub fn new(alloc: Global, board: Board, workers: u8) -> Result<(Desk<A>, Vec<Pass<A>>), Fault>
         requires asked { IsAsked board A.question A.limit }
-        requires empty { board.log ≡ [] }
         requires some { 1 ≤ workers }
         requires few { workers ≤ 16 }
-        ensures desk { IfOk result (λ r. r.0 ≡ workers) }
+        ensures desk { IfOk result (λ r. r.0 ≡ record { workers = workers; since = length board.log }) }
         ensures passes { IfOk result (λ r. r.1.items ≡ first_passes workers) }
         ensures err { IfErr result (λ f. f ≡ Memory) }
     {
@@ -78,13 +78,14 @@ impl<A: Asked> Desk<A> {
         }
         let desk = Desk {
             workers,
+            since: board.log().len(),
             shared: Mutex::new(Shared::new(board)),
             changed: Condvar::new(),
         };
         Ok((desk, passes))
     }
 
-    /// Makes the event under the lock: the number that it has in the log, and the reply.
+    /// Makes the event under the lock: the number that it has among the desk's, and the reply.
     fn answered<R: Wait>(
         &self,
         rt: &R,
@@ -106,7 +107,8 @@ impl<A: Asked> Desk<A> {
         if ends_waits(&made) {
             self.changed.notify_all();
         }
-        made
+        let (number, reply) = made?;
+        Ok((number.saturating_sub(self.since), reply))
     }
 
     /// Makes the event, as the call of its name does, and adds its receipt to the pass. What it brings must be made for the question.
@@ -277,16 +279,24 @@ impl<A: Asked> Desk<A> {
         self.changed.notify_all();
     }
 
-    /// For how many workers it is, and the board.
-    pub(crate) fn parts(self) -> (u8, Board)
-        ensures workers { result.0 ≡ self }
+    /// For how many workers it is.
+    pub(crate) fn workers(&self) -> u8
+        ensures { result ≡ self.now.workers }
+    {
+        self.workers
+    }
+
+    /// How many entries the log had before it was made, and the board.
+    pub(crate) fn parts(self) -> (usize, Board)
+        ensures since { result.0 ≡ self.since }
         ensures asked { IsAsked result.1 A.question A.limit }
     {
         let Desk {
-            workers,
+            workers: _,
+            since,
             shared,
             changed: _,
         } = self;
-        (workers, shared.into_inner().into_board())
+        (since, shared.into_inner().into_board())
     }
 }

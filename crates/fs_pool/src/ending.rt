@@ -1,6 +1,6 @@
 //! The end of a desk: its board, where its log and the receipts of all passes agree.
 
-ghost use Rattle.std.specs.Prelude.{◌≡◌, ◌≢◌, ◌<◌, IfOk, IfErr, IsTrue, All, AllPairs, length, sum_by};
+ghost use Rattle.std.specs.Prelude.{◌≡◌, ◌≢◌, ◌<◌, IfOk, IfErr, IsTrue, All, AllPairs, drop, length, sum_by};
 ghost use Rattle.fs_history.specs.Histories.{IsHistory};
 ghost use Rattle.fs_history.specs.Receipts.{IsAgreed, IsLogged};
 ghost use Rattle.fs_pool.specs.Asked.{IsAsked};
@@ -131,21 +131,31 @@ fn are_so_many<A: Asked>(passes: &[Pass<A>], count: usize) -> bool
     receipts <= count && are_so_many(passes, count - receipts)
 }
 
-/// The board, where each entry of its log is the receipt of exactly one of the passes, in the order in which that worker made its calls,
-/// and there is no other receipt. F23 where a pass is of a worker that the desk doesn't have, or two are of one; else F22 where log and
-/// receipts don't agree. It needs no memory, and takes time of the log.
+/// What the log has from this number on.
+fn log_since(log: &[LogEntry], since: usize) -> &[LogEntry]
+    ensures { result.now ≡ drop since log.now }
+{
+    match log.get(since..) {
+        Some(later) => later,
+        None => &[],
+    }
+}
+
+/// The board, where each entry that its log has got since the desk was made is the receipt of exactly one of the passes, in the order in
+/// which that worker made its calls, and there is no other receipt. F23 where a pass is of a worker that the desk doesn't have, or two are
+/// of one; else F22 where log and receipts don't agree. It needs no memory, and takes time of the log.
 #[tactic(auto, using(crate::proofs::Agreeing::agreed, crate::proofs::Agreeing::agreed_logged))]
 pub fn finish<A: Asked>(desk: Desk<A>, passes: Vec<Pass<A>>) -> Result<Board, Unfinished<A>>
     ensures asked { IfOk result (λ b. IsAsked b A.question A.limit) }
     ensures legal { IfOk result (λ b. IsHistory b.question.test b.question.prices b.board.limit b.log b.board) }
-    ensures agreed { IfOk result (λ b. IsAgreed passes.items b.log) }
+    ensures agreed { IfOk result (λ b. IsAgreed passes.items (drop desk.since b.log)) }
     ensures err { IfErr result (IsUnfinished A.question A.limit desk passes.items) }
 {
-    let (workers, board) = desk.parts();
-    if !are_given(workers, &passes) {
+    if !are_given(desk.workers(), &passes) {
         return Err(Unfinished::Fault(Fault::StrangePass));
     }
-    let log = board.log();
+    let (since, board) = desk.parts();
+    let log = log_since(board.log(), since);
     if !are_so_many(&passes, log.len()) || !all_logged(log, &passes) {
         return Err(Unfinished::Unmatched { board, passes });
     }

@@ -10,7 +10,7 @@ use crate::asked::Asked;
 use fs_board::{Event, Reply};
 use std::marker::{Model, PhantomData};
 
-/// A call of a worker: what it asked, what it was answered, and the number of this in the board's log.
+/// A call of a worker: what it asked, what it was answered, and the number of this among the desk's entries in the board's log.
 #[derive(Drop)]
 pub struct Receipt<A: Asked> {
     number: usize,
@@ -44,7 +44,7 @@ impl<A: Asked> Receipt<A> {
         }
     }
 
-    /// The number of the call in the board's log.
+    /// The number of the call in what the board's log has got since the desk was made.
     pub fn number(&self) -> usize
         ensures { result ≡ self.now.number }
     {

@@ -92,32 +92,6 @@ pub fn word_in(key: u64) -> u32 {
     (key & 0xffff_ffff) as u32
 }
 
-/// The number for what the run loads or stores there.
-fn class_at(run: &Lone, at: u8, is_load: bool) -> Option<u64> {
-    let word = if is_load {
-        run.loaded_at(at)
-    } else {
-        run.stored_at(at)
-    };
-    Some(class_key(location_of(run.address_at(at)?), word?))
-}
-
-fn classes(
-    alloc: Global,
-    words: usize,
-    runs: &[Lone],
-    at: u8,
-    is_load: bool,
-) -> Result<Vec<Group>, AllocError> {
-    let mut grouping = Grouping::new(alloc, words);
-    for (number, run) in runs.iter().enumerate() {
-        if let Some(key) = class_at(run, at, is_load) {
-            grouping.put(alloc, key, number)?;
-        }
-    }
-    grouping.groups(alloc)
-}
-
 fn places(alloc: Global, words: usize, classes: &[Group]) -> Result<Vec<Place>, AllocError> {
     let mut places: Vec<Place> = Vec::new(alloc);
     for class in classes {
@@ -136,14 +110,8 @@ fn places(alloc: Global, words: usize, classes: &[Group]) -> Result<Vec<Place>, 
     Ok(places)
 }
 
-fn access_of(
-    alloc: Global,
-    words: usize,
-    runs: &[Lone],
-    at: u8,
-    is_load: bool,
-) -> Result<Access, AllocError> {
-    let classes = classes(alloc, words, runs, at, is_load)?;
+/// The access of these classes.
+fn access_of(alloc: Global, words: usize, classes: Vec<Group>) -> Result<Access, AllocError> {
     let mut any = no_run(alloc, words)?;
     for class in &classes {
         join(&mut any, &class.row);
@@ -154,14 +122,6 @@ fn access_of(
         classes,
         places,
     })
-}
-
-fn choices(alloc: Global, words: usize, runs: &[Lone], at: u8) -> Result<Vec<Group>, AllocError> {
-    let mut grouping = Grouping::new(alloc, words);
-    for (number, run) in runs.iter().enumerate() {
-        grouping.put(alloc, run.chosen_at(at), number)?;
-    }
-    grouping.groups(alloc)
 }
 
 /// The word that the location begins with.
@@ -180,26 +140,87 @@ fn initial(alloc: Global, words: usize, test: &Test, loads: &[Group]) -> Result<
     Ok(row)
 }
 
-/// What the runs do at the name, which is their hart's.
-pub fn doing_at(
+/// What is gathered of the runs of a hart at one of its names.
+#[derive(Drop)]
+struct Gathering {
+    name: OperationName,
+    loads: Grouping,
+    stores: Grouping,
+    choices: Grouping,
+}
+
+impl Gathering {
+    fn new(alloc: Global, words: usize, name: OperationName) -> Gathering {
+        Gathering {
+            name,
+            loads: Grouping::new(alloc, words),
+            stores: Grouping::new(alloc, words),
+            choices: Grouping::new(alloc, words),
+        }
+    }
+
+    /// Adds what the run of this number does.
+    fn add(&mut self, alloc: Global, run: &Lone, number: usize) -> Result<(), AllocError> {
+        let at = self.name.at;
+        self.choices.put(alloc, run.chosen_at(at), number)?;
+        let Some(address) = run.address_at(at) else {
+            return Ok(());
+        };
+        if let Some(word) = run.loaded_at(at) {
+            self.loads
+                .put(alloc, class_key(location_of(address), word), number)?;
+        }
+        if let Some(word) = run.stored_at(at) {
+            self.stores
+                .put(alloc, class_key(location_of(address), word), number)?;
+        }
+        Ok(())
+    }
+
+    fn doing(self, alloc: Global, test: &Test, words: usize) -> Result<Doing, AllocError> {
+        let Gathering {
+            name,
+            loads,
+            stores,
+            choices,
+        } = self;
+        let loads = access_of(alloc, words, loads.groups(alloc)?)?;
+        let stores = access_of(alloc, words, stores.groups(alloc)?)?;
+        let choices = choices.groups(alloc)?;
+        let initial = initial(alloc, words, test, &loads.classes)?;
+        Ok(Doing {
+            takes: takes_of(test, name),
+            loads,
+            stores,
+            choices,
+            initial,
+            own: Vec::new(alloc),
+        })
+    }
+}
+
+/// What the runs do at each of the names, which are their hart's. It looks at each run once, since many runs are more than a cache holds.
+pub fn doings_at(
     alloc: Global,
     test: &Test,
     words: usize,
     runs: &[Lone],
-    name: OperationName,
-) -> Result<Doing, AllocError> {
-    let loads = access_of(alloc, words, runs, name.at, true)?;
-    let stores = access_of(alloc, words, runs, name.at, false)?;
-    let choices = choices(alloc, words, runs, name.at)?;
-    let initial = initial(alloc, words, test, &loads.classes)?;
-    Ok(Doing {
-        takes: takes_of(test, name),
-        loads,
-        stores,
-        choices,
-        initial,
-        own: Vec::new(alloc),
-    })
+    names: &[OperationName],
+) -> Result<Vec<Doing>, AllocError> {
+    let mut gatherings = Vec::new(alloc);
+    for name in names {
+        gatherings.push(Gathering::new(alloc, words, *name))?;
+    }
+    for (number, run) in runs.iter().enumerate() {
+        for gathering in gatherings.iter_mut() {
+            gathering.add(alloc, run, number)?;
+        }
+    }
+    let mut doings = Vec::new(alloc);
+    for gathering in gatherings {
+        doings.push(gathering.doing(alloc, test, words)?)?;
+    }
+    Ok(doings)
 }
 
 /// Puts into the row the runs of both classes.

@@ -3,7 +3,7 @@
 ghost use Rattle.std.specs.Prelude.{IsOkUnless};
 ghost use Rattle.fs_kinds.specs.declared.fault.Fault.TheVariants.{Memory};
 
-use crate::access::{Doing, doing_at, own_stores};
+use crate::access::{Doing, doings_at, own_stores};
 use crate::condition::{Node, Part};
 use crate::fences::{Barrier, written};
 use crate::forms::{Form, forms};
@@ -89,7 +89,7 @@ fn atoms(
     Ok(atoms)
 }
 
-/// What the runs do at each of the names.
+/// What the runs do at each of the names, with the hart's own stores that loads may have.
 fn doings(
     alloc: Global,
     test: &Test,
@@ -98,11 +98,14 @@ fn doings(
     names: &[Numbered],
 ) -> Result<Vec<Doing>, AllocError> {
     let first = names.first().map_or(0, |name| name.number);
-    let mut doings: Vec<Doing> = Vec::new(alloc);
+    let mut plain = Vec::new(alloc);
     for name in names {
-        let mut doing = doing_at(alloc, test, words, runs, name.name)?;
-        let own = own_stores(alloc, words, first, &doings, &doing)?;
-        doing.own = own;
+        plain.push(name.name)?;
+    }
+    let mut doings: Vec<Doing> = Vec::new(alloc);
+    for doing in doings_at(alloc, test, words, runs, &plain)? {
+        let mut doing = doing;
+        doing.own = own_stores(alloc, words, first, &doings, &doing)?;
         doings.push(doing)?;
     }
     Ok(doings)

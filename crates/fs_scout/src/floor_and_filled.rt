@@ -104,7 +104,17 @@ pub(crate) fn judge_placement(
     }
 }
 
-/// Judges the least placement, unless a stored witness shows the outcome with it. Where it allows the outcome a witness is stored.
+/// Does a stored witness show the outcome with the least placement?
+pub(crate) fn is_floor_allowed(
+    alloc: Global,
+    store: &Store,
+    part: &Part,
+) -> Result<bool, AllocError> {
+    let floor = part.floor(alloc)?;
+    Ok(store.newest_over(floor.as_slice()).is_some())
+}
+
+/// Judges the least placement. Where it allows the outcome a witness is stored.
 pub(crate) fn judge_floor(
     alloc: Global,
     judge: &mut Judge,
@@ -119,9 +129,6 @@ pub(crate) fn judge_floor(
     ensures err { IfErr result (λ f. f ≢ Fault.Memory → IsCandidateFault judge.old.test f) }
 {
     let floor = part.floor(alloc)?;
-    if store.newest_over(floor.as_slice()).is_some() {
-        return Ok(None);
-    }
     let open = part.undecided_slots(alloc)?;
     judge_placement(alloc, judge, store, part, &floor, &open)
 }

@@ -7,5 +7,5 @@ mod taken;
 mod watch;
 
 pub use scout::{Scout, TRIES, Way};
-pub use taken::{Child, Taken, push_children};
+pub use taken::{Child, Taken};
 pub use watch::{Unwatched, Watch};

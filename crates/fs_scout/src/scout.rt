@@ -1,11 +1,12 @@
 //! What a searcher knows, and what it tries at a node. It asks nothing of the board, so it needs no lock.
 
-ghost use Rattle.std.specs.Prelude.{◌≡◌, ◌≢◌, IfOk, IfErr, IfSome, IsOkUnless, map};
+ghost use Rattle.std.specs.Prelude.{◌≡◌, ◌≢◌, IfOk, IfErr, IfSome, IfNone, IsOkUnless, is_none, map, true, false};
+ghost use Rattle.std.specs.List.{list_any};
 ghost use Rattle.std.specs.Arc.{arc_value};
 ghost use Rattle.fs_model.specs.Slots.{slots};
 ghost use Rattle.fs_model.specs.declared.test.Test.{Test};
 ghost use Rattle.fs_answer.specs.CandidateFaults.{IsCandidateFault};
-ghost use Rattle.fs_answer.specs.Parts.{floor};
+ghost use Rattle.fs_answer.specs.Parts.{floor, is_undecided};
 ghost use Rattle.fs_bound.specs.Bounds.{slots_in_part};
 ghost use Rattle.fs_model.specs.Execution.{Execution};
 ghost use Rattle.fs_evidence.specs.Evidence.{IsWitnessFor, placement_in};
@@ -14,14 +15,15 @@ ghost use Rattle.fs_board.specs.Asking.{Tells};
 ghost use Rattle.fs_scout.specs.Tries.{IsPostable, IsTry, IsLast};
 
 use crate::floor_and_filled::{
-    is_filled_new, is_floor_new, judge_floor, judge_placement, look_at_filled, stored_over_filled,
+    is_filled_new, is_floor_allowed, is_floor_new, judge_floor, judge_placement, look_at_filled,
+    stored_over_filled,
 };
-use crate::taken::Taken;
+use crate::taken::{Child, Taken, push_children};
 use crate::watch::Watch;
 use fs_board::{Decision, Event, Part, Reply};
 use fs_evidence::{Forbidden, Question, Witness};
 use fs_judge::{Judge, Problem, Verdict};
-use fs_kinds::{Fault, Kind, Placement, Prices};
+use fs_kinds::{Fault, Kind, Placement, Prices, Slot};
 use fs_list::List;
 use fs_parts::is_same;
 use fs_plan::{MOST_STEPS, Store, cheapest_breaking};
@@ -64,9 +66,15 @@ pub const TRIES: [Way; 5] = [Way::Cost, Way::Bound, Way::Stored, Way::Looked, Wa
 /// A plan may ask for so many verdicts.
 const MOST_ROUNDS: usize = 1_000;
 
+/// So many verdicts at nodes are many.
+const MANY_VERDICTS: usize = 16;
+
+/// Where a verdict is made for so many nodes, judging takes longer than all else that is done with them.
+const NODES_A_VERDICT: usize = 4;
+
 /// A judge of the question, the witnesses that were met, for how many verdicts the plan may still ask, how many steps
-/// it may still take, the planned placement, and what was seen of the board: the best placement posted, and where a
-/// peek was learned, how many witnesses there were. Contracts see the question.
+/// it may still take, the planned placement, how many verdicts were made at nodes, and what was seen of the board: the best
+/// placement posted, and where a peek was learned, how many witnesses there were. Contracts see the question.
 #[derive(Drop)]
 pub struct Scout {
     judge: Judge,
@@ -74,6 +82,7 @@ pub struct Scout {
     rounds: usize,
     steps: usize,
     planned: Option<Arc<Forbidden>>,
+    verdicts: usize,
     bound: Option<Arc<Forbidden>>,
     seen: usize,
     has_looked: bool,
@@ -171,6 +180,7 @@ impl Scout {
             rounds: 0,
             steps: MOST_STEPS,
             planned: None,
+            verdicts: 0,
             bound: None,
             seen: 0,
             has_looked: false,
@@ -184,11 +194,6 @@ impl Scout {
         let mut scout = Scout::new(alloc, problem);
         scout.rounds = MOST_ROUNDS;
         scout
-    }
-
-    /// For how many verdicts the plan may still ask: none where it is made, or none is to be made.
-    pub fn rounds_left(&self) -> usize {
-        self.rounds
     }
 
     /// Makes the plan, where one is still to be made: the cheapest placement that breaks all stored witnesses is judged, and where it
@@ -215,7 +220,7 @@ impl Scout {
     }
 
     /// One round of what `prepare` does, where the plan is still to be made.
-    pub fn plan(&mut self, alloc: Global, taken: &Taken) -> Result<(), Fault>
+    fn plan(&mut self, alloc: Global, taken: &Taken) -> Result<(), Fault>
         requires { slots_in_part (arc_value taken.now.part) ≡ slots self.old.test }
         ensures value { self.new ≡ self.old }
         ensures err { IfErr result (λ f. f ≢ Fault.Memory → IsCandidateFault self.old.test f) }
@@ -278,15 +283,56 @@ impl Scout {
         Ok(Some(Arc::try_clone(planned)?))
     }
 
-    /// The number among the children of the node, once it is split, of that under which the planned placement stands.
-    pub fn planned_child(&self, taken: &Taken) -> Option<usize> {
+    /// The number, among the children of the node that are made by a split at the slot, of that under which the planned placement stands.
+    fn planned_child(&self, taken: &Taken, slot: Slot) -> Option<usize> {
         let planned = self.planned.as_ref()?;
-        let slot = taken.part.first_undecided()?;
         if !is_under(&taken.part, &planned.placement) {
             return None;
         }
         let prices = &self.judge.question().prices;
         Some(number_of(prices, planned.placement.get(slot)))
+    }
+
+    /// Puts the children on the stack that the event made of the node, by what was replied to it: the first one last, but for that under
+    /// which the planned placement stands, which is on top.
+    pub fn keep_children(
+        &self,
+        children: &mut Vec<Child>,
+        taken: &Taken,
+        event: &Event,
+        reply: &Reply,
+    ) -> Result<(), AllocError> {
+        let Event::Split(_, slot) = event else {
+            return Ok(());
+        };
+        push_children(children, *slot, reply, self.planned_child(taken, *slot))
+    }
+
+    /// Is judging what takes the time, when the scout was at so many nodes? Then other scouts may help: it has asked for many verdicts at
+    /// nodes, beside those of the plan, and for one at every fourth node or more. Where a plan holds, few nodes ask for any.
+    pub fn judges_much(&self, nodes: usize) -> bool {
+        self.verdicts >= MANY_VERDICTS && self.verdicts >= nodes / NODES_A_VERDICT
+    }
+
+    /// The witnesses that were met, for others who search.
+    pub fn witnesses(&self, alloc: Global) -> Result<Vec<Arc<Witness>>, AllocError>
+        ensures { IfOk result (λ all. AreWitnesses self.now.test (map arc_value all.items)) }
+    {
+        self.store.witnesses(alloc)
+    }
+
+    /// Meets witnesses that another one has found. The decisions are those of any node.
+    pub fn meet(
+        &mut self,
+        alloc: Global,
+        decisions: &[Decision],
+        witnesses: &[Arc<Witness>],
+    ) -> Result<(), AllocError>
+        requires { AreWitnesses self.old.test (map arc_value witnesses.now) }
+        ensures { self.new ≡ self.old }
+    {
+        let prices = &self.judge.question().prices;
+        keep_all(alloc, &mut self.store, prices, decisions, witnesses)
     }
 
     /// Was the board looked at?
@@ -359,6 +405,10 @@ impl Scout {
         if let Some(planned) = self.planned_floor(alloc, &taken.part)? {
             return Ok(Some(Event::Post(taken.node, planned)));
         }
+        if is_floor_allowed(alloc, &self.store, &taken.part)? {
+            return Ok(None);
+        }
+        self.verdicts = self.verdicts.saturating_add(1);
         let found = judge_floor(alloc, &mut self.judge, &mut self.store, &taken.part)?;
         let Some(forbidden) = found else {
             return Ok(None);
@@ -366,8 +416,23 @@ impl Scout {
         Ok(Some(Event::Post(taken.node, Arc::new(alloc, forbidden)?)))
     }
 
-    /// What is left to try: a split at the first undecided slot, or a verdict on the one placement. It is done with the node, whoever
-    /// holds it, unless there is no room for the children.
+    /// The slot at which a node of this part is split: the one of `Store::slot_to_split`, where there is one, else the first undecided
+    /// one. None where each slot is decided.
+    fn slot_to_split(&self, alloc: Global, part: &Part) -> Result<Option<Slot>, AllocError>
+        ensures some { IfOk result (λ found. IfSome found (λ slot. is_undecided slot part.now ≡ true)) }
+        ensures none { IfOk result (λ found. IfNone found (list_any (λ d. is_none d.decided) part.now ≡ false)) }
+    {
+        let best = self.bound.as_ref().or(self.planned.as_ref());
+        if let Some(slot) = self.store.slot_to_split(alloc, best, part)? {
+            if part.is_undecided(slot) {
+                return Ok(Some(slot));
+            }
+        }
+        Ok(part.first_undecided())
+    }
+
+    /// What is left to try: a split, or a verdict on the one placement. It is done with the node, whoever holds it, unless there is no
+    /// room for the children.
     pub fn last(&mut self, alloc: Global, taken: &Taken) -> Result<Event, Fault>
         requires { slots_in_part (arc_value taken.now.part) ≡ slots self.old.test }
         ensures value { self.new ≡ self.old }
@@ -375,12 +440,25 @@ impl Scout {
         ensures last { IfOk result (IsLast self.old.test taken.now.node (arc_value taken.now.part)) }
         ensures err { IfErr result (λ f. f ≢ Fault.Memory → IsCandidateFault self.old.test f) }
     {
-        if let Some(slot) = taken.part.first_undecided() {
-            return Ok(Event::Split(taken.node, slot));
+        match self.slot_to_split(alloc, &taken.part)? {
+            Some(slot) => Ok(Event::Split(taken.node, slot)),
+            None => self.last_verdict(alloc, taken),
         }
+    }
+
+    /// The verdict on the one placement of a node that has no undecided slot, as what it asks of the board.
+    fn last_verdict(&mut self, alloc: Global, taken: &Taken) -> Result<Event, Fault>
+        requires slots { slots_in_part (arc_value taken.now.part) ≡ slots self.old.test }
+        requires whole { list_any (λ d. is_none d.decided) (arc_value taken.now.part) ≡ false }
+        ensures value { self.new ≡ self.old }
+        ensures made { IfOk result (IsTry self.old) }
+        ensures last { IfOk result (IsLast self.old.test taken.now.node (arc_value taken.now.part)) }
+        ensures err { IfErr result (λ f. f ≢ Fault.Memory → IsCandidateFault self.old.test f) }
+    {
         if let Some(planned) = self.planned_floor(alloc, &taken.part)? {
             return Ok(Event::Post(taken.node, planned));
         }
+        self.verdicts = self.verdicts.saturating_add(1);
         let floor = taken.part.floor(alloc)?;
         let verdict = self.judge.verdict(alloc, &floor, &[])?;
         match verdict {

@@ -20,18 +20,15 @@ pub struct Taken {
     pub slot: Option<Slot>,
 }
 
-/// Puts the children that a reply gives to the node on the stack, the first one last, but for the one that comes next, which is on top.
-/// That one is named by its number among them.
-pub fn push_children(
+/// Puts the children that a reply gives to a node, which was split at the slot, on the stack, the first one last, but for the one that
+/// comes next, which is on top. That one is named by its number among them.
+pub(crate) fn push_children(
     children: &mut Vec<Child>,
-    taken: &Taken,
+    slot: Slot,
     reply: &Reply,
     next: Option<usize>,
 ) -> Result<(), AllocError> {
     let Reply::Children(first, count) = reply else {
-        return Ok(());
-    };
-    let Some(slot) = taken.part.first_undecided() else {
         return Ok(());
     };
     let next = next.filter(|k| k < count);

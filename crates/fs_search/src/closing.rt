@@ -13,7 +13,7 @@ ghost use Rattle.fs_search.specs.inner.Steps.{IsTried, MovesOn, IsTaken, is_end}
 use crate::next_node::WORKER;
 use fs_board::{Board, Reply};
 use fs_kinds::Fault;
-use fs_scout::{Child, Scout, Taken, Way, push_children};
+use fs_scout::{Child, Scout, Taken, Way};
 use std::alloc::Global;
 
 /// Was the node closed or split?
@@ -62,12 +62,11 @@ pub(crate) fn close_or_split(
     ensures err { IfErr result (λ f. f ≢ Fault.Memory → IsSearchFault board.old f) }
 {
     let _legal = board.log();
-    let next = scout.planned_child(taken);
     let event = scout.last(alloc, taken)?;
     let reply = board.ask(alloc, WORKER, &event)?;
     if !is_end(&reply) {
         return Err(Fault::NodeLimit);
     }
-    push_children(children, taken, &reply, next)?;
+    scout.keep_children(children, taken, &event, &reply)?;
     Ok(())
 }

@@ -10,6 +10,6 @@ mod sweep;
 
 pub use answer::{Answer, Solved};
 pub use fs_judge::Problem;
-pub use fs_scout::{Child, Scout, TRIES, Taken, Unwatched, Watch, Way, push_children};
+pub use fs_scout::{Child, Scout, TRIES, Taken, Unwatched, Watch, Way};
 pub use solving::{conclude, solve};
-pub use sweep::search;
+pub use sweep::{search, search_alone};

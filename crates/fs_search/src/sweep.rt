@@ -1,7 +1,8 @@
-//! The search: depth first, the planned child first and then none, at the first undecided slot.
+//! The search: depth first, the planned child first and then none.
 
-ghost use Rattle.std.specs.Prelude.{◌≡◌, ◌≢◌, IfErr, OnOk, true};
+ghost use Rattle.std.specs.Prelude.{◌≡◌, ◌≢◌, IfOk, IfErr, IfSome, IsTrue, OnOk, map, true, false};
 ghost use Rattle.std.specs.Arc.{arc_value};
+ghost use Rattle.fs_board.specs.Growth.{AreWitnesses};
 ghost use Rattle.fs_history.specs.Board.{is_finished};
 ghost use Rattle.fs_search.specs.Answers.{IsSearchFault};
 ghost use Rattle.fs_search.specs.Histories.{GoesOn};
@@ -10,6 +11,7 @@ ghost use Rattle.fs_search.specs.inner.Steps.{MovesOn, IsTaken};
 use crate::closing::{close_or_split, try_way};
 use crate::next_node::next_node;
 use fs_board::Board;
+use fs_evidence::Witness;
 use fs_judge::Problem;
 use fs_kinds::Fault;
 use fs_parts::cost;
@@ -50,6 +52,41 @@ fn finish_node<W: Watch>(
     close_or_split(alloc, board, scout, children, taken)
 }
 
+/// Is it time to stop? Only where the search may stop, and judging takes the time.
+fn may_stop(scout: &Scout, is_alone: bool, nodes: usize) -> bool
+    ensures { IsTrue result → is_alone ≡ true }
+{
+    is_alone && scout.judges_much(nodes)
+}
+
+/// Searches until the board is finished, and then it is true; or, where the worker is alone, until others may help.
+fn sweep<W: Watch>(
+    alloc: Global,
+    board: &mut Board,
+    scout: &mut Scout,
+    is_alone: bool,
+    watch: &mut W,
+) -> Result<bool, Fault>
+    requires { board.old.question ≡ scout.old }
+    ensures scout { scout.new ≡ scout.old }
+    ensures goes { GoesOn board.old board.new }
+    ensures all { IfOk result (λ all. is_alone ≡ false → all ≡ true) }
+    ensures finished { IfOk result (λ all. IsTrue all → is_finished board.new.board ≡ true) }
+    ensures err { IfErr result (λ f. f ≢ Fault.Memory → IsSearchFault board.old f) }
+{
+    let mut children = Vec::new(alloc);
+    let mut nodes: usize = 0;
+    while !may_stop(scout, is_alone, nodes) {
+        let Some(taken) = next_node(board, &mut children)? else {
+            return Ok(true);
+        };
+        watch.searched(board.len(), best_cost(board));
+        finish_node(alloc, board, scout, &mut children, &taken, watch)?;
+        nodes = nodes.saturating_add(1);
+    }
+    Ok(false)
+}
+
 /// Searches until the board is finished, whatever open and held nodes it has: a child of its own first, then any open node, then any that
 /// is held, whoever holds it. It works as worker 0, and makes a plan before the first node. F16 where a split is refused for want of
 /// nodes, and then the tree of all placements has more nodes below its root than the limit; F13 to F15 where a verdict can't be made for
@@ -70,10 +107,26 @@ pub fn search<W: Watch>(
     ensures err { IfErr result (λ f. f ≢ Fault.Memory → IsSearchFault board.old f) }
 {
     let mut scout = Scout::planner(alloc, problem);
-    let mut children = Vec::new(alloc);
-    while let Some(taken) = next_node(board, &mut children)? {
-        watch.searched(board.len(), best_cost(board));
-        finish_node(alloc, board, &mut scout, &mut children, &taken, watch)?;
-    }
+    let _all = sweep(alloc, board, &mut scout, false, watch)?;
     Ok(())
+}
+
+/// Searches as `search` does, but stops where judging takes so long that other workers may help: then no node is held by it, and the
+/// witnesses that it has met come back. None where the board is finished. The faults are those of `search`.
+pub fn search_alone<W: Watch>(
+    alloc: Global,
+    problem: Arc<Problem>,
+    board: &mut Board,
+    watch: &mut W,
+) -> Result<Option<Vec<Arc<Witness>>>, Fault>
+    requires { board.old.question ≡ arc_value problem }
+    ensures goes { GoesOn board.old board.new }
+    ensures met { IfOk result (λ found. IfSome found (λ met. AreWitnesses (arc_value problem).test (map arc_value met.items))) }
+    ensures err { IfErr result (λ f. f ≢ Fault.Memory → IsSearchFault board.old f) }
+{
+    let mut scout = Scout::planner(alloc, problem);
+    if sweep(alloc, board, &mut scout, true, watch)? {
+        return Ok(None);
+    }
+    Ok(Some(scout.witnesses(alloc)?))
 }

@@ -10,12 +10,12 @@ use Rattle.fs_judge.specs.Verdicts.{IsVerdict}
 use Rattle.fs_scout.proofs.Handed.{candidates-handed}
 use Rattle.fs_plan.proofs.Parts.{floor-slots, leaf-shown}
 use Rattle.fs_scout.proofs.Scouts.{known-still}
-use Rattle.fs_scout.proofs.scout.Scout.last.Goals as goal
+use Rattle.fs_scout.proofs.scout.Scout.last_verdict.Goals as goal
 
 pub verdict-requires : goal.verdict-requires
 verdict-requires c =
-    floor-slots c.deref-3.result.now c.in_ok-floor.floor _ c.in_ok-floor.ensures
-    (ap slots_in_part c.deref-3.ensures ∙ (c.requires ∙ ap (λ (q : Question). slots q.test) (sym c.self.view_is)))
+    floor-slots c.deref-2.result.now c.in_ok-floor.floor _ c.in_ok-floor.ensures
+    (ap slots_in_part c.deref-2.ensures ∙ (c.requires.slots ∙ ap (λ (q : Question). slots q.test) (sym c.self.view_is)))
 
 -- the search finds this of any fault that a verdict may have
 pub returns-in_err-verdict-clause-err : goal.returns-in_err-verdict-clause-err
@@ -28,12 +28,11 @@ returns-in-Allowed-clause-last c =
     let part : Part = c.args.taken.now.part.value in
     let w = c.in-Allowed.witness in
     let v = c.in_ok-shared-in-Allowed.shared.value in
-    let none : list_any (λ d. is_none d.decided) part ≡ false =
-    ap (list_any (λ d. is_none d.decided)) (sym c.deref.ensures) ∙ c.in_default.ensures.none in
+    let none : list_any (λ d. is_none d.decided) part ≡ false = c.requires.whole in
     let shown = subst (IsVerdict c.self.inside.judge.test c.in_ok-floor.floor) c.in-Allowed.is c.in_ok-verdict.ensures.ok in (
       refl,
       subst (λ (q : Question). IsShownBy q.test (filled part) v.witness) c.self.view_is
-          (leaf-shown c.self.inside.judge.test part c.in_ok-floor.floor w v none (c.in_ok-floor.ensures ∙ ap floor c.deref-3.ensures)
+          (leaf-shown c.self.inside.judge.test part c.in_ok-floor.floor w v none (c.in_ok-floor.ensures ∙ ap floor c.deref-2.ensures)
           c.in_ok-shared-in-Allowed.ensures.ok shown),
     )
 
