@@ -122,8 +122,8 @@ impl<R: Clock + Eprint> Watch for Progress<'_, R> {
 
 /// As long as one worker is alone, its lines are those of a watch. Then the best cost is under the lock, so no line has it.
 impl<R: Clock + Eprint> Gate for Progress<'_, R> {
-    fn begins_alone(&self) -> bool {
-        Open.begins_alone()
+    fn nodes_alone(&self) -> usize {
+        Open.nodes_alone()
     }
 
     fn planned(&self) {

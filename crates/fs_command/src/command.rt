@@ -168,8 +168,9 @@ Where the outcome is vacuous (`rvfence test --help`), a note on standard error s
 With --cert PATH a certificate of the answer is written to PATH first, which `check` reads
 and judges without a search.
 
-With --workers N up to N threads search. The fences are the same for every number, and
-only a long search gains.
+With --workers N up to N threads search. The fences are the same for every number. One
+thread begins; the others join it only where many placements are still to be judged once
+it has made its plan, which few tests need.
 
 PRICES offers kinds, each for 1 to 1000000, and rw,rw must be one of them, as in
 {\"w,w\":2,\"rw,rw\":10}. Slots may have weights that multiply the price.

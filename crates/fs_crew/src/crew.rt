@@ -182,8 +182,8 @@ fn concluded<G: Gate>(
     Ok(solved)
 }
 
-/// One worker searches the board alone, unless all are to begin together. Where others may help now the witnesses that it has met come
-/// back; none where the board is finished, or has no room left. The faults are those of verdicts, and F19.
+/// One worker searches the board alone. Where the others are to join now the witnesses that it has met come back; none where the board is
+/// finished, or has no room left. The faults are those of verdicts, and F19.
 fn begin<G: Gate>(
     alloc: Global,
     problem: &Arc<Problem>,
@@ -195,11 +195,9 @@ fn begin<G: Gate>(
     ensures met { IfOk result (λ found. IfSome found (λ met. AreWitnesses (arc_value problem.now).test (map arc_value met.items))) }
     ensures err { IfErr result (λ f. f ≢ Fault.Memory → IsSolveFault (arc_value problem.now) board.old.board.limit f) }
 {
-    if !gate.begins_alone() {
-        return Ok(Some(Vec::new(alloc)));
-    }
     let shared = Arc::try_clone(problem)?;
-    match search_alone(alloc, shared, board, &mut Alone { gate }) {
+    let most = gate.nodes_alone();
+    match search_alone(alloc, shared, board, most, &mut Alone { gate }) {
         Ok(found) => Ok(found),
         Err(Fault::NodeLimit) => Ok(None),
         Err(fault) => Err(fault),

@@ -6,8 +6,9 @@ use fs_search::Watch;
 /// for `leave`, and when it judges: by several threads at once; and once, when all have stopped, what they left. A call of it that doesn't
 /// return stops the search.
 pub trait Gate {
-    /// Does the first worker begin alone? Then others join where they may help. Else all begin together.
-    fn begins_alone(&self) -> bool;
+    /// How many nodes the first worker is done with at most before the others join. Where they may help they join before; where it is none,
+    /// all begin together.
+    fn nodes_alone(&self) -> usize;
 
     /// The first worker is alone, and its plan asks for one more verdict.
     fn planned(&self);
@@ -35,8 +36,8 @@ pub trait Gate {
 pub struct Open;
 
 impl Gate for Open {
-    fn begins_alone(&self) -> bool {
-        true
+    fn nodes_alone(&self) -> usize {
+        usize::MAX
     }
 
     fn planned(&self) {}

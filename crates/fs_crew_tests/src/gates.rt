@@ -72,8 +72,8 @@ struct FirstCall<'a, C> {
 }
 
 impl<'a, C: Clock> Gate for FirstCall<'a, C> {
-    fn begins_alone(&self) -> bool {
-        false
+    fn nodes_alone(&self) -> usize {
+        0
     }
 
     fn planned(&self) {}
@@ -103,8 +103,8 @@ struct Overlap<'a, C> {
 }
 
 impl<'a, C: Clock> Gate for Overlap<'a, C> {
-    fn begins_alone(&self) -> bool {
-        false
+    fn nodes_alone(&self) -> usize {
+        0
     }
 
     fn planned(&self) {}

@@ -10,17 +10,26 @@ use std::sync::atomic::{AtomicU64, AtomicUsize, Ordering};
 use std::test::Fail;
 use std::thread::Threads;
 
-/// How often the workers' board was handed out, with how many entries in its log at last, and how often it was given up.
+/// After how many nodes of the first worker the others join; how often the workers' board was handed out, with how many entries in its log
+/// at last, and how often it was given up.
 #[derive(Drop)]
 pub(crate) struct Ends {
+    alone: usize,
     kept: AtomicU64,
     lost: AtomicU64,
     logged: AtomicUsize,
 }
 
 impl Ends {
+    /// All begin together.
     pub(crate) fn new() -> Self {
+        Ends::after(0)
+    }
+
+    /// The others join after so many nodes.
+    fn after(alone: usize) -> Self {
         Ends {
+            alone,
             kept: AtomicU64::new(0),
             lost: AtomicU64::new(0),
             logged: AtomicUsize::new(0),
@@ -34,8 +43,8 @@ impl Ends {
 }
 
 impl Gate for Ends {
-    fn begins_alone(&self) -> bool {
-        false
+    fn nodes_alone(&self) -> usize {
+        self.alone
     }
 
     fn planned(&self) {}
@@ -211,6 +220,21 @@ fn any_number_of_workers_answers_the_same(rt: HostRuntime) -> Result<(), Fail> {
         }
         assert!(rt; ends.are(3));
     }
+    Ok(())
+}
+
+/// Store buffering takes 15 nodes.
+#[test]
+fn the_second_worker_joins_after_some_nodes(rt: HostRuntime) -> Result<(), Fail> {
+    for alone in [1, 2, 5, 9, 14] {
+        let ends = Ends::after(alone);
+        let line = answered_by_two(&rt, rt.alloc(), &ends, &ends)?;
+        assert!(rt; line.starts_with("fenced 18 ") && line.contains(" by 0"));
+        assert!(rt; ends.are(1));
+    }
+    let ends = Ends::after(15);
+    let line = answered_by_two(&rt, rt.alloc(), &ends, &ends)?;
+    assert!(rt; line.starts_with("fenced 18 ") && ends.are(0));
     Ok(())
 }
 

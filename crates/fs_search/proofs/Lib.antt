@@ -2,3 +2,4 @@ pub mod Ends
 pub mod Goes
 pub mod Problems
 pub mod Replied
+pub mod Stopping

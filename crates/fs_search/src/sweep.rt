@@ -1,6 +1,6 @@
 //! The search: depth first, the planned child first and then none.
 
-ghost use Rattle.std.specs.Prelude.{◌≡◌, ◌≢◌, IfOk, IfErr, IfSome, IsTrue, OnOk, map, true, false};
+ghost use Rattle.std.specs.Prelude.{◌≡◌, ◌≢◌, IfOk, IfErr, IfSome, IfNone, IsTrue, OnOk, map, true, false};
 ghost use Rattle.std.specs.Arc.{arc_value};
 ghost use Rattle.fs_board.specs.Growth.{AreWitnesses};
 ghost use Rattle.fs_history.specs.Board.{is_finished};
@@ -52,31 +52,36 @@ fn finish_node<W: Watch>(
     close_or_split(alloc, board, scout, children, taken)
 }
 
-/// Is it time to stop? Only where the search may stop, and judging takes the time.
-fn may_stop(scout: &Scout, is_alone: bool, nodes: usize) -> bool
-    ensures { IsTrue result → is_alone ≡ true }
+/// Is it time to stop, for a worker that is alone for so many nodes at most? Then it is done with these, or judging takes the time.
+fn may_stop(scout: &Scout, alone: Option<usize>, nodes: usize) -> bool
+    ensures { IfNone alone (result ≡ false) }
 {
-    is_alone && scout.judges_much(nodes)
+    match alone {
+        Some(most) => nodes >= most || scout.judges_much(nodes),
+        None => false,
+    }
 }
 
-/// Searches until the board is finished, and then it is true; or, where the worker is alone, until others may help.
+/// Searches until the board is finished, and then it is true; or, where the worker is alone for so many nodes at most, until it is done with
+/// these, or others may help.
+#[tactic(auto, using(crate::proofs::Stopping::stopped))]
 fn sweep<W: Watch>(
     alloc: Global,
     board: &mut Board,
     scout: &mut Scout,
-    is_alone: bool,
+    alone: Option<usize>,
     watch: &mut W,
 ) -> Result<bool, Fault>
     requires { board.old.question ≡ scout.old }
     ensures scout { scout.new ≡ scout.old }
     ensures goes { GoesOn board.old board.new }
-    ensures all { IfOk result (λ all. is_alone ≡ false → all ≡ true) }
+    ensures all { IfOk result (λ all. IfNone alone (all ≡ true)) }
     ensures finished { IfOk result (λ all. IsTrue all → is_finished board.new.board ≡ true) }
     ensures err { IfErr result (λ f. f ≢ Fault.Memory → IsSearchFault board.old f) }
 {
     let mut children = Vec::new(alloc);
     let mut nodes: usize = 0;
-    while !may_stop(scout, is_alone, nodes) {
+    while !may_stop(scout, alone, nodes) {
         let Some(taken) = next_node(board, &mut children)? else {
             return Ok(true);
         };
@@ -107,16 +112,18 @@ pub fn search<W: Watch>(
     ensures err { IfErr result (λ f. f ≢ Fault.Memory → IsSearchFault board.old f) }
 {
     let mut scout = Scout::planner(alloc, problem);
-    let _all = sweep(alloc, board, &mut scout, false, watch)?;
+    let _all = sweep(alloc, board, &mut scout, None, watch)?;
     Ok(())
 }
 
-/// Searches as `search` does, but stops where judging takes so long that other workers may help: then no node is held by it, and the
-/// witnesses that it has met come back. None where the board is finished. The faults are those of `search`.
+/// Searches as `search` does, but stops when it is done with so many nodes, or where judging takes so long that other workers may help:
+/// then no node is held by it, and the witnesses that it has met come back. None where the board is finished. The faults are those of
+/// `search`.
 pub fn search_alone<W: Watch>(
     alloc: Global,
     problem: Arc<Problem>,
     board: &mut Board,
+    most: usize,
     watch: &mut W,
 ) -> Result<Option<Vec<Arc<Witness>>>, Fault>
     requires { board.old.question ≡ arc_value problem }
@@ -125,7 +132,7 @@ pub fn search_alone<W: Watch>(
     ensures err { IfErr result (λ f. f ≢ Fault.Memory → IsSearchFault board.old f) }
 {
     let mut scout = Scout::planner(alloc, problem);
-    if sweep(alloc, board, &mut scout, true, watch)? {
+    if sweep(alloc, board, &mut scout, Some(most), watch)? {
         return Ok(None);
     }
     Ok(Some(scout.witnesses(alloc)?))
