@@ -274,9 +274,10 @@ impl Store {
         Ok(Vec::new(alloc))
     }
 
-    /// The slot at which a node of this part is best split. Of the witnesses that show the outcome under its least placement one is
-    /// breakable at the fewest slots: of these it is the last one where the best placement known has a fence, or else the last one. So the
-    /// tree has few branches, and at equal cost the best placement closes most of them, as first placements have their fences late. None
+    /// The slot at which a node of this part is best split. Of the witnesses that show the outcome under its least placement those count
+    /// that are breakable at the fewest slots: so few ways are left open. Each of them has its last slot where the best placement known has
+    /// a fence, or else its last one: first placements have their fences late, so what has one earlier is closed at equal cost. The first of
+    /// these slots it is, since at equal cost nothing is closed before the earlier slots are decided as the best placement has them. None
     /// where no stored witness shows the outcome there, or no fence breaks it. The cost is that of `pick`.
     pub fn slot_to_split(
         &self,
@@ -286,11 +287,13 @@ impl Store {
     ) -> Result<Option<Slot>, AllocError> {
         let decisions = part.as_slice();
         let offers = self.offers(alloc, &Codes::of_floor(decisions), decisions)?;
-        let Some(offer) = offers.first() else {
-            return Ok(None);
-        };
+        let fewest = offers.first().map_or(0, |offer| offer.slots);
         let fenced = best.map_or(0, |best| fenced_places(best.placement.as_slice()));
-        let place = offer.last_place_among(fenced);
+        let place = offers
+            .iter()
+            .take_while(|offer| offer.slots == fewest)
+            .filter_map(|offer| offer.last_place_among(fenced))
+            .min();
         let decision = place.and_then(|place| decisions.get(place));
         Ok(decision.map(|decision| decision.slot))
     }
