@@ -133,7 +133,8 @@ def long_searches():
     """The texts of tests whose search takes long with one worker, by their names."""
     grown = families()
     names = 'SB-7-4 SB-8-0 LB-7-4 MP-7-4 2+2W-7-4 IRIW-4 stores-7 stores-8 loads-12 loads-14 rounds-3'.split()
-    numbers = [(3, 2, 0), (3, 2, 3), (3, 2, 6), (4, 2, 0), (4, 2, 2), (4, 3, 0), (4, 3, 2), (4, 3, 4)]
+    numbers = [(3, 2, 0), (3, 2, 3), (3, 2, 6), (4, 2, 0), (4, 2, 2), (4, 2, 6), (4, 2, 8), (4, 3, 0), (4, 3, 2),
+               (4, 3, 4), (4, 3, 8), (4, 3, 12)]
     return {name: grown[name] for name in names} | {'votes-%d-%d-%d' % each: votes(*each) for each in numbers}
 
 
