@@ -131,6 +131,7 @@ impl<R: Clock + Eprint> Gate for Progress<'_, R> {
     }
 
     fn searched(&self, nodes: usize, best: Option<u64>) {
+        self.nodes.fetch_max(nodes, Ordering::SeqCst);
         self.say_of_one(nodes, best);
     }
 

@@ -1,6 +1,6 @@
 //! The answer to a question, searched by many workers.
 
-ghost use Rattle.std.specs.Prelude.{◌≡◌, ◌≢◌, ◌≤◌, IfOk, IfErr, IfSome, IsOkUnless, OnOk, All, map};
+ghost use Rattle.std.specs.Prelude.{◌≡◌, ◌≢◌, ◌≤◌, [], IfOk, IfErr, IfSome, IsOkUnless, OnOk, All, map};
 ghost use Rattle.std.specs.Arc.{arc_value};
 ghost use Rattle.fs_kinds.specs.PriceTable.{IsPriceTable};
 ghost use Rattle.fs_model.specs.Test.{IsBounded, IsStart};
@@ -124,6 +124,7 @@ fn opened(alloc: Global, problem: &Problem, limit: usize) -> Result<Board, Fault
     requires test { IsBounded problem.now.test }
     requires limit { limit ≤ 1000000 }
     ensures asked { IfOk result (λ b. IsAsked b problem.now limit) }
+    ensures empty { IfOk result (λ b. b.log ≡ []) }
     ensures err { IsOkUnless result Fault.Memory }
 {
     let question = Arc::try_clone(problem.question())?;

@@ -27,7 +27,7 @@ pub trait Gate {
     fn after(&self, worker: u8);
 
     /// No worker is at the board: it is handed out with so many entries in its log, none where they didn't begin. Or it is
-    /// given up, since its log and what they saw of it don't agree.
+    /// given up, since its log and what they saw of it don't agree. Where the others haven't joined it isn't told.
     fn ended(&self, logged: Option<usize>);
 }
 

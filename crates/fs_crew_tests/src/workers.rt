@@ -223,7 +223,7 @@ fn any_number_of_workers_answers_the_same(rt: HostRuntime) -> Result<(), Fail> {
     Ok(())
 }
 
-/// Store buffering takes 15 nodes.
+/// Store buffering takes 15 nodes. Whether the second worker still finds one to do, its turns decide.
 #[test]
 fn the_second_worker_joins_after_some_nodes(rt: HostRuntime) -> Result<(), Fail> {
     for alone in [1, 2, 5, 9, 14] {
@@ -232,7 +232,7 @@ fn the_second_worker_joins_after_some_nodes(rt: HostRuntime) -> Result<(), Fail>
         assert!(rt; line.starts_with("fenced 18 ") && line.contains(" by 0"));
         assert!(rt; ends.are(1));
     }
-    let ends = Ends::after(15);
+    let ends = Ends::after(16);
     let line = answered_by_two(&rt, rt.alloc(), &ends, &ends)?;
     assert!(rt; line.starts_with("fenced 18 ") && ends.are(0));
     Ok(())
@@ -241,8 +241,10 @@ fn the_second_worker_joins_after_some_nodes(rt: HostRuntime) -> Result<(), Fail>
 /// Whichever of its requests for memory is refused, as `rt try --test --fail-alloc` refuses them.
 #[test]
 fn two_workers_answer_or_lack_memory(rt: HostRuntime) -> Result<(), Fail> {
-    let line = answered(&rt, rt.alloc(), SB, 2, 1_000_000, &Open)?;
-    assert!(rt; line.starts_with("fenced 18") || line.starts_with("fault F19"));
+    for gate in [Ends::new(), Ends::after(5)] {
+        let line = answered(&rt, rt.alloc(), SB, 2, 1_000_000, &gate)?;
+        assert!(rt; line.starts_with("fenced 18") || line.starts_with("fault F19"));
+    }
     Ok(())
 }
 

@@ -204,7 +204,7 @@ fn all_open(alloc: Global, slots: &[Decision]) -> Result<Vec<Decision>, AllocErr
 
 impl Planner<'_> {
     /// The options that are worth a try at a slot, a bit for each, where these are the sets of pairs that unbroken witnesses don't keep
-    /// there: none, and each but those that break no more than one before them, which costs no more.
+    /// there: none, and each but those of which one option before, no dearer, breaks all that they break.
     fn worth_trying(self, sets: u16) -> u32 {
         let mut worth: u32 = 0;
         let mut bit: u32 = 1;

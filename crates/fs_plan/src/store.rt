@@ -275,9 +275,9 @@ impl Store {
     }
 
     /// The slot at which a node of this part is best split. Of the witnesses that show the outcome under its least placement those count
-    /// that are breakable at the fewest slots: so few ways are left open. Each of them has its last slot where the best placement known has
-    /// a fence, or else its last one: first placements have their fences late, so what has one earlier is closed at equal cost. The first of
-    /// these slots it is, since at equal cost nothing is closed before the earlier slots are decided as the best placement has them. None
+    /// that are breakable at the fewest slots: so few ways are left open. Of each its last slot is taken at which the best placement known
+    /// has a fence, or without one its last: first placements have their fences late, so what has one earlier is closed at equal cost. The
+    /// first of the slots taken it is, since at equal cost nothing is closed before the earlier slots are decided as the best placement has them. None
     /// where no stored witness shows the outcome there, or no fence breaks it. The cost is that of `pick`.
     pub fn slot_to_split(
         &self,

@@ -62,8 +62,8 @@ impl<A: Asked> Model for Desk<A> {
 }
 
 impl<A: Asked> Desk<A> {
-    /// The desk of a board, on which something may be done already, and a pass for each worker, from 0 on. There may be 16 workers. The
-    /// error is F19.
+    /// The desk of a board, on which something may be done already, and a pass for each worker, from 0 on. There may be 16 workers. For
+    /// nodes that are held already nobody waits. The error is F19.
     pub fn new(alloc: Global, board: Board, workers: u8) -> Result<(Desk<A>, Vec<Pass<A>>), Fault>
         requires asked { IsAsked board A.question A.limit }
         requires some { 1 ≤ workers }

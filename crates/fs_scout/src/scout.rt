@@ -309,7 +309,7 @@ impl Scout {
     }
 
     /// Is judging what takes the time, when the scout was at so many nodes? Then other scouts may help: it has asked for many verdicts at
-    /// nodes, beside those of the plan, and for one at every fourth node or more. Where a plan holds, few nodes ask for any.
+    /// nodes, beside those of the plan, and for one at every fourth node or more. Where a plan holds, no node asks for any.
     pub fn judges_much(&self, nodes: usize) -> bool {
         self.verdicts >= MANY_VERDICTS && self.verdicts >= nodes / NODES_A_VERDICT
     }

@@ -129,6 +129,7 @@ pub fn search_alone<W: Watch>(
     requires { board.old.question ≡ arc_value problem }
     ensures goes { GoesOn board.old board.new }
     ensures met { IfOk result (λ found. IfSome found (λ met. AreWitnesses (arc_value problem).test (map arc_value met.items))) }
+    ensures finished { IfOk result (λ found. IfNone found (is_finished board.new.board ≡ true)) }
     ensures err { IfErr result (λ f. f ≢ Fault.Memory → IsSearchFault board.old f) }
 {
     let mut scout = Scout::planner(alloc, problem);

@@ -103,8 +103,8 @@ pub fn run_certified_alone<W: Watch>(
     with_certificate(alloc, &found)
 }
 
-/// What `run_solve_alone` answers, searched by 1 to 16 workers: more than one work in threads of their own, and the gate is told when
-/// each of these asks the desk, and when it judges. Whatever their number, the printed placement is the first of the cheapest.
+/// What `run_solve_alone` answers, searched by 1 to 16 workers: one begins, and where judging takes long the others join it, in threads
+/// of their own; the gate is told how far they are. Whatever their number, the printed placement is the first of the cheapest.
 ///
 /// The faults are those of `run_solve_alone`. Where what was logged under the lock isn't what the workers were told, the lock or the threads
 /// didn't do as they should: then nothing of it is used, and one worker searches alone; no test meets it. Several workers may make more
