@@ -241,8 +241,9 @@ fn the_second_worker_joins_after_some_nodes(rt: HostRuntime) -> Result<(), Fail>
 /// Whichever of its requests for memory is refused, as `rt try --test --fail-alloc` refuses them.
 #[test]
 fn two_workers_answer_or_lack_memory(rt: HostRuntime) -> Result<(), Fail> {
-    for gate in [Ends::new(), Ends::after(5)] {
-        let line = answered(&rt, rt.alloc(), SB, 2, 1_000_000, &gate)?;
+    for alone in [0, 5] {
+        let ends = Ends::after(alone);
+        let line = answered(&rt, rt.alloc(), SB, 2, 1_000_000, &ends)?;
         assert!(rt; line.starts_with("fenced 18") || line.starts_with("fault F19"));
     }
     Ok(())
