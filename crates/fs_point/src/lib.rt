@@ -21,5 +21,6 @@ mod words;
 pub use fences::{explain_fences, explain_unread};
 pub use file::{explain, explain_test};
 pub use json::explain_json;
+pub use message::shown_name;
 pub use point::{Point, point_of};
 pub use title::body_start;

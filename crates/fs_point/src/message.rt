@@ -53,6 +53,16 @@ fn push_name(text: &mut String, name: &str) -> Result<(), AllocError>
     push_shown(text, name.as_bytes(), 0, MOST_NAME)
 }
 
+/// A name of a file, a test or a word as it is shown to people: a tab as a blank, any other character that isn't of
+/// ASCII's printable ones as `?`, and at most 4096 characters. Linear in the name. Fails only for want of memory.
+pub fn shown_name(alloc: Global, name: &str) -> Result<String, AllocError>
+    ensures { IfOk result (λ text. string_bytes text ≡ name_text name.now) }
+{
+    let mut text = String::new(alloc);
+    push_name(&mut text, name)?;
+    Ok(text)
+}
+
 // Appends the line at a place, and below it the caret and a hint.
 fn push_source(
     alloc: Global,
