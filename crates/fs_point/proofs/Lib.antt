@@ -5,3 +5,6 @@ pub mod Showing
 pub mod Telling
 pub mod Relined
 pub mod BadAtoms
+pub mod Bad
+pub mod Stopping
+pub mod Aims

@@ -6,11 +6,11 @@ use Rattle.fs_tokens.specs.declared.token.Token as tokens
 use Rattle.fs_tokens.specs.Tokens.{AreTokens, view, views}
 use Rattle.fs_litmus.specs.Title.{after_line, IsBody}
 use Rattle.fs_litmus.specs.Reads.{HasTokens}
-use Rattle.fs_litmus.specs.Faults.{IsTestFault}
 use Rattle.fs_point.specs.Apart.{apart}
 use Rattle.fs_point.specs.Walks.{BeginsAt}
 use Rattle.fs_point.proofs.Relined.{relined}
-use Rattle.fs_point.specs.Points.{in_line, IsFaultOf, IsPastTokens, IsTokenAt}
+use Rattle.fs_point.specs.Points.{aim_of, IsFaultIn, IsFaultOf, IsPastTokens, IsTokenAt}
+use Rattle.fs_point.specs.declared.point.Aim.TheVariants.{InLine}
 
 abbrev pub HasBody : List ℕ → ℕ → ℕ → Type 0
 HasBody bytes start line = (doc : List ℕ) × (after_line bytes ≡ Some doc) × IsBody doc 2 (drop start bytes) line
@@ -20,10 +20,10 @@ module _ (bytes text : List ℕ) (start line : ℕ) (has_body : HasBody bytes st
   tokens_of made lent closed same are =
       record { doc = has_body.0; after_title = has_body.1; body = drop start bytes; line = line; is_body = has_body.2; are_tokens = subst (λ l. AreTokens l line (views lent) closed) is_text (subst (λ l. AreTokens text line (views l) closed) (sym same) are) }
 
-  pub fault_of : (made lent : List tokens.Token) (closed : Bool) (f : Fault) (n : ℕ) → lent ≡ made → AreTokens text line (views made) closed → IsTestFault (apart (views lent) closed) (in_line f (n + 2)) → IsFaultOf bytes f n
-  fault_of made lent closed f n same are fault =
+  pub fault_of : (made lent : List tokens.Token) (closed : Bool) (f : Fault) (n : ℕ) → lent ≡ made → AreTokens text line (views made) closed → aim_of f ≡ InLine → IsFaultIn (apart (views lent) closed) f n → IsFaultOf bytes f n
+  fault_of made lent closed f n same are has_line fault =
       let all = tokens_of made lent closed same are in
-      record { tokens = views lent; closed = closed; has_tokens = all; apart_alike = relined bytes (views lent) closed all; is_fault = fault }
+      record { has_line = has_line; tokens = views lent; closed = closed; has_tokens = all; apart_alike = relined bytes (views lent) closed all; is_fault = fault }
 
   pub past_tokens : (made lent : List tokens.Token) (closed : Bool) (n : ℕ) → lent ≡ made → AreTokens text line (views made) closed → length made ≤ n → IsPastTokens bytes n
   past_tokens made lent closed n same are h =

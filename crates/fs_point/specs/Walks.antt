@@ -1,7 +1,7 @@
 -- Where the tokens of a text begin (herd7's format of litmus tests).
-use Rattle.std.specs.Prelude.{◌≡◌, ℕ, ◌+◌, ◌≤◌, zero, suc, List, ◌∷◌, Bool, ◌==◌, ◌&&◌, drop}
+use Rattle.std.specs.Prelude.{◌≡◌, ℕ, ◌+◌, ◌≤◌, zero, suc, List, ◌∷◌, Bool, ◌==◌, ◌&&◌, length, drop}
 use Rattle.fs_tokens.specs.Bytes.{begins}
-use Rattle.fs_tokens.specs.Tokens.{Tok, Front, Skip, Take, Unclosed, piece}
+use Rattle.fs_tokens.specs.Tokens.{Tok, Lined, Front, Skip, Take, Unclosed, piece, AreTokens}
 use Rattle.fs_point.specs.declared.walk.Step as steps
 use Rattle.fs_point.specs.declared.walk.Step.TheVariants as step
 
@@ -10,6 +10,10 @@ pub data BeginsAt : ℕ → List ℕ → List ℕ → Type 0 where
   here : {b : ℕ} {bs rest : List ℕ} {t : Tok} → piece b bs 0 ≡ Take t rest → BeginsAt zero (b ∷ bs) (b ∷ bs)
   skip : {n b next : ℕ} {bs rest at : List ℕ} → piece b bs 0 ≡ Skip rest next → BeginsAt n rest at → BeginsAt n (b ∷ bs) at
   later : {n b : ℕ} {bs rest at : List ℕ} {t : Tok} → piece b bs 0 ≡ Take t rest → BeginsAt n rest at → BeginsAt (suc n) (b ∷ bs) at
+
+-- the bytes are no more tokens than these, whatever line they stand in
+abbrev pub AreAtMost : List ℕ → ℕ → Type 0
+AreAtMost bytes n = (line : ℕ) (tokens : List Lined) (closed : Bool) → AreTokens bytes line tokens closed → length tokens ≤ n
 
 -- ---- what the walk does
 

@@ -1,11 +1,13 @@
 //! Which token of a test file a fault of its condition is of.
 
-ghost use Rattle.std.specs.Prelude.{◌≡◌, IfOk, IfSome, None};
-ghost use Rattle.fs_tokens.specs.Tokens.{views};
+ghost use Rattle.std.specs.Prelude.{◌≡◌, ◌<◌, ℕ, List, length, IfErr, IfOk, IfSome, IsNone, None};
+ghost use Rattle.fs_tokens.specs.Tokens.{Lined, views};
 ghost use Rattle.fs_tokens.specs.Sections.{Takes};
 ghost use Rattle.fs_form.specs.Reading.{IsEnd};
 ghost use Rattle.fs_form.specs.Form.{Form, IsForm};
 ghost use Rattle.fs_condition.specs.Grammar.{Syntax, IsCondition};
+ghost use Rattle.fs_litmus.specs.Faults.{IsText};
+ghost use Rattle.fs_litmus.specs.inner.Sections.{IsTextStop};
 ghost use Rattle.fs_point.specs.Atoms.{IsBadAtom};
 
 use crate::atoms::bad_atom;
@@ -16,7 +18,8 @@ use std::alloc::{AllocError, Global};
 
 // Nothing, unless memory was refused.
 fn nothing(stop: Stop<'_, '_>) -> Result<Option<usize>, AllocError>
-    ensures { IfOk result (λ o. o ≡ None) }
+    ensures none { IfOk result (λ o. o ≡ None) }
+    ensures stopped { IfOk result (λ o. (ts : List Lined) → IsTextStop ts stop.entry → (s : Syntax) → ¬ IsText ts s) }
 {
     match stop {
         Stop::Memory => Err(AllocError),
@@ -32,6 +35,7 @@ fn read_columns<'b, 'a>(
     ensures ok { IfOk result (λ x. (form : Form) × (form.columns ≡ x.0) × Takes IsForm (views tokens.now) form (views x.1.now)) }
     ensures rest { IfOk result (λ x. IsEnd tokens.now x.1.now) }
     ensures condition { IfOk result (λ x. (s : Syntax) × IsCondition (views x.1.now) s) }
+    ensures stops { IfErr result (IsTextStop (views tokens.now)) }
 {
     let (form, rest) = read_form(alloc, tokens)?;
     let _condition = read_condition(alloc, rest)?;
@@ -41,7 +45,9 @@ fn read_columns<'b, 'a>(
 /// The number of the token with which the first atom of the condition begins that can't be true or false, since a hart or a
 /// register isn't there or a number is out of range. Linear in the tokens.
 pub(crate) fn atom_number(alloc: Global, tokens: &[Token<'_>]) -> Result<Option<usize>, AllocError>
-    ensures { IfOk result (λ o. IfSome o (IsBadAtom (views tokens.now))) }
+    ensures found { IfOk result (λ o. IfSome o (IsBadAtom (views tokens.now))) }
+    ensures absent { IfOk result (λ o. IsNone o → (n : ℕ) → ¬ IsBadAtom (views tokens.now) n) }
+    ensures within { IfOk result (λ o. IfSome o (λ n. n < length tokens.now)) }
 {
     let (columns, rest) = match read_columns(alloc, tokens) {
         Ok(read) => read,

@@ -1,10 +1,10 @@
 //! What is said of FENCE words, and of files that can't be read.
 
-ghost use Rattle.std.specs.Prelude.{IfOk, string_bytes, []};
-ghost use Rattle.fs_point.specs.Explained.{IsNote, IsFenceNote};
+ghost use Rattle.std.specs.Prelude.{IfOk, string_bytes};
+ghost use Rattle.fs_point.specs.Explained.{IsPlaceless, IsFenceNote};
 ghost use Rattle.fs_kinds.specs.declared.fault.Fault.{Fault};
 
-use crate::message::{fence_note, note};
+use crate::message::{fence_note, placeless};
 use fs_kinds::{Fault, Kind, Prices, Slot, read_fence, read_prices};
 use fs_litmus::{read_test, slots};
 use std::alloc::{AllocError, Global};
@@ -102,8 +102,8 @@ pub fn explain_fences(
 
 /// What is said of a file that can't be opened or read, or is too long. Fails only for want of memory.
 pub fn explain_unread(alloc: Global, name: &str, limit: usize) -> Result<String, AllocError>
-    ensures { IfOk result (λ text. IsNote name.now [] Fault.ReadFault (string_bytes text)) }
+    ensures { IfOk result (λ text. IsPlaceless name.now Fault.ReadFault (string_bytes text)) }
 {
     let words = format!(in alloc; "it can't be opened or read, or has more than {limit} bytes")?;
-    note(alloc, name, &[], Fault::ReadFault, None, words.as_str())
+    placeless(alloc, name, Fault::ReadFault, words.as_str())
 }

@@ -1,7 +1,8 @@
 //! What is said of the fault of a test file.
 
-ghost use Rattle.std.specs.Prelude.{◌≡◌, ◌+◌, ◌≤◌, length, IfOk, IfSome, string_bytes};
-ghost use Rattle.fs_litmus.specs.Faults.{IsTestFault};
+ghost use Rattle.std.specs.Prelude.{◌≡◌, ◌+◌, ◌≤◌, length, IfOk, IfSome, IsNone, string_bytes};
+ghost use Rattle.fs_kinds.specs.declared.fault.Fault.{Fault};
+ghost use Rattle.fs_litmus.specs.Faults.{HasFault, IsTestFault};
 ghost use Rattle.fs_point.specs.Explained.{IsMessage, IsToldOf, offset_of};
 
 use crate::bindings::{atom_words, columns_of, entry_words};
@@ -125,25 +126,21 @@ pub fn explain(alloc: Global, name: &str, bytes: &[u8], fault: Fault) -> Result<
 
 /// What is said of the first fault of a test file, as `explain` says it; nothing where it has none.
 pub fn explain_test(alloc: Global, name: &str, bytes: &[u8]) -> Result<Option<String>, AllocError>
-    ensures { IfOk result (λ o. IfSome o (λ text. IsToldOf name.now bytes.now (string_bytes text))) }
+    ensures told { IfOk result (λ o. IfSome o (λ text. IsToldOf name.now bytes.now (string_bytes text))) }
+    ensures absent { IfOk result (λ o. IsNone o → (f : Fault) → ¬ HasFault bytes.now f) }
 {
     match read_test(alloc, bytes) {
         Ok(_) => Ok(None),
         Err(Fault::Memory) => Err(AllocError),
-        Err(fault) => told_of(alloc, name, bytes, fault),
+        Err(fault) => Ok(Some(told_of(alloc, name, bytes, fault)?)),
     }
 }
 
 // What is said of the first fault of a test file.
-fn told_of(
-    alloc: Global,
-    name: &str,
-    bytes: &[u8],
-    fault: Fault,
-) -> Result<Option<String>, AllocError>
+fn told_of(alloc: Global, name: &str, bytes: &[u8], fault: Fault) -> Result<String, AllocError>
     requires { IsTestFault bytes.now fault }
-    ensures { IfOk result (λ o. IfSome o (λ text. IsToldOf name.now bytes.now (string_bytes text))) }
+    ensures { IfOk result (λ text. IsToldOf name.now bytes.now (string_bytes text)) }
 {
     let text = explain(alloc, name, bytes, fault)?;
-    Ok(Some(text))
+    Ok(text)
 }

@@ -3,7 +3,7 @@
 ghost use Rattle.std.specs.Prelude.{◌≡◌, ◌++◌, ◌<◌, string_bytes, IfOk, OnOk};
 ghost use Rattle.fs_litmus.specs.Title.{line_of, is_within_line};
 ghost use Rattle.std.specs.List.{prefix_len};
-ghost use Rattle.fs_point.specs.Explained.{IsNote, IsFenceNote};
+ghost use Rattle.fs_point.specs.Explained.{IsPlaceless, IsFenceNote};
 ghost use Rattle.fs_point.specs.Messages.{source_lines, name_text, message_at, message_of, message, place_of, cut};
 
 use crate::places::{Place, place_of, push_shown};
@@ -136,23 +136,21 @@ pub(crate) fn message(
     }
 }
 
-/// The message of a fault of another file than a test, at an offset or at none.
-pub(crate) fn note(
+/// The message of a fault that has no place.
+pub(crate) fn placeless(
     alloc: Global,
     name: &str,
-    bytes: &[u8],
     fault: Fault,
-    offset: Option<usize>,
     hint: &str,
 ) -> Result<String, AllocError>
-    ensures { IfOk result (λ text. IsNote name.now bytes.now fault (string_bytes text)) }
+    ensures { IfOk result (λ text. IsPlaceless name.now fault (string_bytes text)) }
 {
-    message(alloc, name, bytes, fault, offset, hint)
+    message_of(alloc, name, fault, hint)
 }
 
 /// The message of a FENCE word.
 pub(crate) fn fence_note(alloc: Global, word: &str, hint: &str) -> Result<String, AllocError>
     ensures { IfOk result (λ text. IsFenceNote (string_bytes text)) }
 {
-    message(alloc, word, &[], Fault::BadFence, None, hint)
+    message_of(alloc, word, Fault::BadFence, hint)
 }

@@ -1,14 +1,16 @@
 //! Which token of a test file a fault is of, and where it begins.
 
-ghost use Rattle.std.specs.Prelude.{◌≡◌, ◌≢◌, ◌+◌, ◌≤◌, ◌<◌, ◌^◌, ℕ, List, length, drop, IfOk, IfSome, Some};
+ghost use Rattle.std.specs.Bool.{Decides};
+ghost use Rattle.std.specs.Prelude.{◌≡◌, ◌≢◌, ◌+◌, ◌≤◌, ◌<◌, ◌^◌, ℕ, List, length, drop, IfOk, IfSome, IsNone, Some};
 ghost use Rattle.std.specs.Str.{IsUtf8, IsValidUpTo};
+ghost use Rattle.fs_kinds.specs.FaultLine.{number};
 ghost use Rattle.fs_kinds.specs.declared.fault.Fault.{Fault};
 ghost use Rattle.fs_tokens.specs.Tokens.{views};
 ghost use Rattle.fs_litmus.specs.Title.{after_line, IsBody};
 ghost use Rattle.fs_litmus.specs.Reads.{HasTokens};
 ghost use Rattle.fs_litmus.specs.Faults.{IsTestFault};
 ghost use Rattle.fs_point.specs.Apart.{apart};
-ghost use Rattle.fs_point.specs.Points.{in_line, end_of, is_line_end, IsPoint};
+ghost use Rattle.fs_point.specs.Points.{aim_of, line_of, end_of, is_line_end, IsFaultIn, IsPlaced, IsPoint};
 
 use crate::apart::apart;
 use crate::condition::atom_number;
@@ -29,34 +31,65 @@ pub enum Point {
     Byte(usize),
 }
 
-// The line of a fault that is the other in another line.
-fn line_of(found: Fault, fault: Fault) -> Option<usize>
-    ensures line { IfSome result (λ line. found ≡ in_line fault line) }
-    ensures kind { IfSome result (λ line. found ≢ Fault.Memory) }
+/// What a fault of a test file is pointed at by.
+#[derive(Clone, Copy, Debug)]
+enum Aim {
+    /// The first byte that isn't UTF-8.
+    Encoding,
+    /// The first byte of the file.
+    Title,
+    /// The token that it is of, in its line.
+    InLine,
+    /// The first token of an atom.
+    Atom,
+    Nowhere,
+}
+
+fn aim_of(fault: Fault) -> Aim
+    ensures { result ≡ aim_of fault }
 {
-    match found {
-        Fault::Syntax { line } => match fault {
-            Fault::Syntax { .. } => Some(line),
-            _ => None,
-        },
-        Fault::UnknownInstr { line } => match fault {
-            Fault::UnknownInstr { .. } => Some(line),
-            _ => None,
-        },
-        Fault::BadAnnotation { line } => match fault {
-            Fault::BadAnnotation { .. } => Some(line),
-            _ => None,
-        },
-        Fault::BadLabel { line } => match fault {
-            Fault::BadLabel { .. } => Some(line),
-            _ => None,
-        },
-        Fault::BadInit { line } => match fault {
-            Fault::BadInit { .. } => Some(line),
-            _ => None,
-        },
+    match fault {
+        Fault::BadUtf8 => Aim::Encoding,
+        Fault::NotRiscv => Aim::Title,
+        Fault::Syntax { .. }
+        | Fault::UnknownInstr { .. }
+        | Fault::BadAnnotation { .. }
+        | Fault::BadLabel { .. }
+        | Fault::BadInit { .. } => Aim::InLine,
+        Fault::BadCondition => Aim::Atom,
+        _ => Aim::Nowhere,
+    }
+}
+
+fn line_of(fault: Fault) -> Option<usize>
+    ensures { result ≡ line_of fault }
+{
+    match fault {
+        Fault::Syntax { line }
+        | Fault::UnknownInstr { line }
+        | Fault::BadAnnotation { line }
+        | Fault::BadLabel { line }
+        | Fault::BadInit { line } => Some(line),
         _ => None,
     }
+}
+
+// The number of the token in the line of the fault that was found, where that is the other but for its line.
+fn number_of(found: Fault, fault: Fault) -> Option<usize>
+    ensures number { IfSome result (λ n. number found ≡ number fault) }
+    ensures line { IfSome result (λ n. line_of found ≡ Some (n + 2)) }
+    ensures absent { IsNone result → number found ≡ number fault → (n : ℕ) → line_of found ≢ Some (n + 2) }
+{
+    if found.number() != fault.number() {
+        return None;
+    }
+    line_of(found)?.checked_sub(2)
+}
+
+fn is_memory(fault: Fault) -> bool
+    ensures { Decides result (number fault ≡ number Fault.Memory) }
+{
+    fault.number() == Fault::Memory.number()
 }
 
 // The number of the token that the fault is of, or how many there are, where it is of the end.
@@ -66,22 +99,19 @@ fn fault_number(
     closed: bool,
     fault: Fault,
 ) -> Result<Option<usize>, AllocError>
-    ensures { IfOk result (λ o. IfSome o (λ n. IsTestFault (apart (views tokens.now) closed) (in_line fault (n + 2)))) }
+    ensures found { IfOk result (λ o. IfSome o (IsFaultIn (apart (views tokens.now) closed) fault)) }
+    ensures absent { IfOk result (λ o. IsNone o → (n : ℕ) → ¬ IsFaultIn (apart (views tokens.now) closed) fault n) }
 {
     let file = apart(alloc, tokens, closed)?;
     match read_test(alloc, file.as_bytes()) {
-        Err(Fault::Memory) => Err(AllocError),
-        Err(found) => Ok(number_of(found, fault)),
         Ok(_) => Ok(None),
+        Err(found) => {
+            if is_memory(found) {
+                return Err(AllocError);
+            }
+            Ok(number_of(found, fault))
+        }
     }
-}
-
-// The number of the token in the line of a fault that is the other in another line.
-fn number_of(found: Fault, fault: Fault) -> Option<usize>
-    ensures line { IfSome result (λ n. found ≡ in_line fault (n + 2)) }
-    ensures kind { IfSome result (λ n. found ≢ Fault.Memory) }
-{
-    line_of(found, fault)?.checked_sub(2)
 }
 
 // What the fault is pointed at by, in a file whose initial values begin at this offset, in this line.
@@ -95,7 +125,8 @@ fn text_point(
     requires body { (doc : List ℕ) × (after_line bytes.now ≡ Some doc) × IsBody doc 2 (drop start bytes.now) line }
     requires within { start ≤ length bytes.now }
     requires few { line ≤ start + 1 }
-    ensures { IfOk result (λ o. IfSome o (IsPoint bytes.now fault)) }
+    requires aim { aim_of fault ≡ Aim.InLine }
+    ensures { IfOk result (IsPlaced bytes.now fault) }
 {
     let text = from(bytes, start);
     let (tokens, closed) = tokens(alloc, text, line)?;
@@ -145,7 +176,7 @@ fn atom_point(
     requires body { (doc : List ℕ) × (after_line bytes.now ≡ Some doc) × IsBody doc 2 (drop start bytes.now) line }
     requires within { start ≤ length bytes.now }
     requires few { line ≤ start + 1 }
-    ensures { IfOk result (λ o. IfSome o (IsPoint bytes.now Fault.BadCondition)) }
+    ensures { IfOk result (IsPlaced bytes.now Fault.BadCondition) }
 {
     let text = from(bytes, start);
     let (tokens, closed) = tokens(alloc, text, line)?;
@@ -163,7 +194,7 @@ fn atom_point(
 
 // What a fault of the condition is pointed at by.
 fn condition_point(alloc: Global, bytes: &[u8]) -> Result<Option<Point>, AllocError>
-    ensures { IfOk result (λ o. IfSome o (IsPoint bytes.now Fault.BadCondition)) }
+    ensures { IfOk result (IsPlaced bytes.now Fault.BadCondition) }
 {
     match body_start(bytes) {
         Some((start, line)) => atom_point(alloc, bytes, start, line),
@@ -173,7 +204,8 @@ fn condition_point(alloc: Global, bytes: &[u8]) -> Result<Option<Point>, AllocEr
 
 // What a fault of the form of the text, of an instruction, a label or an initial value is pointed at by.
 fn form_point(alloc: Global, bytes: &[u8], fault: Fault) -> Result<Option<Point>, AllocError>
-    ensures { IfOk result (λ o. IfSome o (IsPoint bytes.now fault)) }
+    requires { aim_of fault ≡ Aim.InLine }
+    ensures { IfOk result (IsPlaced bytes.now fault) }
 {
     match body_start(bytes) {
         Some((start, line)) => text_point(alloc, bytes, start, line, fault),
@@ -183,7 +215,7 @@ fn form_point(alloc: Global, bytes: &[u8], fault: Fault) -> Result<Option<Point>
 
 // The first byte that isn't UTF-8.
 fn encoding_point(bytes: &[u8]) -> Option<Point>
-    ensures { IfSome result (IsPoint bytes.now Fault.BadUtf8) }
+    ensures { IsPlaced bytes.now Fault.BadUtf8 result }
 {
     match str::from_utf8(bytes) {
         Ok(_) => None,
@@ -193,17 +225,13 @@ fn encoding_point(bytes: &[u8]) -> Option<Point>
 
 /// Where the fault of a test file is, where it has a place. Linear in the bytes. Fails only for want of memory.
 pub fn point_of(alloc: Global, bytes: &[u8], fault: Fault) -> Result<Option<Point>, AllocError>
-    ensures { IfOk result (λ o. IfSome o (IsPoint bytes.now fault)) }
+    ensures { IfOk result (IsPlaced bytes.now fault) }
 {
-    match fault {
-        Fault::BadUtf8 => Ok(encoding_point(bytes)),
-        Fault::NotRiscv => Ok(Some(Point::Byte(0))),
-        Fault::BadCondition => condition_point(alloc, bytes),
-        Fault::Syntax { .. }
-        | Fault::UnknownInstr { .. }
-        | Fault::BadAnnotation { .. }
-        | Fault::BadLabel { .. }
-        | Fault::BadInit { .. } => form_point(alloc, bytes, fault),
-        _ => Ok(None),
+    match aim_of(fault) {
+        Aim::Encoding => Ok(encoding_point(bytes)),
+        Aim::Title => Ok(Some(Point::Byte(0))),
+        Aim::InLine => form_point(alloc, bytes, fault),
+        Aim::Atom => condition_point(alloc, bytes),
+        Aim::Nowhere => Ok(None),
     }
 }

@@ -1,10 +1,10 @@
 //! A walk over the bytes of a text, from token to token.
 
-ghost use Rattle.std.specs.Prelude.{◌≡◌, ◌∷◌, ◌≤◌, ◌<◌, length, drop, IfSome, option_map};
+ghost use Rattle.std.specs.Prelude.{◌≡◌, ◌∷◌, ◌≤◌, ◌<◌, length, drop, IfSome, IsNone, option_map};
 ghost use Rattle.std.specs.List.{prefix_len};
 ghost use Rattle.fs_tokens.specs.Bytes.{is_letter, is_blank, begins, comment_end};
 ghost use Rattle.fs_tokens.specs.Tokens.{piece};
-ghost use Rattle.fs_point.specs.Walks.{BeginsAt, Moves, ends_comment, step_of, shape_of};
+ghost use Rattle.fs_point.specs.Walks.{AreAtMost, BeginsAt, Moves, ends_comment, step_of, shape_of};
 
 use crate::slices::from;
 
@@ -103,6 +103,7 @@ fn front(first: u8, after: &[u8]) -> Step
 pub(crate) fn token_start(text: &[u8], number: usize) -> Option<usize>
     ensures begins { IfSome result (λ at. BeginsAt number text.now (drop at text.now)) }
     ensures within { IfSome result (λ at. at < length text.now) }
+    ensures absent { IsNone result → AreAtMost text.now number }
 {
     let mut at = 0;
     let mut left = number;

@@ -12,4 +12,4 @@ returns-in-Some c =
 
 pub returns-in-None : goal.returns-in-None
 returns-in-None c =
-    told string_bytes (message c.args.name.now c.args.bytes.now c.args.fault None c.in_ok-hint.hint.now) (IsMessage c.args.name.now c.args.bytes.now c.args.fault) c.message-in-None.result (nowhere c.in_ok-hint.hint.now refl) c.message-in-None.ensures
+    told string_bytes (message c.args.name.now c.args.bytes.now c.args.fault None c.in_ok-hint.hint.now) (IsMessage c.args.name.now c.args.bytes.now c.args.fault) c.message-in-None.result (nowhere c.in_ok-hint.hint.now (rw c.in-None.is at c.in_ok-point.ensures) refl) c.message-in-None.ensures

@@ -1,10 +1,10 @@
-use Rattle.std.proofs.Common.{[], None, refl, string_bytes}
+use Rattle.std.proofs.Common.{refl, string_bytes}
 use Rattle.fs_kinds.specs.declared.fault.Fault.TheVariants.{BadFence}
-use Rattle.fs_point.specs.Messages.{message}
-use Rattle.fs_point.specs.Explained.{IsFenceNote, note}
+use Rattle.fs_point.specs.Messages.{message_of}
+use Rattle.fs_point.specs.Explained.{IsFenceNote, placeless}
 use Rattle.fs_point.proofs.Telling.{told}
 use Rattle.fs_point.proofs.message.fence_note.Goals as goal
 
 pub returns : goal.returns
 returns c =
-    told string_bytes (message c.args.word.now [] BadFence None c.args.hint.now) IsFenceNote c.message.result (c.args.word.now, note c.args.hint.now None refl) c.message.ensures
+    told string_bytes (message_of c.args.word.now BadFence c.args.hint.now) IsFenceNote c.message_of.result (c.args.word.now, placeless c.args.hint.now refl) c.message_of.ensures
