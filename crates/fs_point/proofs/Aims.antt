@@ -1,7 +1,8 @@
 -- What a fault is pointed at by, and its line.
-use Rattle.std.proofs.Common.{◌≡◌, ◌≢◌, ℕ, ◌+◌, ◌≤◌, ◌<◌, ◌⊎◌, inl, inr, List, Bool, true, false, Option, Some, None, ◌&&◌, nat_le, if◌then◌else◌, refl, sym, ap, ◌∙◌, subst, length, arith}
+use Rattle.std.proofs.Common.{◌≡◌, ◌≢◌, ℕ, ◌+◌, ◌≤◌, ◌<◌, ◌⊎◌, inl, inr, List, Bool, true, false, Option, Some, None, ◌&&◌, nat_le, if◌then◌else◌, refl, sym, ap, ◌∙◌, subst, arith}
+use Rattle.std.specs.Str.{IsUtf8}
 use Rattle.fs_kinds.specs.FaultLine.{number}
-use Rattle.fs_kinds.specs.FaultOrder.{rank_of, IsNoLater, IsFirst}
+use Rattle.fs_kinds.specs.FaultOrder.{rank_of}
 use Rattle.fs_kinds.specs.declared.fault.Fault.{Fault}
 use Rattle.fs_kinds.specs.declared.fault.Fault.TheVariants.{BadUtf8, NotRiscv, Syntax, UnknownInstr, BadAnnotation, BadLabel, BadInit, BadCondition, TooBig, BadPrices, NoTop, BadFence, TooManyTraces, Astray, TooManyCandidates, NodeLimit, BadWitness, BadCertificate, Memory, ReadFault, WriteFault, Unmatched, StrangePass}
 use Rattle.fs_tokens.specs.Tokens.{Lined}
@@ -10,8 +11,9 @@ use Rattle.fs_litmus.specs.Title.{after_line, IsBody}
 use Rattle.fs_litmus.specs.Faults.{HasFault, IsTestFault}
 use Rattle.fs_litmus.proofs.FrontFaults.{tokens_once}
 use Rattle.fs_point.specs.Apart.{apart}
-use Rattle.fs_point.specs.Atoms.{IsBadAtom, IsBadAtomOf}
-use Rattle.fs_point.specs.Points.{aim_of, line_of, IsFaultIn, IsFaultOf, IsPoint, encoding, title, token, atom, finish}
+use Rattle.fs_point.proofs.Fine.{no_condition_fault, form_of_fault}
+use Rattle.fs_point.specs.Atoms.{HasNoBadAtom, IsBadAtomOf}
+use Rattle.fs_point.specs.Points.{aim_of, line_of, IsFaultIn, IsFaultOf, IsNowhere, IsPoint, encoding, title, token, atom, finish}
 use Rattle.fs_point.specs.declared.point.Aim.TheVariants.{Title, InLine, Nowhere}
 use Rattle.fs_point.specs.declared.point.Point.{Point}
 
@@ -95,24 +97,41 @@ titled StrangePass e = absurd (cc)
 
 -- ---- where there is no place
 
-pub no_place_in_line : (bytes : List ℕ) (f : Fault) → aim_of f ≡ InLine → ((n : ℕ) → ¬ IsFaultOf bytes f n) → (p : Point) → ¬ IsPoint bytes f p
-no_place_in_line bytes f e none p (encoding a b) = absurd (cc)
-no_place_in_line bytes f e none p title = absurd (cc)
-no_place_in_line bytes f e none p (token {n = n} of at) = none n of
-no_place_in_line bytes f e none p (atom of at) = absurd (cc)
-no_place_in_line bytes f e none p (finish {n = n} of past) = none n of
+in_line_only : (bytes : List ℕ) (f : Fault) → aim_of f ≡ InLine → ((n : ℕ) → ¬ IsFaultOf bytes f n) → (p : Point) → ¬ IsPoint bytes f p
+in_line_only bytes f e none p (encoding a b) = absurd (cc)
+in_line_only bytes f e none p title = absurd (cc)
+in_line_only bytes f e none p (token {n = n} of at) = none n of
+in_line_only bytes f e none p (atom of at) = absurd (cc)
+in_line_only bytes f e none p (finish {n = n} of past) = none n of
 
-pub no_place_of_atom : (bytes : List ℕ) → ((n : ℕ) → ¬ IsBadAtomOf bytes n) → (p : Point) → ¬ IsPoint bytes BadCondition p
-no_place_of_atom bytes none p (token of at) = let wrong = of.has_line in absurd (cc)
-no_place_of_atom bytes none p (atom {n = n} of at) = none n of
-no_place_of_atom bytes none p (finish of past) = let wrong = of.has_line in absurd (cc)
+pub no_place_in_line : (bytes : List ℕ) (f : Fault) → aim_of f ≡ InLine → ((n : ℕ) → ¬ IsFaultOf bytes f n) → IsNowhere bytes f
+no_place_in_line bytes f e none = record { no_point = in_line_only bytes f e none; encoding = λ same. absurd (cc); condition = λ same. absurd (cc) }
 
-pub nowhere : (bytes : List ℕ) (f : Fault) → aim_of f ≡ Nowhere → (p : Point) → ¬ IsPoint bytes f p
-nowhere bytes f e p (encoding a b) = absurd (cc)
-nowhere bytes f e p title = absurd (cc)
-nowhere bytes f e p (token of at) = let wrong = of.has_line in absurd (cc)
-nowhere bytes f e p (atom of at) = absurd (cc)
-nowhere bytes f e p (finish of past) = let wrong = of.has_line in absurd (cc)
+of_atom_only : (bytes : List ℕ) → ((n : ℕ) → ¬ IsBadAtomOf bytes n) → (p : Point) → ¬ IsPoint bytes BadCondition p
+of_atom_only bytes none p (token of at) = let wrong = of.has_line in absurd (cc)
+of_atom_only bytes none p (atom {n = n} of at) = none n of
+of_atom_only bytes none p (finish of past) = let wrong = of.has_line in absurd (cc)
+
+pub no_place_of_atom : (bytes : List ℕ) → ((n : ℕ) → ¬ IsBadAtomOf bytes n) → ¬ HasFault bytes BadCondition → IsNowhere bytes BadCondition
+no_place_of_atom bytes none clean = record { no_point = of_atom_only bytes none; encoding = λ same. absurd (cc); condition = λ same. clean }
+
+nowhere_else : (bytes : List ℕ) (f : Fault) → aim_of f ≡ Nowhere → (p : Point) → ¬ IsPoint bytes f p
+nowhere_else bytes f e p (encoding a b) = absurd (cc)
+nowhere_else bytes f e p title = absurd (cc)
+nowhere_else bytes f e p (token of at) = let wrong = of.has_line in absurd (cc)
+nowhere_else bytes f e p (atom of at) = absurd (cc)
+nowhere_else bytes f e p (finish of past) = let wrong = of.has_line in absurd (cc)
+
+pub nowhere : (bytes : List ℕ) (f : Fault) → aim_of f ≡ Nowhere → IsNowhere bytes f
+nowhere bytes f e = record { no_point = nowhere_else bytes f e; encoding = λ same. absurd (cc); condition = λ same. absurd (cc) }
+
+encoded_only : (bytes : List ℕ) → IsUtf8 bytes → (p : Point) → ¬ IsPoint bytes BadUtf8 p
+encoded_only bytes utf8 p (encoding a b) = a utf8
+encoded_only bytes utf8 p (token of at) = let wrong = of.has_line in absurd (cc)
+encoded_only bytes utf8 p (finish of past) = let wrong = of.has_line in absurd (cc)
+
+pub encoded : (bytes : List ℕ) → IsUtf8 bytes → IsNowhere bytes BadUtf8
+encoded bytes utf8 = record { no_point = encoded_only bytes utf8; encoding = λ same. utf8; condition = λ same. absurd (cc) }
 
 -- ---- the tokens of a file are these and no others
 
@@ -121,15 +140,23 @@ fault_of_these bytes ts closed f n h none of =
     let same = tokens_once bytes of.tokens ts of.closed closed of.has_tokens h in
     none (subst (λ b. IsFaultIn (apart ts b) f n) same.1 (subst (λ l. IsFaultIn (apart l of.closed) f n) same.0 of.is_fault))
 
-pub atom_of_these : (bytes : List ℕ) (ts : List Lined) (closed : Bool) (n : ℕ) → HasTokens bytes ts closed → ¬ IsBadAtom ts n → ¬ IsBadAtomOf bytes n
-atom_of_these bytes ts closed n h none of =
+pub atom_of_these : (bytes : List ℕ) (ts : List Lined) (closed : Bool) → HasTokens bytes ts closed → HasNoBadAtom ts → IsNowhere bytes BadCondition
+atom_of_these bytes ts closed h none =
+    no_place_of_atom bytes
+    (λ n of. let bad = of.is_bad_atom in
     let same = tokens_once bytes of.tokens ts true closed of.has_tokens h in
-    none (subst (λ l. IsBadAtom l n) same.0 of.is_bad_atom)
+    subst HasNoBadAtom (sym same.0) none bad.form bad.syntax_of bad.rest bad.is_form bad.is_condition bad.before bad.is_bad)
+    (no_condition_fault bytes ts closed h none)
 
-pub open_atom : (bytes : List ℕ) (ts : List Lined) (n : ℕ) → HasTokens bytes ts false → ¬ IsBadAtomOf bytes n
-open_atom bytes ts n h of =
-    let same = (tokens_once bytes of.tokens ts true false of.has_tokens h).1 in
+open_form : (bytes : List ℕ) (ts : List Lined) → HasTokens bytes ts false → (us : List Lined) → ¬ HasTokens bytes us true
+open_form bytes ts h us k =
+    let same : true ≡ false = (tokens_once bytes us ts true false k h).1 in
     absurd (cc)
+
+pub open_atom : (bytes : List ℕ) (ts : List Lined) → HasTokens bytes ts false → IsNowhere bytes BadCondition
+open_atom bytes ts h =
+    no_place_of_atom bytes (λ n of. open_form bytes ts h of.tokens of.has_tokens)
+    (λ fault. let has = form_of_fault fault in open_form bytes ts h has.2.tokens has.2.has_tokens)
 
 -- no tokens where no block of initial values begins
 pub no_tokens : (bytes : List ℕ) (ts : List Lined) (closed : Bool) → ((doc body : List ℕ) (at : ℕ) → after_line bytes ≡ Some doc → ¬ IsBody doc 2 body at) → ¬ HasTokens bytes ts closed
@@ -138,5 +165,7 @@ no_tokens bytes ts closed none h = none h.doc h.body h.line h.after_title h.is_b
 pub fault_nowhere : (bytes : List ℕ) (f : Fault) (n : ℕ) → ((doc body : List ℕ) (at : ℕ) → after_line bytes ≡ Some doc → ¬ IsBody doc 2 body at) → ¬ IsFaultOf bytes f n
 fault_nowhere bytes f n none of = no_tokens bytes of.tokens of.closed none of.has_tokens
 
-pub atom_nowhere : (bytes : List ℕ) (n : ℕ) → ((doc body : List ℕ) (at : ℕ) → after_line bytes ≡ Some doc → ¬ IsBody doc 2 body at) → ¬ IsBadAtomOf bytes n
-atom_nowhere bytes n none of = no_tokens bytes of.tokens true none of.has_tokens
+pub atom_nowhere : (bytes : List ℕ) → ((doc body : List ℕ) (at : ℕ) → after_line bytes ≡ Some doc → ¬ IsBody doc 2 body at) → IsNowhere bytes BadCondition
+atom_nowhere bytes none =
+    no_place_of_atom bytes (λ n of. no_tokens bytes of.tokens true none of.has_tokens)
+    (λ fault. let has = form_of_fault fault in no_tokens bytes has.2.tokens true none has.2.has_tokens)

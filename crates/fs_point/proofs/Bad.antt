@@ -28,7 +28,7 @@ no_holder columns None q e = refl
 no_holder columns (Some n) None e = refl
 no_holder columns (Some n) (Some r) e = out_of_columns (nat_lt n columns) (holder.Register n r) e
 
-absent_bad : (columns : ℕ) (t : Target) (v : Value) → is_absent columns t ≡ true → IsBad columns t v
+pub absent_bad : (columns : ℕ) (t : Target) (v : Value) → is_absent columns t ≡ true → IsBad columns t v
 absent_bad columns (Register h r) v e = λ names. ap (option_and_then (with_word (word_of names v))) (no_holder columns (number_of h) (register_of r) e)
 absent_bad columns (Location w) v e = absurd (cc)
 
@@ -44,7 +44,7 @@ wordless : (o : Option Holder) → option_and_then (with_word None) o ≡ None
 wordless None = refl
 wordless (Some p) = refl
 
-far_bad : (columns : ℕ) (t : Target) (v : Value) → is_out_of_range v ≡ true → IsBad columns t v
+pub far_bad : (columns : ℕ) (t : Target) (v : Value) → is_out_of_range v ≡ true → IsBad columns t v
 far_bad columns t (Number n d) e = λ names. ap (λ o. option_and_then (with_word o) (holder_of columns names t)) (no_word n (number_of d) e) ∙ wordless (holder_of columns names t)
 far_bad columns t (Address w) e = absurd (cc)
 

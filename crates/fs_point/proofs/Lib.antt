@@ -8,3 +8,4 @@ pub mod BadAtoms
 pub mod Bad
 pub mod Stopping
 pub mod Aims
+pub mod Fine

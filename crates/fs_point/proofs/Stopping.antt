@@ -5,8 +5,8 @@ use Rattle.fs_tokens.specs.declared.values.Stop.{Stop}
 use Rattle.fs_condition.specs.Grammar.{Syntax}
 use Rattle.fs_litmus.specs.Faults.{IsText}
 use Rattle.fs_litmus.specs.inner.Sections.{IsTextStop}
-use Rattle.fs_point.specs.Atoms.{IsBadAtom}
+use Rattle.fs_point.specs.Atoms.{HasNoBadAtom}
 
-pub no_bad_atom : {E : Type 0} (ts : List Lined) (stop : Stop) (r : Result (Option ℕ) E) → IsTextStop ts stop → IfOk r (λ o. (us : List Lined) → IsTextStop us stop → (s : Syntax) → ¬ IsText us s) → IfOk r (λ o. IsNone o → (n : ℕ) → ¬ IsBadAtom ts n)
-no_bad_atom ts stop (Ok o) h k = λ none n bad. k ts h bad.syntax_of (bad.form, bad.rest, bad.is_form, bad.is_condition)
+pub no_bad_atom : {E : Type 0} (ts : List Lined) (stop : Stop) (r : Result (Option ℕ) E) → IsTextStop ts stop → IfOk r (λ o. (us : List Lined) → IsTextStop us stop → (s : Syntax) → ¬ IsText us s) → IfOk r (λ o. IsNone o → HasNoBadAtom ts)
+no_bad_atom ts stop (Ok o) h k = λ none form s rest is_form is_condition i bad. k ts h s (form, rest, is_form, is_condition)
 no_bad_atom ts stop (Err e) h k = tt

@@ -4,8 +4,8 @@ use Rattle.std.specs.List.{prefix_len}
 use Rattle.fs_tokens.specs.declared.token.Mark.TheVariants as mark
 use Rattle.std.proofs.lemmas.List.{at_drop_more, drop-drop}
 use Rattle.fs_tokens.specs.Bytes.{is_letter, is_blank, begins, comment_end, tail}
-use Rattle.fs_tokens.specs.Tokens.{Tok, Sign, word, Lined, Front, Skip, Take, Unclosed, after_comment, single, mark_of, piece, AreTokens, none as no_tokens, skip as skips, token as takes, unclosed as unclosed}
-use Rattle.fs_point.specs.Walks.{AreAtMost, BeginsAt, here, skip, later, Shape, Blank, Token, Open, shape_of, ends_comment}
+use Rattle.fs_tokens.specs.Tokens.{Tok, Sign, word, Front, Skip, Take, Unclosed, after_comment, single, mark_of, piece, AreTokens, none as no_tokens, skip as skips, token as takes, unclosed as unclosed}
+use Rattle.fs_point.specs.Walks.{AreAtMost, BeginsAt, here, skip, later, Blank, Token, Open, shape_of, ends_comment}
 
 -- what comes after a comment, in whatever line
 abbrev pub after : List ℕ → Option (List ℕ)

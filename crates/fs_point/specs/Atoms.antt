@@ -84,6 +84,10 @@ abbrev pub is_out_of_range : Value → Bool
 is_out_of_range (Number negative digits) = is_far negative (number_of digits)
 is_out_of_range (Address w) = false
 
+-- no atom of the condition of these tokens is bad, where they are those of a test file
+abbrev pub HasNoBadAtom : List Lined → Type 0
+HasNoBadAtom tokens = (form : Form) (s : Syntax) (rest : List Lined) → IsForm tokens form rest → IsCondition rest s → (i : ℕ) → ¬ IsBadAfter form.columns rest i
+
 -- the tokens begin with a target
 abbrev pub BeginsTarget : List Lined → Type 0
 BeginsTarget tokens = (target : Target) × (rest : List Lined) × IsTarget tokens target rest

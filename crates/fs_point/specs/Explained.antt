@@ -7,7 +7,7 @@ use Rattle.fs_kinds.specs.declared.fault.Fault.{Fault}
 use Rattle.fs_kinds.specs.declared.fault.Fault.TheVariants.{BadFence}
 use Rattle.fs_litmus.specs.Faults.{IsTestFault}
 use Rattle.fs_point.specs.Messages.{message, message_of}
-use Rattle.fs_point.specs.Points.{IsPoint}
+use Rattle.fs_point.specs.Points.{IsPoint, IsNowhere}
 use Rattle.fs_point.specs.declared.point.Point.{Point}
 use Rattle.fs_point.specs.declared.point.Point.TheVariants.{Token, Byte}
 
@@ -17,7 +17,7 @@ offset_of (Byte offset) = offset
 
 -- The text is a message of the fault, with some hint: at a place that the fault is pointed at, or at none where there is none.
 pub data IsMessage (name bytes : List ℕ) (f : Fault) (text : List ℕ) : Type 0 where
-  nowhere : (hint : List ℕ) → ((p : Point) → ¬ IsPoint bytes f p) → text ≡ message name bytes f None hint → IsMessage name bytes f text
+  nowhere : (hint : List ℕ) → IsNowhere bytes f → text ≡ message name bytes f None hint → IsMessage name bytes f text
   somewhere : (hint : List ℕ) {p : Point} → IsPoint bytes f p → text ≡ message name bytes f (Some (offset_of p)) hint → IsMessage name bytes f text
 
 -- the text is a message of the fault of the file

@@ -7,7 +7,7 @@ use Rattle.fs_kinds.specs.declared.fault.Fault.TheVariants.{BadUtf8, NotRiscv, B
 use Rattle.fs_tokens.specs.Tokens.{Lined}
 use Rattle.fs_litmus.specs.Title.{after_line, IsBody}
 use Rattle.fs_litmus.specs.Reads.{HasTokens}
-use Rattle.fs_litmus.specs.Faults.{IsTestFault}
+use Rattle.fs_litmus.specs.Faults.{HasFault, IsTestFault}
 use Rattle.fs_point.specs.Apart.{apart, renumbered}
 use Rattle.fs_point.specs.Atoms.{IsBadAtomOf}
 use Rattle.fs_point.specs.Walks.{BeginsAt}
@@ -90,7 +90,13 @@ pub data IsPoint (bytes : List ℕ) : Fault → Point → Type 0 where
   -- the end, where that is no token
   finish : {f : Fault} {n : ℕ} → IsFaultOf bytes f n → IsPastTokens bytes n → IsPoint bytes f (Byte (end_of bytes))
 
+-- There is no place: nor has the file F8, if that is the fault, nor has it a byte that isn't UTF-8, if F1 is.
+pub record IsNowhere (bytes : List ℕ) (f : Fault) : Type 0 where
+  pub no_point : (p : Point) → ¬ IsPoint bytes f p
+  pub encoding : f ≡ BadUtf8 → IsUtf8 bytes
+  pub condition : f ≡ BadCondition → ¬ HasFault bytes BadCondition
+
 -- a place is given exactly where there is one
 abbrev pub IsPlaced : List ℕ → Fault → Option Point → Type 0
 IsPlaced bytes f (Some p) = IsPoint bytes f p
-IsPlaced bytes f None = (p : Point) → ¬ IsPoint bytes f p
+IsPlaced bytes f None = IsNowhere bytes f

@@ -8,7 +8,7 @@ ghost use Rattle.fs_form.specs.Form.{Form, IsForm};
 ghost use Rattle.fs_condition.specs.Grammar.{Syntax, IsCondition};
 ghost use Rattle.fs_litmus.specs.Faults.{IsText};
 ghost use Rattle.fs_litmus.specs.inner.Sections.{IsTextStop};
-ghost use Rattle.fs_point.specs.Atoms.{IsBadAtom};
+ghost use Rattle.fs_point.specs.Atoms.{HasNoBadAtom, IsBadAtom};
 
 use crate::atoms::bad_atom;
 use fs_condition::read_condition;
@@ -46,7 +46,7 @@ fn read_columns<'b, 'a>(
 /// register isn't there or a number is out of range. Linear in the tokens.
 pub(crate) fn atom_number(alloc: Global, tokens: &[Token<'_>]) -> Result<Option<usize>, AllocError>
     ensures found { IfOk result (λ o. IfSome o (IsBadAtom (views tokens.now))) }
-    ensures absent { IfOk result (λ o. IsNone o → (n : ℕ) → ¬ IsBadAtom (views tokens.now) n) }
+    ensures absent { IfOk result (λ o. IsNone o → HasNoBadAtom (views tokens.now)) }
     ensures within { IfOk result (λ o. IfSome o (λ n. n < length tokens.now)) }
 {
     let (columns, rest) = match read_columns(alloc, tokens) {

@@ -3,7 +3,7 @@ use Rattle.fs_tokens.specs.Tokens.{views}
 use Rattle.fs_litmus.specs.Reads.{HasTokens}
 use Rattle.fs_point.specs.Atoms.{IsBadAtomOf}
 use Rattle.fs_point.specs.Points.{atom}
-use Rattle.fs_point.proofs.Aims.{no_place_of_atom, atom_of_these, open_atom}
+use Rattle.fs_point.proofs.Aims.{atom_of_these, open_atom}
 use Rattle.fs_point.proofs.Pointing.{tokens_of, token_at}
 use Rattle.fs_point.proofs.point.atom_point.Goals as goal
 
@@ -19,10 +19,10 @@ pub returns-then-not-closed : goal.returns-then-not-closed
 returns-then-not-closed c =
     let all = tokens_of c.args.bytes.now c.from-text.result.now c.args.start c.args.line c.requires.body c.from-text.ensures c.in_ok-tokens.tokens.items c.in_ok-tokens.tokens.items c.in_ok-tokens.closed refl c.in_ok-tokens.ensures.are in
     let left_open = subst (λ b. HasTokens c.args.bytes.now (views c.in_ok-tokens.tokens.items) b) c.if-not-closed.true all in
-    no_place_of_atom c.args.bytes.now (λ n. open_atom c.args.bytes.now (views c.in_ok-tokens.tokens.items) n left_open)
+    open_atom c.args.bytes.now (views c.in_ok-tokens.tokens.items) left_open
 
 pub returns-in_default : goal.returns-in_default
 returns-in_default c =
     let absent = rw c.in_default.is at c.in_ok-number.ensures.absent in
     let all = tokens_of c.args.bytes.now c.from-text.result.now c.args.start c.args.line c.requires.body c.from-text.ensures c.in_ok-tokens.tokens.items c.deref.result.now c.in_ok-tokens.closed c.deref.ensures.value c.in_ok-tokens.ensures.are in
-    no_place_of_atom c.args.bytes.now (λ n. atom_of_these c.args.bytes.now (views c.deref.result.now) c.in_ok-tokens.closed n all (absent refl n))
+    atom_of_these c.args.bytes.now (views c.deref.result.now) c.in_ok-tokens.closed all (absent refl)
