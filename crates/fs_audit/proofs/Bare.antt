@@ -267,7 +267,7 @@ accesses_eased (x ∷ xs) =
     let is = sum_by-cons (λ (i : Instr). cond {A = ℕ} (is_memory i) 1 0) (eased_instr x) (eased_code xs) in
     let was = sum_by-cons (λ (i : Instr). cond {A = ℕ} (is_memory i) 1 0) x xs in
     let one : cond (is_memory (eased_instr x)) 1 0 ≡ cond (is_memory x) 1 0 =
-        ap (λ b. cond {A = ℕ} b 1 0) (eased_as is_memory (λ b a. refl) x) in
+    ap (λ b. cond {A = ℕ} b 1 0) (eased_as is_memory (λ b a. refl) x) in
     let rest = accesses_eased xs in
     omega (arith, is, was, one, rest)
 

@@ -20,11 +20,11 @@ use std::alloc::{AllocError, Global};
 
 /// What `audit` prints for a test file and a file of prices. Its FENCE instructions that order memory are taken out, or order none where they
 /// name devices, and fences are found that rule the outcome out over the slots of that test, and of which none cost less: those that are
-/// written, as far as each stands at a slot, if they do and each of them costs something; or else the first of the cheapest. A first line says whether the
-/// outcome is possible as the test is written, what its FENCEs cost, where each stands at a slot of its own with a kind that has a price,
-/// and what the cheapest fences cost. Then come a line for each FENCE and for each fence that is missing, by hart and place, with the line
-/// of the file. The status is 4 where the outcome is vacuous, else 1 where it is possible or there is something to change, else 0. The
-/// files are bytes as they were read. One worker searches, and the call ends.
+/// written, as far as each stands at a slot, if they do and each of them costs something; or else the first of the cheapest. A first line
+/// says whether the outcome is possible as the test is written, what its FENCEs cost, where each stands at a slot of its own with a kind
+/// that has a price, and what the cheapest fences cost. Then come a line for each FENCE and for each fence that is missing, by hart and
+/// place, with the line of the file. The status is 4 where the outcome is vacuous, else 1 where it is possible or there is something to
+/// change, else 0. The files are bytes as they were read. One worker searches, and the call ends.
 ///
 /// The first fault in this order: `BadPrices` and `NoTop`; those of a test file by number and then line; those of `judge_test` of
 /// fs_test; those of a search for the cheapest fences with this limit of nodes. `Memory` may come in place of any answer. The cost is that
@@ -44,10 +44,10 @@ pub fn run_audit(alloc: Global, test: &[u8], prices: &[u8], limit: usize) -> Res
     })
 }
 
-/// The test with fences that rule its outcome out, in the printed form of herd7's format; nothing is printed where none do. Each FENCE that
-/// names devices stays as it is, with what it orders of memory, and the others are taken out. Of the fences that are put in their place none
-/// cost less: they are found as those of `run_audit`, over the slots of the test that is left. The status is that of `run_audit`, if nothing
-/// is said of the FENCEs that stay; so are the faults, but for those of the search.
+/// A test that has fences which rule the outcome out, in the printed form of herd7's format; nothing is printed where none do. Each FENCE that
+/// names devices stays as it is, with all that it orders. The others are taken out, and of the fences that come in their place none cost
+/// less: they are found as those of `run_audit`, over the slots of what is left. The status is that of `run_audit` if of the FENCEs that
+/// stay nothing were said, and the faults are the same, but that this search may end with another one.
 pub fn run_mended(alloc: Global, test: &[u8], prices: &[u8], limit: usize) -> Result<Output, Fault>
     requires least { 1 ≤ limit }
     requires most { limit ≤ 1000000 }
@@ -75,7 +75,12 @@ fn audit_text(alloc: Global, found: &Findings) -> Result<String, AllocError>
         None
     };
     let mut text = first_line(alloc, found.written.kind, prices, fences, best)?;
-    let below = below(alloc, &found.lines, found.written.test.codes.as_slice(), best)?;
+    let below = below(
+        alloc,
+        &found.lines,
+        found.written.test.codes.as_slice(),
+        best,
+    )?;
     text.push_str(below.as_str())?;
     Ok(text)
 }
