@@ -1,5 +1,5 @@
 -- The fences that `audit` advises rule the outcome out, and those that name devices stay.
-use Rattle.std.proofs.Common.{◌≡◌, ◌⊎◌, ◌≤◌, ℕ, List, [], Option, None, Some, Ok, ap, filter, inl, inr, length, map, ◌∙◌, refl, subst, sym}
+use Rattle.std.proofs.Common.{◌≡◌, ◌≤◌, ℕ, List, Option, None, Some, Ok, ap, filter, inl, inr, length, map, ◌∙◌, refl, subst, sym}
 use Rattle.fs_kinds.specs.declared.placement.Entry.{Entry}
 use Rattle.fs_io.specs.declared.status.Status.{Status}
 use Rattle.fs_model.specs.declared.test.Test.{Test}
@@ -16,7 +16,7 @@ use Rattle.fs_audit.specs.Audit.{IsAdvised, IsMended, fenced_text}
 use Rattle.fs_unfenced.specs.Unfenced.{names_devices, unfenced}
 use Rattle.fs_round_trip.proofs.Fencing.{read_back}
 use Rattle.fs_audit.proofs.Bare.{test_unfenced}
-use Rattle.fs_promise.specs.Audits.{IsMendedTest, IsNothingOrKeepsDevices, IsNothingOrMended, device_fences}
+use Rattle.fs_promise.specs.Audits.{IsNothingOrKeepsDevices, IsNothingOrMended, device_fences}
 use Rattle.fs_promise.proofs.Devices.{devices_stay}
 use Rattle.fs_promise.proofs.Kept.{Keeps, carried}
 use Rattle.fs_promise.proofs.Meaning.{ruled_out}
