@@ -1,5 +1,5 @@
--- What a test keeps without its FENCEs: its branches go forward, and it has the same accesses.
-use Rattle.std.proofs.Common.{◌≡◌, ℕ, zero, suc, ◌+◌, ◌-◌, ◌<◌, ◌≤◌, List, [], ◌∷◌, length, map, filter, take, drop, cond, Bool, true, false, Some, refl, ap, sym, ◌∙◌, subst, arith, All}
+-- What a test keeps without its FENCEs, and where those that name devices order no memory: its branches go forward, and it has the same accesses.
+use Rattle.std.proofs.Common.{◌≡◌, ℕ, zero, suc, ◌+◌, ◌-◌, ◌<◌, ◌≤◌, List, [], ◌∷◌, length, map, filter, take, drop, cond, Bool, true, false, ◌&&◌, if◌then◌else◌, Some, refl, ap, sym, ◌∙◌, subst, arith, All}
 use Rattle.std.specs.Prelude.{slice_get, option_and_then, sum_by, count_by}
 use Rattle.std.proofs.Math.ListN.{length-take}
 use Rattle.std.proofs.lemmas.List.{length-map, take_all}
@@ -8,10 +8,11 @@ use Rattle.fs_instr.specs.Instructions.{is_memory, target_of}
 use Rattle.fs_instr.specs.OfTable.{IsOfTable}
 use Rattle.fs_instr.specs.declared.instr.Instr.{Instr}
 use Rattle.fs_instr.specs.declared.instr.Instr.TheVariants as instr
+use Rattle.fs_instr.specs.declared.letters.Letters.{Letters}
 use Rattle.fs_model.specs.declared.test.Test.{Test}
 use Rattle.fs_model.specs.Condition.{SpeaksOf, condition_of}
 use Rattle.fs_model.specs.Test.{GoesForward, IsBounded, IsTest}
-use Rattle.fs_unfenced.specs.Unfenced.{is_kept, position, moved, unfenced_code, unfenced}
+use Rattle.fs_unfenced.specs.Unfenced.{is_fence, names_devices, is_kept, position, moved, unfenced_code, unfenced, devices, eased_instr, eased_code, eased}
 
 -- ---- counting what is kept
 
@@ -221,42 +222,99 @@ module _ (code : List Instr) where
       let most = count_by-le-length is_kept code in
       omega (arith, long, own, most)
 
+-- ---- where FENCEs that name devices order no memory
+
+either : {A : Type 0} (f : Instr → A) (b : Bool) (x y : Instr) → f x ≡ f y → f (if b then x else y) ≡ f y
+either f true x y e = e
+either f false x y e = refl
+
+-- what doesn't tell one FENCE from another stays
+eased_as : {A : Type 0} (f : Instr → A) → ((b a : Letters) → f (instr.Fence devices devices) ≡ f (instr.Fence b a)) → (i : Instr)
+    → f (eased_instr i) ≡ f i
+eased_as f same (instr.Fence b a) =
+    either f (is_fence (instr.Fence b a) && names_devices (instr.Fence b a)) (instr.Fence devices devices) (instr.Fence b a) (same b a)
+eased_as f same instr.FenceTso = refl
+eased_as f same (instr.Branch o a b t) = refl
+eased_as f same (instr.Jump t) = refl
+eased_as f same (instr.Register o rd a b) = refl
+eased_as f same (instr.Immediate o rd a z) = refl
+eased_as f same (instr.Shift o rd a n) = refl
+eased_as f same (instr.Lui rd n) = refl
+eased_as f same (instr.Li rd n) = refl
+eased_as f same (instr.Lw rd a z) = refl
+eased_as f same (instr.Sw v a z) = refl
+eased_as f same (instr.Lr ann rd a) = refl
+eased_as f same (instr.Sc ann rd v a) = refl
+eased_as f same (instr.Amo o ann rd v a) = refl
+
+same_targets : (code : List Instr) (at : ℕ)
+    → option_and_then target_of (slice_get (eased_code code) at) ≡ option_and_then target_of (slice_get code at)
+same_targets [] at = refl
+same_targets (x ∷ xs) zero = eased_as target_of (λ b a. refl) x
+same_targets (x ∷ xs) (suc at) = same_targets xs at
+
+forward_eased : (code : List Instr) → GoesForward code → GoesForward (eased_code code)
+forward_eased code h at target e =
+    let one = h at target (sym (same_targets code at) ∙ e) in
+    let low = one.0 in
+    let most = one.1 in
+    let long = length-map code eased_instr in
+    (omega (arith, low), omega (arith, most, long))
+
+accesses_eased : (code : List Instr) → count_by is_memory (eased_code code) ≡ count_by is_memory code
+accesses_eased [] = refl
+accesses_eased (x ∷ xs) =
+    let is = sum_by-cons (λ (i : Instr). cond {A = ℕ} (is_memory i) 1 0) (eased_instr x) (eased_code xs) in
+    let was = sum_by-cons (λ (i : Instr). cond {A = ℕ} (is_memory i) 1 0) x xs in
+    let one : cond (is_memory (eased_instr x)) 1 0 ≡ cond (is_memory x) 1 0 =
+    ap (λ b. cond {A = ℕ} b 1 0) (eased_as is_memory (λ b a. refl) x) in
+    let rest = accesses_eased xs in
+    omega (arith, is, was, one, rest)
+
 -- ---- all harts
 
-all_unfenced : (P Q : List Instr → Type 0) (codes : List (List Instr)) → ((code : List Instr) → P code → Q (unfenced_code code)) → All P codes
-    → All Q (map unfenced_code codes)
-all_unfenced P Q [] each all k d low = absurd (omega (arith, low))
-all_unfenced P Q (c ∷ cs) each all zero d low = each c (all 0 c (omega arith))
-all_unfenced P Q (c ∷ cs) each all (suc k) d low =
-    all_unfenced P Q cs each (λ j e less. all (suc j) e (omega (arith, less))) k d (omega (arith, low))
+all_mapped : (f : List Instr → List Instr) (P Q : List Instr → Type 0) (codes : List (List Instr)) → ((code : List Instr) → P code → Q (f code))
+    → All P codes → All Q (map f codes)
+all_mapped f P Q [] each all k d low = absurd (omega (arith, low))
+all_mapped f P Q (c ∷ cs) each all zero d low = each c (all 0 c (omega arith))
+all_mapped f P Q (c ∷ cs) each all (suc k) d low =
+    all_mapped f P Q cs each (λ j e less. all (suc j) e (omega (arith, less))) k d (omega (arith, low))
 
-all_accesses : (codes : List (List Instr)) → sum_by (count_by is_memory) (map unfenced_code codes) ≡ sum_by (count_by is_memory) codes
-all_accesses [] = refl
-all_accesses (c ∷ cs) =
-    let here = accesses_unfenced c in
-    let rest = all_accesses cs in
-    let grown = sum_by-cons (count_by is_memory) (unfenced_code c) (map unfenced_code cs) in
-    let was = sum_by-cons (count_by is_memory) c cs in
-    omega (arith, here, rest, grown, was)
+module _ (f : List Instr → List Instr) (forward : (code : List Instr) → GoesForward code → GoesForward (f code))
+    (accesses : (code : List Instr) → count_by is_memory (f code) ≡ count_by is_memory code)
+    (short : (code : List Instr) → length (f code) ≤ length code) where
+  all_accesses : (codes : List (List Instr)) → sum_by (count_by is_memory) (map f codes) ≡ sum_by (count_by is_memory) codes
+  all_accesses [] = refl
+  all_accesses (c ∷ cs) =
+      let here = accesses c in
+      let rest = all_accesses cs in
+      let grown = sum_by-cons (count_by is_memory) (f c) (map f cs) in
+      let was = sum_by-cons (count_by is_memory) c cs in
+      omega (arith, here, rest, grown, was)
+
+  bounded_mapped : (t : Test) → IsBounded t → IsBounded (record t { codes = map f t.codes })
+  bounded_mapped t h =
+      let long = length-map t.codes f in
+      let harts = h.harts in
+      let sum = all_accesses t.codes in
+      let most = h.accesses in
+      record {
+        starts = h.starts ∙ sym long;
+        forward = all_mapped f GoesForward GoesForward t.codes forward h.forward;
+        atoms = subst (λ n. SpeaksOf n (length t.locations) (condition_of t.condition)) (sym long) h.atoms;
+        harts = omega (arith, long, harts);
+        lengths = all_mapped f (λ code. length code ≤ 32) (λ code. length code ≤ 32) t.codes
+            (λ code few. let less = short code in omega (arith, less, few)) h.lengths;
+        accesses = omega (arith, sum, most);
+        locations = h.locations;
+        depth = h.depth;
+      }
 
 pub bounded_unfenced : (t : Test) → IsBounded t → IsBounded (unfenced t)
-bounded_unfenced t h =
-    let long = length-map t.codes unfenced_code in
-    let starts = h.starts in
-    let harts = h.harts in
-    let sum = all_accesses t.codes in
-    let accesses = h.accesses in
-    record {
-      starts = h.starts ∙ sym long;
-      forward = all_unfenced GoesForward GoesForward t.codes forward_unfenced h.forward;
-      atoms = subst (λ n. SpeaksOf n (length t.locations) (condition_of t.condition)) (sym long) h.atoms;
-      harts = omega (arith, long, harts);
-      lengths = all_unfenced (λ code. length code ≤ 32) (λ code. length code ≤ 32) t.codes
-          (λ code most. let less = shorter code in omega (arith, less, most)) h.lengths;
-      accesses = omega (arith, sum, accesses);
-      locations = h.locations;
-      depth = h.depth;
-    }
+bounded_unfenced = bounded_mapped unfenced_code forward_unfenced accesses_unfenced shorter
+
+pub bounded_eased : (t : Test) → IsBounded t → IsBounded (eased t)
+bounded_eased = bounded_mapped eased_code forward_eased accesses_eased (λ code. let long = length-map code eased_instr in omega (arith, long))
 
 -- ---- the table
 
@@ -318,7 +376,7 @@ test_unfenced t h =
       title = h.title;
       some_hart = omega (arith, long, some);
       registers = h.registers;
-      instructions = all_unfenced IsShortCode (All IsOfTable) t.codes (λ code own. table_unfenced code own.0 own.1)
+      instructions = all_mapped unfenced_code IsShortCode (All IsOfTable) t.codes (λ code own. table_unfenced code own.0 own.1)
           (both_all t.codes h.bounded.lengths h.instructions);
       named = h.named;
       distinct = h.distinct;

@@ -13,8 +13,8 @@ use Rattle.fs_litmus.proofs.FrontFaults.{unbroken}
 use Rattle.fs_place.specs.Place.{ArePricesOf, IsPricesFault}
 use Rattle.fs_place.proofs.Faults.{is_memory}
 use Rattle.fs_said.specs.Verdicts.{IsFaultOf}
-use Rattle.fs_unfenced.specs.Unfenced.{unfenced}
-use Rattle.fs_audit.specs.Audit.{IsTested, IsFirstAuditFault, of_prices, of_test, of_written, of_search, of_memory}
+use Rattle.fs_audit.specs.Audit.{bare, IsTested, IsFirstFault, of_prices, of_test, of_written, of_search, of_memory}
+use Rattle.fs_audit.specs.declared.asked.Purpose.{Purpose}
 
 -- bytes that read as a test are of the form
 of-form : (bytes : List ℕ) (t : Test) (f : Fault) → Reads bytes t → (f ≢ Memory → (line : ℕ) × IsBroken bytes line) → f ≡ Memory
@@ -28,22 +28,22 @@ pub memory-only : {T : Type 0} (bytes : List ℕ) (t : Test) (r : Result T Fault
 memory-only bytes t (Ok x) reads broken = tt
 memory-only bytes t (Err f) reads broken = of-form bytes t f reads broken
 
-module _ (test prices : List ℕ) (limit : ℕ) where
-  pub audit-memory : (f : Fault) → f ≡ Memory → IsFirstAuditFault test prices limit f
-  audit-memory f e = subst (IsFirstAuditFault test prices limit) (sym e) of_memory
+module _ (purpose : Purpose) (test prices : List ℕ) (limit : ℕ) where
+  pub audit-memory : (f : Fault) → f ≡ Memory → IsFirstFault purpose test prices limit f
+  audit-memory f e = subst (IsFirstFault purpose test prices limit) (sym e) of_memory
 
-  pub audit-prices : (f : Fault) → (f ≢ Memory → IsPricesFault (Some prices) f) → IsFirstAuditFault test prices limit f
+  pub audit-prices : (f : Fault) → (f ≢ Memory → IsPricesFault (Some prices) f) → IsFirstFault purpose test prices limit f
   audit-prices f h = elim (is_memory f) [ inl e ↦ audit-memory f e | inr n ↦ of_prices (h n) ]
 
   module _ (table : PriceTable) (priced : ArePricesOf prices table) where
-    pub audit-test : (f : Fault) → (f ≢ Memory → IsTestFault test f) → IsFirstAuditFault test prices limit f
+    pub audit-test : (f : Fault) → (f ≢ Memory → IsTestFault test f) → IsFirstFault purpose test prices limit f
     audit-test f h = elim (is_memory f) [ inl e ↦ audit-memory f e | inr n ↦ of_test table priced (h n) ]
 
     module _ (t : Test) (reads : Reads test t) where
-      pub audit-written : (f : Fault) → (f ≢ Memory → IsFaultOf t f) → IsFirstAuditFault test prices limit f
+      pub audit-written : (f : Fault) → (f ≢ Memory → IsFaultOf t f) → IsFirstFault purpose test prices limit f
       audit-written f h = elim (is_memory f) [ inl e ↦ audit-memory f e | inr n ↦ of_written table t priced reads (h n) ]
 
-      pub audit-search : (bare : Test) → IsTested t → IsSame bare (unfenced t) → (f : Fault) → (f ≢ Memory → IsUnanswered bare table limit f)
-          → IsFirstAuditFault test prices limit f
-      audit-search bare tested same f h =
-          elim (is_memory f) [ inl e ↦ audit-memory f e | inr n ↦ of_search table t bare priced reads tested same (h n) ]
+      pub audit-search : (u : Test) → IsTested t → IsSame u (bare purpose t) → (f : Fault) → (f ≢ Memory → IsUnanswered u table limit f)
+          → IsFirstFault purpose test prices limit f
+      audit-search u tested same f h =
+          elim (is_memory f) [ inl e ↦ audit-memory f e | inr n ↦ of_search table t u priced reads tested same (h n) ]

@@ -1,4 +1,5 @@
 pub mod Bare
+pub mod Purposes
 pub mod Chosen
 pub mod Taken
 pub mod FirstFaults

@@ -26,10 +26,25 @@ use Rattle.fs_litmus.specs.Faults.{IsTestFault}
 use Rattle.fs_place.specs.Place.{ArePricesOf, IsPricesFault}
 use Rattle.fs_said.specs.declared.said.Kind.{Kind}
 use Rattle.fs_said.specs.Verdicts.{IsFaultOf, IsTestedAs}
-use Rattle.fs_unfenced.specs.Unfenced.{is_fence, memory_kind, unfenced}
+use Rattle.fs_unfenced.specs.Unfenced.{eased, is_fence, memory_kind, unfenced}
 use Rattle.fs_audit.specs.Advice.{slot_of}
+use Rattle.fs_audit.specs.declared.asked.Purpose.{Purpose}
+use Rattle.fs_audit.specs.declared.asked.Purpose.TheVariants.{Advise, Write}
 use Rattle.fs_audit.specs.Standing.{access_after}
 use Rattle.fs_audit.specs.Report.{audit_status, below, first_line}
+
+-- ---- what is asked of a test
+
+-- Where something is said of each FENCE, those that name devices count too, and the test without FENCEs has none that orders memory. What
+-- is written for use keeps each FENCE that names devices, with all that it orders; then only the others count.
+abbrev pub asked : Purpose → Test → Test
+asked Advise t = t
+asked Write t = eased t
+
+-- the test without FENCEs
+abbrev pub bare : Purpose → Test → Test
+bare Advise t = eased (unfenced t)
+bare Write t = unfenced t
 
 -- ---- the FENCEs as they are written, as a placement over the slots of the unfenced test
 
@@ -96,7 +111,9 @@ pub record Findings : Type 0 where
   pub lines : List (List ℕ)
   -- of the test as it is written
   pub kind : Kind
-  -- without its FENCEs
+  -- the codes with the FENCEs that count
+  pub codes : List (List Instr)
+  -- without FENCEs
   pub bare : Test
   -- the FENCEs that fit one by one, as a placement, and whether all do
   pub written : List Entry
@@ -105,14 +122,15 @@ pub record Findings : Type 0 where
   pub best : Option (List Entry)
 
 -- they are true of the bytes
-pub record AreFound (test prices : List ℕ) (f : Findings) : Type 0 where
+pub record AreFound (purpose : Purpose) (test prices : List ℕ) (f : Findings) : Type 0 where
   pub reads : Reads test f.test
   pub priced : ArePricesOf prices f.prices
   pub stand : StandIn test f.lines
   pub tested : (why : List ℕ) × (witness : Option Witness) × IsTestedAs f.test f.kind why witness
-  pub bare : IsSame f.bare (unfenced f.test)
-  pub written : f.written ≡ taken_up f.prices (no_fences f.bare) (written_fences f.test.codes)
-  pub all : f.all ≡ all_fit f.prices (no_fences f.bare) (written_fences f.test.codes)
+  pub codes : f.codes ≡ (asked purpose f.test).codes
+  pub bare : IsSame f.bare (bare purpose f.test)
+  pub written : f.written ≡ taken_up f.prices (no_fences f.bare) (written_fences f.codes)
+  pub all : f.all ≡ all_fit f.prices (no_fences f.bare) (written_fences f.codes)
   pub best : IsAdvised f.bare f.prices f.written f.best
 
 -- ---- what is printed
@@ -122,11 +140,11 @@ audit_text f = first_line f.kind f.prices (if f.all then Some f.written else Non
 
 pub record IsAudited (test prices text : List ℕ) (status : Status) : Type 0 where
   pub findings : Findings
-  pub found : AreFound test prices findings
+  pub found : AreFound Advise test prices findings
   pub shown : text ≡ audit_text findings
-  pub ends : status ≡ audit_status findings.kind findings.test.codes findings.best
+  pub ends : status ≡ audit_status findings.kind findings.codes findings.best
 
--- the test with the advised fences in place of its own, where some rule the outcome out; else nothing
+-- the test with the advised fences, where some rule the outcome out; else nothing
 abbrev pub fenced_text : Test → Option (List Entry) → List ℕ
 fenced_text bare None = []
 fenced_text bare (Some p) = printed (fenced bare p)
@@ -134,9 +152,9 @@ fenced_text bare (Some p) = printed (fenced bare p)
 -- what `--write` prints
 pub record IsMended (test prices text : List ℕ) (status : Status) : Type 0 where
   pub findings : Findings
-  pub found : AreFound test prices findings
+  pub found : AreFound Write test prices findings
   pub shown : text ≡ fenced_text findings.bare findings.best
-  pub ends : status ≡ audit_status findings.kind findings.test.codes findings.best
+  pub ends : status ≡ audit_status findings.kind findings.codes findings.best
 
 -- ---- the fault
 
@@ -146,12 +164,18 @@ IsTested t = (k : Kind) × (why : List ℕ) × (witness : Option Witness) × IsT
 
 -- the first fault: of the prices; else of the test as a file; else of it as it is written; else of the search for fences. Want of memory may
 -- come in place of any answer.
-pub data IsFirstAuditFault (test prices : List ℕ) (limit : ℕ) : Fault → Type 0 where
-  of_prices : {fault : Fault} → IsPricesFault (Some prices) fault → IsFirstAuditFault test prices limit fault
+pub data IsFirstFault (purpose : Purpose) (test prices : List ℕ) (limit : ℕ) : Fault → Type 0 where
+  of_prices : {fault : Fault} → IsPricesFault (Some prices) fault → IsFirstFault purpose test prices limit fault
   of_test : {fault : Fault} (table : PriceTable) → ArePricesOf prices table → IsTestFault test fault
-      → IsFirstAuditFault test prices limit fault
+      → IsFirstFault purpose test prices limit fault
   of_written : {fault : Fault} (table : PriceTable) (t : Test) → ArePricesOf prices table → Reads test t → IsFaultOf t fault
-      → IsFirstAuditFault test prices limit fault
-  of_search : {fault : Fault} (table : PriceTable) (t bare : Test) → ArePricesOf prices table → Reads test t → IsTested t
-      → IsSame bare (unfenced t) → IsUnanswered bare table limit fault → IsFirstAuditFault test prices limit fault
-  of_memory : IsFirstAuditFault test prices limit Memory
+      → IsFirstFault purpose test prices limit fault
+  of_search : {fault : Fault} (table : PriceTable) (t u : Test) → ArePricesOf prices table → Reads test t → IsTested t
+      → IsSame u (bare purpose t) → IsUnanswered u table limit fault → IsFirstFault purpose test prices limit fault
+  of_memory : IsFirstFault purpose test prices limit Memory
+
+abbrev pub IsFirstAuditFault : (test prices : List ℕ) (limit : ℕ) → Fault → Type 0
+IsFirstAuditFault = IsFirstFault Advise
+
+abbrev pub IsFirstMendedFault : (test prices : List ℕ) (limit : ℕ) → Fault → Type 0
+IsFirstMendedFault = IsFirstFault Write

@@ -1,5 +1,5 @@
 -- What `audit` prints, and its exit status.
-use Rattle.std.specs.Prelude.{ℕ, List, [], ◌++◌, codes, Bool, false, ◌||◌, Option, None, Some, if◌then◌else◌}
+use Rattle.std.specs.Prelude.{ℕ, List, [], ◌++◌, codes, Bool, false, Option, None, Some, if◌then◌else◌}
 use Rattle.std.specs.Fmt.{decimal}
 use Rattle.std.specs.List.{flat_map, enumerate_from, slice_index_or}
 use Rattle.fs_instr.specs.FenceLetters.{letters_text}
@@ -15,6 +15,7 @@ use Rattle.fs_io.specs.declared.status.Status.TheVariants as status
 use Rattle.fs_said.specs.declared.said.Kind.{Kind}
 use Rattle.fs_said.specs.declared.said.Kind.TheVariants as kind
 use Rattle.fs_test.specs.Report.{kind_text, padded}
+use Rattle.fs_unfenced.specs.Unfenced.{names_devices}
 use Rattle.fs_audit.specs.Advice.{advice_of, is_right}
 use Rattle.fs_audit.specs.declared.advice.Advice.{Advice}
 use Rattle.fs_audit.specs.declared.advice.Advice.TheVariants.{Needed, Enough, Instead, NotNeeded, NoSlot, Idle, Devices, Missing}
@@ -26,11 +27,6 @@ abbrev pub fence_letters : Instr → List ℕ
 fence_letters (Fence before after) = letters_text before ++ (codes "," ++ letters_text after)
 fence_letters FenceTso = codes "tso"
 fence_letters _ = codes "none"
-
--- it names devices: input or output
-abbrev pub names_devices : Instr → Bool
-names_devices (Fence before after) = (before.input || before.output) || (after.input || after.output)
-names_devices _ = false
 
 -- of a FENCE that names devices too, memory alone is spoken of
 abbrev pub about : Instr → List ℕ

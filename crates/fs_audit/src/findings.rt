@@ -16,12 +16,12 @@ ghost use Rattle.fs_litmus.specs.Faults.{IsTestFault};
 ghost use Rattle.fs_litmus.specs.Lines.{StandIn};
 ghost use Rattle.fs_litmus.specs.Reads.{Reads};
 ghost use Rattle.fs_place.specs.Place.{ArePricesOf};
-ghost use Rattle.fs_unfenced.specs.Unfenced.{unfenced};
 ghost use Rattle.fs_said.specs.Verdicts.{IsTestedAs};
-ghost use Rattle.fs_audit.specs.Audit.{AreFound, IsAdvised, IsKept, IsFirstAuditFault, fence_there, written_fence, code_fences, written_fences, fits_one, with_one, taken_up, all_fit, costs_there, costs_everywhere};
+ghost use Rattle.fs_audit.specs.Audit.{AreFound, IsAdvised, IsKept, IsFirstFault, asked, bare, fence_there, written_fence, code_fences, written_fences, fits_one, with_one, taken_up, all_fit, costs_there, costs_everywhere};
 ghost use Rattle.fs_audit.specs.inner.Made.{IsSound, findings_of};
 
 use crate::advice::slot_of;
+use crate::asked::{Purpose, asked, bare};
 use crate::standing::access_after;
 use fs_evidence::{Forbidden, Question};
 use fs_instr::Instr;
@@ -31,20 +31,27 @@ use fs_litmus::{Code, Test, read_lines, read_test, slots};
 use fs_said::{Kind, forbids};
 use fs_search::{Answer, Unwatched, solve};
 use fs_test::judge_test;
-use fs_unfenced::{is_fence, memory_kind, unfenced};
+use fs_unfenced::{is_fence, memory_kind};
 use std::alloc::{AllocError, Global};
 use std::sync::Arc;
+
+/// A test as it is written.
+#[derive(Drop)]
+pub(crate) struct Written {
+    pub(crate) test: Arc<Test>,
+    /// What is said of it.
+    pub(crate) kind: Kind,
+}
 
 /// What was found.
 #[derive(Drop)]
 pub(crate) struct Findings {
-    /// The test as it is written.
-    pub(crate) written: Arc<Test>,
+    pub(crate) written: Written,
     /// The lines in which its instructions stand, hart by hart.
     pub(crate) lines: Vec<List<usize>>,
-    /// What is said of it.
-    pub(crate) kind: Kind,
-    /// The test without its FENCEs, and the prices.
+    /// The test with the FENCEs that count.
+    pub(crate) asked: Arc<Test>,
+    /// The test without FENCEs, and the prices.
     pub(crate) question: Arc<Question>,
     /// The FENCEs as a placement over the slots of the test without them, as far as they fit.
     pub(crate) fences: Placement,
@@ -315,57 +322,74 @@ fn lines_of(alloc: Global, bytes: &[u8]) -> Result<Vec<List<usize>>, Fault>
     read_lines(alloc, bytes)
 }
 
-// The test of the bytes without its FENCEs.
-fn read_bare(alloc: Global, bytes: &[u8]) -> Result<Arc<Test>, Fault>
-    ensures same { IfOk result (λ bare. (t : Tests) → Reads bytes.now t → IsSame (arc_value bare) (unfenced t)) }
-    ensures bounded { IfOk result (λ bare. IsBounded (arc_value bare)) }
-    ensures starts { IfOk result (λ bare. All IsStart (arc_value bare).starts) }
+// The test of the bytes with the FENCEs that count.
+fn read_asked(alloc: Global, purpose: Purpose, bytes: &[u8]) -> Result<Arc<Test>, Fault>
+    ensures codes { IfOk result (λ test. (t : Tests) → Reads bytes.now t → (arc_value test).codes ≡ (asked purpose t).codes) }
+    ensures bounded { IfOk result (λ test. IsBounded (arc_value test)) }
     ensures err { IfErr result (λ f. f ≢ Fault.Memory → IsTestFault bytes.now f) }
 {
     let test = read_test(alloc, bytes)?;
-    let bare = unfenced(alloc, test)?;
-    Ok(Arc::new(alloc, bare)?)
+    let counted = asked(alloc, purpose, test)?;
+    Ok(Arc::new(alloc, counted)?)
 }
 
-// The question of the test without its FENCEs at these prices.
-fn bare_question(alloc: Global, bytes: &[u8], prices: Prices) -> Result<Arc<Question>, Fault>
-    ensures same { IfOk result (λ question. (t : Tests) → Reads bytes.now t → IsSame (arc_value question).test (unfenced t)) }
+// The test of the bytes without FENCEs.
+fn read_bare(alloc: Global, purpose: Purpose, bytes: &[u8]) -> Result<Arc<Test>, Fault>
+    ensures same { IfOk result (λ made. (t : Tests) → Reads bytes.now t → IsSame (arc_value made) (bare purpose t)) }
+    ensures bounded { IfOk result (λ made. IsBounded (arc_value made)) }
+    ensures starts { IfOk result (λ made. All IsStart (arc_value made).starts) }
+    ensures err { IfErr result (λ f. f ≢ Fault.Memory → IsTestFault bytes.now f) }
+{
+    let test = read_test(alloc, bytes)?;
+    let made = bare(alloc, purpose, test)?;
+    Ok(Arc::new(alloc, made)?)
+}
+
+// The question of the test without FENCEs at these prices.
+fn bare_question(
+    alloc: Global,
+    purpose: Purpose,
+    bytes: &[u8],
+    prices: Prices,
+) -> Result<Arc<Question>, Fault>
+    ensures same { IfOk result (λ question. (t : Tests) → Reads bytes.now t → IsSame (arc_value question).test (bare purpose t)) }
     ensures prices { IfOk result (λ question. (arc_value question).prices ≡ prices) }
     ensures bounded { IfOk result (λ question. IsBounded (arc_value question).test) }
     ensures starts { IfOk result (λ question. All IsStart (arc_value question).test.starts) }
     ensures err { IfErr result (λ f. f ≢ Fault.Memory → IsTestFault bytes.now f) }
 {
-    let test = read_bare(alloc, bytes)?;
+    let test = read_bare(alloc, purpose, bytes)?;
     Ok(Arc::new(alloc, Question { test, prices })?)
 }
 
 // What is found of a test that was judged as it is written.
 fn find_judged(
     alloc: Global,
+    purpose: Purpose,
     bytes: &[u8],
     prices: Prices,
-    written: Arc<Test>,
-    kind: Kind,
+    written: Written,
     limit: usize,
 ) -> Result<Findings, Fault>
-    requires reads { Reads bytes.now (arc_value written) }
-    requires test { IsTest (arc_value written) }
-    requires tested { (why : Items ℕ) × (witness : Option Shown) × IsTestedAs (arc_value written) kind why witness }
+    requires reads { Reads bytes.now (arc_value written.test) }
+    requires test { IsTest (arc_value written.test) }
+    requires tested { (why : Items ℕ) × (witness : Option Shown) × IsTestedAs (arc_value written.test) written.kind why witness }
     requires table { IsPriceTable prices }
     requires least { 1 ≤ limit }
     requires most { limit ≤ 1000000 }
-    ensures found { IfOk result (λ found. (file : Items ℕ) → ArePricesOf file prices → AreFound bytes.now file (findings_of found)) }
+    ensures found { IfOk result (λ found. (file : Items ℕ) → ArePricesOf file prices → AreFound purpose bytes.now file (findings_of found)) }
     ensures sound { IfOk result IsSound }
-    ensures fault { IfErr result (λ f. (file : Items ℕ) → ArePricesOf file prices → IsFirstAuditFault bytes.now file limit f) }
+    ensures fault { IfErr result (λ f. (file : Items ℕ) → ArePricesOf file prices → IsFirstFault purpose bytes.now file limit f) }
 {
-    let question = bare_question(alloc, bytes, prices)?;
-    let (fences, all_fit) = own_fences(alloc, &question, written.codes.as_slice())?;
+    let question = bare_question(alloc, purpose, bytes, prices)?;
+    let asked = read_asked(alloc, purpose, bytes)?;
+    let (fences, all_fit) = own_fences(alloc, &question, asked.codes.as_slice())?;
     let best = best(alloc, &question, &fences, limit)?;
     let lines = lines_of(alloc, bytes)?;
     Ok(Findings {
         written,
         lines,
-        kind,
+        asked,
         question,
         fences,
         all_fit,
@@ -376,18 +400,23 @@ fn find_judged(
 /// What is found of a test file and a file of prices.
 pub(crate) fn find(
     alloc: Global,
+    purpose: Purpose,
     test: &[u8],
     prices: &[u8],
     limit: usize,
 ) -> Result<Findings, Fault>
     requires least { 1 ≤ limit }
     requires most { limit ≤ 1000000 }
-    ensures found { IfOk result (λ found. AreFound test.now prices.now (findings_of found)) }
+    ensures found { IfOk result (λ found. AreFound purpose test.now prices.now (findings_of found)) }
     ensures sound { IfOk result IsSound }
-    ensures fault { IfErr result (IsFirstAuditFault test.now prices.now limit) }
+    ensures fault { IfErr result (IsFirstFault purpose test.now prices.now limit) }
 {
     let table = read_prices(alloc, prices)?;
-    let written = read_shared(alloc, test)?;
-    let said = judge_test(alloc, &written)?;
-    find_judged(alloc, test, table, written, said.kind, limit)
+    let own = read_shared(alloc, test)?;
+    let said = judge_test(alloc, &own)?;
+    let written = Written {
+        test: own,
+        kind: said.kind,
+    };
+    find_judged(alloc, purpose, test, table, written, limit)
 }

@@ -3,10 +3,12 @@
 #![tactic(auto)]
 
 mod advice;
+mod asked;
 mod audit;
 mod findings;
 mod report;
 mod standing;
 
 pub use advice::Advice;
+pub use asked::Purpose;
 pub use audit::{run_audit, run_mended};

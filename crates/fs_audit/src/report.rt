@@ -6,7 +6,7 @@ ghost use Rattle.fs_kinds.specs.Limits.{most_harts, most_instructions};
 ghost use Rattle.fs_kinds.specs.PriceTable.{are_offered};
 ghost use Rattle.fs_kinds.specs.Slot.{place_name};
 ghost use Rattle.fs_test.specs.Report.{padded};
-ghost use Rattle.fs_audit.specs.Report.{fence_letters, names_devices, about, advice_text, line_text, line_of, advised, code_text, lines_text, cost_text, best_text, first_line, below, is_as_advised, audit_status};
+ghost use Rattle.fs_audit.specs.Report.{fence_letters, about, advice_text, line_text, line_of, advised, code_text, lines_text, cost_text, best_text, first_line, below, is_as_advised, audit_status};
 
 use crate::advice::{Advice, advice_of, is_right};
 use fs_instr::Instr;
@@ -16,6 +16,7 @@ use fs_list::List;
 use fs_litmus::Code;
 use fs_said::Kind;
 use fs_test::{kind_text, padded};
+use fs_unfenced::names_devices;
 use std::alloc::{AllocError, Global};
 
 /// The bytes that the line's number takes with its word, and the names of instructions, and the letters of FENCEs.
@@ -35,18 +36,6 @@ fn fence_letters(alloc: Global, instr: Instr) -> Result<String, AllocError>
         }
         Instr::FenceTso => format!(in alloc; "tso"),
         _ => format!(in alloc; "none"),
-    }
-}
-
-// Does it name input or output?
-fn names_devices(instr: Instr) -> bool
-    ensures { result ≡ names_devices instr }
-{
-    match instr {
-        Instr::Fence { before, after } => {
-            (before.input || before.output) || (after.input || after.output)
-        }
-        _ => false,
     }
 }
 

@@ -1,12 +1,13 @@
--- The test without its FENCE instructions, but for those on devices alone.
-use Rattle.std.specs.Prelude.{ℕ, Bool, true, false, not, is_some, Option, None, Some, List, map, filter, count_by, take}
+-- The test without its FENCE instructions, but for those that name devices; and the test in which these order no memory.
+use Rattle.std.specs.Prelude.{ℕ, Bool, true, false, not, ◌&&◌, ◌||◌, is_some, Option, None, Some, List, map, filter, count_by, take, if◌then◌else◌}
 use Rattle.fs_instr.specs.declared.instr.Instr.{Instr}
 use Rattle.fs_instr.specs.declared.instr.Instr.TheVariants.{Branch, Jump, Fence, FenceTso}
+use Rattle.fs_instr.specs.declared.letters.Letters.{Letters}
 use Rattle.fs_kinds.specs.declared.kind.Kind.{Kind}
 use Rattle.fs_kinds.specs.declared.kind.Kind.TheVariants.{RR, RW, RRw, WR, WW, WRw, RwR, RwW, RwRw, Tso}
 use Rattle.fs_model.specs.declared.test.Test.{Test}
 
--- ---- what a FENCE orders of memory
+-- ---- what a FENCE orders of memory, and whether it names devices
 
 -- the kind with these reads and writes before it, and these behind it
 abbrev pub kind_of_sides : Bool → Bool → Bool → Bool → Option Kind
@@ -31,10 +32,16 @@ memory_kind _ = None
 abbrev pub is_fence : Instr → Bool
 is_fence i = is_some (memory_kind i)
 
--- ---- the test without these
+-- a FENCE that has i or o among its letters: it names input or output
+abbrev pub names_devices : Instr → Bool
+names_devices (Fence before after) = (before.input || before.output) || (after.input || after.output)
+names_devices _ = false
 
+-- ---- the test without those that order memory and name no devices
+
+-- a FENCE that names devices is kept as it is, since what it orders of these isn't known here
 abbrev pub is_kept : Instr → Bool
-is_kept i = not (is_fence i)
+is_kept i = not (is_fence i) || names_devices i
 
 -- where a label of instruction `at` stands in the unfenced code: after what is kept of the instructions before it
 abbrev pub position : List Instr → ℕ → ℕ
@@ -52,3 +59,18 @@ unfenced_code code = map (moved code) (filter is_kept code)
 -- all else stays
 abbrev pub unfenced : Test → Test
 unfenced t = record t { codes = map unfenced_code t.codes }
+
+-- ---- the test in which what names devices orders no memory
+
+abbrev pub devices : Letters
+devices = record { input = true; output = true; reads = false; writes = false }
+
+-- in place of a FENCE that orders memory and names devices stands `fence io,io`
+abbrev pub eased_instr : Instr → Instr
+eased_instr i = if is_fence i && names_devices i then Fence devices devices else i
+
+abbrev pub eased_code : List Instr → List Instr
+eased_code code = map eased_instr code
+
+abbrev pub eased : Test → Test
+eased t = record t { codes = map eased_code t.codes }

@@ -1,9 +1,9 @@
-//! The test without its FENCE instructions, but for those on devices alone.
+//! The test without its FENCE instructions, but for those that name devices.
 
 ghost use Rattle.std.specs.Prelude.{◌≡◌, ◌≤◌, All, count_by, length, map, IfOk};
 ghost use Rattle.fs_kinds.specs.Limits.{most_instructions};
 ghost use Rattle.fs_model.specs.Test.{IsBounded};
-ghost use Rattle.fs_unfenced.specs.Unfenced.{kind_of_sides, memory_kind, is_fence, is_kept, position, moved, unfenced_code, unfenced};
+ghost use Rattle.fs_unfenced.specs.Unfenced.{kind_of_sides, memory_kind, is_fence, names_devices, is_kept, position, moved, unfenced_code, unfenced};
 
 use crate::slices::before;
 use fs_instr::{Instr, Letters};
@@ -46,10 +46,22 @@ pub fn is_fence(instr: Instr) -> bool
     memory_kind(instr).is_some()
 }
 
+/// Is it a FENCE that has i or o among its letters?
+pub fn names_devices(instr: Instr) -> bool
+    ensures { result ≡ names_devices instr }
+{
+    match instr {
+        Instr::Fence { before, after } => {
+            (before.input || before.output) || (after.input || after.output)
+        }
+        _ => false,
+    }
+}
+
 fn is_kept(instr: &Instr) -> bool
     ensures { result ≡ is_kept instr.now }
 {
-    !is_fence(*instr)
+    !is_fence(*instr) || names_devices(*instr)
 }
 
 fn count_kept(code: &[Instr]) -> usize
@@ -101,8 +113,8 @@ fn unfenced_codes(alloc: Global, codes: &[Code]) -> Result<Vec<Code>, AllocError
     Ok(made)
 }
 
-/// The test without these FENCEs; labels stay before what stood behind them. The square of a code's length at most. Fails only for want of
-/// memory.
+/// The test without its FENCEs that order memory and name no devices; labels stay before what stood behind them. The square of a code's length
+/// at most. Fails only for want of memory.
 pub fn unfenced(alloc: Global, mut test: Test) -> Result<Test, AllocError>
     requires { IsBounded test }
     ensures { IfOk result (λ made. made ≡ unfenced test) }

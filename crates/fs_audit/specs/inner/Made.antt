@@ -10,10 +10,11 @@ use Rattle.fs_audit.specs.declared.findings.Findings.{Findings}
 
 abbrev pub findings_of : Findings → said.Findings
 findings_of f = record {
-  test = arc_value f.written;
+  test = arc_value f.written.test;
   prices = (arc_value f.question).prices;
   lines = f.lines.items;
-  kind = f.kind;
+  kind = f.written.kind;
+  codes = (arc_value f.asked).codes;
   bare = (arc_value f.question).test;
   written = f.fences;
   all = f.all_fit;
@@ -22,7 +23,8 @@ findings_of f = record {
 
 -- what printing asks for
 pub record IsSound (f : Findings) : Type 0 where
-  pub written : IsBounded (arc_value f.written)
+  pub written : IsBounded (arc_value f.written.test)
+  pub asked : IsBounded (arc_value f.asked)
   pub bare : IsBounded (arc_value f.question).test
   pub fences : IsTrue (are_offered (arc_value f.question).prices f.fences)
   pub best : IfSome f.best (λ p. (slots_of p ≡ slots (arc_value f.question).test) × IsTrue (are_offered (arc_value f.question).prices p))
