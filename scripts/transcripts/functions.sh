@@ -43,20 +43,31 @@ filled() {
     sed 1d examples/MP.litmus
 }
 
-# What `test` says of the test of one hart with these cells and this condition, with its quantifier, without the name
-# of the file. The hart has the addresses of x in x6 and of y in x8, and 1 in x10.
-said() {
-    local -a cells
-    IFS=';' read -r -a cells <<<"$1"
-    {
-        printf 'RISCV said\n{ 0:x6=x; 0:x8=y; 0:x10=1; }\nP0 ;\n'
-        [[ ! $1 ]] || printf '%s ;\n' "${cells[@]}"
-        echo "$2"
-    } | rvfence test - | sed -n '1s/^- *//p'
+# The test of harts with these cells, an argument for each of at most three, and of the condition behind them, with its
+# quantifier. Each hart has the addresses of x in x6 and of y in x8, and 1 in x10.
+test_of() {
+    local hart at columns='P0 | P1 | P2' init='H:x6=x; H:x8=y; H:x10=1; ' inits='' row cells
+    local -a column
+    for ((hart = 0; hart < $# - 1; hart++)); do
+        inits+=${init//H/$hart}
+    done
+    printf 'RISCV said\n{ %s}\n%s ;\n' "$inits" "${columns:0:$((5 * $# - 8))}"
+    for at in 0 1 2 3; do
+        row=''
+        for cells in "${@:1:$#-1}"; do
+            IFS=';' read -r -a column <<<"$cells"
+            row+="| ${column[at]}"
+        done
+        echo "${row#|} ;"
+    done
+    echo "${!#}"
 }
 
-# What `test` prints, with N for each number of cycles, which no contract says.
-cycles() { rvfence test "$@" | sed -E 's/[0-9]+ cycles?$/N cycles/'; }
+# What `test` says of that test, without the name of the file.
+said() { test_of "$@" | rvfence test - | sed -n '1s/^- *//p'; }
+
+# What `test` prints, with N for each number of contradictions, which no contract says.
+contradictions() { rvfence test "$@" | sed -E 's/[0-9]+ contradictions?$/N contradictions/'; }
 
 # What `audit` prints for the test of two harts with these cells and this condition, at the prices in $prices or else in
 # examples/prices.json, with further words. Each hart has the addresses of x in x6, of y in x8 and of z in x11, and 1 in x10; the first

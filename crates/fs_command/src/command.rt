@@ -13,11 +13,11 @@ Prints a line for each file, in order: its name, what is said of its test, and w
 a last line that counts them. No fence is placed, and prices are not asked for.
 
   forbidden  no execution under RVWMO shows the outcome of the condition (of `forall`: of
-             its denial). N cycles: how many the refutation has that was found
+             its denial). N contradictions: how many the refutation has that was found
   allowed    some execution shows it. Why: the first operation that comes to memory
              before an earlier one of its hart, and the earliest that it passes
   vacuous    no execution shows it, for a reason that has nothing to do with the memory
-             model: in some hart no run ends so, whatever its loads return of the words
+             model: no runs of the harts end so, whatever their loads return of the words
              that are stored at all. Why: the first atom of the condition that nothing
              makes true, mostly a slip of the pen
   fault      the file isn't read, or not answered, and why; a message on standard error
