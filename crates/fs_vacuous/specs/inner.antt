@@ -1,0 +1,2 @@
+pub mod Settled
+pub mod Ends

@@ -1,0 +1,6 @@
+//! Whether a test is vacuous: whether no choice of runs and last words makes its outcome true.
+#![tactic(auto)]
+
+mod end;
+mod search;
+mod settled;
