@@ -1,2 +1,4 @@
 pub mod Settling
 pub mod Searching
+pub mod Numbered
+pub mod Chosen

@@ -2,5 +2,6 @@
 #![tactic(auto)]
 
 mod end;
+mod ends;
 mod search;
 mod settled;

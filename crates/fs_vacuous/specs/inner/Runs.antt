@@ -1,6 +1,6 @@
 -- What counts of runs where only the outcome counts.
-use Rattle.std.specs.Prelude.{ℕ, ◌==◌, Option, None, Some, List, [], ◌∷◌, ◌++◌, if◌then◌else◌}
-use Rattle.std.specs.List.{filter_map}
+use Rattle.std.specs.Prelude.{◌≡◌, ◌⊎◌, ℕ, ◌<◌, ◌==◌, Bool, not, Option, None, Some, List, [], ◌∷◌, ◌++◌, length, if◌then◌else◌}
+use Rattle.std.specs.List.{Contains, filter_map, slice_index_or}
 use Rattle.fs_model.specs.declared.step.Step.{Step}
 use Rattle.fs_model.specs.Condition.{Condition, Always, Never, RegisterIs, LocationIs, Deny, Both, Either}
 use Rattle.fs_model.specs.Shows.{final_register}
@@ -9,6 +9,8 @@ use Rattle.fs_answer.specs.Musts.{traces_of}
 use Rattle.fs_vacuous.specs.declared.end.End.{End}
 use Rattle.fs_vacuous.specs.declared.end.Known.{Known}
 use Rattle.fs_vacuous.specs.declared.end.Stored.{Stored}
+use Rattle.fs_vacuous.specs.inner.Settled.{truth_of}
+use Rattle.fs_vacuous.specs.inner.Ends.{with_hart}
 
 -- the word that the register ends with
 abbrev pub final : RunOf → ℕ → ℕ
@@ -34,3 +36,24 @@ stored_by s = stored_as s.address s.stored
 abbrev pub end_of : Condition → RunOf → End
 end_of c run = record { registers = named (final run) run.hart c; stored = filter_map stored_by run.steps }
 
+
+-- ---- the runs of a hart
+
+-- The ends of a hart's runs: each is that of some run, and each run has its own among them but where the condition can't be as wanted
+-- with it.
+pub record AreEnds (wanted : Bool) (c : Condition) (hart : ℕ) (runs : List RunOf) (ends : List End) : Type 0 where
+  pub sound : (end : End) → Contains ends end → (run : RunOf) × Contains runs run × (end ≡ end_of c run)
+  pub complete :
+      (run : RunOf) → Contains runs run → (with_hart hart (end_of c run).registers c ≡ truth_of (not wanted) → ⊥)
+      → Contains ends (end_of c run)
+
+-- what a further run adds to them
+pub record Adds (wanted : Bool) (c : Condition) (hart : ℕ) (run : RunOf) (before after : List End) : Type 0 where
+  pub kept : (end : End) → Contains before end → Contains after end
+  pub sound : (end : End) → Contains after end → Contains before end ⊎ (end ≡ end_of c run)
+  pub complete : (with_hart hart (end_of c run).registers c ≡ truth_of (not wanted) → ⊥) → Contains after (end_of c run)
+
+-- the same of each hart
+pub record AreAllEnds (wanted : Bool) (c : Condition) (runs : List (List RunOf)) (lists : List (List End)) : Type 0 where
+  pub harts : length lists ≡ length runs
+  pub each : (hart : ℕ) → hart < length runs → AreEnds wanted c hart (slice_index_or runs hart []) (slice_index_or lists hart [])
