@@ -3,5 +3,8 @@
 
 mod end;
 mod ends;
+mod laws;
 mod search;
 mod settled;
+
+pub use laws::vacuous_forbids;
