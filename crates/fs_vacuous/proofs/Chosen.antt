@@ -1,10 +1,12 @@
 -- What the search finds is a choice of ends and of last words that makes the condition as wanted, and it misses no such choice.
-use Rattle.std.proofs.Common.{◌≡◌, ℕ, suc, ◌+◌, ◌<◌, ◌≤◌, ◌==◌, nat_lt, Bool, true, false, Option, None, Some, List, [], ◌∷◌, ◌++◌, length, inl, inr, refl, sym, ◌∙◌, subst, ap, append_assoc, arith}
+use Rattle.std.proofs.Common.{◌≡◌, ℕ, zero, suc, ◌+◌, ◌<◌, ◌≤◌, ◌==◌, nat_lt, Bool, true, false, Option, None, Some, List, [], ◌∷◌, ◌++◌, length, inl, inr, refl, sym, ◌∙◌, subst, ap, append_assoc, arith}
 use Rattle.std.specs.Prelude.{if◌then◌else◌}
 use Rattle.std.specs.List.{Contains}
 use Rattle.std.proofs.Math.Path.{fun_ext}
 use Rattle.std.specs.Option.{option_or}
-use Rattle.std.proofs.lemmas.Bool.{cases_lt, eqb-true, eqb-false, ltb-true, ltb-false}
+use Rattle.std.proofs.lemmas.Bool.{eqb-true, eqb-false, ltb-true, ltb-false, lt-ltb}
+use Rattle.std.proofs.lemmas.List.Elements.{Contains-append_left, Contains-append_right, Contains-append_cases}
+use Rattle.fs_values.proofs.Contained.{none_in}
 use Rattle.fs_model.specs.Condition.{Condition, Always, Never, RegisterIs, LocationIs, Deny, Both, Either}
 use Rattle.fs_model.specs.Shows.{holds}
 use Rattle.fs_vacuous.specs.declared.end.End.{End}
@@ -33,14 +35,14 @@ known_by X n f right k y e = go (k == n) refl e
 abbrev pub Agrees : (ℕ → ℕ → ℕ) → ℕ → End → Type 0
 Agrees r hart end = (reg y : ℕ) → word_in end.registers reg ≡ Some y → r hart reg ≡ y
 
-hart_known : (r : ℕ → ℕ → ℕ) (hart : ℕ) (end : End) → Agrees r hart end → (h g y : ℕ) → by_hart hart end.registers h g ≡ Some y → r h g ≡ y
+pub hart_known : (r : ℕ → ℕ → ℕ) (hart : ℕ) (end : End) → Agrees r hart end → (h g y : ℕ) → by_hart hart end.registers h g ≡ Some y → r h g ≡ y
 hart_known r hart end agrees h g y e = known_by (λ k. word_in end.registers g) hart (λ k. r k g) (agrees g) h y e
 
 word_known : (w : ℕ → ℕ) (location word : ℕ) → w location ≡ word → (k y : ℕ) → by_location location word k ≡ Some y → w k ≡ y
 word_known w location word is k y e =
     known_by (λ j. Some word) location w (λ z same. is ∙ (let both : Some word ≡ Some z = same in cc)) k y e
 
-nothing_known : (w : ℕ → ℕ) (k y : ℕ) → no_location k ≡ Some y → w k ≡ y
+pub nothing_known : (w : ℕ → ℕ) (k y : ℕ) → no_location k ≡ Some y → w k ≡ y
 nothing_known w k y e = absurd (let none : None ≡ Some y = e in cc)
 
 no_register_known : (r : ℕ → ℕ → ℕ) (h g y : ℕ) → no_register h g ≡ Some y → r h g ≡ y
@@ -134,19 +136,22 @@ one_further X n k = go (nat_lt k (n + 1)) (nat_lt k n) (k == n) refl refl refl
         let high = ltb-false k (n + 1) e in let same = eqb-true k n g in absurd (omega (arith, high, same))
     go false false false e f g = refl
 
-none_below : (X : ℕ → Option ℕ) (k : ℕ) → below X 0 k ≡ None
+pub none_below : (X : ℕ → Option ℕ) (k : ℕ) → below X 0 k ≡ None
 none_below X k = go (nat_lt k 0) refl
   where
     go : (a : Bool) → nat_lt k 0 ≡ a → (if a then X k else None) ≡ None
     go true e = let low = ltb-true k 0 e in absurd (omega (arith, low))
     go false e = refl
 
+pub below_low : (X : ℕ → Option ℕ) (n k : ℕ) → k < n → below X n k ≡ X k
+below_low X n k low = rw (lt-ltb k n low) refl
+
 or_nothing : (o : Option ℕ) → o ≡ option_or o None
 or_nothing None = refl
 or_nothing (Some y) = refl
 
 module _ (r : ℕ → ℕ → ℕ) (w : ℕ → ℕ) (E : ℕ → End) (whole : Condition) where
-  abbrev words_below : ℕ → ℕ → Option ℕ
+  abbrev pub words_below : ℕ → ℕ → Option ℕ
   words_below = below (λ k. Some (w k))
 
   abbrev pub harts_below : ℕ → ℕ → ℕ → Option ℕ
@@ -175,6 +180,26 @@ module _ (r : ℕ → ℕ → ℕ) (w : ℕ → ℕ) (E : ℕ → End) (whole : 
   abbrev pub stored_from : ℕ → List (List End) → List Stored
   stored_from n [] = []
   stored_from n (list ∷ lists) = (E n).stored ++ stored_from (n + 1) lists
+
+  pub in_from : (n : ℕ) (lists : List (List End)) (i : ℕ) → i < length lists → (s : Stored) → Contains (E (n + i)).stored s → Contains (stored_from n lists) s
+  in_from n [] i low s has = absurd (omega (arith, low))
+  in_from n (list ∷ lists) zero low s has =
+      let here : n + 0 ≡ n = omega arith in
+      Contains-append_left (E n).stored (stored_from (n + 1) lists) s (subst (λ k. Contains (E k).stored s) here has)
+  in_from n (list ∷ lists) (suc i) low s has =
+      let next : n + suc i ≡ n + 1 + i = omega arith in
+      Contains-append_right (E n).stored (stored_from (n + 1) lists) s
+      (in_from (n + 1) lists i (omega (arith, low)) s (subst (λ k. Contains (E k).stored s) next has))
+
+  pub out_from : (n : ℕ) (lists : List (List End)) (s : Stored) → Contains (stored_from n lists) s → (i : ℕ) × Contains (E (n + i)).stored s
+  out_from n [] s has = absurd (none_in s has)
+  out_from n (list ∷ lists) s has = elim (Contains-append_cases (E n).stored (stored_from (n + 1) lists) s has) [
+    | inl here ↦ (0, (let same : n ≡ n + 0 = omega arith in subst (λ k. Contains (E k).stored s) same here))
+    | inr later ↦ (
+        let rest = out_from (n + 1) lists s later in
+        let next : n + 1 + rest.0 ≡ n + suc rest.0 = omega arith in
+        (suc rest.0, subst (λ k. Contains (E k).stored s) next rest.1))
+  ]
 
   pub show_by : (n : ℕ) (lists : List (List End)) (firsts : List ℕ) (stored : List Stored) (wanted : Bool) (c : Condition) (harts locations : ℕ)
       → Each (λ h list. Contains list (E h)) n lists

@@ -3,7 +3,7 @@ use Rattle.std.proofs.Common.{◌≡◌, ◌≢◌, ℕ, ◌+◌, ◌<◌, ◌�
 use Rattle.std.specs.Prelude.{slice_get}
 use Rattle.std.specs.List.{Contains, slice_index_or}
 use Rattle.std.proofs.lemmas.Bool.{cases_lt}
-use Rattle.std.proofs.lemmas.Option.{slice_get_read, get_or_from_slice_get}
+use Rattle.std.proofs.lemmas.Option.{slice_get_read}
 use Rattle.std.proofs.lemmas.List.{get_or_append_left}
 use Rattle.std.proofs.Math.Seq.{get_or-append_seam}
 use Rattle.std.proofs.lemmas.List.Elements.{Contains-get_or}
@@ -57,9 +57,6 @@ module _ (wanted : Bool) (c : Condition) (hart : ℕ) (runs : List RunOf) where
         let low = has.1 in
         seen.complete has.0 run (omega (arith, low, high)) (slice_get_read runs (length runs) has.0 run refl low (sym has.2)) alive;
   }
-
-pub item_is : {X : Type 0} (xs : List X) (i : ℕ) (x d : X) → i < length xs → x ≡ get_or xs i x → get_or xs i d ≡ x
-item_is xs i x d low is = get_or_from_slice_get xs i x d (slice_get_read xs (length xs) i x refl low is)
 
 -- of the first so many harts
 pub record FirstEnds (wanted : Bool) (c : Condition) (runs : List (List RunOf)) (n : ℕ) (lists : List (List End)) : Type 0 where

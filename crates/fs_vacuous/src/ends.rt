@@ -1,7 +1,7 @@
 //! What counts of the runs of each hart.
 
-ghost use Rattle.std.specs.Prelude.{◌≡◌, ◌≤◌, length, true, IfOk, OnOk};
-ghost use Rattle.std.specs.List.{Contains};
+ghost use Rattle.std.specs.Prelude.{◌≡◌, ◌≤◌, [], true, IfOk, OnOk};
+ghost use Rattle.std.specs.List.{Contains, slice_index_or};
 ghost use Rattle.fs_kinds.specs.Limits.{most_harts};
 ghost use Rattle.fs_model.specs.Condition.{condition_of};
 ghost use Rattle.fs_vacuous.specs.inner.Runs.{Adds, AreEnds, AreAllEnds};
@@ -65,20 +65,31 @@ fn ends_of(
     Ok(ends)
 }
 
+/// The runs of the hart; none where there is no list of its.
+pub(crate) fn runs_of(listed: &[List<Lone>], hart: usize) -> &[Lone]
+    ensures { result.now ≡ slice_index_or listed.now hart [] }
+{
+    match listed.get(hart) {
+        Some(runs) => runs.as_slice(),
+        None => &[],
+    }
+}
+
 /// What counts of the runs of each hart where the condition is to have this truth value: of runs that don't rule it out by themselves. The
 /// cost is for each run that of `end_of`, and 64 times the size of an end at most.
 pub(crate) fn all_ends(
     alloc: Global,
+    harts: usize,
     runs: &[List<Lone>],
     wanted: bool,
     condition: &Outcome,
 ) -> Result<Vec<List<End>>, AllocError>
-    requires { length runs.now ≤ most_harts }
-    ensures { IfOk result (λ lists. AreAllEnds wanted (condition_of condition.now) runs.now lists.items) }
+    requires { harts ≤ most_harts }
+    ensures { IfOk result (λ lists. AreAllEnds wanted (condition_of condition.now) harts runs.now lists.items) }
 {
     let mut lists = Vec::new(alloc);
-    for hart in 0..runs.len() {
-        let ends = ends_of(alloc, hart as u8, runs[hart].as_slice(), wanted, condition)?;
+    for hart in 0..harts {
+        let ends = ends_of(alloc, hart as u8, runs_of(runs, hart), wanted, condition)?;
         lists.push(List::new(ends))?;
     }
     Ok(lists)

@@ -6,5 +6,7 @@ mod ends;
 mod laws;
 mod search;
 mod settled;
+mod vacuous;
 
 pub use laws::vacuous_forbids;
+pub use vacuous::is_vacuous;

@@ -1,9 +1,8 @@
 //! The search for a way to the outcome.
 
-ghost use Rattle.std.specs.Prelude.{◌≡◌, ◌≤◌, ◌+◌, ◌++◌, List, None, Some, Bool, false, length, map, not, true, IfOk, OnOk};
+ghost use Rattle.std.specs.Prelude.{◌≡◌, ◌≤◌, ◌+◌, ◌++◌, None, Some, false, is_some, length, not, true, IfOk};
 ghost use Rattle.fs_model.specs.Condition.{condition_of};
 ghost use Rattle.fs_kinds.specs.Limits.{most_harts, most_locations};
-ghost use Rattle.fs_vacuous.specs.inner.Settled.{truth_of};
 ghost use Rattle.fs_vacuous.specs.inner.Ends.{stored_at, words_for, CanEnd, CanShow};
 
 use crate::end::{End, Stored};
@@ -63,7 +62,8 @@ fn joined(alloc: Global, stored: &[Stored], more: &[Stored]) -> Result<Vec<Store
 impl Search {
     /// A search for this truth value, which takes so many steps at most, or, where there is no number, as many as it needs.
     pub(crate) fn new(alloc: Global, wanted: bool, most: Option<u32>) -> Search
-        ensures { result.wanted ≡ wanted }
+        ensures wanted { result.wanted ≡ wanted }
+        ensures bounded { result.bounded ≡ is_some most }
     {
         match most {
             Some(steps) => Search { alloc, wanted, steps, bounded: true },

@@ -1,14 +1,13 @@
 //! Whether a test is vacuous.
 
-ghost use Rattle.std.specs.Prelude.{◌≡◌, ◌<◌, ◌≤◌, None, Some, false, length, map, true, IfOk, IsOkUnless};
-ghost use Rattle.fs_kinds.specs.Limits.{most_harts};
+ghost use Rattle.std.specs.Prelude.{◌≡◌, ◌<◌, None, Some, false, true, IfOk, IsOkUnless};
 ghost use Rattle.fs_kinds.specs.declared.fault.Fault.TheVariants.{Memory};
 ghost use Rattle.fs_model.specs.Execution.{initial_words};
 ghost use Rattle.fs_model.specs.Shows.{is_outcome};
 ghost use Rattle.fs_split.specs.Runs.{runs_over};
 ghost use Rattle.fs_vacuous.specs.Vacuous.{IsVacuous, HasManyRuns, most_lists, lists_of};
 
-use crate::ends::all_ends;
+use crate::ends::{all_ends, runs_of};
 use crate::search::Search;
 use crate::settled::with_hart;
 use fs_alone::Lone;
@@ -25,13 +24,12 @@ const MOST_LISTS: usize = 10_000;
 const MOST_STEPS: u32 = 1_000_000;
 
 // Are there more lists of runs, one of each hart, than are looked through whatever it takes?
-fn has_many(runs: &[List<Lone>]) -> bool
-    requires { length runs.now ≤ most_harts }
-    ensures { result ≡ true → most_lists < lists_of (runs_over runs.now) (length runs.now) }
+fn has_many(harts: usize, runs: &[List<Lone>]) -> bool
+    ensures { result ≡ true → most_lists < lists_of (runs_over runs.now) harts }
 {
     let mut lists: usize = 1;
-    for hart in 0..runs.len() {
-        lists = lists.saturating_mul(runs[hart].len()).min(MOST_LISTS + 1);
+    for hart in 0..harts {
+        lists = lists.saturating_mul(runs_of(runs, hart).len()).min(MOST_LISTS + 1);
     }
     lists > MOST_LISTS
 }
@@ -62,11 +60,12 @@ fn has_way(alloc: Global, basis: &Basis) -> Result<Option<bool>, AllocError>
 {
     let test = basis.test();
     let runs = basis.runs();
+    let harts = test.codes.len();
     let wanted = is_outcome(test.quantifier);
-    let lists = all_ends(alloc, runs, wanted, &test.condition)?;
+    let lists = all_ends(alloc, harts, runs, wanted, &test.condition)?;
     let firsts = first_words(alloc, test)?;
     let condition = with_hart(alloc, 0, &[], &test.condition)?;
-    let most = if has_many(runs) { Some(MOST_STEPS) } else { None };
+    let most = if has_many(harts, runs) { Some(MOST_STEPS) } else { None };
     Search::new(alloc, wanted, most).can_show(0, &lists, &firsts, &[], &condition)
 }
 

@@ -53,7 +53,7 @@ pub record Adds (wanted : Bool) (c : Condition) (hart : ℕ) (run : RunOf) (befo
   pub sound : (end : End) → Contains after end → Contains before end ⊎ (end ≡ end_of c run)
   pub complete : (with_hart hart (end_of c run).registers c ≡ truth_of (not wanted) → ⊥) → Contains after (end_of c run)
 
--- the same of each hart
-pub record AreAllEnds (wanted : Bool) (c : Condition) (runs : List (List RunOf)) (lists : List (List End)) : Type 0 where
-  pub harts : length lists ≡ length runs
-  pub each : (hart : ℕ) → hart < length runs → AreEnds wanted c hart (slice_index_or runs hart []) (slice_index_or lists hart [])
+-- the same of each of so many harts
+pub record AreAllEnds (wanted : Bool) (c : Condition) (harts : ℕ) (runs : List (List RunOf)) (lists : List (List End)) : Type 0 where
+  pub size : length lists ≡ harts
+  pub each : (hart : ℕ) → hart < harts → AreEnds wanted c hart (slice_index_or runs hart []) (slice_index_or lists hart [])
