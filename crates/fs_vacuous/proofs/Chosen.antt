@@ -1,5 +1,5 @@
 -- What the search finds is a choice of ends and of last words that makes the condition as wanted, and it misses no such choice.
-use Rattle.std.proofs.Common.{◌≡◌, ℕ, zero, suc, ◌+◌, ◌<◌, ◌≤◌, ◌==◌, nat_lt, Bool, true, false, Option, None, Some, List, [], ◌∷◌, ◌++◌, length, inl, inr, refl, sym, ◌∙◌, subst, ap, append_assoc, arith}
+use Rattle.std.proofs.Common.{◌≡◌, ℕ, zero, suc, ◌+◌, ◌<◌, ◌==◌, nat_lt, Bool, true, false, Option, None, Some, List, [], ◌∷◌, ◌++◌, length, inl, inr, refl, sym, ◌∙◌, subst, ap, append_assoc, arith}
 use Rattle.std.specs.Prelude.{if◌then◌else◌}
 use Rattle.std.specs.List.{Contains}
 use Rattle.std.proofs.Math.Path.{fun_ext}
@@ -7,13 +7,13 @@ use Rattle.std.specs.Option.{option_or}
 use Rattle.std.proofs.lemmas.Bool.{eqb-true, eqb-false, ltb-true, ltb-false, lt-ltb}
 use Rattle.std.proofs.lemmas.List.Elements.{Contains-append_left, Contains-append_right, Contains-append_cases}
 use Rattle.fs_values.proofs.Contained.{none_in}
-use Rattle.fs_model.specs.Condition.{Condition, Always, Never, RegisterIs, LocationIs, Deny, Both, Either}
+use Rattle.fs_model.specs.Condition.{Condition}
 use Rattle.fs_model.specs.Shows.{holds}
 use Rattle.fs_vacuous.specs.declared.end.End.{End}
 use Rattle.fs_vacuous.specs.declared.end.Stored.{Stored}
-use Rattle.fs_vacuous.specs.inner.Settled.{truth_of, settled_atom, denied, both, either, settled}
+use Rattle.fs_vacuous.specs.inner.Settled.{truth_of, settled}
 use Rattle.fs_vacuous.specs.inner.Ends.{word_in, by_hart, by_location, no_register, no_location, with_hart, with_location, words_for, CanEnd, CanShow}
-use Rattle.fs_vacuous.proofs.Settling.{Joins, AllKnown, truth_holds, settled_holds, settled_total, settled_twice}
+use Rattle.fs_vacuous.proofs.Settling.{AllKnown, truth_holds, settled_holds, settled_total, settled_twice}
 use Rattle.fs_vacuous.proofs.Numbered.{Each, Pairs}
 
 append_nil : {X : Type 0} (xs : List X) → xs ++ [] ≡ xs
@@ -103,7 +103,7 @@ shown hart (list ∷ lists) firsts stored wanted c show =
       of = (show.1, rest.of);
       last = rest.last;
       words = subst (λ ss. Pairs (λ k first word. Contains (words_for k first ss) word) 0 firsts rest.last)
-      (append_assoc stored show.0.stored (stored_of rest.ends)) rest.words;
+          (append_assoc stored show.0.stored (stored_of rest.ends)) rest.words;
       shows = λ r w harts all.
           sym (settled_holds r w (by_hart hart show.0.registers) no_location (hart_known r hart show.0 harts.0) (nothing_known w) c)
           ∙ rest.shows r w harts.1 all;
@@ -170,10 +170,10 @@ module _ (r : ℕ → ℕ → ℕ) (w : ℕ → ℕ) (E : ℕ → End) (whole : 
     w n,
     all.0,
     end_by (n + 1) firsts stored wanted (with_location n (w n) c) register most all.1
-    (ap (with_location n (w n)) is
-    ∙ settled_twice register register no_register (words_below (n + 1)) (words_below n) (by_location n (w n))
-    (record { registers = λ h g. or_nothing (register h g); locations = λ k. one_further (λ j. Some (w j)) n k }) whole)
-    known (let last = high in omega (arith, last)) holding,
+        (ap (with_location n (w n)) is
+        ∙ settled_twice register register no_register (words_below (n + 1)) (words_below n) (by_location n (w n))
+        (record { registers = λ h g. or_nothing (register h g); locations = λ k. one_further (λ j. Some (w j)) n k }) whole)
+        known (let last = high in omega (arith, last)) holding,
   )
 
   -- what the ends of these lists' harts store
@@ -218,10 +218,10 @@ module _ (r : ℕ → ℕ → ℕ) (w : ℕ → ℕ) (E : ℕ → End) (whole : 
     E n,
     ends.0,
     show_by (n + 1) lists firsts (stored ++ (E n).stored) wanted (with_hart n (E n).registers c) harts locations ends.1
-    (subst (λ ss. Each (λ k first. Contains (words_for k first ss) (w k)) 0 firsts)
-    (sym (append_assoc stored (E n).stored (stored_from (n + 1) lists))) words)
-    (ap (with_hart n (E n).registers) is
-    ∙ settled_twice (harts_below (n + 1)) (harts_below n) (by_hart n (E n).registers) no_location no_location no_location
-    (record { registers = λ h g. one_further (λ k. word_in (E k).registers g) n h; locations = λ k. refl }) whole)
-    known (let last = high in omega (arith, last)) long holding,
+        (subst (λ ss. Each (λ k first. Contains (words_for k first ss) (w k)) 0 firsts)
+        (sym (append_assoc stored (E n).stored (stored_from (n + 1) lists))) words)
+        (ap (with_hart n (E n).registers) is
+        ∙ settled_twice (harts_below (n + 1)) (harts_below n) (by_hart n (E n).registers) no_location no_location no_location
+        (record { registers = λ h g. one_further (λ k. word_in (E k).registers g) n h; locations = λ k. refl }) whole)
+        known (let last = high in omega (arith, last)) long holding,
   )

@@ -1,5 +1,5 @@
 -- How many lists of runs there are, counted up to a limit.
-use Rattle.std.proofs.Common.{◌≡◌, ℕ, suc, ◌+◌, ◌*◌, ◌<◌, ◌≤◌, List, length, map, refl, sym, ◌∙◌, ap, subst, arith}
+use Rattle.std.proofs.Common.{◌≡◌, ℕ, suc, ◌+◌, ◌*◌, ◌≤◌, List, [], length, sym, ◌∙◌, ap, subst, arith, mul-le-mul}
 use Rattle.std.specs.List.{slice_index_or}
 use Rattle.std.proofs.lemmas.List.{length-map}
 use Rattle.fs_model.specs.declared.step.Step.{Step}
@@ -15,5 +15,7 @@ pub one_hart : (runs : List (List RunOf)) (n lists count next : ℕ) → lists �
     → next ≤ lists * count → next ≤ lists_of (runs_over runs) (n + 1)
 one_hart runs n lists count next before is low =
     let same : length (runs_over runs n) ≡ count = length-map (slice_index_or runs n []) (λ (run : RunOf). run.steps) ∙ sym is in
-    let more = lists_more (runs_over runs) n in
-    ?one
+    let all : ℕ = lists_of (runs_over runs) n * length (runs_over runs n) in
+    let grown : lists * count ≤ all = mul-le-mul before (let size = same in omega (arith, size)) in
+    let reached : next ≤ all = omega (arith, low, grown) in
+    subst (λ k. next ≤ k) (sym (lists_more (runs_over runs) n)) reached

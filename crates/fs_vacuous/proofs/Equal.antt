@@ -1,5 +1,5 @@
 -- Ends that a test finds equal are the same.
-use Rattle.std.proofs.Common.{rules, ◌≡◌, ◌==◌, ℕ, ◌&&◌, Bool, true, List, [], ◌∷◌, refl, ap₂}
+use Rattle.std.proofs.Common.{◌≡◌, ◌==◌, ℕ, Bool, true, List, [], ◌∷◌, refl, ap₂}
 use Rattle.std.specs.Cmp.Lexicographic.{pointwise}
 use Rattle.std.proofs.lemmas.Bool.{and_parts, false≢true, eqb-true}
 use Rattle.fs_vacuous.specs.declared.end.End.{End}

@@ -83,12 +83,11 @@ module _ (location first : ℕ) (rest firsts : List ℕ) (stored : List Stored) 
   pub end_by : (wanted told : Bool) (n : ℕ) (left : Condition) → n < length words → left ≡ with_location location (get_or words n 0) c → told ≡ wanted
       → CanEnd (location + 1) rest stored told left → CanEnd location firsts stored wanted c
   end_by wanted told n left low is same end =
-      subst (λ fs. CanEnd location fs stored wanted c) (sym split)
-      (
+      subst (λ fs. CanEnd location fs stored wanted c) (sym split) (
         get_or words n 0,
         subst (λ ws. Contains ws (get_or words n 0)) of (Contains-get_or words n 0 low),
         subst (λ d. CanEnd (location + 1) rest stored wanted d) is
-        (subst (λ (b : Bool). CanEnd (location + 1) rest stored b left) same end),
+            (subst (λ (b : Bool). CanEnd (location + 1) rest stored b left) same end),
       )
 
   pub not_by : (wanted told : Bool) (word : ℕ) (left : Condition) → left ≡ with_location location word c → told ≡ wanted
@@ -110,13 +109,12 @@ module _ (hart : ℕ) (ends : List End) (rest lists : List (List End)) (firsts :
       → left ≡ with_hart hart end.registers c → told ≡ wanted
       → CanShow (hart + 1) rest firsts longer told left → CanShow hart lists firsts stored wanted c
   show_by wanted told end longer left has long is same show =
-      subst (λ ls. CanShow hart ls firsts stored wanted c) (sym split)
-      (
+      subst (λ ls. CanShow hart ls firsts stored wanted c) (sym split) (
         end,
         has,
         subst (λ d. CanShow (hart + 1) rest firsts (stored ++ end.stored) wanted d) is
-        (subst (λ (b : Bool). CanShow (hart + 1) rest firsts (stored ++ end.stored) b left) same
-        (subst (λ ss. CanShow (hart + 1) rest firsts ss told left) long show)),
+            (subst (λ (b : Bool). CanShow (hart + 1) rest firsts (stored ++ end.stored) b left) same
+            (subst (λ ss. CanShow (hart + 1) rest firsts ss told left) long show)),
       )
 
   pub not_shown_by : (wanted told : Bool) (end : End) (longer : List Stored) (left : Condition) → longer ≡ stored ++ end.stored

@@ -1,5 +1,5 @@
 -- The search finds a way to the outcome exactly where there is one.
-use Rattle.std.proofs.Common.{◌≡◌, ◌⊎◌, ℕ, zero, suc, ◌+◌, ◌<◌, ◌≤◌, ◌==◌, Bool, true, false, not, Option, None, Some, List, [], ◌∷◌, ◌++◌, map, length, get_or, inl, inr, refl, sym, ◌∙◌, ap, subst, arith}
+use Rattle.std.proofs.Common.{◌≡◌, ℕ, suc, ◌+◌, ◌<◌, ◌≤◌, ◌==◌, Bool, true, false, not, Option, None, Some, List, [], ◌∷◌, ◌++◌, length, inl, inr, refl, sym, ◌∙◌, ap, subst, arith}
 use Rattle.std.proofs.Math.Path.{fun_ext}
 use Rattle.std.specs.Prelude.{slice_get, if◌then◌else◌}
 use Rattle.std.specs.List.{Contains, slice_index_or}
@@ -19,24 +19,22 @@ use Rattle.fs_model.specs.Operations.{steps_of}
 use Rattle.fs_model.specs.Execution.{initial_words, registers_of}
 use Rattle.fs_model.specs.Shows.{final_register, holds, is_outcome}
 use Rattle.fs_model.specs.Values.{StoresWord}
-use Rattle.fs_answer.specs.Musts.{traces_of}
 use Rattle.fs_answer.specs.Trees.{AreItsRuns}
 use Rattle.fs_alone.specs.Alone.{RunOf}
 use Rattle.fs_split.specs.Runs.{runs_over, AreOfEach}
 use Rattle.fs_region.proofs.Alone.{own_steps}
 use Rattle.fs_values.proofs.Contained.{in_map, from_map}
 use Rattle.fs_vacuous.specs.declared.end.End.{End}
-use Rattle.fs_vacuous.specs.declared.end.Known.{Known}
 use Rattle.fs_vacuous.specs.declared.end.Stored.{Stored}
 use Rattle.fs_vacuous.specs.Vacuous.{MayEnd, IsWay, IsVacuous}
 use Rattle.fs_vacuous.specs.inner.Settled.{truth_of, settled}
 use Rattle.fs_vacuous.specs.inner.Ends.{word_in, by_hart, no_location, with_hart, words_for, CanShow}
-use Rattle.fs_vacuous.specs.inner.Runs.{final, named, end_of, AreEnds, AreAllEnds}
+use Rattle.fs_vacuous.specs.inner.Runs.{final, end_of, AreAllEnds}
 use Rattle.fs_vacuous.proofs.Settling.{truth_holds, settled_holds}
-use Rattle.fs_vacuous.proofs.Numbered.{Each, Pairs, Second, First, each_from, second, first, same_length}
+use Rattle.fs_vacuous.proofs.Numbered.{Each, Pairs, each_from, first, same_length}
 use Rattle.fs_vacuous.proofs.Chosen.{Agrees, Shown, hart_known, nothing_known, none_below, below_low, in_from, out_from, stored_of, stored_from, words_below, harts_below, shown, show_by}
 use Rattle.fs_vacuous.proofs.Registers.{named_right, named_is, all_known}
-use Rattle.fs_vacuous.proofs.Words.{at_word, Untouched, stored_there, stored_back, stored_word, first_word, word_from, stored_by_one, stored_in_all}
+use Rattle.fs_vacuous.proofs.Words.{at_word, stored_there, stored_back, stored_word, first_word, word_from, stored_by_one, stored_in_all}
 
 outcome_is : (q : Quantifier) (b : Bool) → is_outcome q b ≡ true → b ≡ is_outcome q true
 outcome_is Exists b e = e
@@ -118,10 +116,10 @@ module _ (t : Test) (bounded : IsBounded t) (runs : List (List RunOf)) (all : Ar
 
       alive : (h : ℕ) → h < length t.codes → with_hart h (E h).registers whole ≡ truth_of (not wanted) → ⊥
       alive h low dead = not_itself wanted (
-        sym holding
-        ∙ sym (settled_holds r last (by_hart h (E h).registers) no_location (hart_known r h (E h) (agrees traces h low)) (nothing_known last) whole)
-        ∙ ap (holds r last) dead ∙ truth_holds r last (not wanted)
-      )
+          sym holding
+          ∙ sym (settled_holds r last (by_hart h (E h).registers) no_location (hart_known r h (E h) (agrees traces h low)) (nothing_known last) whole)
+          ∙ ap (holds r last) dead ∙ truth_holds r last (not wanted)
+          )
 
       its_run : (h : ℕ) → h < length t.codes → Contains (slice_index_or runs h []) (run h (steps_of traces h))
       its_run h low = run_in h (steps_of traces h) (((all.all h low).exact (steps_of traces h)).1 (way.runs.runs h low, way.runs.values h low))
@@ -203,9 +201,9 @@ module _ (t : Test) (bounded : IsBounded t) (runs : List (List RunOf)) (all : Ar
         let here = each 0 l refl e pairs.0 in
         let zero_here : n + 0 ≡ n = omega arith in
         let rest = chosen (n + 1) ls es pairs.1 (λ i list at end has.
-            let next : n + suc i ≡ n + 1 + i = omega arith in
-            let found = each (suc i) list at end has in
-            (found.0, subst (λ k. IsEndOf k end found.0) next found.1)) in
+        let next : n + suc i ≡ n + 1 + i = omega arith in
+        let found = each (suc i) list at end has in
+        (found.0, subst (λ k. IsEndOf k end found.0) next found.1)) in
         (here.0 ∷ rest.0, (subst (λ k. IsEndOf k e here.0) zero_here here.1, rest.1))
 
     module _ (found : Shown 0 lists (initial_words t) [] wanted (with_hart 0 [] whole)) where
@@ -302,9 +300,9 @@ module _ (t : Test) (bounded : IsBounded t) (runs : List (List RunOf)) (all : Ar
           elim (word_from k its.item (stored_of found.ends) (last k) here) [
             | inl stored ↦ inl (stores_back k (last k) stored)
             | inr begins ↦ inr (
-                its.at ∙ ap Some begins.0,
-                λ hart other stores. begins.1 other (stores_in hart k other stores),
-              )
+              its.at ∙ ap Some begins.0,
+              λ hart other stores. begins.1 other (stores_in hart k other stores),
+            )
           ]
 
       way_of : IsWay t traces last
@@ -316,7 +314,7 @@ module _ (t : Test) (bounded : IsBounded t) (runs : List (List RunOf)) (all : Ar
         };
         ends = may_end;
         outcome = outcome_from t.quantifier (holds chosen_register last whole)
-        (sym (nothing_holds chosen_register last) ∙ found.shows chosen_register last all_agree all_last);
+            (sym (nothing_holds chosen_register last) ∙ found.shows chosen_register last all_agree all_last);
       }
 
     -- ---- both
@@ -328,3 +326,65 @@ module _ (t : Test) (bounded : IsBounded t) (runs : List (List RunOf)) (all : Ar
 
     pub is_vacuous : (CanShow 0 lists (initial_words t) [] wanted (with_hart 0 [] whole) → ⊥) → IsVacuous t
     is_vacuous none found_traces found_last way = none (found_by found_traces found_last way)
+
+-- ---- as the search is asked
+
+-- what the code has, and what it is
+pub record Asked (t s : Test) (runs : List (List RunOf)) (ls : List (List End)) (firsts : List ℕ) (told : Bool) (c : Condition) : Type 0 where
+  pub same : t ≡ s
+  pub bounded : IsBounded s
+  pub all : AreItsRuns s (runs_over runs)
+  pub of : AreOfEach s runs
+  pub lists : List (List End)
+  pub truth : Bool
+  pub harts : ℕ
+  pub truth_is : truth ≡ is_outcome t.quantifier true
+  pub harts_is : harts ≡ length t.codes
+  pub ends : AreAllEnds truth (condition_of t.condition) harts runs lists
+  pub lists_is : ls ≡ lists
+  pub firsts_is : firsts ≡ initial_words t
+  pub told_is : told ≡ truth
+  pub left_is : c ≡ with_hart 0 [] (condition_of t.condition)
+
+module _ (t s : Test) (runs : List (List RunOf)) (ls : List (List End)) (firsts : List ℕ) (told : Bool) (c : Condition) (asked : Asked t s runs ls firsts told c) where
+  bounded_here : IsBounded t
+  bounded_here = subst IsBounded (sym asked.same) asked.bounded
+
+  all_here : AreItsRuns t (runs_over runs)
+  all_here = subst (λ u. AreItsRuns u (runs_over runs)) (sym asked.same) asked.all
+
+  of_here : AreOfEach t runs
+  of_here = subst (λ u. AreOfEach u runs) (sym asked.same) asked.of
+
+  ends_here : AreAllEnds (is_outcome t.quantifier true) (condition_of t.condition) (length t.codes) runs asked.lists
+  ends_here =
+      subst (λ n. AreAllEnds (is_outcome t.quantifier true) (condition_of t.condition) n runs asked.lists) asked.harts_is
+      (subst (λ (b : Bool). AreAllEnds b (condition_of t.condition) asked.harts runs asked.lists) asked.truth_is asked.ends)
+
+  abbrev left : Condition
+  left = with_hart 0 [] (condition_of t.condition)
+
+  told_here : told ≡ is_outcome t.quantifier true
+  told_here = asked.told_is ∙ asked.truth_is
+
+  shown_here : CanShow 0 ls firsts [] told c → CanShow 0 asked.lists (initial_words t) [] (is_outcome t.quantifier true) left
+  shown_here show =
+      subst (λ d. CanShow 0 asked.lists (initial_words t) [] (is_outcome t.quantifier true) d) asked.left_is
+      (subst (λ (b : Bool). CanShow 0 asked.lists (initial_words t) [] b c) told_here
+      (subst (λ fs. CanShow 0 asked.lists fs [] told c) asked.firsts_is
+      (subst (λ l. CanShow 0 l firsts [] told c) asked.lists_is show)))
+
+  shown_there : CanShow 0 asked.lists (initial_words t) [] (is_outcome t.quantifier true) left → CanShow 0 ls firsts [] told c
+  shown_there show =
+      subst (λ l. CanShow 0 l firsts [] told c) (sym asked.lists_is)
+      (subst (λ fs. CanShow 0 asked.lists fs [] told c) (sym asked.firsts_is)
+      (subst (λ (b : Bool). CanShow 0 asked.lists (initial_words t) [] b c) (sym told_here)
+      (subst (λ d. CanShow 0 asked.lists (initial_words t) [] (is_outcome t.quantifier true) d) (sym asked.left_is) show)))
+
+  pub has_way : CanShow 0 ls firsts [] told c → IsVacuous s → ⊥
+  has_way show =
+      subst (λ u. IsVacuous u → ⊥) asked.same (is_way t bounded_here runs all_here of_here asked.lists ends_here (shown_here show))
+
+  pub has_none : (CanShow 0 ls firsts [] told c → ⊥) → IsVacuous s
+  has_none none =
+      subst IsVacuous asked.same (is_vacuous t bounded_here runs all_here of_here asked.lists ends_here (λ show. none (shown_there show)))

@@ -49,11 +49,16 @@ fn push_named(
     condition: &Outcome,
     known: &mut Vec<Known>,
 ) -> Result<(), AllocError>
-    ensures { OnOk result (known.new.items ≡ known.old.items ++ named (final run.now) hart (condition_of condition.now)) }
+    ensures { OnOk result (known.new.items
+        ≡ known.old.items ++ named (final run.now) hart (condition_of condition.now)) }
 {
     match condition {
         Outcome::Always | Outcome::Never | Outcome::LocationIs { .. } => Ok(()),
-        Outcome::RegisterIs { hart: other, reg, .. } => {
+        Outcome::RegisterIs {
+            hart: other,
+            reg,
+            ..
+        } => {
             if *other == hart {
                 known.push(known_of(run, *reg))?;
             }
@@ -85,11 +90,7 @@ fn stored_in(alloc: Global, steps: &[Step]) -> Result<Vec<Stored>, AllocError>
 }
 
 /// What counts of a run of the hart. Linear in the run and in the condition.
-pub(crate) fn end_of(
-    alloc: Global,
-    run: &Lone,
-    condition: &Outcome,
-) -> Result<End, AllocError>
+pub(crate) fn end_of(alloc: Global, run: &Lone, condition: &Outcome) -> Result<End, AllocError>
     ensures { IfOk result (λ end. end ≡ end_of (condition_of condition.now) run.now) }
 {
     let mut registers = Vec::new(alloc);

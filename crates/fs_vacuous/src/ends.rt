@@ -28,7 +28,8 @@ fn is_known(ends: &[End], end: &End) -> bool
     false
 }
 
-// Appends what counts of the run of the hart, unless the condition can't be as wanted with it, or an end is known to be the same.
+// Appends what counts of the run of the hart, unless the condition can't be as wanted with it, or an end is known to be
+// the same.
 fn push_end(
     alloc: Global,
     ends: &mut Vec<End>,
@@ -75,8 +76,8 @@ pub(crate) fn runs_of(listed: &[List<Lone>], hart: usize) -> &[Lone]
     }
 }
 
-/// What counts of the runs of each hart where the condition is to have this truth value: of runs that don't rule it out by themselves. The
-/// cost is for each run that of `end_of`, and 64 times the size of an end at most.
+/// What counts of the runs of each hart where the condition is to have this truth value: of runs that don't rule it out
+/// by themselves. The cost is for each run that of `end_of`, and 64 times the size of an end at most.
 pub(crate) fn all_ends(
     alloc: Global,
     harts: usize,

@@ -12,6 +12,7 @@ use fs_model::{Location, Outcome};
 use std::alloc::{AllocError, Global};
 
 /// A search, and how far it may go.
+#[derive(Drop)]
 pub(crate) struct Search {
     alloc: Global,
     /// The truth value that the condition is to have.
@@ -60,14 +61,25 @@ fn joined(alloc: Global, stored: &[Stored], more: &[Stored]) -> Result<Vec<Store
 }
 
 impl Search {
-    /// A search for this truth value, which takes so many steps at most, or, where there is no number, as many as it needs.
+    /// A search for this truth value, which takes so many steps at most, or, where there is no number, as many as it
+    /// needs.
     pub(crate) fn new(alloc: Global, wanted: bool, most: Option<u32>) -> Search
         ensures wanted { result.wanted ≡ wanted }
         ensures bounded { result.bounded ≡ is_some most }
     {
         match most {
-            Some(steps) => Search { alloc, wanted, steps, bounded: true },
-            None => Search { alloc, wanted, steps: 0, bounded: false },
+            Some(steps) => Search {
+                alloc,
+                wanted,
+                steps,
+                bounded: true,
+            },
+            None => Search {
+                alloc,
+                wanted,
+                steps: 0,
+                bounded: false,
+            },
         }
     }
 
@@ -87,8 +99,8 @@ impl Search {
         true
     }
 
-    // Can the locations from this one on, which begin with these words, end so that what is left of the condition is as wanted? None where
-    // the steps are used up.
+    // Can the locations from this one on, which begin with these words, end so that what is left of the condition is as
+    // wanted? None where the steps are used up.
     fn can_end(
         &mut self,
         location: u8,
@@ -125,8 +137,8 @@ impl Search {
         Ok(Some(false))
     }
 
-    /// Can the harts from this one on, which have these ends, and then the locations, which begin with these words, end so that what is left
-    /// of the condition is as wanted? None where the steps are used up.
+    /// Can the harts from this one on, which have these ends, and then the locations, which begin with these words, end
+    /// so that what is left of the condition is as wanted? None where the steps are used up.
     pub(crate) fn can_show(
         &mut self,
         hart: u8,

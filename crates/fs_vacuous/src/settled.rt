@@ -37,7 +37,11 @@ fn shape_of(condition: &Outcome) -> Shape
 fn truth_of(truth: bool) -> Outcome
     ensures { condition_of result ≡ truth_of truth }
 {
-    if truth { Outcome::Always } else { Outcome::Never }
+    if truth {
+        Outcome::Always
+    } else {
+        Outcome::Never
+    }
 }
 
 /// Is it always true, or where that is asked never?
@@ -144,7 +148,11 @@ fn settled_location(location: u8, word: u32, known: Option<u32>) -> Outcome
 fn by_hart(hart: u8, known: &[Known], other: u8, register: u8) -> Option<u32>
     ensures { result ≡ by_hart hart known.now other register }
 {
-    if other == hart { word_in(known, register) } else { None }
+    if other == hart {
+        word_in(known, register)
+    } else {
+        None
+    }
 }
 
 // What is known of a location.
@@ -166,7 +174,11 @@ pub(crate) fn with_hart(
     match condition {
         Outcome::Always => Ok(Outcome::Always),
         Outcome::Never => Ok(Outcome::Never),
-        Outcome::RegisterIs { hart: other, reg, word } => {
+        Outcome::RegisterIs {
+            hart: other,
+            reg,
+            word,
+        } => {
             let known = by_hart(hart, known, *other, reg.number());
             Ok(settled_register(*other, *reg, *word, known))
         }
@@ -200,10 +212,15 @@ pub(crate) fn with_location(
     match condition {
         Outcome::Always => Ok(Outcome::Always),
         Outcome::Never => Ok(Outcome::Never),
-        Outcome::RegisterIs { hart, reg, word: asked } => {
-            Ok(settled_register(*hart, *reg, *asked, None))
-        }
-        Outcome::LocationIs { location: other, word: asked } => {
+        Outcome::RegisterIs {
+            hart,
+            reg,
+            word: asked,
+        } => { Ok(settled_register(*hart, *reg, *asked, None)) }
+        Outcome::LocationIs {
+            location: other,
+            word: asked,
+        } => {
             let known = by_location(location, word, *other);
             Ok(settled_location(*other, *asked, known))
         }

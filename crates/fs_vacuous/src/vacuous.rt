@@ -29,7 +29,9 @@ fn has_many(harts: usize, runs: &[List<Lone>]) -> bool
 {
     let mut lists: usize = 1;
     for hart in 0..harts {
-        lists = lists.saturating_mul(runs_of(runs, hart).len()).min(MOST_LISTS + 1);
+        lists = lists
+            .saturating_mul(runs_of(runs, hart).len())
+            .min(MOST_LISTS + 1);
     }
     lists > MOST_LISTS
 }
@@ -49,7 +51,10 @@ fn first_words(alloc: Global, test: &Test) -> Result<Vec<u32>, AllocError>
     ensures { IfOk result (λ words. words.items ≡ initial_words test.now) }
 {
     let locations = test.locations.as_slice();
-    locations.iter().map(|location| location.word).collect(alloc)
+    locations
+        .iter()
+        .map(|location| location.word)
+        .collect(alloc)
 }
 
 // Is there a way to the outcome? None where that is left open.
@@ -65,15 +70,22 @@ fn has_way(alloc: Global, basis: &Basis) -> Result<Option<bool>, AllocError>
     let lists = all_ends(alloc, harts, runs, wanted, &test.condition)?;
     let firsts = first_words(alloc, test)?;
     let condition = with_hart(alloc, 0, &[], &test.condition)?;
-    let most = if has_many(harts, runs) { Some(MOST_STEPS) } else { None };
-    Search::new(alloc, wanted, most).can_show(0, &lists, &firsts, &[], &condition)
+    let most = if has_many(harts, runs) {
+        Some(MOST_STEPS)
+    } else {
+        None
+    };
+    let mut search = Search::new(alloc, wanted, most);
+    let found = search.can_show(0, &lists, &firsts, &[], &condition)?;
+    Ok(found)
 }
 
-/// Is the test vacuous? None where that is left open, which is only where it has more than 10,000 lists of runs, one of each hart, and the
-/// steps of the search are used up. Fails only for want of memory.
+/// Is the test vacuous? None where that is left open, which is only where it has more than 10,000 lists of runs, one of
+/// each hart, and the steps of the search are used up. Fails only for want of memory.
 ///
-/// The cost: what counts of each run is worked out once, and each further one is compared with 64 others at most; then it is that of a
-/// search over the choices of what counts of the harts' runs and of last words, cut off where the condition is settled.
+/// The cost: what counts of each run is worked out once, and each further one is compared with 64 others at most; then
+/// it is that of a search over the choices of what counts of the harts' runs and of last words, cut off where the
+/// condition is settled. Where there are at most 10,000 lists of runs nothing else bounds it; else 1,000,000 steps do.
 pub fn is_vacuous(alloc: Global, basis: &Basis) -> Result<Option<bool>, Fault>
     ensures yes { IfOk result (λ is. is ≡ Some true → IsVacuous basis.now) }
     ensures no { IfOk result (λ is. is ≡ Some false → IsVacuous basis.now → ⊥) }

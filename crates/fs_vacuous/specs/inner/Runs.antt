@@ -36,7 +36,6 @@ stored_by s = stored_as s.address s.stored
 abbrev pub end_of : Condition → RunOf → End
 end_of c run = record { registers = named (final run) run.hart c; stored = filter_map stored_by run.steps }
 
-
 -- ---- the runs of a hart
 
 -- The ends of a hart's runs: each is that of some run, and each run has its own among them but where the condition can't be as wanted

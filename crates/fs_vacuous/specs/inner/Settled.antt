@@ -1,5 +1,5 @@
 -- What is left of a condition where some words are known.
-use Rattle.std.specs.Prelude.{ℕ, ◌==◌, Bool, true, false, not, Option, None, Some}
+use Rattle.std.specs.Prelude.{ℕ, ◌==◌, Bool, true, false, Option, None, Some}
 use Rattle.fs_model.specs.Condition.{Condition, Always, Never, RegisterIs, LocationIs, Deny, Both, Either}
 use Rattle.fs_vacuous.specs.declared.settled.Shape.{Shape}
 use Rattle.fs_vacuous.specs.declared.settled.Shape.TheVariants as shape

@@ -29,9 +29,9 @@ loop-word-preserved t c =
       c.can_end.ensures.wanted ∙ wanted,
       c.can_end.ensures.bounded ∙ c.may_go_on.ensures.bounded ∙ c.loop-word.invariant.1,
       one_seen _ c.deref-word-items.result.now c.loop-word.word-index 0 c.loop-word.invariant.2 c.loop-word-test.true
-      (not_by c.args.location c.in-Some.first.now c.in-Some.rest.now c.args.firsts.now c.args.stored.now (condition_of c.args.condition.now) split
-      c.deref-word-items.result.now (c.deref-word-items.ensures.value ∙ c.in_ok-words.ensures) c.args.self.now.wanted c.may_go_on.new.self.wanted
-      _ (condition_of c.in_ok-left.left) c.in_ok-left.ensures wanted no),
+          (not_by c.args.location c.in-Some.first.now c.in-Some.rest.now c.args.firsts.now c.args.stored.now (condition_of c.args.condition.now) split
+          c.deref-word-items.result.now (c.deref-word-items.ensures.value ∙ c.in_ok-words.ensures) c.args.self.now.wanted c.may_go_on.new.self.wanted
+          _ (condition_of c.in_ok-left.left) c.in_ok-left.ensures wanted no),
     )
 
 pub returns-clause-no : goal.returns-clause-no

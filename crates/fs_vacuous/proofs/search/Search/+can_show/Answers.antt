@@ -15,7 +15,7 @@ loop-end-preserved-then-is_truth t c =
       wanted,
       c.may_go_on.ensures.bounded ∙ c.loop-end.invariant.1,
       one_item _ c.as_slice-end-items.result.now c.loop-end.end-index c.end-item.result c.loop-end.invariant.2 c.loop-end-test.true c.end-item.is
-      (dead_show _ _ _ _ _ _ dead),
+          (dead_show _ _ _ _ _ _ dead),
     )
 
 pub returns-then-ne-clause-yes : goal.returns-then-ne-clause-yes
@@ -39,9 +39,9 @@ loop-end-preserved t c =
       c.can_show.ensures.wanted ∙ wanted,
       c.can_show.ensures.bounded ∙ c.may_go_on.ensures.bounded ∙ c.loop-end.invariant.1,
       one_item _ c.as_slice-end-items.result.now c.loop-end.end-index c.end-item.result c.loop-end.invariant.2 c.loop-end-test.true c.end-item.is
-      (not_shown_by c.args.hart c.as_slice-end-items.result.now c.in-Some.rest.now c.args.lists.now c.args.firsts.now c.args.stored.now (condition_of c.args.condition.now)
-      (split ∙ ap (λ es. es ∷ c.in-Some.rest.now) (sym c.as_slice-end-items.ensures))
-      c.args.self.now.wanted c.may_go_on.new.self.wanted c.end-item.result c.deref-in-loop-end-2.result.now (condition_of c.in_ok-left.left) longer left wanted never),
+          (not_shown_by c.args.hart c.as_slice-end-items.result.now c.in-Some.rest.now c.args.lists.now c.args.firsts.now c.args.stored.now (condition_of c.args.condition.now)
+          (split ∙ ap (λ es. es ∷ c.in-Some.rest.now) (sym c.as_slice-end-items.ensures))
+          c.args.self.now.wanted c.may_go_on.new.self.wanted c.end-item.result c.deref-in-loop-end-2.result.now (condition_of c.in_ok-left.left) longer left wanted never),
     )
 
 pub returns-clause-no : goal.returns-clause-no
