@@ -1,1 +1,2 @@
 pub mod Vacuous
+pub mod inner

@@ -1,7 +1,12 @@
-//! Whether there is a way to the outcome at all: a run of each hart and a last word of each location that make the
-//! condition as the outcome asks for, whichever stores loads return from.
+//! Whether a test is vacuous: whether no choice of runs and last words makes its outcome true.
 #![tactic(auto)]
 
+mod end;
+mod ends;
 mod laws;
+mod search;
+mod settled;
+mod vacuous;
 
 pub use laws::vacuous_forbids;
+pub use vacuous::is_vacuous;
