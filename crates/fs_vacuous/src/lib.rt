@@ -3,5 +3,7 @@
 #![tactic(auto)]
 
 mod laws;
+mod vacuous;
 
 pub use laws::vacuous_forbids;
+pub use vacuous::is_vacuous;
