@@ -5,6 +5,7 @@ pub mod KeptPlacements
 pub mod KeptReasons
 pub mod KeptBoards
 pub mod KeptCertificates
+mod Families
 mod Listed
 pub mod Worded
 mod Firsts
