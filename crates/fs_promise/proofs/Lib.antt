@@ -6,6 +6,7 @@ pub mod KeptReasons
 pub mod KeptBoards
 pub mod KeptCertificates
 mod Devices
+mod Families
 mod Listed
 pub mod Worded
 mod Firsts

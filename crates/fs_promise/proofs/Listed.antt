@@ -8,7 +8,7 @@ use Rattle.fs_model.specs.Choices.{choices_of, ComesBefore}
 use Rattle.fs_model.proofs.ChoiceOrder.{comes_not_itself, not_both}
 use Rattle.fs_answer.specs.Candidates.{Candidate}
 use Rattle.fs_answer.specs.Listings.{AreEarlier, is_less, key, Precedes, IsListing}
-use Rattle.fs_said.proofs.Families.{same_list}
+use Rattle.fs_promise.proofs.Families.{same_list}
 
 -- ---- the order of candidates
 

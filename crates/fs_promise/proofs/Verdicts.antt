@@ -18,8 +18,8 @@ use Rattle.fs_answer.specs.Cycles.{IsCycle}
 use Rattle.fs_answer.specs.Regions.{Region}
 use Rattle.fs_answer.specs.Trees.{follows, left_after, refutes, roots}
 use Rattle.fs_answer.specs.Valid.{Forbid, Covers, IsValidFor, IsValidForNone, IsValid}
+use Rattle.fs_promise.proofs.Families.{one_family}
 use Rattle.fs_promise.proofs.Firsts.{same_Some, zip_at, place_once}
-use Rattle.fs_said.proofs.Families.{one_family}
 use Rattle.fs_promise.proofs.Listed.{one_listing}
 use Rattle.fs_promise.proofs.Walks.{covers_or_fails, fails_once}
 use Rattle.fs_promise.proofs.Worded.{one_answered}

@@ -1,6 +1,7 @@
 -- What is said of a test, and the fault that is answered.
-use Rattle.std.specs.Prelude.{◌≡◌, ◌⊎◌, ℕ, Option, None, Some, option_map, List, [], ◌∷◌, codes}
+use Rattle.std.specs.Prelude.{◌≡◌, ◌⊎◌, ℕ, ◌≤◌, Bool, true, false, Option, None, Some, option_map, List}
 use Rattle.fs_kinds.specs.declared.fault.Fault.{Fault}
+use Rattle.fs_kinds.specs.declared.fault.Fault.TheVariants.{TooManyCandidates}
 use Rattle.fs_model.specs.declared.test.Test.{Test}
 use Rattle.fs_model.specs.declared.step.Step.{Step}
 use Rattle.fs_model.specs.Allows.{Allows, Shows, no_fences}
@@ -8,28 +9,36 @@ use Rattle.fs_model.specs.Execution.{Execution}
 use Rattle.fs_model.specs.TooMany.{IsRunFault}
 use Rattle.fs_model.specs.Witness.{Witness, IsOfWitness}
 use Rattle.fs_answer.specs.CandidateFaults.{IsCandidateFault}
-use Rattle.fs_answer.specs.Certificate.{Filter}
-use Rattle.fs_answer.specs.Trees.{AreItsRuns, IsRefuted}
+use Rattle.fs_answer.specs.Certificate.{Cycles}
+use Rattle.fs_answer.specs.Trees.{AreItsRuns}
+use Rattle.fs_answer.specs.Valid.{Forbid}
 use Rattle.fs_evidence.specs.Evidence.{Shown}
 use Rattle.fs_said.specs.declared.said.Kind.{Kind}
 use Rattle.fs_said.specs.declared.said.Kind.TheVariants as kind
-use Rattle.fs_said.specs.Words.{counted, overtaking, order_words, never_in_outcome, never_words}
+use Rattle.fs_vacuous.specs.Vacuous.{IsVacuous, HasManyRuns}
+use Rattle.fs_said.specs.Words.{contradictions_in, forbidden_words, overtaking, order_words, never_in_outcome, never_words}
 
 -- no execution of the test as it is written shows the outcome
 abbrev pub IsForbidden : Test → Type 0
 IsForbidden t = Allows t (no_fences t) → ⊥
 
--- Nothing of the memory model is needed to see it: of some hart each run, of all its runs, is such that the condition can't get its truth
--- value, whichever runs the other harts have and whichever of their stores are the last.
-abbrev pub IsVacuous : Test → Type 0
-IsVacuous t = (hart : ℕ) × IsRefuted t [] (Filter hart ∷ [])
+-- it isn't vacuous, or it has so many runs that this may be left open
+abbrev pub MayBeSerious : Test → Type 0
+MayBeSerious t = (IsVacuous t → ⊥) ⊎ HasManyRuns t
 
--- How many cycles are spoken of is left open.
+-- the same by whether it is settled that it isn't vacuous
+abbrev pub IsSettled : Test → (settled : Bool) → Type 0
+IsSettled t true = IsVacuous t → ⊥
+IsSettled t false = HasManyRuns t
+
+-- These cycles, or this refutation, show that it is forbidden. Which of those that do are spoken of is left open. Where it is open whether
+-- the test is vacuous they have a contradiction.
 pub record SaysForbidden (t : Test) (why : List ℕ) : Type 0 where
   pub forbidden : IsForbidden t
-  pub serious : IsVacuous t → ⊥
-  pub cycles : ℕ
-  pub shown : why ≡ counted cycles (codes "cycle")
+  pub cycles : Cycles
+  pub shows : Forbid t (no_fences t) cycles
+  pub serious : (IsVacuous t → ⊥) ⊎ (HasManyRuns t × (1 ≤ contradictions_in cycles))
+  pub shown : why ≡ forbidden_words cycles
 
 -- the witness gives an execution of the test as it is written, which shows the outcome
 pub record SaysAllowed (t : Test) (why : List ℕ) (witness : Witness) : Type 0 where
@@ -65,6 +74,16 @@ pub record IsTestedAs (t : Test) (said : Kind) (why : List ℕ) (witness : Optio
   pub listed : HasNoRunFault t
   pub says : Says t said why witness
 
--- the fault of a test: of its runs, or else, where it isn't vacuous, of its candidates
+-- The outcome is forbidden, and it isn't known whether the test is vacuous: it has so many runs that this may be left open, and what was
+-- found to show that it is forbidden has no contradiction.
+pub record IsLeftOpen (t : Test) : Type 0 where
+  pub many : HasManyRuns t
+  pub forbidden : IsForbidden t
+  pub cycles : Cycles
+  pub shows : Forbid t (no_fences t) cycles
+  pub none : contradictions_in cycles ≡ 0
+
+-- The fault of a test: of its runs; or else, where it isn't vacuous or that may be left open, of its candidates; or that it is left open,
+-- which counts as too many candidates.
 abbrev pub IsFaultOf : Test → Fault → Type 0
-IsFaultOf t f = IsRunFault t f ⊎ ((IsVacuous t → ⊥) × IsCandidateFault t f)
+IsFaultOf t f = IsRunFault t f ⊎ ((MayBeSerious t × IsCandidateFault t f) ⊎ ((f ≡ TooManyCandidates) × IsLeftOpen t))

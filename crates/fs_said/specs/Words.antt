@@ -1,5 +1,5 @@
--- Why an outcome is possible, or vacuous, in a few words.
-use Rattle.std.specs.Prelude.{ℕ, ◌==◌, Bool, true, ◌&&◌, ◌||◌, not, Option, None, Some, option_map, List, [], ◌∷◌, ◌++◌, slice_get, length, codes, if◌then◌else◌}
+-- Why an outcome is forbidden, possible, or vacuous, in a few words.
+use Rattle.std.specs.Prelude.{ℕ, ◌==◌, Bool, true, false, ◌&&◌, ◌||◌, not, Option, None, Some, option_map, List, [], ◌∷◌, ◌++◌, slice_get, length, count_by, codes, if◌then◌else◌}
 use Rattle.std.specs.Option.{option_or}
 use Rattle.std.specs.Fmt.{decimal}
 use Rattle.std.specs.List.{find, list_any}
@@ -13,12 +13,38 @@ use Rattle.fs_model.specs.Printed.{name_of, value_text}
 use Rattle.fs_model.specs.Test.{address_of}
 use Rattle.fs_model.specs.Execution.{initial_words}
 use Rattle.fs_model.specs.Shows.{final_register, is_outcome}
+use Rattle.fs_answer.specs.Certificate.{Cycles, Listed, Inferred, Inference, Cycle, Stale, Reversed, Parted}
 use Rattle.fs_answer.specs.Musts.{traces_of}
 use Rattle.fs_answer.specs.Regions.{same_name}
 
 -- such as `1 test` and `2 tests`
 abbrev pub counted : ℕ → List ℕ → List ℕ
 counted n word = decimal n ++ codes " " ++ word ++ (if n == 1 then [] else codes "s")
+
+-- ---- an outcome that is forbidden: by what shows it
+
+-- The inference ends candidates by a contradiction: a cycle, a stale load, or broken atomicity.
+abbrev pub is_contradiction : Inference → Bool
+is_contradiction (Cycle links) = true
+is_contradiction (Stale load store) = true
+is_contradiction (Reversed load store) = true
+is_contradiction (Parted load store other) = true
+is_contradiction _ = false
+
+-- the cycles of a list, or the contradictions of a refutation
+abbrev pub contradictions_in : Cycles → ℕ
+contradictions_in (Listed cycles) = length cycles
+contradictions_in (Inferred inferences) = count_by is_contradiction inferences
+
+-- Where there are none: a list without cycles is of no candidates, and a refutation without contradictions takes each run away, as some
+-- load has no store to return from.
+abbrev pub no_contradictions : Cycles → List ℕ
+no_contradictions (Listed cycles) = codes "no candidate shows it"
+no_contradictions (Inferred inferences) = codes "no sources for its loads"
+
+abbrev pub forbidden_words : Cycles → List ℕ
+forbidden_words cycles =
+    if contradictions_in cycles == 0 then no_contradictions cycles else counted (contradictions_in cycles) (codes "contradiction")
 
 -- ---- an outcome that is possible: by the order of an execution that shows it
 

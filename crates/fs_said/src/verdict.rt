@@ -1,21 +1,23 @@
 //! What a verdict comes to.
 
-ghost use Rattle.std.specs.Prelude.{◌≡◌, ◌≢◌, All, true, false, IfOk, IfErr, IsOkUnless, string_bytes};
+ghost use Rattle.std.specs.Prelude.{◌≡◌, ◌≢◌, All, true, false, IfOk, IfErr, string_bytes};
 ghost use Rattle.std.specs.Arc.{arc_value};
 ghost use Rattle.fs_kinds.specs.Placement.{slots_of};
-ghost use Rattle.fs_kinds.specs.declared.fault.Fault.TheVariants.{Memory};
+ghost use Rattle.fs_kinds.specs.declared.fault.Fault.TheVariants.{Memory, TooManyCandidates};
 ghost use Rattle.fs_model.specs.declared.test.Test.{Test as Tests};
 ghost use Rattle.fs_model.specs.Allows.{Allows, no_fences};
 ghost use Rattle.fs_model.specs.Slots.{slots};
 ghost use Rattle.fs_model.specs.Test.{IsBounded, IsStart};
 ghost use Rattle.fs_answer.specs.CandidateFaults.{IsCandidateFault};
+ghost use Rattle.fs_answer.specs.Valid.{Forbid};
+ghost use Rattle.fs_evidence.specs.Inferences.{cycles_of};
 ghost use Rattle.fs_judge.specs.Verdicts.{IsVerdict};
-ghost use Rattle.fs_said.specs.Verdicts.{Says, IsVacuous, witness_in};
+ghost use Rattle.fs_said.specs.Verdicts.{IsForbidden, IsLeftOpen, IsSettled, Says, witness_in};
 
+use crate::contradictions::{contradictions_in, forbidden_words};
 use crate::ordered::{order_words, overtaking};
 use crate::said::{Kind, Said};
-use crate::words::counted;
-use fs_evidence::{Cycles, Inference, Question};
+use fs_evidence::{Cycles, Question};
 use fs_judge::{Problem, Verdict};
 use fs_kinds::{Fault, Placement};
 use std::alloc::Global;
@@ -42,18 +44,16 @@ pub fn forbids(
     }
 }
 
-/// What is said of a test that isn't vacuous, by the verdict on it with no fence placed. Fails only for want of memory.
-pub fn said_of(alloc: Global, verdict: Verdict) -> Result<Said, Fault>
-    ensures ok { (t : Tests) → IsVerdict t (no_fences t) verdict → (IsVacuous t → ⊥)
+/// What is said of a test that isn't vacuous, by the verdict on it with no fence placed. Where it isn't settled that it isn't, since it has
+/// too many runs, and what forbids the outcome has no contradiction, the fault is `TooManyCandidates`; else it is `Memory`.
+pub fn said_of(alloc: Global, verdict: Verdict, is_settled: bool) -> Result<Said, Fault>
+    ensures ok { (t : Tests) → IsVerdict t (no_fences t) verdict → IsSettled t is_settled
         → IfOk result (λ said. Says t said.kind (string_bytes said.why) (witness_in said.witness)) }
-    ensures err { IsOkUnless result Memory }
+    ensures err { (t : Tests) → IsVerdict t (no_fences t) verdict → IsSettled t is_settled
+        → IfErr result (λ f. f ≢ Memory → (f ≡ TooManyCandidates) × IsLeftOpen t) }
 {
     match verdict {
-        Verdict::Forbids(forbidden) => Ok(Said {
-            kind: Kind::Forbidden,
-            why: counted(alloc, count_cycles(&forbidden.cycles), "cycle")?,
-            witness: None,
-        }),
+        Verdict::Forbids(forbidden) => said_forbidden(alloc, &forbidden.cycles, is_settled),
         Verdict::Allowed(witness) => Ok(Said {
             kind: Kind::Allowed,
             why: order_words(alloc, overtaking(witness.order.as_slice()))?,
@@ -62,17 +62,19 @@ pub fn said_of(alloc: Global, verdict: Verdict) -> Result<Said, Fault>
     }
 }
 
-// How many cycles there are.
-fn count_cycles(cycles: &Cycles) -> usize {
-    match cycles {
-        Cycles::Listed(listed) => listed.len(),
-        Cycles::Inferred(inferences) => inferences
-            .iter()
-            .filter(|inference| is_cycle(inference))
-            .count(),
+// The same of a test that these cycles, or this refutation, show to be forbidden.
+fn said_forbidden(alloc: Global, cycles: &Cycles, is_settled: bool) -> Result<Said, Fault>
+    ensures ok { (t : Tests) → IsForbidden t → Forbid t (no_fences t) (cycles_of cycles.now) → IsSettled t is_settled
+        → IfOk result (λ said. Says t said.kind (string_bytes said.why) (witness_in said.witness)) }
+    ensures err { (t : Tests) → IsForbidden t → Forbid t (no_fences t) (cycles_of cycles.now) → IsSettled t is_settled
+        → IfErr result (λ f. f ≢ Memory → (f ≡ TooManyCandidates) × IsLeftOpen t) }
+{
+    if contradictions_in(cycles) == 0 && !is_settled {
+        return Err(Fault::TooManyCandidates);
     }
-}
-
-fn is_cycle(inference: &Inference) -> bool {
-    matches!(inference, Inference::Cycle(_))
+    Ok(Said {
+        kind: Kind::Forbidden,
+        why: forbidden_words(alloc, cycles)?,
+        witness: None,
+    })
 }

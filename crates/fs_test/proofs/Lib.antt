@@ -1,4 +1,3 @@
-pub mod Forbidden
 pub mod TestFaults
 pub mod Texts
 pub mod Whole

@@ -3,7 +3,7 @@ use Rattle.std.specs.Prelude.{◌≡◌, ℕ, List, ◌++◌, codes}
 use Rattle.fs_model.specs.declared.test.Test.{Test}
 use Rattle.fs_model.specs.Printed.{ended}
 use Rattle.fs_litmus.specs.Reads.{Reads}
-use Rattle.fs_said.specs.Verdicts.{IsVacuous, SaysVacuous}
+use Rattle.fs_said.specs.Verdicts.{MayBeSerious, SaysVacuous}
 
 -- that it is vacuous, and why
 abbrev pub note_line : List ℕ → List ℕ
@@ -17,6 +17,6 @@ Notes t text = (why : List ℕ) × SaysVacuous t why × (text ≡ note_line why)
 abbrev pub IsNoted : (test text : List ℕ) → Type 0
 IsNoted test text = (t : Test) × Reads test t × Notes t text
 
--- they read as a test that isn't vacuous
+-- they read as a test that isn't vacuous, or of which that may be left open
 abbrev pub IsSerious : (test : List ℕ) → Type 0
-IsSerious test = (t : Test) × Reads test t × (IsVacuous t → ⊥)
+IsSerious test = (t : Test) × Reads test t × MayBeSerious t

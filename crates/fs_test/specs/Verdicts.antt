@@ -1,7 +1,7 @@
 -- What `test` says of a file, and the fault that it answers.
 use Rattle.std.specs.Prelude.{◌≡◌, ◌≢◌, ◌⊎◌, ℕ, Option, None, List, Result, Ok, Err, Vec}
 use Rattle.fs_kinds.specs.declared.fault.Fault.{Fault}
-use Rattle.fs_kinds.specs.declared.fault.Fault.TheVariants.{Memory}
+use Rattle.fs_kinds.specs.declared.fault.Fault.TheVariants.{Memory, TooManyCandidates}
 use Rattle.fs_kinds.specs.FaultLine.{fault_line}
 use Rattle.fs_model.specs.declared.test.Test.{Test}
 use Rattle.fs_model.specs.TooMany.{IsRunFault}
@@ -11,7 +11,7 @@ use Rattle.fs_litmus.specs.Faults.{IsTestFault}
 use Rattle.fs_answer.specs.CandidateFaults.{IsCandidateFault}
 use Rattle.fs_said.specs.declared.said.Kind.{Kind}
 use Rattle.fs_said.specs.declared.said.Kind.TheVariants as kind
-use Rattle.fs_said.specs.Verdicts.{HasNoRunFault, IsVacuous, Says}
+use Rattle.fs_said.specs.Verdicts.{HasNoRunFault, IsLeftOpen, MayBeSerious, Says}
 
 -- ---- of the bytes of a file
 
@@ -22,13 +22,14 @@ pub record IsTested (test : List ℕ) (said : Kind) (why : List ℕ) (witness : 
   pub listed : HasNoRunFault the_test
   pub says : Says the_test said why witness
 
--- the first fault: of the test, else of its runs, else, where it isn't vacuous, of its candidates; want of memory may come in place of any
--- answer
+-- The first fault: of the test, else of its runs, else, where it isn't vacuous or that may be left open, of its candidates; or it is left
+-- open. Want of memory may come in place of any answer.
 pub data IsFirstTestFault (test : List ℕ) : Fault → Type 0 where
   of_test : {fault : Fault} → IsTestFault test fault → IsFirstTestFault test fault
   of_runs : {fault : Fault} (t : Test) → Reads test t → IsRunFault t fault → IsFirstTestFault test fault
-  of_candidates : {fault : Fault} (t : Test) → Reads test t → (IsVacuous t → ⊥) → IsCandidateFault t fault
+  of_candidates : {fault : Fault} (t : Test) → Reads test t → MayBeSerious t → IsCandidateFault t fault
       → IsFirstTestFault test fault
+  of_open : (t : Test) → Reads test t → IsLeftOpen t → IsFirstTestFault test TooManyCandidates
   of_memory : IsFirstTestFault test Memory
 
 -- ---- of a file

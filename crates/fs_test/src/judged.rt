@@ -1,15 +1,15 @@
 //! What is said of a test that was read.
 
-ghost use Rattle.std.specs.Prelude.{◌≡◌, ◌≢◌, All, IfOk, IfErr, IsOkUnless, string_bytes};
+ghost use Rattle.std.specs.Prelude.{◌≡◌, ◌≢◌, ◌⊎◌, All, IfOk, IfErr, IsOkUnless, string_bytes};
 ghost use Rattle.std.specs.Arc.{arc_value};
-ghost use Rattle.fs_kinds.specs.declared.fault.Fault.TheVariants.{Memory};
+ghost use Rattle.fs_kinds.specs.declared.fault.Fault.TheVariants.{Memory, TooManyCandidates};
 ghost use Rattle.fs_model.specs.Allows.{no_fences};
 ghost use Rattle.fs_model.specs.Test.{IsBounded, IsStart, IsTest};
 ghost use Rattle.fs_answer.specs.CandidateFaults.{IsCandidateFault};
 ghost use Rattle.fs_judge.specs.Verdicts.{IsVerdict};
-ghost use Rattle.fs_said.specs.Verdicts.{Says, IsFaultOf, IsTestedAs, IsVacuous, witness_in};
+ghost use Rattle.fs_said.specs.Verdicts.{Says, IsFaultOf, IsLeftOpen, IsSettled, IsTestedAs, witness_in};
 
-use crate::vacuous::vacuous;
+use crate::vacuous::{Vacuity, vacuous};
 use fs_evidence::Question;
 use fs_judge::{Judge, Problem, Verdict};
 use fs_kinds::{Fault, Placement, Prices, read_prices};
@@ -40,9 +40,10 @@ pub(crate) fn shared(alloc: Global, test: Test) -> Result<Arc<Test>, AllocError>
 
 /// What is said of a test as it is written, with no fence placed: whether it can show its outcome, and why.
 ///
-/// The first fault in this order: `TooManyTraces` and `Astray`; `TooManyCandidates`, which doesn't come where the test is vacuous. `Memory`
-/// may come in place of any answer. The cost is that of `Basis::new` and for each hart `reason_against` of fs_refute, and of
-/// `Problem::new` and `Judge::verdict` of fs_judge.
+/// The first fault in this order: `TooManyTraces` and `Astray`; `TooManyCandidates`, which doesn't come where the test is found to be
+/// vacuous. It comes also where it is left open whether the test is vacuous, and what forbids the outcome has no contradiction. `Memory` may
+/// come in place of any answer. The cost is that of `Basis::new`, of `is_vacuous` of fs_vacuous, and of `Problem::new` and `Judge::verdict`
+/// of fs_judge.
 pub fn judge_test(alloc: Global, test: &Arc<Test>) -> Result<Said, Fault>
     requires bounded { IsBounded (arc_value test.now) }
     requires starts { All IsStart (arc_value test.now).starts }
@@ -51,22 +52,24 @@ pub fn judge_test(alloc: Global, test: &Arc<Test>) -> Result<Said, Fault>
     ensures err { IfErr result (λ f. f ≢ Memory → IsFaultOf (arc_value test.now) f) }
 {
     match vacuous(alloc, test)? {
-        Some(said) => Ok(said),
-        None => judge_serious(alloc, test),
+        Vacuity::Vacuous(said) => Ok(said),
+        Vacuity::Serious => judge_serious(alloc, test, true),
+        Vacuity::Open => judge_serious(alloc, test, false),
     }
 }
 
-// The same of a test that isn't vacuous.
-fn judge_serious(alloc: Global, test: &Arc<Test>) -> Result<Said, Fault>
+// The same of a test that isn't vacuous, or of which that isn't settled.
+fn judge_serious(alloc: Global, test: &Arc<Test>, is_settled: bool) -> Result<Said, Fault>
     requires bounded { IsBounded (arc_value test.now) }
     requires starts { All IsStart (arc_value test.now).starts }
-    requires serious { IsVacuous (arc_value test.now) → ⊥ }
+    requires settled { IsSettled (arc_value test.now) is_settled }
     ensures ok { IfOk result (λ said.
         Says (arc_value test.now) said.kind (string_bytes said.why) (witness_in said.witness)) }
-    ensures err { IfErr result (λ f. f ≢ Memory → IsCandidateFault (arc_value test.now) f) }
+    ensures err { IfErr result (λ f. f ≢ Memory →
+        IsCandidateFault (arc_value test.now) f ⊎ ((f ≡ TooManyCandidates) × IsLeftOpen (arc_value test.now))) }
 {
     let verdict = verdict(alloc, test)?;
-    said_of(alloc, verdict)
+    said_of(alloc, verdict, is_settled)
 }
 
 // Prices, as they have to be in a question.

@@ -6,19 +6,19 @@ ghost use Rattle.fs_kinds.specs.declared.fault.Fault.TheVariants.{Memory};
 ghost use Rattle.fs_model.specs.Test.{IsTest};
 ghost use Rattle.fs_model.specs.TooMany.{IsRunFault};
 ghost use Rattle.fs_test.specs.Notes.{IsNoted, IsSerious, Notes, note_line};
-ghost use Rattle.fs_said.specs.Verdicts.{IsVacuous};
+ghost use Rattle.fs_said.specs.Verdicts.{MayBeSerious};
 ghost use Rattle.fs_test.specs.Verdicts.{IsFirstTestFault};
 
 use crate::judged::shared;
-use crate::vacuous::vacuous;
+use crate::vacuous::{Vacuity, vacuous};
 use fs_kinds::Fault;
 use fs_litmus::read_test;
 use fs_model::Test;
 use fs_said::Said;
 use std::alloc::{AllocError, Global};
 
-/// A line that says of a test file that its test is vacuous, and why, as `test` does. None where it isn't. The cost is that of `read_test`,
-/// and of `Basis::new` and for each hart `reason_against` of fs_refute.
+/// A line that says of a test file that its test is vacuous, and why, as `test` does. None where it isn't, or where that is left open. The
+/// cost is that of `read_test`, of `Basis::new`, and of `is_vacuous` of fs_vacuous.
 ///
 /// The first fault in this order: those of a test file by number and then line; `TooManyTraces` and `Astray`. `Memory` may come in place of
 /// any answer.
@@ -35,13 +35,14 @@ pub fn vacuous_note(alloc: Global, bytes: &[u8]) -> Result<Option<String>, Fault
 fn note_of(alloc: Global, test: Test) -> Result<Option<String>, Fault>
     requires { IsTest test }
     ensures some { IfOk result (λ found. IfSome found (λ text. Notes test (string_bytes text))) }
-    ensures none { IfOk result (λ found. IfNone found (IsVacuous test → ⊥)) }
+    ensures none { IfOk result (λ found. IfNone found (MayBeSerious test)) }
     ensures err { IfErr result (λ f. f ≢ Memory → IsRunFault test f) }
 {
     let test = shared(alloc, test)?;
     match vacuous(alloc, &test)? {
-        Some(said) => Ok(Some(note(alloc, &said)?)),
-        None => Ok(None),
+        Vacuity::Vacuous(said) => Ok(Some(note(alloc, &said)?)),
+        Vacuity::Serious => Ok(None),
+        Vacuity::Open => Ok(None),
     }
 }
 

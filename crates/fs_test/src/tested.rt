@@ -17,8 +17,7 @@ use std::alloc::{AllocError, Global};
 /// the first fault. The file is its bytes as they were read, or the fault of reading it.
 ///
 /// The first fault of a file in this order: those of a test file by number and then line; `TooManyTraces` and `Astray`;
-/// `TooManyCandidates`, which doesn't come where the test is vacuous. The error is `Memory`. The cost is that of `read_test`, of
-/// `Basis::new` and for each hart `reason_against` of fs_refute, and of `Problem::new` and `Judge::verdict` of fs_judge.
+/// `TooManyCandidates`, as of `judge_test`. The error is `Memory`. The cost is that of `read_test` and of `judge_test`.
 pub fn test_file(alloc: Global, name: &str, file: Result<Vec<u8>, Fault>) -> Result<Line, Fault>
     ensures name { IfOk result (λ line. string_bytes line.name ≡ name.now) }
     ensures said { IfOk result (λ line. SaysOfFile file line.said.kind (string_bytes line.said.why) (witness_in line.said.witness)) }
