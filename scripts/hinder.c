@@ -1,7 +1,7 @@
-/* A library to be put before a program by LD_PRELOAD: it hinders the calls HINDER_CALL (statx, open, fchmod, read, write, rename or unlink)
- * of files whose names have HINDER_NAME in them, or of any file where that is missing. Where HINDER_ERROR is set, the first HINDER_COUNT of
- * them fail with this number of an error. Else the first one is held: it makes the file HINDER_REACHED, and goes on only when the file
- * HINDER_GO is there. What is hindered goes by no clock. */
+/* A library to be put before a program by LD_PRELOAD: it hinders the calls HINDER_CALL (statx, open, fchmod, read,
+ * write, rename or unlink) of files whose names have HINDER_NAME in them, or of any file where that is missing. Where
+ * HINDER_ERROR is set, the first HINDER_COUNT of them fail with this number of an error. Else the first one is held:
+ * it makes the file HINDER_REACHED, and goes on only when the file HINDER_GO is there. None of it goes by a clock. */
 #define _GNU_SOURCE
 #include <errno.h>
 #include <fcntl.h>
