@@ -1,4 +1,9 @@
 //! What a run has read, and what is said of its fault from that.
+
+ghost use Rattle.std.specs.Prelude.{◌≡◌, IfOk, OnOk};
+ghost use Rattle.std.specs.Option.{option_copied};
+ghost use Rattle.fs_app.specs.Answers.{offered};
+
 use crate::input::{INPUT_LIMIT, read_file, read_input};
 use fs_io::Unread;
 use fs_kinds::Fault;
@@ -43,7 +48,11 @@ impl<'a> Papers<'a> {
         &mut self,
         rt: &R,
         name: &'a str,
-    ) -> Result<(), Fault> {
+    ) -> Result<(), Fault>
+        ensures name { OnOk result (self.new.test.name.now ≡ name.now) }
+        ensures kept { (self.new.prices ≡ self.old.prices) × (self.new.evidence ≡ self.old.evidence)
+            × (self.new.fences ≡ self.old.fences) }
+    {
         self.test = self.paper(name, read_input(rt, name))?;
         Ok(())
     }
@@ -53,7 +62,11 @@ impl<'a> Papers<'a> {
         &mut self,
         rt: &R,
         name: &'a str,
-    ) -> Result<(), Fault> {
+    ) -> Result<(), Fault>
+        ensures name { OnOk result (self.new.prices.name.now ≡ name.now) }
+        ensures kept { (self.new.test ≡ self.old.test) × (self.new.evidence ≡ self.old.evidence)
+            × (self.new.fences ≡ self.old.fences) }
+    {
         self.prices = self.paper(name, read_file(rt, name, INPUT_LIMIT))?;
         Ok(())
     }
@@ -64,13 +77,21 @@ impl<'a> Papers<'a> {
         rt: &R,
         name: &'a str,
         limit: usize,
-    ) -> Result<(), Fault> {
+    ) -> Result<(), Fault>
+        ensures name { OnOk result (self.new.evidence.name.now ≡ name.now) }
+        ensures kept { (self.new.test ≡ self.old.test) × (self.new.prices ≡ self.old.prices)
+            × (self.new.fences ≡ self.old.fences) }
+    {
         self.evidence = self.paper(name, read_file(rt, name, limit))?;
         Ok(())
     }
 
     /// The paper of these bytes; or the fault that there are none, and why is kept.
-    fn paper(&mut self, name: &'a str, file: Result<Vec<u8>, Unread>) -> Result<Paper<'a>, Fault> {
+    fn paper(&mut self, name: &'a str, file: Result<Vec<u8>, Unread>) -> Result<Paper<'a>, Fault>
+        ensures name { IfOk result (λ paper. paper.name.now ≡ name.now) }
+        ensures kept { (self.new.test ≡ self.old.test) × (self.new.prices ≡ self.old.prices)
+            × (self.new.evidence ≡ self.old.evidence) × (self.new.fences ≡ self.old.fences) }
+    {
         match file {
             Ok(bytes) => Ok(Paper { name, bytes }),
             Err(why) => {
@@ -81,7 +102,9 @@ impl<'a> Papers<'a> {
     }
 
     /// The prices, where they were given.
-    pub(crate) fn offered(&self) -> Option<&[u8]> {
+    pub(crate) fn offered(&self) -> Option<&[u8]>
+        ensures { option_copied result ≡ offered self.now }
+    {
         if self.prices.name.is_empty() {
             None
         } else {

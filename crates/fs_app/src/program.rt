@@ -1,6 +1,14 @@
 //! A run of the program: from the words of its command line to what it prints and its exit status.
 
-ghost use Rattle.std.specs.Prelude.{◌≤◌};
+ghost use Rattle.std.specs.Prelude.{◌≡◌, ◌≤◌, IfOk, IfErr, map, string_bytes};
+ghost use Rattle.fs_io.specs.declared.status.Status.TheVariants.{Success};
+ghost use Rattle.fs_place.specs.Place.{IsFencedText, IsFirstPlaceFault};
+ghost use Rattle.fs_order.specs.Order.{IsOrderAnswer, IsFirstOrderFault};
+ghost use Rattle.fs_report.specs.Objects.{AreOneAnswer};
+ghost use Rattle.fs_solve.specs.Solve.{IsSolved, IsCertified, IsFirstSolveFault};
+ghost use Rattle.fs_audit.specs.Audit.{IsFirstAuditFault};
+ghost use Rattle.fs_verify.specs.Check.{IsChecked, AreOneVerdict, IsFirstCheckFault};
+ghost use Rattle.fs_app.specs.Answers.{offered, in_form, IsAuditText, Answers, AnswersTest, AnswersPlace, AnswersOrder, AnswersSolve, AnswersAudit, AnswersCheck};
 
 use crate::failure::Failure;
 use crate::input::INPUT_LIMIT;
@@ -111,7 +119,9 @@ fn status_of_run<
 }
 
 /// Prints the answer, and gives its status.
-fn print<R: Files + Print>(rt: &R, output: &Output) -> Result<Status, Failure> {
+fn print<R: Files + Print>(rt: &R, output: &Output) -> Result<Status, Failure>
+    ensures { IfOk result (λ status. status ≡ output.now.status) }
+{
     let room = room_of(rt, "/dev/stdout");
     write_within(&mut io::writer(rt), output.text.as_bytes(), room)?;
     Ok(output.status)
@@ -196,7 +206,9 @@ fn answer<'a, R: Files + Input + Eprint + AllocGlobal + Clock + Threads + Wait +
     task: &'a Task<'a>,
     voice: Voice,
     papers: &mut Papers<'a>,
-) -> Result<Output, Fault> {
+) -> Result<Output, Fault>
+    ensures { IfOk result (Answers task.now papers.new) }
+{
     match task {
         Task::Test(test) => answer_test(rt, test, voice),
         Task::States(states) => match states.log {
@@ -220,7 +232,9 @@ fn answer_test<R: Files + Input + Eprint + AllocGlobal + Threads + Wait + Sync>(
     rt: &R,
     test: &Test,
     voice: Voice,
-) -> Result<Output, Fault> {
+) -> Result<Output, Fault>
+    ensures { IfOk result (AnswersTest test.now) }
+{
     let judged = judge_files(rt, &test.files, test.jobs, voice.explains)?;
     let output = if test.json {
         test_objects(rt.alloc(), &judged.lines)?
@@ -237,7 +251,9 @@ fn answer_place<'a, R: Files + Input + AllocGlobal>(
     rt: &R,
     place: &'a Place<'a>,
     papers: &mut Papers<'a>,
-) -> Result<Output, Fault> {
+) -> Result<Output, Fault>
+    ensures { IfOk result (AnswersPlace place.now papers.new) }
+{
     papers.fences = &place.fences;
     papers.read_test(rt, place.test)?;
     if let Some(path) = place.prices {
@@ -247,7 +263,13 @@ fn answer_place<'a, R: Files + Input + AllocGlobal>(
 }
 
 /// The test that was read, with the fences.
-fn placed(alloc: Global, papers: &Papers<'_>) -> Result<Output, Fault> {
+fn placed(alloc: Global, papers: &Papers<'_>) -> Result<Output, Fault>
+    ensures text { IfOk result (λ output. IsFencedText papers.now.test.bytes.items (offered papers.now)
+        (map string_bytes papers.now.fences.now) (string_bytes output.text)) }
+    ensures status { IfOk result (λ output. output.status ≡ Success) }
+    ensures fault { IfErr result (IsFirstPlaceFault papers.now.test.bytes.items (offered papers.now)
+        (map string_bytes papers.now.fences.now)) }
+{
     run_place(alloc, &papers.test.bytes, papers.offered(), papers.fences)
 }
 
@@ -255,7 +277,9 @@ fn answer_order<'a, R: Files + Input + AllocGlobal>(
     rt: &R,
     order: &'a Order<'a>,
     papers: &mut Papers<'a>,
-) -> Result<Output, Fault> {
+) -> Result<Output, Fault>
+    ensures { IfOk result (AnswersOrder order.now papers.new) }
+{
     papers.fences = &order.fences;
     papers.read_test(rt, order.test)?;
     papers.read_evidence(rt, order.witness, INPUT_LIMIT)?;
@@ -263,7 +287,12 @@ fn answer_order<'a, R: Files + Input + AllocGlobal>(
 }
 
 /// The verdict on the witness that was read.
-fn ordered(alloc: Global, papers: &Papers<'_>) -> Result<Output, Fault> {
+fn ordered(alloc: Global, papers: &Papers<'_>) -> Result<Output, Fault>
+    ensures answer { IfOk result (λ output. IsOrderAnswer papers.now.test.bytes.items papers.now.evidence.bytes.items
+        (map string_bytes papers.now.fences.now) (string_bytes output.text) output.status) }
+    ensures fault { IfErr result (IsFirstOrderFault papers.now.test.bytes.items papers.now.evidence.bytes.items
+        (map string_bytes papers.now.fences.now)) }
+{
     run_order(
         alloc,
         &papers.test.bytes,
@@ -278,7 +307,9 @@ fn answer_solve<'a, R: Files + Input + Eprint + AllocGlobal + Clock + Threads + 
     solve: &'a Solve<'a>,
     voice: Voice,
     papers: &mut Papers<'a>,
-) -> Result<Output, Fault> {
+) -> Result<Output, Fault>
+    ensures { IfOk result (AnswersSolve solve.now papers.new) }
+{
     papers.read_test(rt, solve.test)?;
     papers.read_prices(rt, solve.prices)?;
     let test = papers.test.bytes.as_slice();
@@ -324,7 +355,10 @@ fn note_vacuous<R: Files + Eprint + AllocGlobal>(
 }
 
 /// The output, or with its status the object in its place.
-fn in_form(output: Output, object: String, is_json: bool) -> Output {
+fn in_form(output: Output, object: String, is_json: bool) -> Output
+    ensures text { string_bytes result.text ≡ in_form is_json (string_bytes output.text) (string_bytes object) }
+    ensures status { result.status ≡ output.status }
+{
     if is_json {
         Output {
             text: object,
@@ -348,6 +382,10 @@ fn solved<R: Eprint + AllocGlobal + Clock + Threads + Wait + Sync>(
     requires few { workers ≤ 16 }
     requires least { 1 ≤ limit }
     requires most { limit ≤ 1000000 }
+    ensures answer { IfOk result (λ made.
+        IsSolved test.now prices.now (string_bytes made.output.text) made.output.status) }
+    ensures object { IfOk result (λ made. AreOneAnswer (string_bytes made.output.text) (string_bytes made.object)) }
+    ensures fault { IfErr result (IsFirstSolveFault test.now prices.now limit) }
 {
     if workers == 1 {
         return run_solve_alone(rt.alloc(), test, prices, limit, progress);
@@ -368,6 +406,13 @@ fn certified<R: Eprint + AllocGlobal + Clock + Threads + Wait + Sync>(
     requires few { workers ≤ 16 }
     requires least { 1 ≤ limit }
     requires most { limit ≤ 1000000 }
+    ensures answer { IfOk result (λ made.
+        IsSolved test.now prices.now (string_bytes made.answered.output.text) made.answered.output.status) }
+    ensures certificate { IfOk result (λ made. IsCertified test.now prices.now
+        (string_bytes made.answered.output.text) made.answered.output.status (string_bytes made.certificate)) }
+    ensures object { IfOk result (λ made.
+        AreOneAnswer (string_bytes made.answered.output.text) (string_bytes made.answered.object)) }
+    ensures fault { IfErr result (IsFirstSolveFault test.now prices.now limit) }
 {
     if workers == 1 {
         return run_certified_alone(rt.alloc(), test, prices, limit, progress);
@@ -379,7 +424,9 @@ fn answer_audit<'a, R: Files + Input + AllocGlobal>(
     rt: &R,
     audit: &'a Audit<'a>,
     papers: &mut Papers<'a>,
-) -> Result<Output, Fault> {
+) -> Result<Output, Fault>
+    ensures { IfOk result (AnswersAudit audit.now papers.new) }
+{
     papers.read_test(rt, audit.test)?;
     papers.read_prices(rt, audit.prices)?;
     // the command line has no other numbers; here it is said once more for the proof
@@ -396,6 +443,9 @@ fn audited(
 ) -> Result<Output, Fault>
     requires least { 1 ≤ limit }
     requires most { limit ≤ 1000000 }
+    ensures answer { IfOk result (λ output. IsAuditText is_mended papers.now.test.bytes.items
+        papers.now.prices.bytes.items (string_bytes output.text) output.status) }
+    ensures fault { IfErr result (IsFirstAuditFault papers.now.test.bytes.items papers.now.prices.bytes.items limit) }
 {
     let (test, prices) = (&papers.test.bytes, &papers.prices.bytes);
     if is_mended {
@@ -409,7 +459,9 @@ fn answer_check<'a, R: Files + Input + AllocGlobal>(
     rt: &R,
     check: &'a Check<'a>,
     papers: &mut Papers<'a>,
-) -> Result<Output, Fault> {
+) -> Result<Output, Fault>
+    ensures { IfOk result (AnswersCheck check.now papers.new) }
+{
     papers.read_test(rt, check.test)?;
     papers.read_prices(rt, check.prices)?;
     papers.read_evidence(rt, check.certificate, CERTIFICATE_LIMIT)?;
@@ -418,7 +470,13 @@ fn answer_check<'a, R: Files + Input + AllocGlobal>(
 }
 
 /// The verdict on the certificate that was read.
-fn checked(alloc: Global, papers: &Papers<'_>) -> Result<Checked, Fault> {
+fn checked(alloc: Global, papers: &Papers<'_>) -> Result<Checked, Fault>
+    ensures answer { IfOk result (λ made. IsChecked papers.now.test.bytes.items papers.now.prices.bytes.items
+        papers.now.evidence.bytes.items (string_bytes made.output.text) made.output.status) }
+    ensures object { IfOk result (λ made. AreOneVerdict (string_bytes made.output.text) (string_bytes made.object)) }
+    ensures fault { IfErr result (IsFirstCheckFault papers.now.test.bytes.items papers.now.prices.bytes.items
+        papers.now.evidence.bytes.items) }
+{
     run_check(
         alloc,
         &papers.test.bytes,
