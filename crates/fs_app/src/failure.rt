@@ -10,6 +10,9 @@ pub(crate) enum Failure {
     /// A word of the command line isn't text.
     #[error("error: a word of the command line is not UTF-8\n")]
     NotUtf8,
+    /// The stack may not be large enough.
+    #[error("error: a run may need a stack of 512 KiB, and there is less: see `ulimit -s`\n")]
+    NoStack,
     /// The words make no request.
     #[error(transparent)]
     NoRequest(#[from] clap::Error),
@@ -27,7 +30,8 @@ pub(crate) enum Failure {
 impl Failure {
     pub(crate) fn status(&self) -> Status {
         match self {
-            Failure::NotUtf8 | Failure::NoRequest(_) | Failure::BadLog(_) => Status::Failure,
+            Failure::NotUtf8 | Failure::NoStack | Failure::NoRequest(_) | Failure::BadLog(_) =>
+                Status::Failure,
             Failure::NoAnswer(fault) | Failure::Told(fault, _) => Status::of_fault(*fault),
         }
     }

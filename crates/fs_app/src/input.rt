@@ -1,6 +1,5 @@
 //! The files that a run reads.
-use fs_io::read_bytes;
-use fs_kinds::Fault;
+use fs_io::{Unread, read_bytes};
 use std::fs::File;
 use std::rt::Files;
 
@@ -11,21 +10,21 @@ pub(crate) const INPUT_LIMIT: usize = 1_048_576;
 pub(crate) fn read_input<R: Files + Input + AllocGlobal>(
     rt: &R,
     path: &str,
-) -> Result<Vec<u8>, Fault> {
+) -> Result<Vec<u8>, Unread> {
     if path == "-" || path == "stdin" {
         return read_bytes(rt.alloc(), &mut rt.reader(), INPUT_LIMIT);
     }
     read_file(rt, path, INPUT_LIMIT)
 }
 
-/// The bytes of the file, where there are at most `limit`. One that can't be opened is a `ReadFault`.
+/// The bytes of the file, where there are at most `limit`.
 pub(crate) fn read_file<R: Files + AllocGlobal>(
     rt: &R,
     path: &str,
     limit: usize,
-) -> Result<Vec<u8>, Fault> {
+) -> Result<Vec<u8>, Unread> {
     match File::open(rt, path) {
         Ok(mut file) => read_bytes(rt.alloc(), &mut file, limit),
-        Err(_) => Err(Fault::ReadFault),
+        Err(error) => Err(Unread::of(error.kind())),
     }
 }

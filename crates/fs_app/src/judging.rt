@@ -1,6 +1,7 @@
 //! What `test` says of files, one after the other or side by side.
 use crate::input::read_input;
 use crate::papers::message_of_file;
+use fs_io::Unread;
 use fs_kinds::Fault;
 use fs_test::{Line, test_file};
 use std::alloc::{AllocError, Global};
@@ -16,7 +17,7 @@ const AT_ONCE: usize = 8;
 #[derive(Drop)]
 struct Taken<'a> {
     name: &'a str,
-    file: Result<Vec<u8>, Fault>,
+    file: Result<Vec<u8>, Unread>,
 }
 
 /// What is said of files, in their order: a line of each, and messages of those that aren't tests, or weren't read.
@@ -41,7 +42,8 @@ impl Judged {
         if explains {
             self.add_message(message_of_file(alloc, name, &file));
         }
-        self.lines.push(test_file(alloc, name, file)?)?;
+        self.lines
+            .push(test_file(alloc, name, file.map_err(Unread::fault))?)?;
         Ok(())
     }
 

@@ -4,6 +4,7 @@
 mod failure;
 mod input;
 mod judging;
+mod limits;
 mod papers;
 mod program;
 mod progress;

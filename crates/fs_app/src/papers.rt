@@ -1,5 +1,11 @@
 //! What a run has read, and what is said of its fault from that.
+
+ghost use Rattle.std.specs.Prelude.{◌≡◌, IfOk, OnOk};
+ghost use Rattle.std.specs.Option.{option_copied};
+ghost use Rattle.fs_app.specs.Answers.{offered};
+
 use crate::input::{INPUT_LIMIT, read_file, read_input};
+use fs_io::Unread;
 use fs_kinds::Fault;
 use fs_point::{explain, explain_fences, explain_json, explain_test, explain_unread};
 use std::alloc::{AllocError, Global};
@@ -21,8 +27,8 @@ pub(crate) struct Papers<'a> {
     pub evidence: Paper<'a>,
     /// The FENCE words.
     pub fences: &'a [String],
-    /// The name of the file that was to be read last, and how many bytes it may have.
-    last: (&'a str, usize),
+    /// The name of the file that wasn't read, and why.
+    unread: Option<(&'a str, Unread)>,
 }
 
 impl<'a> Papers<'a> {
@@ -33,7 +39,7 @@ impl<'a> Papers<'a> {
             prices: no_paper(alloc),
             evidence: no_paper(alloc),
             fences: &[],
-            last: ("", INPUT_LIMIT),
+            unread: None,
         }
     }
 
@@ -42,21 +48,26 @@ impl<'a> Papers<'a> {
         &mut self,
         rt: &R,
         name: &'a str,
-    ) -> Result<(), Fault> {
-        self.last = (name, INPUT_LIMIT);
-        let bytes = read_input(rt, name)?;
-        self.test = Paper { name, bytes };
+    ) -> Result<(), Fault>
+        ensures name { OnOk result (self.new.test.name.now ≡ name.now) }
+        ensures kept { (self.new.prices ≡ self.old.prices) × (self.new.evidence ≡ self.old.evidence)
+            × (self.new.fences ≡ self.old.fences) }
+    {
+        self.test = self.paper(name, read_input(rt, name))?;
         Ok(())
     }
 
+    /// Reads the prices.
     pub(crate) fn read_prices<R: Files + AllocGlobal>(
         &mut self,
         rt: &R,
         name: &'a str,
-    ) -> Result<(), Fault> {
-        self.last = (name, INPUT_LIMIT);
-        let bytes = read_file(rt, name, INPUT_LIMIT)?;
-        self.prices = Paper { name, bytes };
+    ) -> Result<(), Fault>
+        ensures name { OnOk result (self.new.prices.name.now ≡ name.now) }
+        ensures kept { (self.new.test ≡ self.old.test) × (self.new.evidence ≡ self.old.evidence)
+            × (self.new.fences ≡ self.old.fences) }
+    {
+        self.prices = self.paper(name, read_file(rt, name, INPUT_LIMIT))?;
         Ok(())
     }
 
@@ -66,15 +77,34 @@ impl<'a> Papers<'a> {
         rt: &R,
         name: &'a str,
         limit: usize,
-    ) -> Result<(), Fault> {
-        self.last = (name, limit);
-        let bytes = read_file(rt, name, limit)?;
-        self.evidence = Paper { name, bytes };
+    ) -> Result<(), Fault>
+        ensures name { OnOk result (self.new.evidence.name.now ≡ name.now) }
+        ensures kept { (self.new.test ≡ self.old.test) × (self.new.prices ≡ self.old.prices)
+            × (self.new.fences ≡ self.old.fences) }
+    {
+        self.evidence = self.paper(name, read_file(rt, name, limit))?;
         Ok(())
     }
 
+    /// The paper of these bytes; or the fault that there are none, and why is kept.
+    fn paper(&mut self, name: &'a str, file: Result<Vec<u8>, Unread>) -> Result<Paper<'a>, Fault>
+        ensures name { IfOk result (λ paper. paper.name.now ≡ name.now) }
+        ensures kept { (self.new.test ≡ self.old.test) × (self.new.prices ≡ self.old.prices)
+            × (self.new.evidence ≡ self.old.evidence) × (self.new.fences ≡ self.old.fences) }
+    {
+        match file {
+            Ok(bytes) => Ok(Paper { name, bytes }),
+            Err(why) => {
+                self.unread = Some((name, why));
+                Err(why.fault())
+            }
+        }
+    }
+
     /// The prices, where they were given.
-    pub(crate) fn offered(&self) -> Option<&[u8]> {
+    pub(crate) fn offered(&self) -> Option<&[u8]>
+        ensures { option_copied result ≡ offered self.now }
+    {
         if self.prices.name.is_empty() {
             None
         } else {
@@ -100,7 +130,7 @@ impl<'a> Papers<'a> {
                 let text = explain_fences(alloc, self.fences, &self.test.bytes, self.offered())?;
                 Ok(Some(text))
             }
-            Fault::ReadFault => Ok(Some(explain_unread(alloc, self.last.0, self.last.1)?)),
+            Fault::ReadFault => explained_unread(alloc, self.unread),
             Fault::Memory | Fault::WriteFault | Fault::Unmatched | Fault::StrangePass => Ok(None),
             _ => Ok(Some(explain(alloc, self.test.name, &self.test.bytes, fault)?)),
         }
@@ -122,16 +152,32 @@ fn explained_json(
     Ok(Some(explain_json(alloc, paper.name, &paper.bytes, fault)?))
 }
 
+fn explained_unread(
+    alloc: Global,
+    unread: Option<(&str, Unread)>,
+) -> Result<Option<String>, AllocError> {
+    match unread {
+        Some((name, why)) => Ok(Some(unread_line(alloc, name, why)?)),
+        None => Ok(None),
+    }
+}
+
+/// The line that says why the file wasn't read.
+fn unread_line(alloc: Global, name: &str, why: Unread) -> Result<String, AllocError> {
+    let why = format!(in alloc; "{why}")?;
+    explain_unread(alloc, name, why.as_str())
+}
+
 /// The message of a file of `test` that isn't a test, or wasn't read. None where it is one, or there is no memory for
 /// the message. A file that is one is read a second time by `test_file`.
 pub(crate) fn message_of_file(
     alloc: Global,
     name: &str,
-    file: &Result<Vec<u8>, Fault>,
+    file: &Result<Vec<u8>, Unread>,
 ) -> Option<String> {
     match file {
         Ok(bytes) => explain_test(alloc, name, bytes).unwrap_or(None),
-        Err(Fault::ReadFault) => explain_unread(alloc, name, INPUT_LIMIT).ok(),
-        Err(_) => None,
+        Err(Unread::NoMemory) => None,
+        Err(why) => unread_line(alloc, name, *why).ok(),
     }
 }

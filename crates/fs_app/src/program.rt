@@ -1,10 +1,19 @@
 //! A run of the program: from the words of its command line to what it prints and its exit status.
 
-ghost use Rattle.std.specs.Prelude.{◌≤◌};
+ghost use Rattle.std.specs.Prelude.{◌≡◌, ◌≤◌, IfOk, IfErr, map, string_bytes};
+ghost use Rattle.fs_io.specs.declared.status.Status.TheVariants.{Success};
+ghost use Rattle.fs_place.specs.Place.{IsFencedText, IsFirstPlaceFault};
+ghost use Rattle.fs_order.specs.Order.{IsOrderAnswer, IsFirstOrderFault};
+ghost use Rattle.fs_report.specs.Objects.{AreOneAnswer};
+ghost use Rattle.fs_solve.specs.Solve.{IsSolved, IsCertified, IsFirstSolveFault};
+ghost use Rattle.fs_audit.specs.Audit.{IsFirstAuditFault};
+ghost use Rattle.fs_verify.specs.Check.{IsChecked, AreOneVerdict, IsFirstCheckFault};
+ghost use Rattle.fs_app.specs.Answers.{offered, in_form, IsAuditText, Answers, AnswersTest, AnswersPlace, AnswersOrder, AnswersSolve, AnswersAudit, AnswersCheck};
 
 use crate::failure::Failure;
 use crate::input::INPUT_LIMIT;
 use crate::judging::judge_files;
+use crate::limits::{has_stack, room_of, tell, write_within};
 use crate::papers::Papers;
 use crate::progress::Progress;
 use crate::states::{answer_log, answer_states};
@@ -15,15 +24,16 @@ use fs_command::{
     Audit, Check, MOST_NODES, MOST_WORKERS, Order, Place, Request, Solve, Task, Test,
     completion_script, read_request,
 };
-use fs_io::{Output, Status, write_text};
+use fs_io::{Output, Status};
 use fs_kinds::Fault;
 use fs_order::run_order;
 use fs_place::run_place;
+use fs_point::shown_name;
 use fs_solve::{
     Answered, Certified, run_certified, run_certified_alone, run_solve, run_solve_alone,
 };
 use fs_test::{test_objects, test_report, vacuous_note};
-use fs_verify::run_check;
+use fs_verify::{Checked, run_check};
 use std::alloc::Global;
 use std::process::ExitCode;
 use std::rt::{Clock, Env, Files};
@@ -63,6 +73,11 @@ impl Voice {
             shows_progress: notes && is_terminal,
         }
     }
+
+    /// Whether more is said of the fault than its line. Which file isn't read, and why, no line of a fault tells.
+    fn tells(self, fault: Fault) -> bool {
+        self.explains || (self.notes && fault == Fault::ReadFault)
+    }
 }
 
 /// Does what the process's command line asks for, and answers the exit status: 0 where it was done or the answer is yes, fenced or
@@ -87,10 +102,13 @@ pub fn run<R: Env + Files + Input + Print + Eprint + AllocGlobal + Clock + Threa
 fn status_of_run<
     R: Env + Files + Input + Print + Eprint + AllocGlobal + Clock + Threads + Wait + Sync,
 >(rt: &R, is_terminal: bool) -> Result<Status, Failure> {
+    if !has_stack() {
+        return Err(Failure::NoStack);
+    }
     let words = words(rt)?;
     let request = match read_request(rt.alloc(), words.as_slice()) {
         Ok(request) => request,
-        Err(error) => return explain(rt, error),
+        Err(error) => return explain(rt, shown_error(rt, error, words.as_slice())?),
     };
     let voice = Voice::of(&request, is_terminal);
     let mut papers = Papers::new(rt.alloc());
@@ -101,8 +119,11 @@ fn status_of_run<
 }
 
 /// Prints the answer, and gives its status.
-fn print<R: Print>(rt: &R, output: &Output) -> Result<Status, Failure> {
-    write_text(&mut io::writer(rt), output.text.as_bytes())?;
+fn print<R: Files + Print>(rt: &R, output: &Output) -> Result<Status, Failure>
+    ensures { IfOk result (λ status. status ≡ output.now.status) }
+{
+    let room = room_of(rt, "/dev/stdout");
+    write_within(&mut io::writer(rt), output.text.as_bytes(), room)?;
     Ok(output.status)
 }
 
@@ -113,7 +134,7 @@ pub(crate) fn failure_of(
     voice: Voice,
     papers: &Papers<'_>,
 ) -> Failure {
-    if !voice.explains {
+    if !voice.tells(fault) {
         return Failure::NoAnswer(fault);
     }
     match papers.message(alloc, fault) {
@@ -135,23 +156,48 @@ fn words<R: Env + AllocGlobal>(rt: &R) -> Result<Vec<String>, Failure> {
     }
 }
 
+/// The same of the words as they are shown, so that nothing that a terminal would obey is printed of them.
+fn shown_error<R: AllocGlobal>(
+    rt: &R,
+    error: clap::Error,
+    words: &[String],
+) -> Result<clap::Error, Fault> {
+    let mut shown = Vec::new(rt.alloc());
+    for word in words {
+        shown.push(shown_name(rt.alloc(), word.as_str())?)?;
+    }
+    match read_request(rt.alloc(), shown.as_slice()) {
+        Ok(_) => Ok(error),
+        Err(shown_error) => Ok(shown_error),
+    }
+}
+
 /// Prints help or the version on standard output, where the words ask for one. Any other error is a failure.
-fn explain<R: Print>(rt: &R, error: clap::Error) -> Result<Status, Failure> {
+fn explain<R: Files + Print + AllocGlobal>(rt: &R, error: clap::Error) -> Result<Status, Failure> {
     if matches!(error.kind(), ErrorKind::OutOfMemory) {
         return Err(Failure::NoAnswer(Fault::Memory));
     }
     if error.use_stderr() {
         return Err(Failure::NoRequest(error));
     }
-    match rt.print(&error) {
-        Ok(()) => Ok(Status::Success),
-        Err(_) => Err(Failure::NoAnswer(Fault::WriteFault)),
-    }
+    let text = said(rt.alloc(), &error)?;
+    print(
+        rt,
+        &Output {
+            text,
+            status: Status::Success,
+        },
+    )
+}
+
+/// What an error prints.
+fn said(alloc: Global, error: &clap::Error) -> Result<String, Fault> {
+    Ok(format!(in alloc; "{error}")?)
 }
 
 /// Prints the error on standard error. Where that fails too, the status alone tells.
-pub(crate) fn report<R: Eprint>(rt: &R, error: &impl std::error::Error) {
-    let _ = rt.eprint(error);
+pub(crate) fn report<R: Files + Eprint + AllocGlobal>(rt: &R, error: &Failure) {
+    tell(rt, error);
 }
 
 /// What the command answers. What it reads it leaves in `papers`, also where it has a fault.
@@ -160,7 +206,9 @@ fn answer<'a, R: Files + Input + Eprint + AllocGlobal + Clock + Threads + Wait +
     task: &'a Task<'a>,
     voice: Voice,
     papers: &mut Papers<'a>,
-) -> Result<Output, Fault> {
+) -> Result<Output, Fault>
+    ensures { IfOk result (Answers task.now papers.new) }
+{
     match task {
         Task::Test(test) => answer_test(rt, test, voice),
         Task::States(states) => match states.log {
@@ -184,7 +232,9 @@ fn answer_test<R: Files + Input + Eprint + AllocGlobal + Threads + Wait + Sync>(
     rt: &R,
     test: &Test,
     voice: Voice,
-) -> Result<Output, Fault> {
+) -> Result<Output, Fault>
+    ensures { IfOk result (AnswersTest test.now) }
+{
     let judged = judge_files(rt, &test.files, test.jobs, voice.explains)?;
     let output = if test.json {
         test_objects(rt.alloc(), &judged.lines)?
@@ -192,7 +242,7 @@ fn answer_test<R: Files + Input + Eprint + AllocGlobal + Threads + Wait + Sync>(
         test_report(rt.alloc(), &judged.lines)?
     };
     for message in &judged.messages {
-        let _ = rt.eprint(message.as_str());
+        tell(rt, message);
     }
     Ok(output)
 }
@@ -201,7 +251,9 @@ fn answer_place<'a, R: Files + Input + AllocGlobal>(
     rt: &R,
     place: &'a Place<'a>,
     papers: &mut Papers<'a>,
-) -> Result<Output, Fault> {
+) -> Result<Output, Fault>
+    ensures { IfOk result (AnswersPlace place.now papers.new) }
+{
     papers.fences = &place.fences;
     papers.read_test(rt, place.test)?;
     if let Some(path) = place.prices {
@@ -211,7 +263,13 @@ fn answer_place<'a, R: Files + Input + AllocGlobal>(
 }
 
 /// The test that was read, with the fences.
-fn placed(alloc: Global, papers: &Papers<'_>) -> Result<Output, Fault> {
+fn placed(alloc: Global, papers: &Papers<'_>) -> Result<Output, Fault>
+    ensures text { IfOk result (λ output. IsFencedText papers.now.test.bytes.items (offered papers.now)
+        (map string_bytes papers.now.fences.now) (string_bytes output.text)) }
+    ensures status { IfOk result (λ output. output.status ≡ Success) }
+    ensures fault { IfErr result (IsFirstPlaceFault papers.now.test.bytes.items (offered papers.now)
+        (map string_bytes papers.now.fences.now)) }
+{
     run_place(alloc, &papers.test.bytes, papers.offered(), papers.fences)
 }
 
@@ -219,12 +277,24 @@ fn answer_order<'a, R: Files + Input + AllocGlobal>(
     rt: &R,
     order: &'a Order<'a>,
     papers: &mut Papers<'a>,
-) -> Result<Output, Fault> {
+) -> Result<Output, Fault>
+    ensures { IfOk result (AnswersOrder order.now papers.new) }
+{
     papers.fences = &order.fences;
     papers.read_test(rt, order.test)?;
     papers.read_evidence(rt, order.witness, INPUT_LIMIT)?;
+    ordered(rt.alloc(), papers)
+}
+
+/// The verdict on the witness that was read.
+fn ordered(alloc: Global, papers: &Papers<'_>) -> Result<Output, Fault>
+    ensures answer { IfOk result (λ output. IsOrderAnswer papers.now.test.bytes.items papers.now.evidence.bytes.items
+        (map string_bytes papers.now.fences.now) (string_bytes output.text) output.status) }
+    ensures fault { IfErr result (IsFirstOrderFault papers.now.test.bytes.items papers.now.evidence.bytes.items
+        (map string_bytes papers.now.fences.now)) }
+{
     run_order(
-        rt.alloc(),
+        alloc,
         &papers.test.bytes,
         &papers.evidence.bytes,
         papers.fences,
@@ -237,7 +307,9 @@ fn answer_solve<'a, R: Files + Input + Eprint + AllocGlobal + Clock + Threads + 
     solve: &'a Solve<'a>,
     voice: Voice,
     papers: &mut Papers<'a>,
-) -> Result<Output, Fault> {
+) -> Result<Output, Fault>
+    ensures { IfOk result (AnswersSolve solve.now papers.new) }
+{
     papers.read_test(rt, solve.test)?;
     papers.read_prices(rt, solve.prices)?;
     let test = papers.test.bytes.as_slice();
@@ -268,18 +340,25 @@ fn answer_solve<'a, R: Files + Input + Eprint + AllocGlobal + Clock + Threads + 
 
 /// Says on standard error that the test is vacuous, where it is. Then it needs no fence, so of other answers nothing is
 /// asked.
-fn note_vacuous<R: Eprint + AllocGlobal>(rt: &R, test: &[u8], answer: &str) -> Result<(), Fault> {
+fn note_vacuous<R: Files + Eprint + AllocGlobal>(
+    rt: &R,
+    test: &[u8],
+    answer: &str,
+) -> Result<(), Fault> {
     if answer != UNFENCED {
         return Ok(());
     }
     if let Some(note) = vacuous_note(rt.alloc(), test)? {
-        let _ = rt.eprint(note.as_str());
+        tell(rt, &note);
     }
     Ok(())
 }
 
 /// The output, or with its status the object in its place.
-fn in_form(output: Output, object: String, is_json: bool) -> Output {
+fn in_form(output: Output, object: String, is_json: bool) -> Output
+    ensures text { string_bytes result.text ≡ in_form is_json (string_bytes output.text) (string_bytes object) }
+    ensures status { result.status ≡ output.status }
+{
     if is_json {
         Output {
             text: object,
@@ -303,6 +382,10 @@ fn solved<R: Eprint + AllocGlobal + Clock + Threads + Wait + Sync>(
     requires few { workers ≤ 16 }
     requires least { 1 ≤ limit }
     requires most { limit ≤ 1000000 }
+    ensures answer { IfOk result (λ made.
+        IsSolved test.now prices.now (string_bytes made.output.text) made.output.status) }
+    ensures object { IfOk result (λ made. AreOneAnswer (string_bytes made.output.text) (string_bytes made.object)) }
+    ensures fault { IfErr result (IsFirstSolveFault test.now prices.now limit) }
 {
     if workers == 1 {
         return run_solve_alone(rt.alloc(), test, prices, limit, progress);
@@ -323,6 +406,13 @@ fn certified<R: Eprint + AllocGlobal + Clock + Threads + Wait + Sync>(
     requires few { workers ≤ 16 }
     requires least { 1 ≤ limit }
     requires most { limit ≤ 1000000 }
+    ensures answer { IfOk result (λ made.
+        IsSolved test.now prices.now (string_bytes made.answered.output.text) made.answered.output.status) }
+    ensures certificate { IfOk result (λ made. IsCertified test.now prices.now
+        (string_bytes made.answered.output.text) made.answered.output.status (string_bytes made.certificate)) }
+    ensures object { IfOk result (λ made.
+        AreOneAnswer (string_bytes made.answered.output.text) (string_bytes made.answered.object)) }
+    ensures fault { IfErr result (IsFirstSolveFault test.now prices.now limit) }
 {
     if workers == 1 {
         return run_certified_alone(rt.alloc(), test, prices, limit, progress);
@@ -334,17 +424,34 @@ fn answer_audit<'a, R: Files + Input + AllocGlobal>(
     rt: &R,
     audit: &'a Audit<'a>,
     papers: &mut Papers<'a>,
-) -> Result<Output, Fault> {
+) -> Result<Output, Fault>
+    ensures { IfOk result (AnswersAudit audit.now papers.new) }
+{
     papers.read_test(rt, audit.test)?;
     papers.read_prices(rt, audit.prices)?;
-    let test = papers.test.bytes.as_slice();
-    let prices = papers.prices.bytes.as_slice();
     // the command line has no other numbers; here it is said once more for the proof
     let limit = audit.nodes.clamp(1, MOST_NODES) as usize;
-    if audit.write {
-        run_mended(rt.alloc(), test, prices, limit)
+    audited(rt.alloc(), papers, audit.write, limit)
+}
+
+/// What is said of the FENCEs of the test that was read, or that test mended.
+fn audited(
+    alloc: Global,
+    papers: &Papers<'_>,
+    is_mended: bool,
+    limit: usize,
+) -> Result<Output, Fault>
+    requires least { 1 ≤ limit }
+    requires most { limit ≤ 1000000 }
+    ensures answer { IfOk result (λ output. IsAuditText is_mended papers.now.test.bytes.items
+        papers.now.prices.bytes.items (string_bytes output.text) output.status) }
+    ensures fault { IfErr result (IsFirstAuditFault papers.now.test.bytes.items papers.now.prices.bytes.items limit) }
+{
+    let (test, prices) = (&papers.test.bytes, &papers.prices.bytes);
+    if is_mended {
+        run_mended(alloc, test, prices, limit)
     } else {
-        run_audit(rt.alloc(), test, prices, limit)
+        run_audit(alloc, test, prices, limit)
     }
 }
 
@@ -352,15 +459,28 @@ fn answer_check<'a, R: Files + Input + AllocGlobal>(
     rt: &R,
     check: &'a Check<'a>,
     papers: &mut Papers<'a>,
-) -> Result<Output, Fault> {
+) -> Result<Output, Fault>
+    ensures { IfOk result (AnswersCheck check.now papers.new) }
+{
     papers.read_test(rt, check.test)?;
     papers.read_prices(rt, check.prices)?;
     papers.read_evidence(rt, check.certificate, CERTIFICATE_LIMIT)?;
-    let checked = run_check(
-        rt.alloc(),
+    let checked = checked(rt.alloc(), papers)?;
+    Ok(in_form(checked.output, checked.object, check.json))
+}
+
+/// The verdict on the certificate that was read.
+fn checked(alloc: Global, papers: &Papers<'_>) -> Result<Checked, Fault>
+    ensures answer { IfOk result (λ made. IsChecked papers.now.test.bytes.items papers.now.prices.bytes.items
+        papers.now.evidence.bytes.items (string_bytes made.output.text) made.output.status) }
+    ensures object { IfOk result (λ made. AreOneVerdict (string_bytes made.output.text) (string_bytes made.object)) }
+    ensures fault { IfErr result (IsFirstCheckFault papers.now.test.bytes.items papers.now.prices.bytes.items
+        papers.now.evidence.bytes.items) }
+{
+    run_check(
+        alloc,
         &papers.test.bytes,
         &papers.prices.bytes,
         &papers.evidence.bytes,
-    )?;
-    Ok(in_form(checked.output, checked.object, check.json))
+    )
 }

@@ -55,7 +55,7 @@ fn states_of_file<'a, R: Files + Input + AllocGlobal>(
 }
 
 /// Says the fault of a file on standard error, unless it ends the run.
-fn say_fault<R: Eprint + AllocGlobal>(
+fn say_fault<R: Files + Eprint + AllocGlobal>(
     rt: &R,
     fault: Fault,
     voice: Voice,

@@ -104,7 +104,7 @@ its hart. Kinds: r,r r,w r,rw w,r w,w w,rw rw,r rw,w rw,rw tso.
 
 Exit status:
   0  the fenced test is on standard output
-  2  a fault, one line on standard error as `fault F6 BadLabel line 5` (with -v a message
+  2  a fault, a line on standard error as `fault F6 BadLabel line 5` (with -v a message
      explains it), or a bad command line
   3  memory ran out (fault F19)
 A fault leaves standard output empty, unless standard output itself failed.";
@@ -130,7 +130,7 @@ Reasons:
 Exit status:
   0  yes
   1  no
-  2  a fault, one line on standard error as `fault F17 BadWitness` (with -v a message
+  2  a fault, a line on standard error as `fault F17 BadWitness` (with -v a message
      explains it), or a bad command line
   3  memory ran out (fault F19)";
 
@@ -178,7 +178,7 @@ PRICES offers kinds, each for 1 to 1000000, and rw,rw must be one of them, as in
 Exit status:
   0  fenced
   1  none
-  2  a fault, one line on standard error as `fault F16 NodeLimit` (with -v a message
+  2  a fault, a line on standard error as `fault F16 NodeLimit` (with -v a message
      explains it), or a bad command line
   3  memory ran out (fault F19)
 Faults beside those of the files: a hart has too many runs (F13), a run accesses an
@@ -261,7 +261,7 @@ Reasons, where K counts from 0:
 Exit status:
   0  yes
   1  no
-  2  a fault, one line on standard error as `fault F18 BadCertificate` (with -v a message
+  2  a fault, a line on standard error as `fault F18 BadCertificate` (with -v a message
      explains it), or a bad command line
   3  memory ran out (fault F19)
 Faults beside those of the files: a hart has too many runs (F13), a run accesses an

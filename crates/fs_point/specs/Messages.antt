@@ -55,3 +55,7 @@ message_of name fault hint = name_text name ++ codes ": " ++ fault_line fault ++
 abbrev pub message : List ℕ → List ℕ → Fault → Option ℕ → List ℕ → List ℕ
 message name bytes fault None hint = message_of name fault hint
 message name bytes fault (Some offset) hint = message_at name bytes fault (place_of bytes offset) hint
+
+-- of a file that isn't read: its name, and why
+abbrev pub unread_line : List ℕ → List ℕ → List ℕ
+unread_line name why = name_text name ++ codes ": " ++ why ++ codes "\n"

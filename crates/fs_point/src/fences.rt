@@ -1,10 +1,10 @@
-//! What is said of FENCE words, and of files that can't be read.
+//! What is said of FENCE words, and of files that aren't read.
 
-ghost use Rattle.std.specs.Prelude.{IfOk, string_bytes};
-ghost use Rattle.fs_point.specs.Explained.{IsPlaceless, IsFenceNote};
-ghost use Rattle.fs_kinds.specs.declared.fault.Fault.{Fault};
+ghost use Rattle.std.specs.Prelude.{◌≡◌, IfOk, string_bytes};
+ghost use Rattle.fs_point.specs.Explained.{IsFenceNote};
+ghost use Rattle.fs_point.specs.Messages.{unread_line};
 
-use crate::message::{fence_note, placeless};
+use crate::message::{fence_note, shown_name};
 use fs_kinds::{Fault, Kind, Prices, Slot, read_fence, read_prices};
 use fs_litmus::{read_test, slots};
 use std::alloc::{AllocError, Global};
@@ -100,10 +100,13 @@ pub fn explain_fences(
     }
 }
 
-/// What is said of a file that can't be opened or read, or is too long. Fails only for want of memory.
-pub fn explain_unread(alloc: Global, name: &str, limit: usize) -> Result<String, AllocError>
-    ensures { IfOk result (λ text. IsPlaceless name.now Fault.ReadFault (string_bytes text)) }
+/// The line that says of a file why it isn't read. Fails only for want of memory.
+pub fn explain_unread(alloc: Global, name: &str, why: &str) -> Result<String, AllocError>
+    ensures { IfOk result (λ text. string_bytes text ≡ unread_line name.now why.now) }
 {
-    let words = format!(in alloc; "it can't be opened or read, or has more than {limit} bytes")?;
-    placeless(alloc, name, Fault::ReadFault, words.as_str())
+    let mut text = shown_name(alloc, name)?;
+    text.push_str(": ")?;
+    text.push_str(why)?;
+    text.push_str("\n")?;
+    Ok(text)
 }

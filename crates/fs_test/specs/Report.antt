@@ -7,6 +7,7 @@ use Rattle.serde_json.specs.Written.{compact_text}
 use Rattle.fs_model.specs.Printed.{ended, joined}
 use Rattle.fs_answer.specs.Texts.{members_of, witness_value}
 use Rattle.fs_evidence.specs.Evidence.{Shown}
+use Rattle.fs_point.specs.Messages.{name_text}
 use Rattle.fs_said.specs.declared.said.Kind.{Kind}
 use Rattle.fs_said.specs.declared.said.Kind.TheVariants as kind
 use Rattle.fs_said.specs.declared.said.Line.{Line}
@@ -15,9 +16,13 @@ use Rattle.fs_said.specs.Words.{counted}
 
 -- ---- lines
 
--- the bytes of the longest name
+-- the name of the file as messages show it
+abbrev pub shown_name : Line → List ℕ
+shown_name line = name_text (string_bytes line.name)
+
+-- the characters of the longest name
 abbrev pub width : List Line → ℕ
-width lines = fold (λ most line. max most (length (string_bytes line.name))) 0 lines
+width lines = fold (λ most line. max most (length (shown_name line))) 0 lines
 
 -- the name with blanks behind it up to this width
 abbrev pub padded : ℕ → List ℕ → List ℕ
@@ -37,7 +42,7 @@ label k = padded 9 (kind_text k) ++ codes "  "
 -- the name of the file, and what is said of it
 abbrev pub line_text : ℕ → Line → List ℕ
 line_text most line =
-    ended (padded most (string_bytes line.name) ++ codes "  " ++ label line.said.kind ++ string_bytes line.said.why)
+    ended (padded most (shown_name line) ++ codes "  " ++ label line.said.kind ++ string_bytes line.said.why)
 
 -- ---- the last line
 

@@ -9,6 +9,7 @@ ghost use Rattle.fs_test.specs.Report.{width, padded, kind_text, label, line_tex
 
 use fs_io::Output;
 use fs_kinds::Fault;
+use fs_point::shown_name;
 use fs_said::{Kind, Line, counted, is_kind, status_of};
 use std::alloc::{AllocError, Global};
 
@@ -28,18 +29,23 @@ pub fn test_report(alloc: Global, lines: &[Line]) -> Result<Output, Fault>
     })
 }
 
-// The bytes of the longest name.
-fn width(lines: &[Line]) -> usize
-    ensures { result ≡ width lines.now }
+// The characters of the longest name, as it is shown.
+fn width(alloc: Global, lines: &[Line]) -> Result<usize, AllocError>
+    ensures { IfOk result (λ most. most ≡ width lines.now) }
 {
-    lines.iter().fold(0, |most, line| most.max(line.name.len()))
+    let mut most = 0;
+    for line in lines {
+        let name = shown_name(alloc, line.name.as_str())?;
+        most = most.max(name.len());
+    }
+    Ok(most)
 }
 
 // All lines but the last one.
 fn lines_text(alloc: Global, lines: &[Line]) -> Result<String, AllocError>
     ensures { IfOk result (λ text. string_bytes text ≡ flat_map (line_text (width lines.now)) lines.now) }
 {
-    let width = width(lines);
+    let width = width(alloc, lines)?;
     let mut text = String::new(alloc);
     for line in lines {
         write_line(alloc, width, line, &mut text)?;
@@ -47,11 +53,12 @@ fn lines_text(alloc: Global, lines: &[Line]) -> Result<String, AllocError>
     Ok(text)
 }
 
-// Appends the line of a file, with its name in so many bytes.
+// Appends the line of a file, with its name in so many characters.
 fn write_line(alloc: Global, width: usize, line: &Line, text: &mut String) -> Result<(), AllocError>
     ensures { OnOk result (string_bytes text.new ≡ string_bytes text.old ++ line_text width line.now) }
 {
-    let name = padded(alloc, width, line.name.as_str())?;
+    let shown = shown_name(alloc, line.name.as_str())?;
+    let name = padded(alloc, width, shown.as_str())?;
     let label = label(line.said.kind);
     writeln!(
         text,

@@ -1,0 +1,90 @@
+-- What a command answers, of the files that it has read. What a file gives when it is read no definition says.
+use Rattle.std.specs.Prelude.{◌≡◌, ℕ, ◌==◌, Bool, true, false, List, length, Option, None, Some, IfSome, map, string_bytes, if◌then◌else◌}
+use Rattle.fs_kinds.specs.declared.fault.Fault.{Fault}
+use Rattle.fs_io.specs.declared.status.Output.{Output}
+use Rattle.fs_io.specs.declared.status.Status.{Status}
+use Rattle.fs_io.specs.declared.status.Status.TheVariants.{Success}
+use Rattle.fs_place.specs.Place.{IsFencedText}
+use Rattle.fs_order.specs.Order.{IsOrderAnswer}
+use Rattle.fs_report.specs.Objects.{AreOneAnswer}
+use Rattle.fs_solve.specs.Solve.{IsSolved}
+use Rattle.fs_audit.specs.Audit.{IsAudited, IsMended}
+use Rattle.fs_verify.specs.Check.{IsChecked, AreOneVerdict}
+use Rattle.fs_said.specs.declared.said.Line.{Line}
+use Rattle.fs_said.specs.Status.{report_status}
+use Rattle.fs_test.specs.Report.{report_text, json_text}
+use Rattle.fs_command.specs.declared.command.Task.{Task}
+use Rattle.fs_command.specs.declared.command.Task.TheVariants as task
+use Rattle.fs_command.specs.declared.command.Test.{Test}
+use Rattle.fs_command.specs.declared.command.Place.{Place}
+use Rattle.fs_command.specs.declared.command.Order.{Order}
+use Rattle.fs_command.specs.declared.command.Solve.{Solve}
+use Rattle.fs_command.specs.declared.command.Audit.{Audit}
+use Rattle.fs_command.specs.declared.command.Check.{Check}
+use Rattle.fs_app.specs.declared.papers.Papers.{Papers}
+
+-- the bytes of the prices, where a file of prices was read
+abbrev pub offered : Papers → Option (List ℕ)
+offered papers = if length papers.prices.name.now == 0 then None else Some papers.prices.bytes.items
+
+-- what is printed: the lines of an answer, or its object
+abbrev pub in_form : (is_json : Bool) (lines object : List ℕ) → List ℕ
+in_form is_json lines object = if is_json then object else lines
+
+-- what `place` prints of the test of this name, with the prices of this name
+pub record AnswersPlace (place : Place) (papers : Papers) (output : Output) : Type 0 where
+  pub test_name : papers.test.name.now ≡ place.test.now
+  pub prices_name : IfSome place.prices (λ name. papers.prices.name.now ≡ name.now)
+  pub text : IsFencedText papers.test.bytes.items (offered papers) (map string_bytes place.fences.items) (string_bytes output.text)
+  pub ends : output.status ≡ Success
+
+pub record AnswersOrder (order : Order) (papers : Papers) (output : Output) : Type 0 where
+  pub test_name : papers.test.name.now ≡ order.test.now
+  pub witness_name : papers.evidence.name.now ≡ order.witness.now
+  pub answer : IsOrderAnswer papers.test.bytes.items papers.evidence.bytes.items (map string_bytes order.fences.items) (string_bytes output.text) output.status
+
+pub record AnswersSolve (solve : Solve) (papers : Papers) (output : Output) : Type 0 where
+  pub test_name : papers.test.name.now ≡ solve.test.now
+  pub prices_name : papers.prices.name.now ≡ solve.prices.now
+  pub lines : List ℕ
+  pub object : List ℕ
+  pub answer : IsSolved papers.test.bytes.items papers.prices.bytes.items lines output.status
+  pub alike : AreOneAnswer lines object
+  pub text : string_bytes output.text ≡ in_form solve.json lines object
+
+-- with `--write` the mended test
+abbrev pub IsAuditText : (is_mended : Bool) (test prices text : List ℕ) (status : Status) → Type 0
+IsAuditText true test prices text status = IsMended test prices text status
+IsAuditText false test prices text status = IsAudited test prices text status
+
+pub record AnswersAudit (audit : Audit) (papers : Papers) (output : Output) : Type 0 where
+  pub test_name : papers.test.name.now ≡ audit.test.now
+  pub prices_name : papers.prices.name.now ≡ audit.prices.now
+  pub answer : IsAuditText audit.write papers.test.bytes.items papers.prices.bytes.items (string_bytes output.text) output.status
+
+pub record AnswersCheck (check : Check) (papers : Papers) (output : Output) : Type 0 where
+  pub test_name : papers.test.name.now ≡ check.test.now
+  pub prices_name : papers.prices.name.now ≡ check.prices.now
+  pub certificate_name : papers.evidence.name.now ≡ check.certificate.now
+  pub lines : List ℕ
+  pub object : List ℕ
+  pub answer : IsChecked papers.test.bytes.items papers.prices.bytes.items papers.evidence.bytes.items lines output.status
+  pub alike : AreOneVerdict lines object
+  pub text : string_bytes output.text ≡ in_form check.json lines object
+
+-- the text and the status are those of the same lines
+pub record AnswersTest (test : Test) (output : Output) : Type 0 where
+  pub lines : List Line
+  pub text : string_bytes output.text ≡ in_form test.json (report_text lines) (json_text lines)
+  pub ends : output.status ≡ report_status lines
+
+-- of `states` there is none here: it is the answers of its files, one below the other
+abbrev pub Answers : Task → Papers → Output → Type 0
+Answers (task.Test test) papers output = AnswersTest test output
+Answers (task.States states) papers output = Unit {0}
+Answers (task.Place place) papers output = AnswersPlace place papers output
+Answers (task.Order order) papers output = AnswersOrder order papers output
+Answers (task.Solve solve) papers output = AnswersSolve solve papers output
+Answers (task.Audit audit) papers output = AnswersAudit audit papers output
+Answers (task.Check check) papers output = AnswersCheck check papers output
+Answers (task.Completions shell) papers output = output.status ≡ Success
