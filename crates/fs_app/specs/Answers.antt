@@ -1,6 +1,5 @@
 -- What a command answers, of the files that it has read. What a file gives when it is read no definition says.
 use Rattle.std.specs.Prelude.{◌≡◌, ℕ, ◌==◌, Bool, true, false, List, length, Option, None, Some, IfSome, map, string_bytes, if◌then◌else◌}
-use Rattle.fs_kinds.specs.declared.fault.Fault.{Fault}
 use Rattle.fs_io.specs.declared.status.Output.{Output}
 use Rattle.fs_io.specs.declared.status.Status.{Status}
 use Rattle.fs_io.specs.declared.status.Status.TheVariants.{Success}
