@@ -1,51 +1,59 @@
 //! What the system lets a run use: how much files may grow, and how large its stack is.
 use fs_io::write_text;
 use fs_kinds::Fault;
-use libc::types::rlimit;
 use std::fmt::Display;
-use std::fs::{Metadata, metadata};
-use std::io::Write;
+use std::fs::{File, Metadata, metadata};
+use std::io::{Read, Write};
 use std::rt::Files;
 
 /// So many bytes of stack a run may need: twice what the worst of scripts/hostile takes, and more.
 const LEAST_STACK: u64 = 524_288;
 
-/// What getrlimit is asked of the size of files, on each of Linux's machines.
-const RLIMIT_FSIZE: i32 = 1;
+/// Where the system says what it lets a run use: a line for each limit, with its name, the limit, and the greatest that may be asked for.
+const LIMITS: &str = "/proc/self/limits";
 
-/// The limit on this resource, where there is one.
-fn limit(resource: i32) -> Option<u64> {
-    let mut limit = rlimit {
-        rlim_cur: u64::MAX,
-        rlim_max: u64::MAX,
-    };
-    if libc::getrlimit(resource, &mut limit) != 0 || limit.rlim_cur == u64::MAX {
-        return None;
+/// So much of it is looked at: some 1,400 bytes are there.
+const MOST_LIMITS: usize = 4096;
+
+/// The limit of this name, where there is one and the system says it.
+fn limit<R: Files>(rt: &R, name: &str) -> Option<u64> {
+    let mut file = File::open(rt, LIMITS).ok()?;
+    let mut bytes = [0u8; MOST_LIMITS];
+    let count = file.read(&mut bytes).ok()?;
+    limit_in(str::from_utf8(&bytes[..count]).ok()?, name)
+}
+
+/// The number behind this name in the text. None where there is none, as with `unlimited`.
+fn limit_in(text: &str, name: &str) -> Option<u64> {
+    for line in text.lines() {
+        if let Some(rest) = line.strip_prefix(name) {
+            return rest.split_ascii_whitespace().next()?.parse().ok();
+        }
     }
-    Some(limit.rlim_cur)
+    None
 }
 
 /// Whether the stack is large enough for any run.
-pub(crate) fn has_stack() -> bool {
-    match limit(libc::RLIMIT_STACK) {
+pub(crate) fn has_stack<R: Files>(rt: &R) -> bool {
+    match limit(rt, "Max stack size") {
         Some(most) => most >= LEAST_STACK,
         None => true,
     }
 }
 
 /// How many bytes may be appended to an open file. None: as many as there is room for on its disk.
-pub(crate) fn room_in(found: &Metadata) -> Option<usize> {
-    let most = limit(RLIMIT_FSIZE)?;
+pub(crate) fn room_in<R: Files>(rt: &R, found: &Metadata) -> Option<usize> {
     if !found.is_file() {
         return None;
     }
+    let most = limit(rt, "Max file size")?;
     Some(usize::try_from(most.saturating_sub(found.len())).unwrap_or(usize::MAX))
 }
 
 /// The same of the file that is standard output, `/dev/stdout`, or standard error, `/dev/stderr`.
 pub(crate) fn room_of<R: Files>(rt: &R, stream: &str) -> Option<usize> {
     match metadata(rt, stream) {
-        Ok(found) => room_in(&found),
+        Ok(found) => room_in(rt, &found),
         Err(_) => None,
     }
 }

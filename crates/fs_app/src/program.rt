@@ -102,7 +102,7 @@ pub fn run<R: Env + Files + Input + Print + Eprint + AllocGlobal + Clock + Threa
 fn status_of_run<
     R: Env + Files + Input + Print + Eprint + AllocGlobal + Clock + Threads + Wait + Sync,
 >(rt: &R, is_terminal: bool) -> Result<Status, Failure> {
-    if !has_stack() {
+    if !has_stack(rt) {
         return Err(Failure::NoStack);
     }
     let words = words(rt)?;

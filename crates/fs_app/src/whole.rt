@@ -119,7 +119,7 @@ fn write_beside<R: Files>(
     bytes: &[u8],
 ) -> Result<(), Fault> {
     let Beside { name, mut file } = beside;
-    let written = write_in(&mut file, bytes);
+    let written = write_in(rt, &mut file, bytes);
     if written.is_ok() && rename(rt, name.as_str(), path).is_ok() {
         return Ok(());
     }
@@ -130,15 +130,19 @@ fn write_beside<R: Files>(
 /// Makes the file, or empties it where it is there, and writes the bytes. Where that fails it may hold their beginning.
 fn write_in_place<R: Files>(rt: &R, path: &str, bytes: &[u8]) -> Result<(), Fault> {
     match File::create(rt, path) {
-        Ok(mut file) => write_in(&mut file, bytes),
+        Ok(mut file) => write_in(rt, &mut file, bytes),
         Err(_) => Err(Fault::WriteFault),
     }
 }
 
 /// Writes the bytes to a file that is open and empty, or a device.
-fn write_in<F: Write + OpenFile>(file: &mut F, bytes: &[u8]) -> Result<(), Fault> {
+fn write_in<R: Files, F: Write + OpenFile>(
+    rt: &R,
+    file: &mut F,
+    bytes: &[u8],
+) -> Result<(), Fault> {
     match file.metadata() {
-        Ok(found) => write_within(file, bytes, room_in(&found)),
+        Ok(found) => write_within(file, bytes, room_in(rt, &found)),
         Err(_) => Err(Fault::WriteFault),
     }
 }
