@@ -7,7 +7,8 @@ use Rattle.fs_place.specs.Place.{IsFencedText}
 use Rattle.fs_order.specs.Order.{IsOrderAnswer}
 use Rattle.fs_report.specs.Objects.{AreOneAnswer}
 use Rattle.fs_solve.specs.Solve.{IsSolved}
-use Rattle.fs_audit.specs.Audit.{IsAudited, IsMended}
+use Rattle.fs_audit.specs.Audit.{IsAudited, IsMended, IsFirstAuditFault, IsFirstMendedFault}
+use Rattle.fs_kinds.specs.declared.fault.Fault.{Fault}
 use Rattle.fs_verify.specs.Check.{IsChecked, AreOneVerdict}
 use Rattle.fs_said.specs.declared.said.Line.{Line}
 use Rattle.fs_said.specs.Status.{report_status}
@@ -55,6 +56,11 @@ pub record AnswersSolve (solve : Solve) (papers : Papers) (output : Output) : Ty
 abbrev pub IsAuditText : (is_mended : Bool) (test prices text : List ℕ) (status : Status) → Type 0
 IsAuditText true test prices text status = IsMended test prices text status
 IsAuditText false test prices text status = IsAudited test prices text status
+
+-- and its faults
+abbrev pub IsAuditFault : (is_mended : Bool) (test prices : List ℕ) (limit : ℕ) → Fault → Type 0
+IsAuditFault true test prices limit fault = IsFirstMendedFault test prices limit fault
+IsAuditFault false test prices limit fault = IsFirstAuditFault test prices limit fault
 
 pub record AnswersAudit (audit : Audit) (papers : Papers) (output : Output) : Type 0 where
   pub test_name : papers.test.name.now ≡ audit.test.now

@@ -6,9 +6,8 @@ ghost use Rattle.fs_place.specs.Place.{IsFencedText, IsFirstPlaceFault};
 ghost use Rattle.fs_order.specs.Order.{IsOrderAnswer, IsFirstOrderFault};
 ghost use Rattle.fs_report.specs.Objects.{AreOneAnswer};
 ghost use Rattle.fs_solve.specs.Solve.{IsSolved, IsCertified, IsFirstSolveFault};
-ghost use Rattle.fs_audit.specs.Audit.{IsFirstAuditFault};
 ghost use Rattle.fs_verify.specs.Check.{IsChecked, AreOneVerdict, IsFirstCheckFault};
-ghost use Rattle.fs_app.specs.Answers.{offered, in_form, IsAuditText, Answers, AnswersTest, AnswersPlace, AnswersOrder, AnswersSolve, AnswersAudit, AnswersCheck};
+ghost use Rattle.fs_app.specs.Answers.{offered, in_form, IsAuditFault, IsAuditText, Answers, AnswersTest, AnswersPlace, AnswersOrder, AnswersSolve, AnswersAudit, AnswersCheck};
 
 use crate::failure::Failure;
 use crate::input::INPUT_LIMIT;
@@ -445,7 +444,7 @@ fn audited(
     requires most { limit ≤ 1000000 }
     ensures answer { IfOk result (λ output. IsAuditText is_mended papers.now.test.bytes.items
         papers.now.prices.bytes.items (string_bytes output.text) output.status) }
-    ensures fault { IfErr result (IsFirstAuditFault papers.now.test.bytes.items papers.now.prices.bytes.items limit) }
+    ensures fault { IfErr result (IsAuditFault is_mended papers.now.test.bytes.items papers.now.prices.bytes.items limit) }
 {
     let (test, prices) = (&papers.test.bytes, &papers.prices.bytes);
     if is_mended {
