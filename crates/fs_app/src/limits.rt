@@ -7,7 +7,7 @@ use std::fs::{Metadata, metadata};
 use std::io::Write;
 use std::rt::Files;
 
-/// So many bytes of stack a run may need: twice what the worst of scripts/hostile takes, and more.
+/// So many bytes of stack are asked for: four times what runs on hostile files were seen to need.
 const LEAST_STACK: u64 = 524_288;
 
 /// What getrlimit is asked of the size of files, on each of Linux's machines.
