@@ -6,7 +6,7 @@ use std::fs::{File, Metadata, metadata};
 use std::io::{Read, Write};
 use std::rt::Files;
 
-/// So many bytes of stack a run may need: twice what the worst of scripts/hostile takes, and more.
+/// So many bytes of stack are asked for: four times what runs on hostile files were seen to need.
 const LEAST_STACK: u64 = 524_288;
 
 /// Where the system says what it lets a run use: a line for each limit, with its name, the limit, and the greatest that may be asked for.
