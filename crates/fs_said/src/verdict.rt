@@ -1,6 +1,6 @@
 //! What a verdict comes to.
 
-ghost use Rattle.std.specs.Prelude.{◌≡◌, ◌≢◌, All, true, false, IfOk, IfErr, string_bytes};
+ghost use Rattle.std.specs.Prelude.{◌≡◌, ◌≢◌, ◌⊎◌, ◌≤◌, All, true, false, IfOk, IfErr, string_bytes};
 ghost use Rattle.std.specs.Arc.{arc_value};
 ghost use Rattle.fs_kinds.specs.Placement.{slots_of};
 ghost use Rattle.fs_kinds.specs.declared.fault.Fault.TheVariants.{Memory, TooManyCandidates};
@@ -13,6 +13,7 @@ ghost use Rattle.fs_answer.specs.Valid.{Forbid};
 ghost use Rattle.fs_evidence.specs.Inferences.{cycles_of};
 ghost use Rattle.fs_judge.specs.Verdicts.{IsVerdict};
 ghost use Rattle.fs_said.specs.Verdicts.{IsForbidden, IsLeftOpen, IsSettled, Says, witness_in};
+ghost use Rattle.fs_said.specs.Words.{contradictions_in};
 
 use crate::contradictions::{contradictions_in, forbidden_words};
 use crate::ordered::{order_words, overtaking};
@@ -62,6 +63,15 @@ pub fn said_of(alloc: Global, verdict: Verdict, is_settled: bool) -> Result<Said
     }
 }
 
+// Is it left open what is to be said? It is where they have no contradiction, and it isn't settled that the test isn't vacuous.
+fn is_left_open(cycles: &Cycles, is_settled: bool) -> bool
+    ensures none { result ≡ true → contradictions_in (cycles_of cycles.now) ≡ 0 }
+    ensures unsettled { result ≡ true → is_settled ≡ false }
+    ensures no { result ≡ false → (is_settled ≡ true) ⊎ (1 ≤ contradictions_in (cycles_of cycles.now)) }
+{
+    contradictions_in(cycles) == 0 && !is_settled
+}
+
 // The same of a test that these cycles, or this refutation, show to be forbidden.
 fn said_forbidden(alloc: Global, cycles: &Cycles, is_settled: bool) -> Result<Said, Fault>
     ensures ok { (t : Tests) → IsForbidden t → Forbid t (no_fences t) (cycles_of cycles.now) → IsSettled t is_settled
@@ -69,7 +79,7 @@ fn said_forbidden(alloc: Global, cycles: &Cycles, is_settled: bool) -> Result<Sa
     ensures err { (t : Tests) → IsForbidden t → Forbid t (no_fences t) (cycles_of cycles.now) → IsSettled t is_settled
         → IfErr result (λ f. f ≢ Memory → (f ≡ TooManyCandidates) × IsLeftOpen t) }
 {
-    if contradictions_in(cycles) == 0 && !is_settled {
+    if is_left_open(cycles, is_settled) {
         return Err(Fault::TooManyCandidates);
     }
     Ok(Said {
