@@ -31,8 +31,9 @@ PRICES = "fault F10 BadPrices"
 NO_FENCE = "fault F12 BadFence"
 WITNESS = "fault F17 BadWitness"
 CERTIFICATE = "fault F18 BadCertificate"
-# What `states` says of a log that has no block of SB, and of any log.
-ABSENT = "SB: not in the log"
+# What `states` says of a log that has no block, of one with a bad first line of a block, and of any log.
+NO_BLOCK = "error: the log has no block of a test"
+BAD_TITLE = "error: log line 1: expected `Test NAME Allowed`, `Test NAME Required` or `Test NAME Forbidden`"
 LOGGED = "what is seen and allowed, or an error of the log"
 TOO_LONG = "fault F20 ReadFault"
 
@@ -493,9 +494,10 @@ def fences():
 def logs():
     """Logs for SB: floods, blocks that break off, many blocks, states and items, and what isn't UTF-8."""
     head = b"Test SB Allowed\nStates %d\n"
-    yield "a log of nothing", b"", ABSENT
+    yield "a log of nothing", b"", NO_BLOCK
     for sign in [b"x", b"\n", b";", b"0:x7=0; ", b"Test SB Allowed ", b"\r"]:
-        yield f"{sign!r} for a log", sign * (MEBIBYTE // len(sign)), ABSENT
+        said = BAD_TITLE if sign.startswith(b"Test") else NO_BLOCK
+        yield f"{sign!r} for a log", sign * (MEBIBYTE // len(sign)), said
         yield f"{sign!r} for a state", head % 1 + sign * (MEBIBYTE // len(sign)) + b"\nOk\n", LOGGED
     yield "a million states and none", head % 1_000_000, "error: log line 2: expected a state"
     yield "a count of 400,000 digits", b"Test SB Allowed\nStates " + b"9" * 400_000 + b"\n", LOGGED

@@ -8,8 +8,8 @@ use Rattle.std.proofs.lemmas.List.Concat.{flat_map-append}
 use Rattle.std.proofs.lemmas.List.Elements.{filter-append}
 use Rattle.fs_model.specs.declared.test.Test.{Test}
 use Rattle.fs_shown.specs.declared.columns.Column.{Column}
-use Rattle.fs_log.specs.declared.log.Block.{Block}
-use Rattle.fs_log.specs.declared.log.Seen.{Seen}
+use Rattle.fs_blocks.specs.declared.log.Block.{Block}
+use Rattle.fs_blocks.specs.declared.log.Seen.{Seen}
 use Rattle.fs_log.specs.Compared.{states_seen}
 use Rattle.fs_log.specs.Rows.{AreColumns, AreFirstColumns}
 

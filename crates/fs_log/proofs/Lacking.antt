@@ -9,7 +9,7 @@ use Rattle.fs_states.specs.States.{words_of}
 use Rattle.fs_log.specs.Compared.{is_among, is_lacking}
 use Rattle.fs_log.specs.Tallies.{Counted, is_of, more_often, IsTally}
 
-some_one : (b : Bool) (found : Option ℕ) (times : ℕ) (rest : Bool)
+some_one : (b : Bool) (found : Option (Option ℕ)) (times : Option ℕ) (rest : Bool)
     → (is_some (cond b (Some (more_often found times)) found) || rest) ≡ (is_some found || (b || rest))
 some_one true None times rest = refl
 some_one true (Some n) times rest = refl
@@ -20,7 +20,7 @@ or_false : (b : Bool) → (b || false) ≡ b
 or_false true = refl
 or_false false = refl
 
-some_from : (s : List ℕ) (found : Option ℕ) (rows : List Counted)
+some_from : (s : List ℕ) (found : Option (Option ℕ)) (rows : List Counted)
     → is_some (fold (λ found row. cond (is_of s row.0) (Some (more_often found row.1)) found) found rows)
     ≡ (is_some found || list_any (is_of s) (keys_of rows))
 some_from s found [] = sym (or_false (is_some found))
@@ -30,13 +30,13 @@ some_from s found (row ∷ rows) =
 
 -- a state lacks in a tally exactly where no row has it
 lacking_is : (rows tally : List Counted) → IsTally rows tally → (s : List ℕ) → is_lacking tally s ≡ not (is_among (keys_of rows) s)
-lacking_is rows tally is s = ap (λ (found : Option ℕ). not (is_some found)) (is.exact s) ∙ ap not (some_from s None rows)
+lacking_is rows tally is s = ap (λ (found : Option (Option ℕ)). not (is_some found)) (is.exact s) ∙ ap not (some_from s None rows)
 
-keys_allowed : (states : List State) → keys_of {X = ℕ} (map (λ state. (state.words, 0)) states) ≡ words_of states
+keys_allowed : (states : List State) → keys_of {X = Option ℕ} (map (λ state. (state.words, None)) states) ≡ words_of states
 keys_allowed [] = refl
 keys_allowed (state ∷ states) = ap (λ (ws : List (List ℕ)). state.words ∷ ws) (keys_allowed states)
 
-pub forbidden_are : (states : List State) (allowed tally : List Counted) → IsTally (map (λ state. (state.words, 0)) states) allowed
+pub forbidden_are : (states : List State) (allowed tally : List Counted) → IsTally (map (λ state. (state.words, None)) states) allowed
     → filter (λ row. is_lacking allowed row.0) tally ≡ filter (λ row. not (is_among (words_of states) row.0)) tally
 forbidden_are states allowed tally is =
     filter_agree (λ row. is_lacking allowed row.0) (λ row. not (is_among (words_of states) row.0))

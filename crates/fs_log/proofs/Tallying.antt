@@ -1,5 +1,5 @@
 -- States, and how often each was seen.
-use Rattle.std.proofs.Common.{◌≡◌, ◌∙◌, ap, sym, refl, subst, ℕ, ◌+◌, ◌<◌, List, [], ◌∷◌, ◌++◌, Bool, true, false, cond, Some, None, length, take, map}
+use Rattle.std.proofs.Common.{◌≡◌, ◌∙◌, ap, sym, refl, subst, ℕ, ◌+◌, ◌<◌, List, [], ◌∷◌, ◌++◌, Bool, true, false, cond, Option, Some, None, length, take, map}
 use Rattle.std.specs.Prelude.{Vec}
 use Rattle.std.specs.BTreeMap.{insert_entry}
 use Rattle.std.specs.Cmp.Lexicographic.{slice_cmp}
@@ -18,7 +18,7 @@ use Rattle.fs_log.specs.declared.tally.Row.{Row}
 use Rattle.fs_log.specs.Tallies.{Counted, counted, is_of, more_often, tallied, with_row}
 
 abbrev pub Entry : Type 0
-Entry = Vec ℕ Global × ℕ
+Entry = Vec ℕ Global × Option ℕ
 
 abbrev pub view : Entry → Counted
 view entry = (entry.0.items, entry.1)
@@ -32,7 +32,7 @@ pub lookup_view : (test : List ℕ → Bool) (es : List Entry) → lookup (λ ke
 lookup_view test [] = refl
 lookup_view test (e ∷ es) = ap (cond (test e.0.items) (Some e.1)) (lookup_view test es)
 
-view_at : (es : List Entry) (k : Vec ℕ Global) (v : ℕ) (e : Entry) (o : Ordering)
+view_at : (es : List Entry) (k : Vec ℕ Global) (v : Option ℕ) (e : Entry) (o : Ordering)
     → map view (insert_entry order es k v) ≡ insert_entry (slice_cmp nat_cmp) (map view es) k.items v
     → map view (match_ordering o ((k, v) ∷ e ∷ es) ((e.0, v) ∷ es) (e ∷ insert_entry order es k v))
     ≡ match_ordering o ((k.items, v) ∷ view e ∷ map view es) ((e.0.items, v) ∷ map view es)
@@ -41,7 +41,7 @@ view_at es k v e Less ih = refl
 view_at es k v e Equal ih = refl
 view_at es k v e Greater ih = ap (λ xs. view e ∷ xs) ih
 
-pub insert_view : (es : List Entry) (k : Vec ℕ Global) (v : ℕ)
+pub insert_view : (es : List Entry) (k : Vec ℕ Global) (v : Option ℕ)
     → map view (insert_entry order es k v) ≡ insert_entry (slice_cmp nat_cmp) (map view es) k.items v
 insert_view [] k v = refl
 insert_view (e ∷ es) k v = view_at es k v e (order k e.0) (insert_view es k v)
@@ -78,18 +78,18 @@ differ k q h e =
     let greater : slice_cmp nat_cmp k k ≡ Greater = subst (λ (x : List ℕ). slice_cmp nat_cmp k x ≡ Greater) (sym e) h in
     absurd (cc (sym itself ∙ greater))
 
-twice : (b : Bool) (v w : ℕ) (z : _) → cond b (Some v) z ≡ cond b (Some v) (cond b (Some w) z)
+twice : (b : Bool) (v w : Option ℕ) (z : _) → cond b (Some v) z ≡ cond b (Some v) (cond b (Some w) z)
 twice true v w z = refl
 twice false v w z = refl
 
-apart : (a b : Bool) (v w : ℕ) (z : _) → (a ≡ true → b ≡ true → ⊥)
+apart : (a b : Bool) (v w : Option ℕ) (z : _) → (a ≡ true → b ≡ true → ⊥)
     → cond b (Some w) (cond a (Some v) z) ≡ cond a (Some v) (cond b (Some w) z)
 apart true true v w z h = absurd (h refl refl)
 apart true false v w z h = refl
 apart false true v w z h = refl
 apart false false v w z h = refl
 
-put_at : (k : List ℕ) (v : ℕ) (s : List ℕ) (e : Counted) (es : List Counted) (o : Ordering) → slice_cmp nat_cmp k e.0 ≡ o
+put_at : (k : List ℕ) (v : Option ℕ) (s : List ℕ) (e : Counted) (es : List Counted) (o : Ordering) → slice_cmp nat_cmp k e.0 ≡ o
     → lookup (is_of s) (insert_entry (slice_cmp nat_cmp) es k v) ≡ cond (is_of s k) (Some v) (lookup (is_of s) es)
     → lookup (is_of s) (match_ordering o ((k, v) ∷ e ∷ es) ((e.0, v) ∷ es) (e ∷ insert_entry (slice_cmp nat_cmp) es k v))
     ≡ cond (is_of s k) (Some v) (lookup (is_of s) (e ∷ es))
@@ -104,7 +104,7 @@ put_at k v s e es Greater h ih =
     (sym (is_of_same s k at_k) ∙ is_of_same s e.0 at_e)))
 
 -- after a state was put, it is found there, and each other one as before
-lookup_put : (k : List ℕ) (v : ℕ) (s : List ℕ) (es : List Counted)
+lookup_put : (k : List ℕ) (v : Option ℕ) (s : List ℕ) (es : List Counted)
     → lookup (is_of s) (insert_entry (slice_cmp nat_cmp) es k v) ≡ cond (is_of s k) (Some v) (lookup (is_of s) es)
 lookup_put k v s [] = refl
 lookup_put k v s (e ∷ es) = put_at k v s e es (slice_cmp nat_cmp k e.0) refl (lookup_put k v s es)

@@ -6,20 +6,21 @@ use Rattle.std.specs.List.{AllZip, filter, flat_map, list_any}
 use Rattle.std.specs.Map.{keys_of, lookup}
 use Rattle.std.specs.Str.{bytes_eq}
 use Rattle.fs_io.specs.declared.status.Status.{Status}
-use Rattle.fs_io.specs.declared.status.Status.TheVariants.{Success, Denied}
+use Rattle.fs_io.specs.declared.status.Status.TheVariants.{Success, Denied, Failure}
 use Rattle.fs_kinds.specs.declared.placement.Entry.{Entry}
 use Rattle.fs_model.specs.declared.test.Location.{Location}
 use Rattle.fs_model.specs.declared.test.Test.{Test}
 use Rattle.fs_model.specs.Placed.{IsPlaced}
 use Rattle.fs_model.specs.Slots.{slots}
 use Rattle.fs_litmus.specs.Reads.{Reads}
+use Rattle.fs_point.specs.Messages.{name_text}
 use Rattle.fs_states.specs.States.{AreStates}
 use Rattle.fs_shown.specs.Names.{state_line}
 use Rattle.fs_shown.specs.declared.columns.Column.{Column}
 use Rattle.fs_log.specs.Rows.{AreFirstColumns, IsRow}
 use Rattle.fs_log.specs.Tallies.{Counted, counted, is_of, IsTally}
-use Rattle.fs_log.specs.declared.log.Block.{Block}
-use Rattle.fs_log.specs.declared.log.Seen.{Seen}
+use Rattle.fs_blocks.specs.declared.log.Block.{Block}
+use Rattle.fs_blocks.specs.declared.log.Seen.{Seen}
 use Rattle.fs_log.specs.declared.text.Findings.{Findings}
 
 -- ---- what is found
@@ -48,12 +49,13 @@ pub record AreFindings (t : Test) (p : List Entry) (columns : List Column) (rows
   pub forbidden : map counted found.forbidden ≡ filter (λ row. not (is_among states row.0)) tally
   pub not_seen : found.not_seen ≡ filter (λ state. not (is_among (keys_of rows) state)) states
 
--- ---- what is printed
+-- ---- what is printed, names as messages show them
 
-abbrev pub times_text : ℕ → List ℕ
-times_text times = if times == 0 then [] else codes ", " ++ (decimal times ++ codes " seen")
+abbrev pub times_text : Option ℕ → List ℕ
+times_text None = []
+times_text (Some times) = codes ", " ++ (decimal times ++ codes " seen")
 
-abbrev pub forbidden_label : ℕ → List ℕ
+abbrev pub forbidden_label : Option ℕ → List ℕ
 forbidden_label times = codes "  forbidden" ++ (times_text times ++ codes "  ")
 
 -- such as `  forbidden, 12 seen  0:x7=2; 1:x7=0;`
@@ -67,7 +69,7 @@ not_seen_line locations columns state = codes "  not seen   " ++ state_line loca
 -- such as `SB: 3 seen, 4 allowed`
 abbrev pub first_line : (name : List ℕ) → (seen allowed : ℕ) → List ℕ
 first_line name seen allowed =
-    name ++ (codes ": " ++ (decimal seen ++ (codes " seen, " ++ (decimal allowed ++ codes " allowed\n"))))
+    name_text name ++ (codes ": " ++ (decimal seen ++ (codes " seen, " ++ (decimal allowed ++ codes " allowed\n"))))
 
 abbrev pub compared_text : (name : List ℕ) → List Location → List Column → Findings → List ℕ
 compared_text name locations columns found =
@@ -76,7 +78,7 @@ compared_text name locations columns found =
     ++ flat_map (not_seen_line locations columns) found.not_seen)
 
 abbrev pub lacking_text : (name : List ℕ) → List ℕ
-lacking_text name = name ++ codes ": not in the log\n"
+lacking_text name = name_text name ++ codes ": not in the log\n"
 
 -- 1 where a state was seen that is forbidden, else 0
 abbrev pub status_of : Findings → Status
@@ -98,7 +100,7 @@ pub record IsHeld (t : Test) (p : List Entry) (states : List Seen) (text : List 
 -- what is said where the log has the test, or lacks it
 abbrev pub IsComparedTo : (in_log : Bool) → Test → List Entry → List Seen → (text : List ℕ) → Status → Type 0
 IsComparedTo true t p states text status = IsHeld t p states text status
-IsComparedTo false t p states text status = (text ≡ lacking_text t.name) × (status ≡ Success)
+IsComparedTo false t p states text status = (text ≡ lacking_text t.name) × (status ≡ Failure)
 
 abbrev pub is_in_log : List Block → (name : List ℕ) → Bool
 is_in_log log name = list_any (λ block. bytes_eq block.name.now name) log

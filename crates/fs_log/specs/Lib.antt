@@ -1,4 +1,3 @@
-pub mod Errors
 pub mod Tallies
 pub mod Rows
 pub mod Compared

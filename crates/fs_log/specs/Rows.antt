@@ -8,10 +8,11 @@ use Rattle.fs_litmus.specs.Settings.{signed}
 use Rattle.fs_states.specs.declared.place.Place.{Place}
 use Rattle.fs_states.specs.declared.place.Place.TheVariants.{Register, Location}
 use Rattle.fs_states.specs.States.{ArePlacesOf}
+use Rattle.fs_point.specs.Messages.{name_text}
 use Rattle.fs_shown.specs.Names.{IsNamed}
 use Rattle.fs_shown.specs.declared.columns.Column.{Column}
-use Rattle.fs_log.specs.declared.log.Item.{Item}
-use Rattle.fs_log.specs.declared.log.Seen.{Seen}
+use Rattle.fs_blocks.specs.declared.log.Item.{Item}
+use Rattle.fs_blocks.specs.declared.log.Seen.{Seen}
 use Rattle.fs_log.specs.declared.setting.Setting.{Setting}
 use Rattle.fs_log.specs.Tallies.{Counted}
 
@@ -51,9 +52,9 @@ IsSetting t item setting =
 abbrev pub word_at : List Setting → Place → Option ℕ
 word_at settings place = option_map (λ setting. setting.word) (find (λ setting. is_place place setting.place) settings)
 
--- the column is of the place that the item names, under that name
+-- the column is of the place that the item names, under that name as messages show it
 abbrev pub IsColumn : Test → Item → Column → Type 0
-IsColumn t item column = IsNamed t item.place.now (Some column.place) × (column.name ≡ item.place.now)
+IsColumn t item column = IsNamed t item.place.now (Some column.place) × (column.name ≡ name_text item.place.now)
 
 -- a column for each place that the state names, in its order; each once
 pub record AreColumns (t : Test) (first : Seen) (columns : List Column) : Type 0 where

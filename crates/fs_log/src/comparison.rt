@@ -9,12 +9,11 @@ ghost use Rattle.fs_states.specs.States.{ArePlacesOf};
 ghost use Rattle.fs_log.specs.Compared.{states_seen, compared_text, lacking_text, is_in_log, status_of, AreFindings, IsHeld, IsComparedTo, IsCompared};
 ghost use Rattle.fs_log.specs.Tallies.{counted};
 
-use crate::error::LogError;
 use crate::finding::{allowed_rows, forbidden, not_seen};
-use crate::log::{Block, Log};
 use crate::rows::{first_columns, is_of, places_of, rows_of};
 use crate::tally::{Row, tally_of};
 use crate::text::{Findings, compared_text, lacking_text};
+use fs_blocks::{Block, Log, LogError};
 use fs_io::Status;
 use fs_kinds::{Fault, Placement};
 use fs_list::List;
@@ -26,7 +25,7 @@ use std::alloc::{AllocError, Global};
 use std::sync::Arc;
 
 /// What is said of a test file: the name of its test, the text that is printed, and the status, which is 1 where a state
-/// was seen that is forbidden, and else 0.
+/// was seen that is forbidden, 2 where the log lacks the test, and else 0.
 #[derive(Drop)]
 pub struct Compared {
     pub name: String,
@@ -127,13 +126,13 @@ fn compare_states(
 fn lacking(alloc: Global, test: &Test) -> Result<Compared, AllocError>
     ensures name { IfOk result (λ made. string_bytes made.name ≡ test.now.name) }
     ensures text { IfOk result (λ made. string_bytes made.text ≡ lacking_text test.now.name) }
-    ensures status { IfOk result (λ made. made.status ≡ Status.Success) }
+    ensures status { IfOk result (λ made. made.status ≡ Status.Failure) }
 {
     let name = test.name.as_str();
     Ok(Compared {
         name: String::from_str(alloc, name)?,
         text: lacking_text(alloc, name)?,
-        status: Status::Success,
+        status: Status::Failure,
     })
 }
 

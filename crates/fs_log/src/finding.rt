@@ -1,6 +1,6 @@
 //! The states that were seen and are forbidden, and those that are allowed and weren't seen.
 
-ghost use Rattle.std.specs.Prelude.{◌≡◌, map, IfOk};
+ghost use Rattle.std.specs.Prelude.{◌≡◌, None, map, IfOk};
 ghost use Rattle.std.specs.List.{filter};
 ghost use Rattle.fs_states.specs.States.{words_of};
 ghost use Rattle.fs_log.specs.Compared.{is_lacking};
@@ -12,7 +12,7 @@ use fs_states::State;
 use std::alloc::{AllocError, Global};
 
 // A row of the words, which are copied.
-fn row(alloc: Global, words: &[u32], times: u64) -> Result<Row, AllocError>
+fn row(alloc: Global, words: &[u32], times: Option<u64>) -> Result<Row, AllocError>
     ensures { IfOk result (λ row. counted row ≡ (words.now, times)) }
 {
     Ok(Row {
@@ -21,13 +21,13 @@ fn row(alloc: Global, words: &[u32], times: u64) -> Result<Row, AllocError>
     })
 }
 
-/// The states, each as if it had been seen no times.
+/// The states, without how often they were seen.
 pub(crate) fn allowed_rows(alloc: Global, states: &[State]) -> Result<Vec<Row>, AllocError>
-    ensures { IfOk result (λ rows. map counted rows.items ≡ map (λ state. (state.words, 0)) states.now) }
+    ensures { IfOk result (λ rows. map counted rows.items ≡ map (λ state. (state.words, None)) states.now) }
 {
     let mut rows = Vec::new(alloc);
     for state in states {
-        rows.push(row(alloc, state.words.as_slice(), 0)?)?;
+        rows.push(row(alloc, state.words.as_slice(), None)?)?;
     }
     Ok(rows)
 }

@@ -1,21 +1,15 @@
-//! Logs of herd7 and litmus7, held against the states that tests allow.
+//! Tests held against logs of herd7 and litmus7.
 #![tactic(auto)]
 
 mod comparison;
-mod error;
 mod finding;
 mod left;
-mod log;
-mod reader;
 mod rows;
 mod setting;
-mod spelling;
 mod tally;
 mod text;
 mod value;
 
 pub use comparison::{Compared, compare};
-pub use error::{Expected, LogError};
+pub use fs_blocks::{Block, Expected, Item, Log, LogError, MOST_BYTES, Seen, read_log};
 pub use left::left_over;
-pub use log::{Block, Item, Log, Seen};
-pub use reader::{MOST_BYTES, read_log};

@@ -8,15 +8,15 @@ ghost use Rattle.fs_states.specs.States.{IsPlaceOf, ArePlacesOf};
 ghost use Rattle.fs_log.specs.Rows.{are_apart, is_place, AreColumns, AreFirstColumns, IsColumn, IsRow};
 ghost use Rattle.fs_log.specs.Compared.{states_seen};
 ghost use Rattle.fs_log.specs.Tallies.{counted};
-ghost use Rattle.fs_log.specs.declared.log.Item.{Item as NamedItem};
-ghost use Rattle.fs_log.specs.declared.log.Seen.{Seen as Seens};
+ghost use Rattle.fs_blocks.specs.declared.log.Item.{Item as NamedItem};
+ghost use Rattle.fs_blocks.specs.declared.log.Seen.{Seen as Seens};
 
-use crate::error::{Expected, LogError};
-use crate::log::{Block, Item, Seen};
 use crate::setting::{is_place, settings_of, words_at};
 use crate::tally::Row;
+use fs_blocks::{Block, Expected, Item, LogError, Seen};
 use fs_list::List as Items;
 use fs_model::{Name, Test};
+use fs_point::shown_name;
 use fs_shown::{Column, place_named};
 use fs_states::Place;
 use std::alloc::{AllocError, Global};
@@ -64,7 +64,7 @@ fn column_of(alloc: Global, test: &Test, line: usize, item: &Item<'_>) -> Result
             expected: Expected::Place,
         });
     };
-    let name = String::from_str(alloc, item.place)?;
+    let name = shown_name(alloc, item.place)?;
     Ok(Column {
         place,
         name: Name::new(name),

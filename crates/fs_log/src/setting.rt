@@ -4,11 +4,10 @@ ghost use Rattle.std.specs.Prelude.{◌≡◌, ◌++◌, ◌∷◌, [], List, If
 ghost use Rattle.std.specs.List.{AllZip};
 ghost use Rattle.fs_model.specs.Test.{IsBounded};
 ghost use Rattle.fs_log.specs.Rows.{is_place, word_at, IsSetting};
-ghost use Rattle.fs_log.specs.declared.log.Item.{Item as Items};
+ghost use Rattle.fs_blocks.specs.declared.log.Item.{Item as Items};
 
-use crate::error::{Expected, LogError};
-use crate::log::{Item, Seen};
 use crate::value::word_in;
+use fs_blocks::{Expected, Item, LogError, Seen};
 use fs_instr::Reg;
 use fs_model::Test;
 use fs_shown::{Column, place_named};

@@ -5,34 +5,50 @@ ghost use Rattle.std.specs.List.Sorted.{IsStrictlySortedBy};
 ghost use Rattle.std.specs.Map.{keys_of, lookup};
 ghost use Rattle.std.specs.Ordering.{nat_cmp};
 ghost use Rattle.std.specs.Cmp.Lexicographic.{slice_cmp};
-ghost use Rattle.fs_log.specs.Tallies.{counted, is_of, with_row, entries_of, IsTally};
+ghost use Rattle.fs_log.specs.Tallies.{counted, is_of, sum_of, with_row, entries_of, IsTally};
 
 use fs_list::List;
 use std::alloc::{AllocError, Global};
 use std::collections::BTreeMap;
 
-/// The words of a state, and how often it was seen.
+/// The words of a state, and how often it was seen, where the log says so.
 #[derive(Drop)]
 pub struct Row {
     pub words: List<u32>,
-    pub times: u64,
+    pub times: Option<u64>,
 }
 
 /// How often each state was seen, by its words.
-pub(crate) type Tally = BTreeMap<Vec<u32>, u64>;
+pub(crate) type Tally = BTreeMap<Vec<u32>, Option<u64>>;
+
+// So often, and then so often more: no more than 2^64 - 1 times.
+fn sum_of(before: Option<u64>, times: Option<u64>) -> Option<u64>
+    ensures { result ≡ sum_of before times }
+{
+    match (before, times) {
+        (Some(before), Some(times)) => Some(before.saturating_add(times)),
+        (None, times) => times,
+        (before, None) => before,
+    }
+}
 
 // Adds that a state of these words was seen so often.
-fn add(tally: &mut Tally, words: Vec<u32>, times: u64) -> Result<(), AllocError>
+fn add(tally: &mut Tally, words: Vec<u32>, times: Option<u64>) -> Result<(), AllocError>
     ensures added { OnOk result (entries_of tally.new ≡ with_row (entries_of tally.old) (words.items, times)) }
     ensures rising { OnOk result (IsStrictlySortedBy (slice_cmp nat_cmp) (keys_of (entries_of tally.new))) }
 {
-    let before = tally.get(words.as_slice()).copied().unwrap_or(0);
-    tally.insert(words, before.saturating_add(times))?;
+    let before = tally.get(words.as_slice()).copied().unwrap_or(None);
+    tally.insert(words, sum_of(before, times))?;
     Ok(())
 }
 
 // The same of a state whose words are copied.
-fn add_row(alloc: Global, tally: &mut Tally, words: &[u32], times: u64) -> Result<(), AllocError>
+fn add_row(
+    alloc: Global,
+    tally: &mut Tally,
+    words: &[u32],
+    times: Option<u64>,
+) -> Result<(), AllocError>
     ensures added { OnOk result (entries_of tally.new ≡ with_row (entries_of tally.old) (words.now, times)) }
     ensures rising { OnOk result (IsStrictlySortedBy (slice_cmp nat_cmp) (keys_of (entries_of tally.new))) }
 {

@@ -9,6 +9,7 @@ ghost use Rattle.fs_log.specs.Tallies.{counted};
 use crate::tally::Row;
 use fs_list::List;
 use fs_model::Location;
+use fs_point::shown_name;
 use fs_shown::{Column, push_state};
 use std::alloc::{AllocError, Global};
 
@@ -23,17 +24,17 @@ pub(crate) struct Findings {
 }
 
 // How often a forbidden state was seen, where the log says so.
-fn times_text(alloc: Global, times: u64) -> Result<String, AllocError>
+fn times_text(alloc: Global, times: Option<u64>) -> Result<String, AllocError>
     ensures { IfOk result (λ text. string_bytes text ≡ times_text times) }
 {
-    if times == 0 {
-        return Ok(String::new(alloc));
+    match times {
+        Some(times) => format!(in alloc; ", {times} seen"),
+        None => Ok(String::new(alloc)),
     }
-    format!(in alloc; ", {times} seen")
 }
 
 // What stands before a forbidden state that was seen so often.
-fn forbidden_label(alloc: Global, times: u64) -> Result<String, AllocError>
+fn forbidden_label(alloc: Global, times: Option<u64>) -> Result<String, AllocError>
     ensures { IfOk result (λ text. string_bytes text ≡ forbidden_label times) }
 {
     let times = times_text(alloc, times)?;
@@ -135,12 +136,14 @@ pub(crate) fn compared_text(
 fn first_line(alloc: Global, name: &str, seen: usize, allowed: usize) -> Result<String, AllocError>
     ensures { IfOk result (λ text. string_bytes text ≡ first_line name.now seen allowed) }
 {
-    format!(in alloc; "{name}: {seen} seen, {allowed} allowed\n")
+    let name = shown_name(alloc, name)?;
+    format!(in alloc; "{}: {seen} seen, {allowed} allowed\n", name.as_str())
 }
 
 /// What is printed of a test that the log lacks.
 pub(crate) fn lacking_text(alloc: Global, name: &str) -> Result<String, AllocError>
     ensures { IfOk result (λ text. string_bytes text ≡ lacking_text name.now) }
 {
-    format!(in alloc; "{name}: not in the log\n")
+    let name = shown_name(alloc, name)?;
+    format!(in alloc; "{}: not in the log\n", name.as_str())
 }

@@ -29,6 +29,7 @@ fn said(alloc: Global, log: &str, fences: &str) -> Result<String, AllocError> {
     match compare(alloc, &log, SB.as_bytes(), &fences) {
         Ok(made) => match made.status {
             Status::Denied => format!(in alloc; "{}1", made.text),
+            Status::Failure => format!(in alloc; "{}2", made.text),
             _ => format!(in alloc; "{}0", made.text),
         },
         Err(error) => format!(in alloc; "{error}"),
@@ -36,7 +37,7 @@ fn said(alloc: Global, log: &str, fences: &str) -> Result<String, AllocError> {
 }
 
 // Logs, fences, and what is said of store buffering.
-const ROWS: [(&str, &str, &str); 9] = [
+const ROWS: [(&str, &str, &str); 11] = [
     (
         "Test SB Allowed\nStates 4\n0:x7=0; 1:x7=0;\n0:x7=0; 1:x7=1;\n0:x7=1; 1:x7=0;\n0:x7=1; 1:x7=1;\nOk\n",
         "",
@@ -59,10 +60,22 @@ const ROWS: [(&str, &str, &str); 9] = [
         "",
         "SB: 1 seen, 1 allowed\n  forbidden  [x]=4294967295; y=x;\n  not seen   [x]=1; y=1;\n1",
     ),
+    // a count of 0 is no missing one
+    (
+        "Test SB Allowed\nHistogram (1 states)\n0 :>x=0; y=1;\nNo\n",
+        "",
+        "SB: 1 seen, 1 allowed\n  forbidden, 0 seen  x=0; y=1;\n  not seen   x=1; y=1;\n1",
+    ),
+    // counted in one run, and not in the other one
+    (
+        "Test SB Allowed\nStates 1\nx=0; y=1;\nNo\nTest SB Allowed\nHistogram (1 states)\n3 :>x=0; y=1;\nNo\n",
+        "",
+        "SB: 1 seen, 1 allowed\n  forbidden, 3 seen  x=0; y=1;\n  not seen   x=1; y=1;\n1",
+    ),
     (
         "Test MP Allowed\nStates 1\n1:x5=0;\nOk\n",
         "",
-        "SB: not in the log\n0",
+        "SB: not in the log\n2",
     ),
     (
         "Test SB Allowed\nStates 1\n2:x7=0;\nOk\n",

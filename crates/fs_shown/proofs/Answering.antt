@@ -15,34 +15,36 @@ use Rattle.fs_states.specs.States.{IsStatesFault, word_at}
 use Rattle.fs_shown.specs.declared.asked.Shown.{Shown}
 use Rattle.fs_shown.specs.declared.columns.Column.{Column}
 use Rattle.fs_shown.specs.Places.{AreColumns, IsColumnsFault}
-use Rattle.fs_shown.specs.Shown.{IsStatesText, IsFirstStatesFault, of_test, of_locations, of_fences, of_states, of_memory}
+use Rattle.fs_shown.specs.Shown.{places_of, IsStatesText, IsFirstStatesFault, of_test, of_locations, of_fences, of_states, of_memory}
 use Rattle.fs_shown.specs.inner.Parts.{IsOfStates}
 use Rattle.fs_shown.proofs.Meaning.{condition_meant}
 
-module _ (test : List ℕ) (fences : List (List ℕ)) where
-  first-memory : (f : Fault) → f ≡ Memory → IsFirstStatesFault test fences f
-  first-memory f e = subst (IsFirstStatesFault test fences) (sym e) of_memory
+module _ (test : List ℕ) (fences : List (List ℕ)) (asked : Shown) where
+  first-memory : (f : Fault) → f ≡ Memory → IsFirstStatesFault test fences asked f
+  first-memory f e = subst (IsFirstStatesFault test fences asked) (sym e) of_memory
 
-  pub first-test : (f : Fault) → (f ≢ Memory → IsTestFault test f) → IsFirstStatesFault test fences f
+  pub first-test : (f : Fault) → (f ≢ Memory → IsTestFault test f) → IsFirstStatesFault test fences asked f
   first-test f h = elim (is_memory f) [ inl e ↦ first-memory f e | inr n ↦ of_test (h n) ]
 
-  pub first-locations : (f : Fault) (t : Test) → Reads test t → (f ≢ Memory → IsColumnsFault test t f) → IsFirstStatesFault test fences f
+  pub first-locations : (f : Fault) (t : Test) → Reads test t → (f ≢ Memory → IsColumnsFault test t f) → IsFirstStatesFault test fences asked f
   first-locations f t reads h = elim (is_memory f) [ inl e ↦ first-memory f e | inr n ↦ of_locations t reads (h n) ]
 
-  pub first-fences : (f : Fault) (t : Test) → Reads test t → (f ≡ BadFence → IsBadFences None t fences) → (f ≡ BadFence) ⊎ (f ≡ Memory) → IsFirstStatesFault test fences f
+  pub first-fences : (f : Fault) (t : Test) → Reads test t → (f ≡ BadFence → IsBadFences None t fences) → (f ≡ BadFence) ⊎ (f ≡ Memory) → IsFirstStatesFault test fences asked f
   first-fences f t reads bad other =
       elim other [
-        | inl e ↦ subst (IsFirstStatesFault test fences) (sym e) (of_fences t reads (bad e))
+        | inl e ↦ subst (IsFirstStatesFault test fences asked) (sym e) (of_fences t reads (bad e))
         | inr e ↦ first-memory f e
       ]
 
-  pub first-states : (f : Fault) (t : Test) → Reads test t → (f ≢ Memory → IsStatesFault t f) → IsFirstStatesFault test fences f
-  first-states f t reads h = elim (is_memory f) [ inl e ↦ first-memory f e | inr n ↦ of_states t reads (h n) ]
+  pub first-states : (f : Fault) (t : Test) (p : List Entry) (columns : List Column) → Reads test t → IsPlaced None (slots t) fences (Some p)
+      → AreColumns test t asked.all columns → (f ≢ Memory → IsStatesFault t p (places_of columns) f) → IsFirstStatesFault test fences asked f
+  first-states f t p columns reads placed are h =
+      elim (is_memory f) [ inl e ↦ first-memory f e | inr n ↦ of_states t p columns reads placed are (h n) ]
 
-  pub told : (asked : Shown) (text : List ℕ) (t : Test) (p : List Entry) (columns : List Column) → Reads test t → IsBounded t
+  pub told : (text : List ℕ) (t : Test) (p : List Entry) (columns : List Column) → Reads test t → IsBounded t
       → IsPlaced None (slots t) fences (Some p) → AreColumns test t asked.all columns → IsOfStates t p columns asked.witnesses text
       → IsStatesText test fences asked text
-  told asked text t p columns reads bounded placed are of = record {
+  told text t p columns reads bounded placed are of = record {
     the_test = t;
     reads = reads;
     placement = p;

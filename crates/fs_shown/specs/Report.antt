@@ -1,4 +1,4 @@
--- What `states` prints of a test file, in herd7's form.
+-- What `states` prints of a test file, in herd7's form, the test's name as messages show it.
 use Rattle.std.specs.Prelude.{ℕ, ◌==◌, Bool, not, option_map, unwrap_or, List, [], ◌∷◌, ◌++◌, length, count_by, codes, if◌then◌else◌}
 use Rattle.std.specs.Fmt.{decimal}
 use Rattle.std.specs.List.{flat_map}
@@ -13,6 +13,7 @@ use Rattle.fs_model.specs.Condition.{Condition, condition_of}
 use Rattle.fs_model.specs.Fenced.{fenced}
 use Rattle.fs_model.specs.Printed.{ended, printed}
 use Rattle.fs_model.specs.Shows.{holds}
+use Rattle.fs_point.specs.Messages.{name_text}
 use Rattle.fs_states.specs.declared.place.Place.{Place}
 use Rattle.fs_states.specs.declared.place.Place.TheVariants.{Register, Location}
 use Rattle.fs_states.specs.declared.state.State.{State}
@@ -77,7 +78,7 @@ condition_line t p = behind_break (before_break (printed (fenced t p)))
 
 abbrev pub title_lines : Test → (states : ℕ) → List ℕ
 title_lines t states =
-    codes "Test " ++ (t.name ++ (codes " " ++ (quantifier_word t.quantifier ++ (codes "\nStates " ++ (decimal states ++ codes "\n")))))
+    codes "Test " ++ (name_text t.name ++ (codes " " ++ (quantifier_word t.quantifier ++ (codes "\nStates " ++ (decimal states ++ codes "\n")))))
 
 -- the execution, as the JSON text of a witness, where it is asked for
 abbrev pub witness_line : (witnesses : Bool) → State → List ℕ
@@ -93,7 +94,7 @@ counts_lines q positive negative =
 -- the condition, the verdict on it in words, and a blank line
 abbrev pub last_lines : Test → List Entry → (positive negative : ℕ) → List ℕ
 last_lines t p positive negative =
-    codes "Condition " ++ (condition_line t p ++ (codes "\nObservation " ++ (t.name ++ (codes " "
+    codes "Condition " ++ (condition_line t p ++ (codes "\nObservation " ++ (name_text t.name ++ (codes " "
     ++ (observation_word positive negative ++ (codes " " ++ (decimal positive ++ (codes " " ++ (decimal negative ++ codes "\n\n")))))))))
 
 abbrev pub listing_lines : Test → List Column → (witnesses : Bool) → List State → List ℕ

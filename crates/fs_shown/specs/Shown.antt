@@ -40,11 +40,12 @@ pub record IsStatesText (test : List ℕ) (fences : List (List ℕ)) (asked : Sh
       ≡ holds (final_register the_test e.traces) (final_word (pre_execution the_test e.traces) e.order) (condition_of the_test.condition)
   pub is_text : text ≡ states_text the_test placement columns asked.witnesses states
 
--- The first fault: of the test; else of `locations`; else of the words; else of its runs, its candidates or the listing. Want of memory may
+-- The first fault: of the test; else of `locations`; else of the words; else of its runs, its candidates or its states. Want of memory may
 -- come in place of any answer.
-pub data IsFirstStatesFault (test : List ℕ) (fences : List (List ℕ)) : Fault → Type 0 where
-  of_test : {fault : Fault} → IsTestFault test fault → IsFirstStatesFault test fences fault
-  of_locations : {fault : Fault} (t : Test) → Reads test t → IsColumnsFault test t fault → IsFirstStatesFault test fences fault
-  of_fences : (t : Test) → Reads test t → IsBadFences None t fences → IsFirstStatesFault test fences BadFence
-  of_states : {fault : Fault} (t : Test) → Reads test t → IsStatesFault t fault → IsFirstStatesFault test fences fault
-  of_memory : IsFirstStatesFault test fences Memory
+pub data IsFirstStatesFault (test : List ℕ) (fences : List (List ℕ)) (asked : Shown) : Fault → Type 0 where
+  of_test : {fault : Fault} → IsTestFault test fault → IsFirstStatesFault test fences asked fault
+  of_locations : {fault : Fault} (t : Test) → Reads test t → IsColumnsFault test t fault → IsFirstStatesFault test fences asked fault
+  of_fences : (t : Test) → Reads test t → IsBadFences None t fences → IsFirstStatesFault test fences asked BadFence
+  of_states : {fault : Fault} (t : Test) (p : List Entry) (columns : List Column) → Reads test t → IsPlaced None (slots t) fences (Some p)
+      → AreColumns test t asked.all columns → IsStatesFault t p (places_of columns) fault → IsFirstStatesFault test fences asked fault
+  of_memory : IsFirstStatesFault test fences asked Memory

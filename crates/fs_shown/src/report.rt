@@ -18,6 +18,7 @@ use crate::places::is_place;
 use fs_evidence::Witness;
 use fs_kinds::{Fault, Placement};
 use fs_model::{Location, Outcome, Quantifier, Test, write_fenced};
+use fs_point::shown_name;
 use fs_report::witness_text;
 use fs_states::{Place, State};
 use std::alloc::{AllocError, Global};
@@ -165,8 +166,9 @@ fn condition_line(alloc: Global, test: &Test, placement: &Placement) -> Result<S
 fn title_lines(alloc: Global, test: &Test, states: usize) -> Result<String, AllocError>
     ensures { IfOk result (λ text. string_bytes text ≡ title_lines test.now states) }
 {
+    let name = shown_name(alloc, test.name.as_str())?;
     let word = quantifier_word(test.quantifier);
-    format!(in alloc; "Test {} {}\nStates {}\n", test.name.as_str(), word, states)
+    format!(in alloc; "Test {} {}\nStates {}\n", name.as_str(), word, states)
 }
 
 // The execution as the JSON text of a witness, in a line.
@@ -260,11 +262,12 @@ fn last_lines(
     ensures err { IsOkUnless result Memory }
 {
     let condition = condition_line(alloc, test, placement)?;
+    let name = shown_name(alloc, test.name.as_str())?;
     let word = observation_word(positive, negative);
     Ok(format!(in alloc;
         "Condition {}\nObservation {} {} {} {}\n\n",
         condition.as_str(),
-        test.name.as_str(),
+        name.as_str(),
         word,
         positive,
         negative

@@ -41,7 +41,7 @@ pub fn run_states(
     asked: Shown,
 ) -> Result<String, Fault>
     ensures text { IfOk result (λ text. IsStatesText test.now (map string_bytes fences.now) asked (string_bytes text)) }
-    ensures fault { IfErr result (IsFirstStatesFault test.now (map string_bytes fences.now)) }
+    ensures fault { IfErr result (IsFirstStatesFault test.now (map string_bytes fences.now) asked) }
 {
     let read = read_test(alloc, test)?;
     test_states(alloc, test, read, fences, asked)
@@ -58,7 +58,7 @@ fn test_states(
     requires test { IsTest test }
     requires reads { Reads bytes.now test }
     ensures text { IfOk result (λ text. IsStatesText bytes.now (map string_bytes fences.now) asked (string_bytes text)) }
-    ensures fault { IfErr result (IsFirstStatesFault bytes.now (map string_bytes fences.now)) }
+    ensures fault { IfErr result (IsFirstStatesFault bytes.now (map string_bytes fences.now) asked) }
 {
     let columns = columns(alloc, bytes, &test, asked.all)?;
     let placement = read_fences(alloc, &test, None, fences)?;
@@ -77,7 +77,7 @@ fn owned_states(
     requires placement { slots_of placement.now ≡ slots test }
     requires places { ArePlacesOf test (places_of columns.now) }
     ensures ok { IfOk result (λ text. IsOfStates test placement.now columns.now witnesses (string_bytes text)) }
-    ensures err { IfErr result (λ f. f ≢ Memory → IsStatesFault test f) }
+    ensures err { IfErr result (λ f. f ≢ Memory → IsStatesFault test placement.now (places_of columns.now) f) }
 {
     let test = shared(alloc, test)?;
     placed_states(alloc, &test, placement, columns, witnesses)
@@ -111,7 +111,8 @@ fn states_at(
     ensures ok { IfOk result (λ found.
         AreStates (arc_value test.now) placement.now (places_of columns.now) (words_of found)) }
     ensures shown { IfOk result (All (IsShownState (arc_value test.now) placement.now (places_of columns.now))) }
-    ensures err { IfErr result (λ f. f ≢ Memory → IsStatesFault (arc_value test.now) f) }
+    ensures err { IfErr result (λ f. f ≢ Memory
+        → IsStatesFault (arc_value test.now) placement.now (places_of columns.now) f) }
 {
     let places = places_of(alloc, columns)?;
     states(alloc, test, placement, &places)
@@ -131,7 +132,8 @@ fn placed_states(
     requires places { ArePlacesOf (arc_value test.now) (places_of columns.now) }
     ensures ok { IfOk result (λ text.
         IsOfStates (arc_value test.now) placement.now columns.now witnesses (string_bytes text)) }
-    ensures err { IfErr result (λ f. f ≢ Memory → IsStatesFault (arc_value test.now) f) }
+    ensures err { IfErr result (λ f. f ≢ Memory
+        → IsStatesFault (arc_value test.now) placement.now (places_of columns.now) f) }
 {
     let states = states_at(alloc, test, placement, columns)?;
     states_text(

@@ -5,3 +5,4 @@ pub mod Ending
 pub mod Conditions
 pub mod Asking
 pub mod Covered
+mod Many

@@ -11,6 +11,7 @@ use Rattle.fs_kinds.specs.declared.placement.Entry.{Entry}
 use Rattle.fs_model.specs.declared.test.Test.{Test}
 use Rattle.fs_model.specs.Execution.{Execution, IsExecution, pre_execution}
 use Rattle.fs_model.specs.Shows.{final_register, final_word}
+use Rattle.fs_model.specs.TooMany.{AreMoreThan, IsRunFault}
 use Rattle.fs_model.specs.Witness.{IsOfWitness}
 use Rattle.fs_answer.specs.CandidateFaults.{IsCandidateFault}
 use Rattle.fs_states.specs.declared.place.Place.{Place}
@@ -59,6 +60,14 @@ IsPlaceOf harts locations (Location location) = location < locations
 abbrev pub ArePlacesOf : Test → List Place → Type 0
 ArePlacesOf t places = All (IsPlaceOf (length t.codes) (length t.locations)) places
 
--- the fault of the test's runs and candidates, or that a listing is given up
-abbrev pub IsStatesFault : Test → Fault → Type 0
-IsStatesFault t f = (f ≡ TooManyCandidates) ⊎ IsCandidateFault t f
+-- how many states a list may have
+abbrev pub most_states : ℕ
+most_states = 200000
+
+-- no hart's runs have a fault, and there are more states than a list may have
+abbrev pub HasTooManyStates : Test → List Entry → List Place → Type 0
+HasTooManyStates t p places = ((f : Fault) → IsRunFault t f → ⊥) × AreMoreThan most_states (IsState t p places)
+
+-- the fault of the test's runs and candidates, or too many states
+abbrev pub IsStatesFault : Test → List Entry → List Place → Fault → Type 0
+IsStatesFault t p places f = IsCandidateFault t f ⊎ ((f ≡ TooManyCandidates) × HasTooManyStates t p places)

@@ -1,6 +1,6 @@
 //! The list of all final states.
 
-ghost use Rattle.std.specs.Prelude.{◌≡◌, ◌≢◌, ◌<◌, ◌++◌, ◌∷◌, [], true, Some, List, All, length, slice_get};
+ghost use Rattle.std.specs.Prelude.{◌≡◌, ◌≢◌, ◌<◌, ◌≤◌, ◌++◌, ◌∷◌, [], true, Some, List, All, length, slice_get};
 ghost use Rattle.std.specs.Prelude.{IfOk, IfErr, OnOk};
 ghost use Rattle.std.specs.Arc.{arc_value};
 ghost use Rattle.fs_kinds.specs.declared.fault.Fault.{Fault as Faults};
@@ -14,7 +14,7 @@ ghost use Rattle.fs_model.specs.Slots.{slots};
 ghost use Rattle.fs_model.specs.Test.{IsBounded, IsStart};
 ghost use Rattle.fs_model.specs.TooMany.{IsRunFault};
 ghost use Rattle.fs_answer.specs.CandidateFaults.{IsCandidateFault};
-ghost use Rattle.fs_states.specs.States.{AreStates, ArePlacesOf, IsShownState, IsStatesFault, words_of};
+ghost use Rattle.fs_states.specs.States.{AreStates, ArePlacesOf, IsShownState, IsStatesFault, most_states, words_of};
 ghost use Rattle.fs_states.specs.inner.Parts.{is_in, IsListed, IsPartOf, SplitsBy};
 
 use crate::known::{first_in, keep};
@@ -30,8 +30,8 @@ use fs_refute::Basis;
 use std::alloc::{AllocError, Global};
 use std::sync::Arc;
 
-/// How many steps a listing may take: each splits a part of the states, asks for a state in it, or drops it.
-const MOST_STEPS: u32 = 1_000_000;
+/// How many states a list may have.
+const MOST_STATES: usize = 200_000;
 
 // The states that are known, and the parts that may have others.
 #[derive(Drop)]
@@ -118,6 +118,17 @@ fn advance(
     }
 }
 
+// Nothing, where the runs of the test's harts can be listed.
+fn check_runs(alloc: Global, test: &Arc<Test>) -> Result<(), Fault>
+    requires bounded { IsBounded (arc_value test.now) }
+    requires starts { All IsStart (arc_value test.now).starts }
+    ensures clean { OnOk result ((f : Faults) → IsRunFault (arc_value test.now) f → ⊥) }
+    ensures err { IfErr result (λ f. f ≢ Memory → IsRunFault (arc_value test.now) f) }
+{
+    let _runs = Basis::new(alloc, test)?;
+    Ok(())
+}
+
 /// Which final states RVWMO allows the test with the placement's fences: of each state in which some execution ends
 /// the words at the places, in their order, and an execution that ends in it. The states rise by their words, those
 /// at the first place before the others. The test's condition plays no part. The placement is one of the test's
@@ -125,7 +136,7 @@ fn advance(
 ///
 /// The fault is F13 or F14 where a hart's runs can't be listed; else F15 where some location may get 11 stores or
 /// more and there are too many candidates or lists of runs, where no hunt gives a verdict and there are too many
-/// candidates, or where the listing is given up after 1,000,000 steps; or F19.
+/// candidates, or where there are more than 200,000 states; or F19.
 ///
 /// The cost: a verdict for each state, and one for each beginning of a state that isn't whole, on the test with
 /// another condition. No verdict shares anything with another one: each is that of `Problem::new` and
@@ -143,15 +154,19 @@ pub fn states(
     ensures ok { IfOk result (λ found. AreStates (arc_value test.now) placement.now places.now (words_of found)) }
     ensures shown { IfOk result (All (IsShownState (arc_value test.now) placement.now places.now)) }
     ensures clean { OnOk result ((f : Faults) → IsRunFault (arc_value test.now) f → ⊥) }
-    ensures err { IfErr result (λ f. f ≢ Memory → IsStatesFault (arc_value test.now) f) }
+    ensures few { IfOk result (λ found. length found ≤ most_states) }
+    ensures err { IfErr result (λ f. f ≢ Memory → IsStatesFault (arc_value test.now) placement.now places.now f) }
 {
-    let _runs = Basis::new(alloc, test)?;
+    check_runs(alloc, test)?;
     let mut listing = begun(alloc)?;
-    for _ in 0..MOST_STEPS {
+    for _ in 0..u64::MAX {
+        if listing.known.len() > MOST_STATES {
+            return Err(Fault::TooManyCandidates);
+        }
         let Some(part) = listing.parts.pop() else {
             return Ok(List::new(listing.known));
         };
         advance(alloc, test, placement, places, &mut listing, part)?;
     }
-    Err(Fault::TooManyCandidates)
+    Err(Fault::Memory) // no list of so many states takes so many steps
 }

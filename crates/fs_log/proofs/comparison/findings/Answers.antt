@@ -1,4 +1,4 @@
-use Rattle.std.proofs.Common.{◌∙◌, ap, sym, subst, List, map}
+use Rattle.std.proofs.Common.{◌∙◌, ap, sym, subst, List, None, map}
 use Rattle.std.proofs.lemmas.List.{length-map}
 use Rattle.std.specs.Arc.{arc_value}
 use Rattle.std.specs.List.{filter}
@@ -20,10 +20,10 @@ returns c =
     let allowed = entries_of c.in_ok-allowed.allowed in
     let is_tally : IsTally rows tally = c.in_ok-seen.ensures in
     let states = c.in_ok-states.states in
-    let is_allowed : IsTally (map (λ state. (state.words, 0)) states) allowed =
+    let is_allowed : IsTally (map (λ state. (state.words, None)) states) allowed =
     subst (λ (seen : List Counted). IsTally seen allowed)
     (ap (map counted) c.deref-2.ensures.value ∙ c.in_ok-allowed_rows.ensures
-    ∙ ap (λ (ss : List State). map (λ state. (state.words, 0)) ss) c.as_slice.ensures)
+    ∙ ap (λ (ss : List State). map (λ state. (state.words, None)) ss) c.as_slice.ensures)
     c.in_ok-allowed.ensures in
     record {
       tally = tally;

@@ -3,9 +3,9 @@ use Rattle.std.proofs.Math.Seq.{take-length}
 use Rattle.std.specs.Bool.{OnFalse}
 use Rattle.std.specs.BTreeSet.{contains, IsUnchanged}
 use Rattle.fs_log.specs.Left.{left_over}
-use Rattle.fs_log.specs.declared.log.Block.{Block}
+use Rattle.fs_blocks.specs.declared.log.Block.{Block}
 use Rattle.fs_log.proofs.Naming.{order, Holds, IsLeft, holds_more, left_new, left_known, names_next, names_left, was_new, was_known}
-use Rattle.fs_log.proofs.left.left_over.Goals.{then-branch+in_ok-writeln, else-branch}
+use Rattle.fs_log.proofs.left.left_over.Goals.{then-branch+in_ok-push_line, else-branch}
 use Rattle.fs_log.proofs.left.left_over.Goals as goal
 
 -- src/left.rt:17:5
@@ -46,8 +46,8 @@ loop-block-preserved c =
     ∙ ap (λ (log : List Block). key.now ∷ map name_of (drop (c.loop-block.block-index + 1) log)) c.as_slice-block-items.ensures)
     c.loop-block.invariant in
     elim c.if-branch.branch [
-      | then-branch+in_ok-writeln w ↦
-          subst (λ (bytes : List ℕ). IsLeft bytes after names rest whole) (sym (ap string_bytes w.text-is ∙ w.in_ok-writeln.ensures.bytes))
+      | then-branch+in_ok-push_line w ↦
+          subst (λ (bytes : List ℕ). IsLeft bytes after names rest whole) (sym (ap string_bytes w.text-is ∙ w.in_ok-push_line.ensures))
           (left_new text set after key names rest whole before
           (was_new c.in_ok-insert-2.field-0 (contains order set key) c.in_ok-insert-2.ensures.added w.if-branch.true)
           c.in_ok-insert-2.ensures.updates)

@@ -1,6 +1,6 @@
 use Rattle.std.proofs.Common.{List, ◌++◌, map, take}
 use Rattle.std.specs.List.{AllZip}
-use Rattle.fs_log.specs.declared.log.Seen.{Seen}
+use Rattle.fs_blocks.specs.declared.log.Seen.{Seen}
 use Rattle.fs_log.specs.Rows.{IsRow}
 use Rattle.fs_log.specs.Tallies.{counted}
 use Rattle.fs_log.proofs.rows.push_rows.Given as goal

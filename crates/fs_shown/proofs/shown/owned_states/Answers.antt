@@ -21,4 +21,4 @@ returns-clause-ok c =
 
 pub returns-clause-err : goal.returns-clause-err
 returns-clause-err c =
-    subst (λ (t : Test). IfErr c.placed_states.result (λ f. f ≢ Memory → IsStatesFault t f)) c.in_ok-test.ensures c.placed_states.ensures.err
+    subst (λ (t : Test). IfErr c.placed_states.result (λ f. f ≢ Memory → IsStatesFault t c.args.placement.now (places_of c.args.columns.now) f)) c.in_ok-test.ensures c.placed_states.ensures.err

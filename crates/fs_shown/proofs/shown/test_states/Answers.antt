@@ -10,12 +10,12 @@ use Rattle.fs_shown.proofs.shown.test_states.Goals as goal
 
 pub returns-in_err-columns-clause-fault : goal.returns-in_err-columns-clause-fault
 returns-in_err-columns-clause-fault c =
-    IfErr-handed c.from_residual.result _ _ c.from_residual.ensures.1 (first-locations _ _ _ c.args.test c.requires.reads c.in_err-columns.ensures.err)
+    IfErr-handed c.from_residual.result _ _ c.from_residual.ensures.1 (first-locations _ _ _ _ c.args.test c.requires.reads c.in_err-columns.ensures.err)
 
 pub returns-in_err-placement-clause-fault : goal.returns-in_err-placement-clause-fault
 returns-in_err-placement-clause-fault c =
     IfErr-handed c.from_residual-in_err-placement.result _ _ c.from_residual-in_err-placement.ensures.1
-    (first-fences _ _ _ c.args.test c.requires.reads (λ e. c.in_err-placement.ensures.bad_fence (ap (λ f. Err f) e)) c.in_err-placement.ensures.err)
+    (first-fences _ _ _ _ c.args.test c.requires.reads (λ e. c.in_err-placement.ensures.bad_fence (ap (λ f. Err f) e)) c.in_err-placement.ensures.err)
 
 pub owned_states-requires-clause-placement : goal.owned_states-requires-clause-placement
 owned_states-requires-clause-placement c = slots_of-IsPlaced None (slots c.args.test) (map string_bytes c.args.fences.now) c.in_ok-placement.placement c.in_ok-placement.ensures.ok
@@ -34,4 +34,7 @@ returns-clause-text c =
 
 pub returns-clause-fault : goal.returns-clause-fault
 returns-clause-fault c =
-    IfErr-weaker c.owned_states.result _ _ (λ f h. first-states _ _ f c.args.test c.requires.reads h) c.owned_states.ensures.err
+    let are = subst (AreColumns c.args.bytes.now c.args.test c.args.asked.all) (sym c.deref.ensures.value) c.in_ok-columns.ensures.ok in
+    IfErr-weaker c.owned_states.result _ _
+    (λ f h. first-states c.args.bytes.now (map string_bytes c.args.fences.now) c.args.asked f c.args.test c.in_ok-placement.placement c.deref.result.now c.requires.reads c.in_ok-placement.ensures.ok are h)
+    c.owned_states.ensures.err

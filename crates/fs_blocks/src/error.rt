@@ -4,56 +4,57 @@ ghost use Rattle.std.specs.Prelude.{◌≡◌};
 
 use fs_kinds::Fault;
 use std::alloc::{AllocError, AllocFailed};
-use std::fmt;
 use thiserror::Error;
 
 /// What should stand in a line of a log.
-#[derive(Clone, Copy, Debug, PartialEq, Eq)]
+#[derive(Clone, Copy, Debug, PartialEq, Eq, Error)]
 pub enum Expected {
+    /// The first line of a block, where a line begins with `Test`.
+    #[error("`Test NAME Allowed`, `Test NAME Required` or `Test NAME Forbidden`")]
+    Title,
     /// How many states there are.
+    #[error("`States N` or `Histogram (N states)`")]
     Count,
     /// A state: items, each ended by `;`, with how often it was seen where the block is a histogram.
+    #[error("a state")]
     State,
     /// Whether the condition was met.
+    #[error("`Ok` or `No`")]
     Outcome,
     /// Places of the test alone.
+    #[error("a register or location of the test")]
     Place,
     /// Values alone: a number of 32 bits, or the name of a location.
+    #[error("a number of 32 bits or the name of a location")]
     Value,
     /// The places that the block's first state names, each once.
+    #[error("the places of the first state, each once")]
     Places,
 }
 
-impl Expected {
-    /// The words for it.
-    fn words(self) -> &'static str {
-        match self {
-            Expected::Count => "`States N` or `Histogram (N states)`",
-            Expected::State => "a state",
-            Expected::Outcome => "`Ok` or `No`",
-            Expected::Place => "a register or location of the test",
-            Expected::Value => "a number of 32 bits or the name of a location",
-            Expected::Places => "the places of the first state, each once",
-        }
-    }
-}
-
-/// Why a log can't be held against tests.
+/// Why a log can't be held against tests: the line that is printed, with no line end.
 #[derive(Clone, Copy, Debug, PartialEq, Eq, Error)]
 pub enum LogError {
     /// It is longer than 1 GiB.
+    #[error("error: the log is longer than 1073741824 bytes")]
     TooLong,
     /// It isn't UTF-8.
+    #[error("error: the log isn't UTF-8")]
     NotUtf8,
+    /// It has no block.
+    #[error("error: the log has no block of a test")]
+    NoBlock,
     /// This should stand in this line, counted from 1.
+    #[error("error: log line {line}: expected {expected}")]
     Line { line: usize, expected: Expected },
     /// The fault of a test or of FENCE words, or want of memory.
+    #[error("{0}")]
     Fault(Fault),
 }
 
 impl From<Fault> for LogError {
     ghost use Rattle.std.specs.Prelude.{◌≡◌};
-    ghost use Rattle.fs_log.specs.declared.error.LogError.TheVariants.{Fault};
+    ghost use Rattle.fs_blocks.specs.declared.error.LogError.TheVariants.{Fault};
 
     ghost from_gives = { λ fault error. error ≡ Fault fault };
 
@@ -65,7 +66,7 @@ impl From<Fault> for LogError {
 impl From<AllocError> for LogError {
     ghost use Rattle.std.specs.Prelude.{◌≡◌};
     ghost use Rattle.fs_kinds.specs.declared.fault.Fault.TheVariants.{Memory};
-    ghost use Rattle.fs_log.specs.declared.error.LogError.TheVariants.{Fault};
+    ghost use Rattle.fs_blocks.specs.declared.error.LogError.TheVariants.{Fault};
 
     ghost from_gives = { λ _ error. error ≡ Fault Memory };
 
@@ -77,25 +78,11 @@ impl From<AllocError> for LogError {
 impl<T: Drop> From<AllocFailed<T>> for LogError {
     ghost use Rattle.std.specs.Prelude.{◌≡◌};
     ghost use Rattle.fs_kinds.specs.declared.fault.Fault.TheVariants.{Memory};
-    ghost use Rattle.fs_log.specs.declared.error.LogError.TheVariants.{Fault};
+    ghost use Rattle.fs_blocks.specs.declared.error.LogError.TheVariants.{Fault};
 
     ghost from_gives = { λ _ error. error ≡ Fault Memory };
 
     fn from(_refused: AllocFailed<T>) -> LogError {
         LogError::Fault(Fault::Memory)
-    }
-}
-
-/// The line that is printed, with no line end: `error: log line 7: expected a state`, or that of a fault.
-impl fmt::Display for LogError {
-    fn fmt<W: fmt::Write>(&self, f: &mut fmt::Formatter<W>) -> fmt::Result {
-        match self {
-            LogError::TooLong => f.write_str("error: the log is longer than 1073741824 bytes"),
-            LogError::NotUtf8 => f.write_str("error: the log isn't UTF-8"),
-            LogError::Line { line, expected } => {
-                write!(f, "error: log line {}: expected {}", line, expected.words())
-            }
-            LogError::Fault(fault) => write!(f, "{fault}"),
-        }
     }
 }

@@ -16,8 +16,8 @@ pub struct Item<'a> {
 pub struct Seen<'a> {
     /// Its line in the log, from 1 on.
     pub line: usize,
-    /// How often it was seen; 0 where the log doesn't say.
-    pub times: u64,
+    /// How often it was seen, where the log says so.
+    pub times: Option<u64>,
     pub items: List<Item<'a>>,
 }
 

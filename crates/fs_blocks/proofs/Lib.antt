@@ -1,0 +1,3 @@
+mod Pieces
+mod Onward
+mod Reading

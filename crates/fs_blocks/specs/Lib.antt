@@ -1,0 +1,4 @@
+pub mod Lines
+pub mod Blocks
+pub mod Errors
+pub mod inner
