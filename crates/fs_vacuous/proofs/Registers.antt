@@ -1,12 +1,12 @@
 -- The registers that a condition names, with the words that they end with.
-use Rattle.std.proofs.Common.{◌≡◌, ◌⊎◌, ℕ, ◌<◌, ◌==◌, Bool, true, false, Option, None, Some, List, [], ◌∷◌, ◌++◌, inl, inr, refl, sym, ◌∙◌, ap}
+use Rattle.std.proofs.Common.{◌≡◌, ◌⊎◌, ℕ, ◌<◌, ◌==◌, Bool, true, false, Option, None, Some, is_some, List, [], ◌∷◌, ◌++◌, inl, inr, refl, sym, ◌∙◌, ap, subst}
 use Rattle.std.specs.Prelude.{if◌then◌else◌}
 use Rattle.std.specs.Option.{option_or}
 use Rattle.std.proofs.lemmas.Bool.{eq-eqb, eqb-true}
 use Rattle.fs_model.specs.Condition.{Condition, Always, Never, RegisterIs, LocationIs, Deny, Both, Either, SpeaksOf}
 use Rattle.fs_vacuous.specs.declared.end.Known.{Known}
 use Rattle.fs_vacuous.specs.inner.Ends.{word_in}
-use Rattle.fs_vacuous.specs.inner.Runs.{named}
+use Rattle.fs_vacuous.specs.inner.Runs.{named, with_known}
 use Rattle.fs_vacuous.proofs.Settling.{AllKnown}
 
 word_in_both : (xs ys : List Known) (g : ℕ) → word_in (xs ++ ys) g ≡ option_or (word_in xs g) (word_in ys g)
@@ -32,58 +32,101 @@ Names (Deny c) hart reg = Names c hart reg
 Names (Both c d) hart reg = Names c hart reg ⊎ Names d hart reg
 Names (Either c d) hart reg = Names c hart reg ⊎ Names d hart reg
 
-module _ (word : ℕ → ℕ) (hart : ℕ) where
-  abbrev list : Condition → List Known
-  list = named word hart
+module _ (word : ℕ → ℕ) where
+  -- the words that are known are right
+  abbrev pub AreRight : List Known → Type 0
+  AreRight known = (g y : ℕ) → word_in known g ≡ Some y → word g ≡ y
 
-  pair_right : (c d : Condition) (g y : ℕ) → ((z : ℕ) → word_in (list c) g ≡ Some z → word g ≡ z) → ((z : ℕ) → word_in (list d) g ≡ Some z → word g ≡ z)
-      → word_in (list c ++ list d) g ≡ Some y → word g ≡ y
-  pair_right c d g y left right e = elim (one_of (word_in (list c) g) (word_in (list d) g) y (sym (word_in_both (list c) (list d) g) ∙ e)) [
-    | inl here ↦ left y here
-    | inr there ↦ right y there
+  none_right : AreRight []
+  none_right g y e = absurd (let none : None ≡ Some y = e in cc)
+
+  abbrev one : ℕ → List Known
+  one reg = record { register = reg; word = word reg } ∷ []
+
+  one_right : (reg : ℕ) → AreRight (one reg)
+  one_right reg g y e = go (reg == g) refl e
+    where
+      go : (b : Bool) → (reg == g) ≡ b → (if b then Some (word reg) else None) ≡ Some y → word g ≡ y
+      go true same is = let both : Some (word reg) ≡ Some y = is in let right : word reg ≡ y = cc in ap word (sym (eqb-true reg g same)) ∙ right
+      go false same is = absurd (let none : None ≡ Some y = is in cc)
+
+  one_there : (reg : ℕ) → word_in (one reg) reg ≡ Some (word reg)
+  one_there reg = rw (eq-eqb reg reg refl) refl
+
+  more_right : (known : List Known) (reg : ℕ) → AreRight known → AreRight (known ++ one reg)
+  more_right known reg right g y e = elim (one_of (word_in known g) (word_in (one reg) g) y (sym (word_in_both known (one reg) g) ∙ e)) [
+    | inl here ↦ right g y here
+    | inr there ↦ one_right reg g y there
   ]
 
-  pub named_right : (c : Condition) (g y : ℕ) → word_in (list c) g ≡ Some y → word g ≡ y
-  named_right Always g y e = absurd (let none : None ≡ Some y = e in cc)
-  named_right Never g y e = absurd (let none : None ≡ Some y = e in cc)
-  named_right (RegisterIs other reg w) g y e = go (other == hart) e
+  with_right : (known : List Known) (reg : ℕ) → AreRight known → AreRight (with_known reg (word reg) known)
+  with_right known reg right = go (is_some (word_in known reg))
     where
-      one : (b : Bool) → (reg == g) ≡ b → (if b then Some (word reg) else None) ≡ Some y → word g ≡ y
-      one true same is = let both : Some (word reg) ≡ Some y = is in let right : word reg ≡ y = cc in ap word (sym (eqb-true reg g same)) ∙ right
-      one false same is = absurd (let none : None ≡ Some y = is in cc)
+      go : (b : Bool) → AreRight (if b then known else known ++ one reg)
+      go true = right
+      go false = more_right known reg right
 
-      go : (b : Bool) → word_in (if b then record { register = reg; word = word reg } ∷ [] else []) g ≡ Some y → word g ≡ y
-      go true is = one (reg == g) refl is
-      go false is = absurd (let none : None ≡ Some y = is in cc)
-  named_right (LocationIs k w) g y e = absurd (let none : None ≡ Some y = e in cc)
-  named_right (Deny c) g y e = named_right c g y e
-  named_right (Both c d) g y e = pair_right c d g y (named_right c g) (named_right d g) e
-  named_right (Either c d) g y e = pair_right c d g y (named_right c g) (named_right d g) e
-
-  pair_there : (c d : Condition) (g : ℕ) → (Names c hart g → (y : ℕ) × (word_in (list c) g ≡ Some y)) → (Names d hart g → (y : ℕ) × (word_in (list d) g ≡ Some y))
-      → Names c hart g ⊎ Names d hart g → (y : ℕ) × (word_in (list c ++ list d) g ≡ Some y)
-  pair_there c d g left right (inl here) =
-      let found = left here in
-      (found.0, word_in_both (list c) (list d) g ∙ ap (λ (o : Option ℕ). option_or o (word_in (list d) g)) found.1)
-  pair_there c d g left right (inr there) = go (word_in (list c) g) refl
+  -- what is known stays
+  with_kept : (known : List Known) (reg g y : ℕ) → word_in known g ≡ Some y → word_in (with_known reg (word reg) known) g ≡ Some y
+  with_kept known reg g y e = go (is_some (word_in known reg))
     where
-      go : (o : Option ℕ) → word_in (list c) g ≡ o → (y : ℕ) × (word_in (list c ++ list d) g ≡ Some y)
-      go None e =
-          let found = right there in
-          (found.0, word_in_both (list c) (list d) g ∙ ap (λ (o : Option ℕ). option_or o (word_in (list d) g)) e ∙ found.1)
-      go (Some x) e = (x, word_in_both (list c) (list d) g ∙ ap (λ (o : Option ℕ). option_or o (word_in (list d) g)) e)
+      go : (b : Bool) → word_in (if b then known else known ++ one reg) g ≡ Some y
+      go true = e
+      go false = word_in_both known (one reg) g ∙ ap (λ (o : Option ℕ). option_or o (word_in (one reg) g)) e
 
-  named_there : (c : Condition) (g : ℕ) → Names c hart g → (y : ℕ) × (word_in (list c) g ≡ Some y)
-  named_there Always g names = absurd names
-  named_there Never g names = absurd names
-  named_there (RegisterIs other reg w) g names = (word reg, rw (eq-eqb other hart names.0, eq-eqb reg g names.1) refl)
-  named_there (LocationIs k w) g names = absurd names
-  named_there (Deny c) g names = named_there c g names
-  named_there (Both c d) g names = pair_there c d g (named_there c g) (named_there d g) names
-  named_there (Either c d) g names = pair_there c d g (named_there c g) (named_there d g) names
+  with_there : (known : List Known) (reg : ℕ) → (y : ℕ) × (word_in (with_known reg (word reg) known) reg ≡ Some y)
+  with_there known reg = go (word_in known reg) refl
+    where
+      go : (o : Option ℕ) → word_in known reg ≡ o → (y : ℕ) × (word_in (if is_some o then known else known ++ one reg) reg ≡ Some y)
+      go None e = (word reg, word_in_both known (one reg) reg ∙ ap (λ (o : Option ℕ). option_or o (word_in (one reg) reg)) e ∙ one_there reg)
+      go (Some y) e = (y, e)
 
-  pub named_is : (c : Condition) (g : ℕ) → Names c hart g → word_in (list c) g ≡ Some (word g)
-  named_is c g names = let found = named_there c g names in found.1 ∙ ap Some (sym (named_right c g found.0 found.1))
+  module _ (hart : ℕ) where
+    right_after : (c : Condition) (known : List Known) → AreRight known → AreRight (named word hart c known)
+    right_after Always known right = right
+    right_after Never known right = right
+    right_after (RegisterIs other reg w) known right = go (other == hart)
+      where
+        go : (b : Bool) → AreRight (if b then with_known reg (word reg) known else known)
+        go true = with_right known reg right
+        go false = right
+    right_after (LocationIs k w) known right = right
+    right_after (Deny c) known right = right_after c known right
+    right_after (Both c d) known right = right_after d (named word hart c known) (right_after c known right)
+    right_after (Either c d) known right = right_after d (named word hart c known) (right_after c known right)
+
+    kept_after : (c : Condition) (known : List Known) (g y : ℕ) → word_in known g ≡ Some y → word_in (named word hart c known) g ≡ Some y
+    kept_after Always known g y e = e
+    kept_after Never known g y e = e
+    kept_after (RegisterIs other reg w) known g y e = go (other == hart)
+      where
+        go : (b : Bool) → word_in (if b then with_known reg (word reg) known else known) g ≡ Some y
+        go true = with_kept known reg g y e
+        go false = e
+    kept_after (LocationIs k w) known g y e = e
+    kept_after (Deny c) known g y e = kept_after c known g y e
+    kept_after (Both c d) known g y e = kept_after d (named word hart c known) g y (kept_after c known g y e)
+    kept_after (Either c d) known g y e = kept_after d (named word hart c known) g y (kept_after c known g y e)
+
+    there_after : (c : Condition) (known : List Known) (g : ℕ) → Names c hart g → (y : ℕ) × (word_in (named word hart c known) g ≡ Some y)
+    there_after Always known g names = absurd names
+    there_after Never known g names = absurd names
+    there_after (RegisterIs other reg w) known g names =
+        rw (eq-eqb other hart names.0) (subst (λ k. (y : ℕ) × (word_in (with_known reg (word reg) known) k ≡ Some y)) names.1 (with_there known reg))
+    there_after (LocationIs k w) known g names = absurd names
+    there_after (Deny c) known g names = there_after c known g names
+    there_after (Both c d) known g (inl here) =
+        let found = there_after c known g here in (found.0, kept_after d (named word hart c known) g found.0 found.1)
+    there_after (Both c d) known g (inr there) = there_after d (named word hart c known) g there
+    there_after (Either c d) known g (inl here) =
+        let found = there_after c known g here in (found.0, kept_after d (named word hart c known) g found.0 found.1)
+    there_after (Either c d) known g (inr there) = there_after d (named word hart c known) g there
+
+    pub named_right : (c : Condition) → AreRight (named word hart c [])
+    named_right c = right_after c [] none_right
+
+    pub named_is : (c : Condition) (g : ℕ) → Names c hart g → word_in (named word hart c []) g ≡ Some (word g)
+    named_is c g names = let found = there_after c [] g names in found.1 ∙ ap Some (sym (named_right c g found.0 found.1))
 
 -- ---- all that a condition names is known
 

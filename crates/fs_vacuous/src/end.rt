@@ -1,10 +1,11 @@
 //! What counts of a run where only the outcome counts.
 
-ghost use Rattle.std.specs.Prelude.{◌≡◌, ◌++◌, true, IfOk, OnOk};
+ghost use Rattle.std.specs.Prelude.{◌≡◌, true, IfOk, OnOk};
 ghost use Rattle.std.specs.List.{filter_map};
 ghost use Rattle.fs_model.specs.Condition.{condition_of};
-ghost use Rattle.fs_vacuous.specs.inner.Runs.{final, named, stored_as, stored_by, end_of};
+ghost use Rattle.fs_vacuous.specs.inner.Runs.{final, with_known, named, stored_as, stored_by, end_of};
 
+use crate::settled::word_in;
 use fs_alone::Lone;
 use fs_instr::Reg;
 use fs_list::List;
@@ -42,15 +43,25 @@ fn known_of(run: &Lone, register: Reg) -> Known
     }
 }
 
-// Appends the registers of the hart that the condition names, with the words that they end with in the run.
+// Appends the register with its word, unless it is there.
+fn push_known(known: &mut Vec<Known>, run: &Lone, register: Reg) -> Result<(), AllocError>
+    ensures { OnOk result (known.new.items ≡ with_known register (final run.now register) known.old.items) }
+{
+    if word_in(known, register.number()).is_none() {
+        known.push(known_of(run, register))?;
+    }
+    Ok(())
+}
+
+// Appends the registers of the hart that the condition names and that aren't there, with the words that they end with in the run. So there
+// are 31 at most.
 fn push_named(
     run: &Lone,
     hart: u8,
     condition: &Outcome,
     known: &mut Vec<Known>,
 ) -> Result<(), AllocError>
-    ensures { OnOk result (known.new.items
-        ≡ known.old.items ++ named (final run.now) hart (condition_of condition.now)) }
+    ensures { OnOk result (known.new.items ≡ named (final run.now) hart (condition_of condition.now) known.old.items) }
 {
     match condition {
         Outcome::Always | Outcome::Never | Outcome::LocationIs { .. } => Ok(()),
@@ -60,7 +71,7 @@ fn push_named(
             ..
         } => {
             if *other == hart {
-                known.push(known_of(run, *reg))?;
+                push_known(known, run, *reg)?;
             }
             Ok(())
         }

@@ -77,7 +77,7 @@ pub(crate) fn runs_of(listed: &[List<Lone>], hart: usize) -> &[Lone]
 }
 
 /// What counts of the runs of each hart where the condition is to have this truth value: of runs that don't rule it out
-/// by themselves. The cost is for each run that of `end_of`, and 64 times the size of an end at most.
+/// by themselves. The cost is for each run that of `end_of` and of `with_hart`, and 64 times the size of an end at most.
 pub(crate) fn all_ends(
     alloc: Global,
     harts: usize,

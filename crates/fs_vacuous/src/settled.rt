@@ -108,8 +108,8 @@ fn either(alloc: Global, left: Outcome, right: Outcome) -> Result<Outcome, Alloc
     }
 }
 
-// The word that the register ends with, where it is known.
-fn word_in(known: &[Known], register: u8) -> Option<u32>
+/// The word that the register ends with, where it is known.
+pub(crate) fn word_in(known: &[Known], register: u8) -> Option<u32>
     ensures { result ≡ word_in known.now register }
 {
     match known.split_first() {

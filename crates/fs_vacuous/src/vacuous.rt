@@ -85,7 +85,8 @@ fn has_way(alloc: Global, basis: &Basis) -> Result<Option<bool>, AllocError>
 ///
 /// The cost: what counts of each run is worked out once, and each further one is compared with 64 others at most; then
 /// it is that of a search over the choices of what counts of the harts' runs and of last words, cut off where the
-/// condition is settled. Where there are at most 10,000 lists of runs nothing else bounds it; else 1,000,000 steps do.
+/// condition is settled; each step is linear in the condition. Where there are at most 10,000 lists of runs nothing else
+/// bounds the steps; else there are 1,000,000 at most.
 pub fn is_vacuous(alloc: Global, basis: &Basis) -> Result<Option<bool>, Fault>
     ensures yes { IfOk result (λ is. is ≡ Some true → IsVacuous basis.now) }
     ensures no { IfOk result (λ is. is ≡ Some false → IsVacuous basis.now → ⊥) }

@@ -1,5 +1,5 @@
 -- What counts of runs where only the outcome counts.
-use Rattle.std.specs.Prelude.{◌≡◌, ◌⊎◌, ℕ, ◌<◌, ◌==◌, Bool, not, Option, None, Some, List, [], ◌∷◌, ◌++◌, length, if◌then◌else◌}
+use Rattle.std.specs.Prelude.{◌≡◌, ◌⊎◌, ℕ, ◌<◌, ◌==◌, Bool, not, Option, None, Some, is_some, List, [], ◌∷◌, ◌++◌, length, if◌then◌else◌}
 use Rattle.std.specs.List.{Contains, filter_map, slice_index_or}
 use Rattle.fs_model.specs.declared.step.Step.{Step}
 use Rattle.fs_model.specs.Condition.{Condition, Always, Never, RegisterIs, LocationIs, Deny, Both, Either}
@@ -10,21 +10,26 @@ use Rattle.fs_vacuous.specs.declared.end.End.{End}
 use Rattle.fs_vacuous.specs.declared.end.Known.{Known}
 use Rattle.fs_vacuous.specs.declared.end.Stored.{Stored}
 use Rattle.fs_vacuous.specs.inner.Settled.{truth_of}
-use Rattle.fs_vacuous.specs.inner.Ends.{with_hart}
+use Rattle.fs_vacuous.specs.inner.Ends.{word_in, with_hart}
 
 -- the word that the register ends with
 abbrev pub final : RunOf → ℕ → ℕ
 final run = final_register run.test (traces_of run.test run.hart run.steps) run.hart
 
--- the registers of the hart that the condition names, with the words that they end with
-abbrev pub named : (ℕ → ℕ) → ℕ → Condition → List Known
-named word hart Always = []
-named word hart Never = []
-named word hart (RegisterIs other reg w) = if other == hart then record { register = reg; word = word reg } ∷ [] else []
-named word hart (LocationIs k w) = []
-named word hart (Deny c) = named word hart c
-named word hart (Both c d) = named word hart c ++ named word hart d
-named word hart (Either c d) = named word hart c ++ named word hart d
+-- the register with its word, unless it stands there
+abbrev pub with_known : (register word : ℕ) → List Known → List Known
+with_known register word known =
+    if is_some (word_in known register) then known else known ++ record { register = register; word = word } ∷ []
+
+-- these, and the registers of the hart that the condition names, each once, with the words that they end with
+abbrev pub named : (ℕ → ℕ) → ℕ → Condition → List Known → List Known
+named word hart Always known = known
+named word hart Never known = known
+named word hart (RegisterIs other reg w) known = if other == hart then with_known reg (word reg) known else known
+named word hart (LocationIs k w) known = known
+named word hart (Deny c) known = named word hart c known
+named word hart (Both c d) known = named word hart d (named word hart c known)
+named word hart (Either c d) known = named word hart d (named word hart c known)
 
 abbrev pub stored_as : Option ℕ → Option ℕ → Option Stored
 stored_as (Some address) (Some word) = Some (record { address = address; word = word })
@@ -34,7 +39,7 @@ abbrev pub stored_by : Step → Option Stored
 stored_by s = stored_as s.address s.stored
 
 abbrev pub end_of : Condition → RunOf → End
-end_of c run = record { registers = named (final run) run.hart c; stored = filter_map stored_by run.steps }
+end_of c run = record { registers = named (final run) run.hart c []; stored = filter_map stored_by run.steps }
 
 -- ---- the runs of a hart
 
