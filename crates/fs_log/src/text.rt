@@ -144,6 +144,7 @@ fn first_line(alloc: Global, name: &str, seen: usize, allowed: usize) -> Result<
 pub(crate) fn lacking_text(alloc: Global, name: &str) -> Result<String, AllocError>
     ensures { IfOk result (λ text. string_bytes text ≡ lacking_text name.now) }
 {
-    let name = shown_name(alloc, name)?;
-    format!(in alloc; "{}: not in the log\n", name.as_str())
+    let mut text = shown_name(alloc, name)?;
+    text.push_str(": not in the log\n")?;
+    Ok(text)
 }
