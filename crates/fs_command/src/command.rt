@@ -86,7 +86,8 @@ to the file, for what it shows of each test:
 Exit status:
   0  done; with --log, each state that was seen is allowed
   1  with --log, a state was seen that isn't allowed
-  2  a file has a fault, or the log, or a bad command line; the other files are answered
+  2  a file or the log has a fault, a test isn't in the log, or a bad command line; the
+     other files are answered
   3  memory ran out (fault F19)
 Faults beside those of the files: a hart has too many runs (F13), a run accesses an
 address of no location (F14), there are too many candidate executions (F15), a file
@@ -216,6 +217,7 @@ test without FENCEs, by whose instructions the weights of PRICES go. What the FE
 is left out where one has no price or no slot of its own.
 
 With --write the test is printed with the cheapest fences in place of its own.
+FENCEs with i or o among their letters stay as they are.
 
 Exit status:
   0  each FENCE is needed, and none is missing

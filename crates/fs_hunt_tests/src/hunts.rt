@@ -3,7 +3,7 @@
 ghost use Rattle.std.specs.Prelude.{All};
 ghost use Rattle.fs_model.specs.Test.{IsBounded, IsStart};
 
-use crate::texts::{ALWAYS, CASES, LOCK, LOCK3};
+use crate::texts::{ADDERS, ALWAYS, CASES, LAST, LOCK, LOCK3, PAIRS, SEEN, SOURCES, THREE, UNTOLD};
 use fs_answer::{Names, WitnessFile};
 use fs_check::shown_by;
 use fs_examples::{
@@ -46,6 +46,15 @@ fn write_choices(file: &WitnessFile, text: &mut String) -> Result<(), AllocError
     Ok(())
 }
 
+/// Writes the order of the operations.
+fn write_order(file: &WitnessFile, text: &mut String) -> Result<(), AllocError> {
+    text.push_str(" :")?;
+    for name in file.order.iter().flatten() {
+        write!(text, " {name}")?;
+    }
+    Ok(())
+}
+
 /// The execution as a witness file has it.
 fn file_of(alloc: Global, execution: Execution) -> Result<WitnessFile, AllocError> {
     let mut order = Vec::new(alloc);
@@ -83,6 +92,7 @@ fn told(
             write!(text, "shown {is_right}")?;
             if way.is_first {
                 write_choices(&file, &mut text)?;
+                write_order(&file, &mut text)?;
             }
         }
         Found::GaveUp => text.push_str("gave up")?,
@@ -145,8 +155,10 @@ refuted, None
 refuted, None
 ";
 
+const LOCK3_FENCES: &str = "P0:3=r,r P0:7=w,w P1:3=r,r P1:7=w,w P2:3=r,r P2:7=w,w";
+
 /// Pairs, AMOs, forwarding, and conditions of other forms.
-const OTHERS: [(&str, &str); 12] = [
+const OTHERS: [(&str, &str); 13] = [
     (LRSC, ""),
     (LRSCF, ""),
     (SBXA, ""),
@@ -159,6 +171,7 @@ const OTHERS: [(&str, &str); 12] = [
     (LOCK, ""),
     (LOCK, "P0:3=r,r P0:7=w,w P1:3=r,r P1:7=w,w"),
     (LOCK, "P0:3=r,r P0:7=w,w P1:7=w,w"),
+    (LOCK3, LOCK3_FENCES),
 ];
 
 const OTHERS_FOUND: &str = "refuted, None
@@ -173,6 +186,7 @@ refuted, None
 shown true
 refuted, None
 shown true
+refuted, None
 ";
 
 #[test]
@@ -189,18 +203,32 @@ fn others(rt: HostRuntime) -> Result<(), Fail> {
     Ok(())
 }
 
-/// Tests of which the first execution is asked for, which is told by its choices: the least that show the outcome.
-const FIRSTS: [(&str, &str); 4] = [
+/// Tests of which the first execution is asked for. It is told by its choices, which are the least that show the outcome, and by its order.
+/// In those below the lock a hunt for any execution finds one that isn't the first: with greater words, another source, or another order
+/// of stores.
+const FIRSTS: [(&str, &str); 10] = [
     (MP11, ""),
     (MP11, "P0:3=rw,rw P1:1=rw,rw"),
     (SB, ""),
     (LOCK, "P0:7=w,w P1:3=r,r"),
+    (UNTOLD, ""),
+    (SEEN, ""),
+    (PAIRS, ""),
+    (SOURCES, ""),
+    (THREE, ""),
+    (LAST, ""),
 ];
 
-const FIRSTS_FOUND: &str = "shown true;; Word(1) Word(1)
-shown true;; Word(1) Word(1)
-shown true; Word(0); Word(0)
-shown true; Word(0) Word(0) Word(1); Word(0) Word(0) Word(1)
+const FIRSTS_FOUND: &str = "shown true;; Word(1) Word(1) : P0:1 P0:3 P1:0 P1:1
+shown true;; Word(1) Word(1) : P0:1 P0:3 P1:0 P1:1
+shown true; Word(0); Word(0) : P0:2 P1:1 P1:2 P0:1
+shown true; Word(0) Word(0) Word(1); Word(0) Word(0) Word(1) : P0:3 P1:1 P1:3 P1:7 P0:1 P0:5 P0:7 P1:5
+shown true; Word(0); Word(0) : P0:2 P1:1 P1:2 P0:1
+shown true;; Word(0) Word(1) : P0:1 P1:0 P0:2 P1:1
+shown true; Word(0) Success; Word(0) Failure : P0:1 P1:1 P0:2
+shown true;;; Word(1) : P0:1 P2:0 P1:1
+shown true;;; : P0:1 P2:1 P1:1
+shown true;; : P0:2 P1:2 P1:3 P0:3
 ";
 
 #[test]
@@ -210,17 +238,37 @@ fn first_ones(rt: HostRuntime) -> Result<(), Fail> {
     Ok(())
 }
 
-/// A lock of three harts, with a limit that it passes and without.
+/// How many inferences the refutation has that a hunt finds; 0 where it finds none.
+fn refuted_by(alloc: Global, text: &str, fences: &str, most: usize) -> Result<usize, Fault> {
+    let test = Arc::new(alloc, read_test(alloc, text.as_bytes())?)?;
+    let placement = placement_of(alloc, &test, fences)?;
+    let basis = Basis::new(alloc, &test)?;
+    let hunter = Hunter::new(alloc, &test, basis.names(), basis.runs())?;
+    match hunter.hunt(alloc, &placement, most)? {
+        Found::Refuted(tree) => Ok(tree.len()),
+        _ => Ok(0),
+    }
+}
+
+/// For each of the tests the numbers for a limit of a million inferences, of as many as the refutation then has, and of one less.
+fn write_bounds(alloc: Global, rows: &[(&str, &str)], text: &mut String) -> Result<(), Fault> {
+    for (test, fences) in rows {
+        let size = refuted_by(alloc, test, fences, ANY.most)?;
+        let within = refuted_by(alloc, test, fences, size)?;
+        let beyond = refuted_by(alloc, test, fences, size.saturating_sub(1))?;
+        let is_long = size > 250;
+        write!(text, "{is_long} {} {beyond}\n", within == size)?;
+    }
+    Ok(())
+}
+
+/// Locks of three harts and additions of five, which have more than 4,000,000 candidates: a hunt gives up where the refutation would pass
+/// its limit, and not before.
 #[test]
-fn three_harts(rt: HostRuntime) -> Result<(), Fail> {
-    let fences = "P0:3=r,r P0:7=w,w P1:3=r,r P1:7=w,w P2:3=r,r P2:7=w,w";
-    let few = Way {
-        is_first: false,
-        most: 100,
-    };
-    let mut lines = all_hunted(rt.alloc(), &[(LOCK3, fences)], ANY)?;
-    let more = all_hunted(rt.alloc(), &[(LOCK3, fences)], few)?;
-    lines.push_str(&more)?;
-    assert_eq!(rt; lines.as_str(), "refuted, None\ngave up\n");
+fn hunts_give_up_at_their_limit(rt: HostRuntime) -> Result<(), Fail> {
+    let rows = [(LOCK3, LOCK3_FENCES), (ADDERS, "")];
+    let mut text = String::new(rt.alloc());
+    write_bounds(rt.alloc(), &rows, &mut text)?;
+    assert_eq!(rt; text.as_str(), "true true 0\ntrue true 0\n");
     Ok(())
 }

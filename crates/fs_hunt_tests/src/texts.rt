@@ -66,3 +66,94 @@ pub(crate) const CASES: &str = "RISCV CASES
  lw x7,0(x8) | lw x7,0(x8) ;
 ~exists ((0:x7=0 /\\ 1:x7=0) \\/ ~(0:x7=0 \\/ 0:x7=1 \\/ x=2) \\/ x=0)
 ";
+
+/// Store buffering with any outcome.
+pub(crate) const UNTOLD: &str = "RISCV UNTOLD
+{
+0:x6=x; 0:x8=y;
+1:x6=y; 1:x8=x;
+}
+ P0          | P1          ;
+ ori x5,x0,1 | ori x5,x0,1 ;
+ sw x5,0(x6) | sw x5,0(x6) ;
+ lw x7,0(x8) | lw x7,0(x8) ;
+exists (true)
+";
+
+/// Two stores, and a hart that sees one of them.
+pub(crate) const SEEN: &str = "RISCV SEEN
+{
+0:x6=x; 0:x8=y;
+1:x6=y; 1:x8=x;
+}
+ P0          | P1          ;
+ ori x5,x0,1 | lw x5,0(x6) ;
+ sw x5,0(x6) | lw x7,0(x8) ;
+ sw x5,0(x8) |             ;
+exists (1:x5=1 \\/ 1:x7=1)
+";
+
+/// Two pairs, one of which stores.
+pub(crate) const PAIRS: &str = "RISCV PAIRS
+{
+0:x6=x;
+1:x6=x;
+}
+ P0              | P1              ;
+ ori x5,x0,1     | ori x5,x0,1     ;
+ lr.w x7,(x6)    | lr.w x7,(x6)    ;
+ sc.w x9,x5,(x6) | sc.w x9,x5,(x6) ;
+exists (x=1)
+";
+
+/// A word that two harts store.
+pub(crate) const SOURCES: &str = "RISCV SOURCES
+{
+0:x6=x;
+1:x6=x;
+2:x6=x;
+}
+ P0          | P1          | P2          ;
+ ori x5,x0,1 | ori x5,x0,1 | lw x7,0(x6) ;
+ sw x5,0(x6) | sw x5,0(x6) |             ;
+exists (2:x7=1)
+";
+
+/// Three stores to a word, whose last one isn't that of P2.
+pub(crate) const THREE: &str = "RISCV THREE
+{
+0:x6=x;
+1:x6=x;
+2:x6=x;
+}
+ P0          | P1          | P2          ;
+ ori x5,x0,1 | ori x5,x0,2 | ori x5,x0,3 ;
+ sw x5,0(x6) | sw x5,0(x6) | sw x5,0(x6) ;
+exists (x=1 \\/ x=2)
+";
+
+/// Two stores of each of two harts to a word, whose last one is P0's second.
+pub(crate) const LAST: &str = "RISCV LAST
+{
+0:x6=x;
+1:x6=x;
+}
+ P0          | P1          ;
+ ori x5,x0,1 | ori x5,x0,3 ;
+ ori x7,x0,2 | ori x7,x0,4 ;
+ sw x5,0(x6) | sw x5,0(x6) ;
+ sw x7,0(x6) | sw x7,0(x6) ;
+exists (x=2)
+";
+
+/// Five harts that each add 1 by a pair, all of which store, and one addition is lost.
+pub(crate) const ADDERS: &str = "RISCV ADDERS
+{
+0:x6=x; 1:x6=x; 2:x6=x; 3:x6=x; 4:x6=x;
+}
+ P0              | P1              | P2              | P3              | P4              ;
+ lr.w x5,(x6)    | lr.w x5,(x6)    | lr.w x5,(x6)    | lr.w x5,(x6)    | lr.w x5,(x6)    ;
+ addi x5,x5,1    | addi x5,x5,1    | addi x5,x5,1    | addi x5,x5,1    | addi x5,x5,1    ;
+ sc.w x9,x5,(x6) | sc.w x9,x5,(x6) | sc.w x9,x5,(x6) | sc.w x9,x5,(x6) | sc.w x9,x5,(x6) ;
+exists (x=4 /\\ 0:x9=0 /\\ 1:x9=0 /\\ 2:x9=0 /\\ 3:x9=0 /\\ 4:x9=0)
+";

@@ -2,6 +2,10 @@
 #![tactic(auto)]
 
 #[cfg(test)]
+mod long;
+#[cfg(test)]
 mod made;
 #[cfg(test)]
 mod plain;
+#[cfg(test)]
+mod scouts;
