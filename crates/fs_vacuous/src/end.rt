@@ -53,8 +53,8 @@ fn push_known(known: &mut Vec<Known>, run: &Lone, register: Reg) -> Result<(), A
     Ok(())
 }
 
-// Appends the registers of the hart that the condition names and that aren't there, with the words that they end with in the run. So there
-// are 31 at most.
+// Appends the registers of the hart that the condition names and that aren't there, with the words that they end with in
+// the run. So there are 31 at most.
 fn push_named(
     run: &Lone,
     hart: u8,
