@@ -311,30 +311,39 @@ fn answer_solve<'a, R: Files + Input + Eprint + AllocGlobal + Clock + Threads + 
 {
     papers.read_test(rt, solve.test)?;
     papers.read_prices(rt, solve.prices)?;
-    let test = papers.test.bytes.as_slice();
-    let prices = papers.prices.bytes.as_slice();
+    let mut progress = Progress::new(rt, voice.shows_progress);
+    let answered = answered(rt, solve, papers, &mut progress)?;
+    if voice.notes {
+        note_vacuous(rt, &papers.test.bytes, answered.output.text.as_str())?;
+    }
+    Ok(in_form(answered.output, answered.object, solve.json))
+}
+
+/// What `solve` prints of the test and the prices that were read, once its certificate is written where one is asked for.
+fn answered<R: Files + Eprint + AllocGlobal + Clock + Threads + Wait + Sync>(
+    rt: &R,
+    solve: &Solve<'_>,
+    papers: &Papers<'_>,
+    progress: &mut Progress<'_, R>,
+) -> Result<Answered, Fault>
+    ensures answer { IfOk result (λ made. IsSolved papers.now.test.bytes.items papers.now.prices.bytes.items
+        (string_bytes made.output.text) made.output.status) }
+    ensures object { IfOk result (λ made. AreOneAnswer (string_bytes made.output.text) (string_bytes made.object)) }
+{
+    let (test, prices) = (&papers.test.bytes, &papers.prices.bytes);
     // the command line has no other numbers; here it is said once more for the proof
     let workers = solve.workers.clamp(1, MOST_WORKERS);
     let limit = solve.nodes.clamp(1, MOST_NODES) as usize;
-    let mut progress = Progress::new(rt, voice.shows_progress);
-    let answered = match solve.certificate {
-        Some(path) => {
-            let certified = certified(rt, test, prices, workers, limit, &mut progress);
-            progress.wipe();
-            let certified = certified?;
-            write_whole(rt, path, certified.certificate.as_bytes())?;
-            certified.answered
-        }
-        None => {
-            let answered = solved(rt, test, prices, workers, limit, &mut progress);
-            progress.wipe();
-            answered?
-        }
+    let Some(path) = solve.certificate else {
+        let answered = solved(rt, test, prices, workers, limit, progress);
+        progress.wipe();
+        return answered;
     };
-    if voice.notes {
-        note_vacuous(rt, test, answered.output.text.as_str())?;
-    }
-    Ok(in_form(answered.output, answered.object, solve.json))
+    let certified = certified(rt, test, prices, workers, limit, progress);
+    progress.wipe();
+    let certified = certified?;
+    write_whole(rt, path, certified.certificate.as_bytes())?;
+    Ok(certified.answered)
 }
 
 /// Says on standard error that the test is vacuous, where it is. Then it needs no fence, so of other answers nothing is
