@@ -2,4 +2,4 @@ use Rattle.std.proofs.Common.{◌≡◌}
 use Rattle.fs_solve_tests.proofs.scouts.scout_after.Given as goal
 
 abbrev pub invariant-loop : goal.invariant-loop
-invariant-loop g l = l.scout ≡ l.initial.scout
+invariant-loop l = l.scout ≡ l.initial.scout
