@@ -7,6 +7,7 @@ is to be believed. Definitions of the standard library and of the ported crates 
 import functools
 import os
 import re
+import sys
 
 TOP = os.path.dirname(os.path.dirname(os.path.abspath(__file__)))
 IMPORT = re.compile(r"^(pub |ghost )?use Rattle\.(\w+)\.specs\.([\w.'-]+?)(?:\.\{([^}]*)\}| as (\w+))?;?$", re.M)
@@ -181,10 +182,10 @@ def reached(roots):
 
 
 def contract_of(file, function):
-    """What the contract of a function names, a method as `Type::method`."""
-    name = function.rpartition("::")[2]
-    found = re.search(rf"^( *)(?:pub )?fn {name}\b(?:.*\n)+?\1\{{(?:\}}| |$)", text_of(file), re.M)
-    return set(filter(None, named_in(file, found[0]))) if found else set()
+    """What the contract of the first function of this name in the file names."""
+    found = re.search(rf"^( *)(?:pub )?fn {function}\b(?:.*\n)+?\1\{{(?:\}}| |$)", text_of(file), re.M)
+    named = set(filter(None, named_in(file, found[0]))) if found else set()
+    return named or sys.exit(f"definitions: {file} has no contract of {function}")
 
 
 def size(node):
@@ -196,7 +197,7 @@ def size(node):
 def needed_by(name):
     """All definitions and types that the contracts of this name rest on, or the definitions in `MEANINGS`."""
     if name in MEANINGS:
-        return reached({node_of(*it) for it in MEANINGS[name]})
+        return reached({node_of(*it) or sys.exit(f"definitions: there is no {'.'.join(it)}") for it in MEANINGS[name]})
     return reached({it for file, function in CONTRACTS[name] for it in contract_of(f"crates/{file}", function)})
 
 
