@@ -1,7 +1,7 @@
--- The instruction table: what each row's operands are, what instruction they make, and its roles.
-use Rattle.std.specs.Prelude.{ℕ, List, [], ◌∷◌, Option, Some, None, Bool, true, false, pos}
+-- The instruction table: what each row's operands are, and what instruction they make.
+use Rattle.std.specs.Prelude.{ℕ, List, [], ◌∷◌, Option, Some, None, pos}
 use Rattle.fs_tokens.specs.declared.token.Mark.TheVariants.{Comma, OpenParen, CloseParen}
-use Rattle.fs_instr.specs.Registers.{named}
+pub use Rattle.fs_instr.specs.Roles.{nop, roles, roles_of, dest_of, sources_of, address_of, data_of, carries_of, is_memory, is_conditional}
 use Rattle.fs_instr.specs.Operands.{all_letters}
 use Rattle.fs_instr.specs.declared.names.Op.{Op}
 use Rattle.fs_instr.specs.declared.names.Op.TheVariants as op
@@ -11,7 +11,6 @@ use Rattle.fs_instr.specs.declared.operands.OperandPart.{OperandPart}
 use Rattle.fs_instr.specs.declared.operands.OperandPart.TheVariants.{Rd, First, Second, Zero, Sign, Immediate, Below, Constant, NoOffset, Label, Before, After}
 use Rattle.fs_instr.specs.declared.instr.Instr.{Instr}
 use Rattle.fs_instr.specs.declared.instr.Instr.TheVariants as instr
-use Rattle.fs_instr.specs.declared.instr.Roles.{Roles}
 
 abbrev pub comma : OperandPart
 comma = Sign Comma
@@ -40,10 +39,6 @@ parts_of op.Mv = Rd ∷ comma ∷ First ∷ []
 parts_of (op.BranchZero o) = First ∷ comma ∷ Label ∷ []
 parts_of op.J = Label ∷ []
 parts_of op.FenceAll = []
-
--- the instruction that does nothing
-abbrev pub nop : Instr
-nop = instr.Immediate Addi 0 0 (pos 0)
 
 abbrev pub instr_of : Op → Operands → Instr
 instr_of (op.Register o) x = instr.Register o x.rd x.first x.second
@@ -113,53 +108,3 @@ abbrev pub target_of : Instr → Option ℕ
 target_of (instr.Branch o a b target) = Some target
 target_of (instr.Jump target) = Some target
 target_of _ = None
-
--- lw, sw, lr.w, sc.w or an AMO
-abbrev pub is_memory : Instr → Bool
-is_memory (instr.Lw rd a z) = true
-is_memory (instr.Sw v a z) = true
-is_memory (instr.Lr ann rd a) = true
-is_memory (instr.Sc ann rd v a) = true
-is_memory (instr.Amo o ann rd v a) = true
-is_memory _ = false
-
--- a branch with a condition
-abbrev pub is_conditional : Instr → Bool
-is_conditional (instr.Branch o a b t) = true
-is_conditional _ = false
-
--- ---- roles (the manual's "syntactic dependencies"); x0 has none
-
--- the destination, the sources, the address source, the data source, and whether dependencies are carried from sources to destination
-abbrev pub roles : Option ℕ → Option ℕ → Option ℕ → Option ℕ → Option ℕ → Bool → Roles
-roles dest first second address word carries = record { dest = dest; sources = first ∷ second ∷ []; address = address; «data» = word; carries = carries }
-
-abbrev pub roles_of : Instr → Roles
-roles_of (instr.Register o rd a b) = roles (named rd) (named a) (named b) None None true
-roles_of (instr.Immediate o rd a z) = roles (named rd) (named a) None None None true
-roles_of (instr.Shift o rd a n) = roles (named rd) (named a) None None None true
-roles_of (instr.Lui rd n) = roles (named rd) None None None None false
-roles_of (instr.Li rd n) = roles (named rd) None None None None false
-roles_of (instr.Lw rd a z) = roles (named rd) (named a) None (named a) None false
-roles_of (instr.Sw v a z) = roles None (named a) (named v) (named a) (named v) false
-roles_of (instr.Lr ann rd a) = roles (named rd) (named a) None (named a) None false
-roles_of (instr.Sc ann rd v a) = roles (named rd) (named a) (named v) (named a) (named v) false
-roles_of (instr.Amo o ann rd v a) = roles (named rd) (named a) (named v) (named a) (named v) false
-roles_of (instr.Branch o a b t) = roles None (named a) (named b) None None false
-roles_of _ = roles None None None None None false
-
-abbrev pub dest_of : Instr → Option ℕ
-dest_of i = (roles_of i).dest
-
--- two places, either of which may be empty
-abbrev pub sources_of : Instr → List (Option ℕ)
-sources_of i = (roles_of i).sources
-
-abbrev pub address_of : Instr → Option ℕ
-address_of i = (roles_of i).address
-
-abbrev pub data_of : Instr → Option ℕ
-data_of i = (roles_of i).«data»
-
-abbrev pub carries_of : Instr → Bool
-carries_of i = (roles_of i).carries

@@ -10,3 +10,4 @@ pub mod OfTable
 pub mod Spelled
 pub mod Texts
 pub mod PrintedTokens
+pub mod Roles

@@ -1,6 +1,7 @@
 -- The names of registers.
-use Rattle.std.specs.Prelude.{ℕ, List, [], ◌∷◌, Option, Some, None, codes, ◌==◌, if◌then◌else◌}
+use Rattle.std.specs.Prelude.{ℕ, List, [], ◌∷◌, Option, codes}
 use Rattle.fs_instr.specs.Rows.{look_up}
+pub use Rattle.fs_instr.specs.Roles.{named}
 use Rattle.std.specs.Option.{option_or}
 
 -- x0 to x10
@@ -107,7 +108,3 @@ register_of word =
     option_or (look_up first_names word) (
     option_or (look_up arguments word) (
     look_up last_names word)))))
-
--- x0 is never a destination or a source
-abbrev pub named : ℕ → Option ℕ
-named r = if r == 0 then None else Some r

@@ -2,6 +2,7 @@
 use Rattle.std.specs.Prelude.{ℕ, List, [], ◌∷◌, Bool, true, false, ◌&&◌, ◌||◌, not, Option, codes}
 use Rattle.std.specs.List.{find}
 use Rattle.std.specs.Str.{bytes_eq}
+pub use Rattle.fs_kinds.specs.Placements.{table_index}
 use Rattle.fs_kinds.specs.declared.kind.Kind.{Kind}
 use Rattle.fs_kinds.specs.declared.kind.Kind.TheVariants.{RR, RW, RRw, WR, WW, WRw, RwR, RwW, RwRw, Tso}
 use Rattle.fs_kinds.specs.declared.kind.Classes.{Classes}
@@ -9,19 +10,6 @@ use Rattle.fs_kinds.specs.declared.kind.Classes.{Classes}
 -- the ten kinds, in table order
 abbrev pub all_kinds : List Kind
 all_kinds = RR ∷ RW ∷ RRw ∷ WR ∷ WW ∷ WRw ∷ RwR ∷ RwW ∷ RwRw ∷ Tso ∷ []
-
--- the kind's place in the table, from 0 on
-abbrev pub table_index : Kind → ℕ
-table_index RR = 0
-table_index RW = 1
-table_index RRw = 2
-table_index WR = 3
-table_index WW = 4
-table_index WRw = 5
-table_index RwR = 6
-table_index RwW = 7
-table_index RwRw = 8
-table_index Tso = 9
 
 abbrev pub word : Kind → List ℕ
 word RR = codes "r,r"

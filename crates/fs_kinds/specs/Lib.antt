@@ -4,6 +4,7 @@ pub mod Kind
 pub mod Limits
 pub mod PlaceNames
 pub mod Placement
+pub mod Placements
 pub mod PriceObject
 pub mod PriceTable
 pub mod ReasonText

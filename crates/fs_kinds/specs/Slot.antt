@@ -5,6 +5,7 @@ use Rattle.std.specs.List.{list_all}
 use Rattle.fs_kinds.specs.declared.kind.Kind.{Kind}
 use Rattle.fs_kinds.specs.declared.slot.Slot.{Slot}
 use Rattle.fs_kinds.specs.Kind.{word}
+pub use Rattle.fs_kinds.specs.Placements.{is_same_slot}
 
 -- the instruction number `at` of a hart, such as `P0:3`
 abbrev pub place_name : ℕ → ℕ → List ℕ
@@ -20,9 +21,6 @@ IsSlot s = (s.hart < 256) × (s.at < 256)
 -- a placed fence, such as `P0:3=w,w`
 abbrev pub fence_word : Slot → Kind → List ℕ
 fence_word s kind = slot_name s ++ codes "=" ++ word kind
-
-abbrev pub is_same_slot : Slot → Slot → Bool
-is_same_slot s t = (s.hart == t.hart) && (s.at == t.at)
 
 -- by hart, then by instruction
 abbrev pub is_before : Slot → Slot → Bool

@@ -17,3 +17,6 @@ pub mod Weakening
 pub mod Ranking
 pub mod PlacedPairs
 pub mod ExactWidths
+mod ByLetters
+pub mod NoPlacement
+pub mod FencedPrograms

@@ -1,3 +1,4 @@
 pub mod Answers
 pub mod Fenced
 pub mod Strength
+pub mod Letters

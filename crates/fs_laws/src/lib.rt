@@ -3,11 +3,15 @@
 
 mod answers;
 mod fenced;
+mod joined;
 mod strength;
 
 pub use answers::{cost_and_order_decide, cycles_are_short, one_witness_refutes_all};
 pub use fenced::{
     fenced_test_means_placement, fences_keep_runs, no_entries_no_fences, same_tests_show_alike,
+};
+pub use joined::{
+    model_means_no_placement, rule_4_by_letters, rule_4_with_placements, solve_means,
 };
 pub use strength::{
     full_fences_decide, kept_pairs_decide, weaker_fences_allow_more, widths_are_exact,

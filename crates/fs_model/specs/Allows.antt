@@ -1,9 +1,12 @@
 -- What a test with a placement of fences allows, and the answer to a test and prices.
-use Rattle.std.specs.Prelude.{◌≡◌, ◌==◌, nat_lt, ◌&&◌, ◌||◌, Bool, true, None, Some, List}
+use Rattle.std.specs.Prelude.{◌≡◌, true, None, Some, List}
 use Rattle.fs_kinds.specs.declared.kind.Kind.TheVariants.{RwRw}
 use Rattle.fs_kinds.specs.declared.placement.Entry.{Entry}
-use Rattle.fs_kinds.specs.Placement.{slots_of, all_with, precedes}
-use Rattle.fs_kinds.specs.PriceTable.{PriceTable, are_offered, cost}
+use Rattle.fs_kinds.specs.Placement.{all_with}
+use Rattle.fs_kinds.specs.Placements.{PriceTable}
+pub use Rattle.fs_kinds.specs.Placements.{is_better}
+use Rattle.fs_model.specs.Answers as answers
+use Rattle.fs_model.specs.OfTests.{program_of}
 use Rattle.fs_model.specs.declared.test.Test.{Test}
 use Rattle.fs_model.specs.Slots.{slots}
 use Rattle.fs_model.specs.Execution.{Execution, IsExecution}
@@ -26,13 +29,8 @@ abbrev pub full_fences : Test → List Entry
 full_fences t = all_with (Some RwRw) (slots t)
 
 -- the test's slots in order, each with an offered kind or none
-pub record IsPlacement (t : Test) (prices : PriceTable) (p : List Entry) : Type 0 where
-  pub slots : slots_of p ≡ slots t
-  pub offered : are_offered prices p ≡ true
-
--- p costs less than q, or as much and is earlier
-abbrev pub is_better : PriceTable → List Entry → List Entry → Bool
-is_better prices p q = nat_lt (cost prices p) (cost prices q) || (cost prices p == cost prices q) && precedes p q
+abbrev pub IsPlacement : Test → PriceTable → List Entry → Type 0
+IsPlacement t prices p = answers.IsPlacement (program_of t) prices p
 
 -- p forbids the outcome, and every better placement allows it: the answer is the first of the cheapest. It says little of a test
 -- with runs that go astray, since these are no executions.

@@ -1,26 +1,7 @@
 -- Conditions on final states, as trees.
 use Rattle.std.specs.Prelude.{ℕ, ◌+◌, ◌<◌, ◌^◌, max}
-use Rattle.fs_model.specs.declared.outcome.Outcome.{Outcome}
-use Rattle.fs_model.specs.declared.outcome.Outcome.TheVariants as outcome
-
--- a condition, whatever the places in memory of its parts
-pub data Condition : Type 0 where
-  Always : Condition
-  Never : Condition
-  RegisterIs : (hart reg word : ℕ) → Condition
-  LocationIs : (location word : ℕ) → Condition
-  Deny : Condition → Condition
-  Both : Condition → Condition → Condition
-  Either : Condition → Condition → Condition
-
-abbrev pub condition_of : Outcome → Condition
-condition_of outcome.Always = Always
-condition_of outcome.Never = Never
-condition_of (outcome.RegisterIs hart reg word) = RegisterIs hart reg word
-condition_of (outcome.LocationIs location word) = LocationIs location word
-condition_of (outcome.Deny' p c) = Deny (condition_of c)
-condition_of (outcome.Both' p c q d) = Both (condition_of c) (condition_of d)
-condition_of (outcome.Either' p c q d) = Either (condition_of c) (condition_of d)
+pub use Rattle.fs_model.specs.Executions.{Condition, Always, Never, RegisterIs, LocationIs, Deny, Both, Either}
+pub use Rattle.fs_model.specs.OfTests.{condition_of}
 
 -- the greatest number of connectives and denials around an atom, `true` or `false`
 abbrev pub nesting : Condition → ℕ

@@ -1,7 +1,7 @@
 -- Which instructions load, store, and are annotated or paired (RISC-V Unprivileged ISA 20191213, chapter "“A” Standard Extension
 -- for Atomic Instructions").
 use Rattle.std.specs.Prelude.{Bool, true, false}
-use Rattle.fs_instr.specs.declared.names.Ann.{Ann}
+pub use Rattle.fs_instr.specs.Roles.{is_lr, is_sc, is_amo, annotation}
 use Rattle.fs_instr.specs.declared.instr.Instr.{Instr}
 use Rattle.fs_instr.specs.declared.instr.Instr.TheVariants.{Lw, Sw, Lr, Sc, Amo}
 
@@ -22,22 +22,3 @@ is_storing _ = false
 abbrev pub is_sw : Instr → Bool
 is_sw (Sw value base offset) = true
 is_sw _ = false
-
-abbrev pub is_lr : Instr → Bool
-is_lr (Lr ann rd base) = true
-is_lr _ = false
-
-abbrev pub is_sc : Instr → Bool
-is_sc (Sc ann rd value base) = true
-is_sc _ = false
-
-abbrev pub is_amo : Instr → Bool
-is_amo (Amo op ann rd value base) = true
-is_amo _ = false
-
--- its bits aq and rl
-abbrev pub annotation : Instr → Ann
-annotation (Lr ann rd base) = ann
-annotation (Sc ann rd value base) = ann
-annotation (Amo op ann rd value base) = ann
-annotation _ = record { acquire = false; release = false }

@@ -24,3 +24,9 @@ pub mod Allows
 pub mod Tests
 pub mod Reasons
 pub mod TooMany
+pub mod Instructions
+pub mod Runs
+pub mod Rules
+pub mod Executions
+pub mod Answers
+pub mod OfTests

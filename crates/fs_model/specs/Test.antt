@@ -1,5 +1,5 @@
 -- What a litmus test is: a value that herd7's format for RISC-V can write, within the limits.
-use Rattle.std.specs.Prelude.{◌≡◌, ◌≢◌, ℕ, ◌+◌, ◌-◌, ◌*◌, ◌/◌, ◌%◌, ◌<◌, ◌≤◌, ◌^◌, List, [], ◌∷◌, length, sum_by, count_by, Bool, false, not, ◌&&◌, ◌||◌, ◌==◌, nat_le, if◌then◌else◌, IsTrue, Option, Some, None, option_and_then, All, AllPairs, slice_get, slice_index}
+use Rattle.std.specs.Prelude.{◌≡◌, ◌≢◌, ℕ, ◌-◌, ◌/◌, ◌%◌, ◌<◌, ◌≤◌, ◌^◌, List, [], ◌∷◌, length, sum_by, count_by, Bool, false, not, ◌&&◌, ◌||◌, ◌==◌, nat_le, if◌then◌else◌, IsTrue, Option, Some, None, option_and_then, All, AllPairs, slice_get, slice_index}
 use Rattle.std.specs.Char.{is_ascii_alphabetic, is_ascii_alphanumeric}
 use Rattle.std.specs.Str.{IsUtf8}
 use Rattle.std.specs.List.{list_any, list_all, last_or}
@@ -8,6 +8,7 @@ use Rattle.fs_instr.specs.Instructions.{is_memory, target_of}
 use Rattle.fs_instr.specs.OfTable.{IsOfTable}
 use Rattle.fs_instr.specs.declared.instr.Instr.{Instr}
 use Rattle.fs_model.specs.declared.test.Test.{Test}
+pub use Rattle.fs_model.specs.Runs.{address_of}
 use Rattle.fs_model.specs.Condition.{condition_of, nesting, SpeaksOf}
 
 -- each branch goes to a later position of the code, or to its end
@@ -36,10 +37,6 @@ is_visible (Some c) = not (is_blank c)
 -- something in one line that neither begins nor ends with a blank
 abbrev pub is_title : List ℕ → Bool
 is_title text = is_visible (slice_get text 0) && is_visible (last_or None text) && not (list_any (λ c. c == 10) text)
-
--- the address of the location of this number
-abbrev pub address_of : ℕ → ℕ
-address_of location = 4096 + 16 * location
 
 -- the number of the location of this address, where it is that of one
 abbrev pub location_of : ℕ → Option ℕ

@@ -1,0 +1,220 @@
+"""Which definitions a contract rests on, and how many lines these have: of `specs/` the lines of each definition that
+is reached, without comments and imports, and of `src/` those of the types that they speak of.
+
+A name counts wherever it stands in a definition, also as that of a variable or a field; so a sum is no less than what
+is to be believed. Definitions of the standard library and of the ported crates are left out."""
+
+import functools
+import os
+import re
+import sys
+
+TOP = os.path.dirname(os.path.dirname(os.path.abspath(__file__)))
+IMPORT = re.compile(r"^(pub |ghost )?use Rattle\.(\w+)\.specs\.([\w.'-]+?)(?:\.\{([^}]*)\}| as (\w+))?;?$", re.M)
+ITEM = re.compile(r"^( *)(?:abbrev|unfoldable|pub record|pub data|record|data) (?:pub )?([^\s:]+)", re.M)
+MODULE = re.compile(r"^module _ .*\n", re.M)
+CONSTRUCTORS = re.compile(r"^(?:  ){1,2}([^\s:(){}→][^:(){}→\n]*?) :", re.M)
+COMMENT = re.compile(r"(?:^|(?<=\s))--(?:\s.*)?$", re.M)
+WORD = re.compile(r"[^\s(){};,λ→×↔]+")
+TYPE = r"^(?:pub(?:\(\w+\))? )?(?:struct|enum|type) {}\b.*"
+USE = r"^use (crate|fs_\w+)::(?:\w+::)*(?:\{{[^}}]*\b{}\b[^}}]*\}}|{});"
+PLAIN_TYPES = {"Option", "Box", "Vec", "String", "List", "Self", "Arc"}
+# the contracts that say what a command answers, in the order in which docs/PROVED.md lists what they rest on
+CONTRACTS = {
+    "place": [
+        ("fs_io/src/bytes.rt", "read_bytes"),
+        ("fs_io/src/bytes.rt", "write_text"),
+        ("fs_io/src/status.rt", "code"),
+        ("fs_io/src/status.rt", "of_fault"),
+        ("fs_place/src/place.rt", "run_place"),
+    ],
+    "order": [("fs_order/src/order.rt", "run_order")],
+    "solve": [("fs_solve/src/solve.rt", "run_solve"), ("fs_promise/src/promise.rt", "headline")],
+    "test": [
+        ("fs_test/src/tested.rt", "test_file"),
+        ("fs_test/src/report.rt", "test_report"),
+        ("fs_test/src/objects.rt", "test_objects"),
+        ("fs_test/src/note.rt", "vacuous_note"),
+    ],
+    "states": [("fs_shown/src/shown.rt", "run_states")],
+    "audit": [("fs_audit/src/audit.rt", "run_audit"), ("fs_audit/src/audit.rt", "run_mended")],
+    "states --log": [
+        ("fs_blocks/src/reader.rt", "read_log"),
+        ("fs_log/src/comparison.rt", "compare"),
+        ("fs_log/src/left.rt", "left_over"),
+    ],
+    "check": [("fs_verify/src/verdict.rt", "run_check"), ("fs_promise/src/checked.rt", "yes_is_true")],
+    "solve --cert": [("fs_solve/src/solve.rt", "run_certified")],
+    "requests": [("fs_app/src/program.rt", "answer")],
+    "messages": [
+        ("fs_point/src/file.rt", "explain"),
+        ("fs_point/src/file.rt", "explain_test"),
+        ("fs_point/src/json.rt", "explain_json"),
+        ("fs_point/src/fences.rt", "explain_fences"),
+        ("fs_point/src/fences.rt", "explain_unread"),
+    ],
+}
+# what a program of harts means, in the words of the chapter on the model
+MEANINGS = {
+    "that an outcome is possible": [("fs_model", "Executions", "Allows")],
+    "that fences are the answer": [("fs_model", "Answers", "IsCheapest"), ("fs_model", "Answers", "NothingRulesOut")],
+}
+
+
+@functools.cache
+def text_of(file):
+    """The text of a file by its path in the repository; none where there is no such file."""
+    if not os.path.isfile(f"{TOP}/{file}"):
+        return ""
+    with open(f"{TOP}/{file}", encoding="utf-8") as opened:
+        return opened.read()
+
+
+def spec_file(crate, path):
+    """The file of the definitions of this module."""
+    return f"crates/{crate}/specs/{path.replace('.', '/')}.antt"
+
+
+@functools.cache
+def imports_of(file):
+    """The names that a file imports, each with crate, module and name there, and its names for modules."""
+    names, modules, handed_on = {}, {}, set()
+    for kind, crate, path, listed, alias in IMPORT.findall(text_of(file)):
+        if alias:
+            modules[alias] = (crate, path)
+        for it in filter(None, re.split(r",\s*", listed)):
+            there, _, here = it.partition(" as ")
+            names[here or there] = (crate, path, there)
+            handed_on.update([here or there] if kind == "pub " else [])
+    return names, modules, handed_on
+
+
+@functools.cache
+def items_of(file):
+    """Under which definition of a file each name stands, such as a constructor's; and the lines of each definition."""
+    owners, lines, module = {}, {}, ""
+    text = IMPORT.sub("", text_of(file))
+    for part in COMMENT.sub("", text).replace("\n\n\n", "\n\n").split("\n\n"):
+        found = MODULE.search(part)
+        module = found[0].strip() if found else module
+        starts = list(ITEM.finditer(part))
+        for number, item in enumerate(starts):
+            end = starts[number + 1].start() if number + 1 < len(starts) else len(part)
+            body = [it for it in part[item.start():end].split("\n") if it.strip()]
+            lines[item[2]] = body
+            owners[item[2]] = item[2]
+            if " data " in f" {item[0]}":
+                for constructors in CONSTRUCTORS.findall("\n".join(body)):
+                    owners.update((it, item[2]) for it in constructors.split())
+            if item[1] and module:
+                lines[item[2]] = [module, *body]
+    return owners, lines
+
+
+def node_of(crate, path, name):
+    """What a name of a module stands for: `(file, name)` of a definition or a type, or None of what isn't counted."""
+    if not os.path.isdir(f"{TOP}/crates/{crate}"):
+        return None
+    if path.startswith("declared."):
+        module, _, owner = path.removeprefix("declared.").removesuffix(".TheVariants").rpartition(".")
+        return f"crates/{crate}/src/{module.replace('.', '/')}.rt", owner
+    file = spec_file(crate, path)
+    owners, _ = items_of(file)
+    if name in owners:
+        return file, owners[name]
+    names, _, handed_on = imports_of(file)
+    return node_of(*names[name]) if name in handed_on else None
+
+
+@functools.cache
+def type_lines(file, name):
+    """The lines of a type of the code, without comments and attributes."""
+    lines = text_of(file).split("\n")
+    first = next((number for number, it in enumerate(lines) if re.match(TYPE.format(re.escape(name)), it)), None)
+    if first is None or re.search(r"[;}]$", lines[first]):
+        return [] if first is None else [lines[first]]
+    last = next(number for number in range(first, len(lines)) if lines[number].startswith("}"))
+    return [it for it in lines[first:last + 1] if it.strip() and not re.match(r"\s*(?://|#\[)", it)]
+
+
+def types_named(file, lines):
+    """The types of the repository that a type's fields name."""
+    crate = file.split("/")[1]
+    for name in set(re.findall(r"\b[A-Z]\w*\b", "\n".join(lines[1:] or lines))) - PLAIN_TYPES:
+        used = re.search(USE.format(name, name), text_of(file), re.M)
+        home = f"crates/{crate if not used or used[1] == 'crate' else used[1]}/src"
+        there = [f"{home}/{it}" for it in sorted(os.listdir(f"{TOP}/{home}"))] if used else [file]
+        yield from ((it, name) for it in there if it.endswith(".rt") and type_lines(it, name))
+
+
+def named_in(file, text):
+    """What the names of a text mean that stands in this file."""
+    names, modules, _ = imports_of(file)
+    owners, _ = items_of(file) if file.endswith(".antt") else ({}, {})
+    for word in set(WORD.findall(re.sub(r'"[^"]*"', "", text))):
+        first, _, second = word.partition(".")
+        if first in modules:
+            yield node_of(*modules[first], second)
+        elif first in owners:
+            yield file, owners[first]
+        elif first in names:
+            yield node_of(*names[first])
+
+
+@functools.cache
+def rests_on(node):
+    """What a definition or a type names."""
+    file, name = node
+    if file.endswith(".rt"):
+        return set(types_named(file, type_lines(file, name)))
+    return set(filter(None, named_in(file, "\n".join(items_of(file)[1][name]))))
+
+
+def reached(roots):
+    """All that these rest on, themselves too."""
+    found, left = set(), list(roots)
+    while left:
+        node = left.pop()
+        if node not in found:
+            found.add(node)
+            left += rests_on(node)
+    return found
+
+
+def contract_of(file, function):
+    """What the contract of the first function of this name in the file names."""
+    found = re.search(rf"^( *)(?:pub )?fn {function}\b(?:.*\n)+?\1\{{(?:\}}| |$)", text_of(file), re.M)
+    named = set(filter(None, named_in(file, found[0]))) if found else set()
+    return named or sys.exit(f"definitions: {file} has no contract of {function}")
+
+
+def size(node):
+    """How many lines a definition has, or a type."""
+    file, name = node
+    return len(type_lines(file, name) if file.endswith(".rt") else items_of(file)[1][name])
+
+
+def needed_by(name):
+    """All definitions and types that the contracts of this name rest on, or the definitions in `MEANINGS`."""
+    if name in MEANINGS:
+        return reached({node_of(*it) or sys.exit(f"definitions: there is no {'.'.join(it)}") for it in MEANINGS[name]})
+    return reached({it for file, function in CONTRACTS[name] for it in contract_of(f"crates/{file}", function)})
+
+
+@functools.cache
+def all_needed():
+    """All that some contract rests on."""
+    return frozenset(it for name in CONTRACTS for it in needed_by(name))
+
+
+def size_of(nodes):
+    """How many lines these have together."""
+    return sum(map(size, nodes))
+
+
+def lines_by_file(nodes):
+    """For each file, how many lines the definitions or types in it have that are among these."""
+    found = {}
+    for node in sorted(nodes):
+        found[node[0]] = found.get(node[0], 0) + size(node)
+    return found
