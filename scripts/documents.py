@@ -1,5 +1,5 @@
-"""What scripts/tables and scripts/trusted share: the files of the tree, what their first lines say, and which definitions must
-be believed."""
+"""What scripts/tables and scripts/trusted share: the files of the tree, what their first lines say, and which
+definitions must be believed."""
 import functools
 import glob
 import os
