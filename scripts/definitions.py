@@ -9,7 +9,8 @@ import os
 import re
 import sys
 
-TOP = os.path.dirname(os.path.dirname(os.path.abspath(__file__)))
+from documents import TOP, text_of
+
 IMPORT = re.compile(r"^(pub |ghost )?use Rattle\.(\w+)\.specs\.([\w.'-]+?)(?:\.\{([^}]*)\}| as (\w+))?;?$", re.M)
 ITEM = re.compile(r"^( *)(?:abbrev|unfoldable|pub record|pub data|record|data) (?:pub )?([^\s:]+)", re.M)
 MODULE = re.compile(r"^module _ .*\n", re.M)
@@ -59,15 +60,6 @@ MEANINGS = {
     "that an outcome is possible": [("fs_model", "Executions", "Allows")],
     "that fences are the answer": [("fs_model", "Answers", "IsCheapest"), ("fs_model", "Answers", "NothingRulesOut")],
 }
-
-
-@functools.cache
-def text_of(file):
-    """The text of a file by its path in the repository; none where there is no such file."""
-    if not os.path.isfile(f"{TOP}/{file}"):
-        return ""
-    with open(f"{TOP}/{file}", encoding="utf-8") as opened:
-        return opened.read()
 
 
 def spec_file(crate, path):
