@@ -1,23 +1,15 @@
-#!/usr/bin/env python3
 """Runs the built program at its limits: each is met, where there must be an answer, and passed by one, where there
-must be a fault.
+must be a fault. The tests are those of scripts/checks/limit_files.py.
 
-    scripts/check-limits [--heavy]
-
-The tests are those of scripts/limit_files.py. With `--heavy` those come too that take minutes or gigabytes, and after
-each large run stand its milliseconds of processor time and its mebibytes at the peak. Prints a line for each check
-that fails, and at last `N passed, M failed`; the exit status is 0 only where all passed."""
+With `--heavy` those come too that take minutes or gigabytes, and after each large run stand its milliseconds of
+processor time and its mebibytes at the peak."""
 import json
 import os
 import re
-import subprocess
-import sys
-import tempfile
 
-sys.dont_write_bytecode = True
-import limit_files as files                                     # of this folder
-from counting import Counts, shown, usage
-from running import EXAMPLES, PRICES, TOP, Said, decoded, program, read, rvfence, written
+from checks import limit_files as files
+from counting import shown
+from running import EXAMPLES, PRICES, Said, compiled, decoded, program, ran, read, rvfence, written
 
 MEBIBYTE = 1_048_576
 GIBIBYTE = 1_073_741_824
@@ -29,14 +21,10 @@ STATUSES = {"fenced": 0, "yes": 0, "none": 1, "no:": 1}
 class Checks:
     """Runs the program in a folder, and counts what it does as it should."""
 
-    def __init__(self, folder, is_heavy):
-        self.folder = folder
-        self.is_heavy = is_heavy
-        self.counts = Counts()
-        self.verdict = self.counts.expect
-        self.measure = f"{folder}/measure"
-        if is_heavy:
-            subprocess.run(["cc", "-O2", "-o", self.measure, f"{TOP}/scripts/measure.c"], check=True)
+    def __init__(self, run):
+        self.folder, self.is_heavy = run.folder, run.options.heavy
+        self.check, self.verdict = run.check, run.expect
+        self.measure = compiled("measure.c", run.folder) if self.is_heavy else None
 
     def file(self, name, data):
         """The path of a new file with these bytes or this text."""
@@ -68,12 +56,12 @@ class Checks:
     def refused(self, name, *words):
         """A bad command line is explained on standard error alone."""
         said = self.run(words)
-        self.counts.check(name, not said.out and said.err and said.status == 2, shown(said))
+        self.check(name, not said.out and said.err and said.status == 2, shown(said))
 
     def none(self, name, *words):
         """The run prints none and an execution."""
         said = self.run(["solve", *words])
-        self.counts.check(name, re.fullmatch(r"none\n\{[^\n]*\}\n", said.out) and said[1:] == ("", 1), shown(said))
+        self.check(name, re.fullmatch(r"none\n\{[^\n]*\}\n", said.out) and said[1:] == ("", 1), shown(said))
         self.measured(name, ["solve", *words])
 
     def certified(self, name, lines, test, prices):
@@ -89,8 +77,8 @@ class Checks:
         """Where it is wanted, time and memory of one run more of what may be large."""
         if not self.is_heavy:
             return
-        done = subprocess.run([self.measure, "1", "/dev/null", program(), *words], capture_output=True, text=True)
-        nanoseconds, peak, _ = map(int, done.stdout.split())
+        measured = ran([self.measure, "1", "/dev/null", program(), *words], seconds=LONGEST)
+        nanoseconds, peak, _ = map(int, measured.out.split())
         if nanoseconds > 20_000_000 or peak > 8_000_000:
             print(f"{name}: {nanoseconds / 1e6:.0f} ms, {peak / MEBIBYTE:.0f} MiB", flush=True)
 
@@ -301,15 +289,8 @@ def check_heavy(checks):
     checks.too_long("a certificate of a gibibyte and a byte", long, GIBIBYTE, "check", path, PRICES, long)
 
 
-def main(words):
-    if words not in ([], ["--heavy"]):
-        usage("check-limits [--heavy]")
-    with tempfile.TemporaryDirectory() as folder:
-        checks = Checks(folder, bool(words))
-        for part in (check_fullest, check_slots, check_runs, check_hunts, check_nodes, check_bytes, *[check_heavy] * bool(words)):
-            part(checks)
-        return checks.counts.end()
-
-
-if __name__ == "__main__":
-    sys.exit(main(sys.argv[1:]))
+def check(run):
+    checks = Checks(run)
+    for part in (check_fullest, check_slots, check_runs, check_hunts, check_nodes, check_bytes,
+                 *[check_heavy] * checks.is_heavy):
+        part(checks)

@@ -1,18 +1,15 @@
-#!/usr/bin/env python3
-"""Feeds the built program the hostile files of scripts/hostile_files.py.
-
-    scripts/hostile [--huge]
+"""Feeds the built program the hostile files of scripts/checks/hostile_files.py.
 
 Each run must end by itself with the answer that is wanted: status 0 and nothing on standard error, or status 2,
 nothing on standard output and on standard error the one line of the fault, and with -v, of F20, and of `audit` and
-`states` its message;
-within 2 seconds of processor time, 400 MB and a stack of 8 MiB. `order` ends with status 0 and the line `yes`, or with
-status 1 and a line with its reason. `solve` ends with status 0 and lines of fences, or with status 1 and an execution,
-or says that it can't be answered within its limits (F13 to F16). `test` ends with status 0, 1, 2 or 4 and a line for
-the file, and a message where that has a fault of it, and `audit` with status 0, 1 or 4 and its lines, or like `solve`.
-`states` ends with status 0 and its block, or like `solve`. `check` says of a certificate what scripts/check_certificate.py says. A message has the form of docs/FORMAT.md, section
-14, and the line of its fault. Memory is ample, so status 3 is no answer here. The groups of files are split over as
-many processes as there are processors. The last line is `N passed, M failed`, which counts each run.
+`states` its message; within 2 seconds of processor time, 400 MB and a stack of 8 MiB. `order` ends with status 0 and
+the line `yes`, or with status 1 and a line with its reason. `solve` ends with status 0 and lines of fences, or with
+status 1 and an execution, or says that it can't be answered within its limits (F13 to F16). `test` ends with status 0,
+1, 2 or 4 and a line for the file, and a message where that has a fault of it, and `audit` with status 0, 1 or 4 and
+its lines, or like `solve`. `states` ends with status 0 and its block, or like `solve`. `check` says of a certificate
+what scripts/check_certificate.py says. A message has the form of docs/FORMAT.md, section 14, and the line of its
+fault. Memory is ample, so status 3 is no answer here. The groups of files are split over as many processes as there
+are processors.
 
 With `--huge` it feeds `check` certificates of 100 MB, one after the other, and nothing else: these may take 60
 seconds and 8 GB, and what each takes is printed."""
@@ -21,17 +18,12 @@ import os
 import re
 import resource
 import signal
-import sys
-import tempfile
 from concurrent.futures import ProcessPoolExecutor
 
-sys.dont_write_bytecode = True
-import hostile_files as files                                   # of this folder
-from counting import Counts
+from checks import hostile_files as files
 from reference import ANSWERED, READ
 from running import EXAMPLES, PRICES, program, read, written
 
-PROGRAM = program()
 MP = f"{EXAMPLES}/MP.litmus"
 SB = f"{EXAMPLES}/SB.litmus"
 # Seconds of processor time, and bytes: for files up to a mebibyte, and for huge ones.
@@ -129,7 +121,7 @@ class Runner:
         flags = [os.O_RDONLY, *[os.O_WRONLY | os.O_CREAT | os.O_TRUNC] * 2]
         actions = [(os.POSIX_SPAWN_OPEN, at, self.paths[at], flags[at], 0o600) for at in range(3)]
         written(self.paths[0], text)
-        self.child = os.posix_spawn(PROGRAM, [PROGRAM, *words], os.environ, file_actions=actions)
+        self.child = os.posix_spawn(program(), [program(), *words], os.environ, file_actions=actions)
         signal.alarm(LONGEST_WAIT)
         try:
             resource.prlimit(self.child, resource.RLIMIT_CPU, (self.most_seconds + 1, self.most_seconds + 1))
@@ -262,18 +254,10 @@ def tallies_of_huge(folder):
         yield tally_of([(f"100 MB of {name}", wanted, found)], HUGE_LIMITS)
 
 
-def main():
-    counts = Counts()
-    with tempfile.TemporaryDirectory() as folder:
-        tallies = list(tallies_of_huge(folder) if sys.argv[1:] == ["--huge"] else tallies_of_groups(folder))
-    for line in [line for tally in tallies for line in tally.lines][:MOST_SHOWN]:
-        print(line)
+def check(run):
+    tallies = list(tallies_of_huge(run.folder) if run.options.huge else tallies_of_groups(run.folder))
+    print(*[line for tally in tallies for line in tally.lines][:MOST_SHOWN], sep="\n")
     for tally in tallies:
-        counts.add(tally.passed, tally.failed)
+        run.counts.add(tally.passed, tally.failed)
     seconds, memory = max(tally.seconds for tally in tallies), max(tally.memory for tally in tallies)
     print(f"at most {seconds:.2f} seconds of processor time and {memory / 1e6:.0f} MB of memory")
-    return counts.end()
-
-
-if __name__ == "__main__":
-    sys.exit(main())

@@ -1,0 +1,33 @@
+"""All checks, in the order in which what they print is shown."""
+from checks import (certificate_rows, compare_audit, compare_check, compare_solve, compare_states, compare_test, devices,
+                    hostile, limits, program, refused_memory, solve_answers, states_answers, workers)
+from checks.registry import GATE, NOTHING, Check, flags, made, number
+from running import TOP
+
+SCRIPTS = f"{TOP}/scripts"
+CHECKS = [
+    Check("launcher", 60, command=(f"{SCRIPTS}/checks/launcher.sh",), needs=NOTHING,
+          text="Runs the launcher in a small repository of its own, with a stand-in for `rt` that proves nothing"),
+    Check("trusted", 10, command=(f"{SCRIPTS}/trusted",), needs=NOTHING, text="The list of what must be believed"),
+    Check("tables", 20, command=(f"{SCRIPTS}/tables", "--check"), needs=NOTHING, text="The lists of the documents"),
+    Check("manual", 10, command=(f"{SCRIPTS}/manual", "--check"), needs=NOTHING, text="The manual page"),
+    Check("solve-reference", 60, solve_answers.check_reference, needs=NOTHING),
+    Check("gate", None, command=("rt", "ci"), needs=GATE,
+          text="Every proof from nothing, the must-fail edits, tests and stored runs"),
+    Check("release", 60, command=(f"{SCRIPTS}/check-release",), needs=GATE,
+          text="Whether the program in bin/ is, byte for byte, what was built from its sources"),
+    Check("program", 100, program.check),
+    Check("limits", 100, limits.check, words=flags("--heavy")),
+    Check("devices", 100, devices.check),
+    Check("certificate-rows", 30, certificate_rows.check),
+    Check("compare-check", 60, compare_check.check, words=made(300)),
+    Check("solve-answers", 60, solve_answers.check, words=flags("--write")),
+    Check("states-answers", 60, states_answers.check, words=flags("--write")),
+    Check("compare-solve", 200, compare_solve.check, words=(*made(300), *flags("--reference", "--show"))),
+    Check("compare-test", 100, compare_test.check, words=made(300)),
+    Check("compare-audit", 200, compare_audit.check, words=made(300)),
+    Check("compare-states", 100, compare_states.check, words=made(100)),
+    Check("workers", 60, workers.check, words=(number("rounds", 5),)),
+    Check("refused-memory", 200, refused_memory.check, words=flags("--quick"), quick=("--quick",)),
+    Check("hostile", 400, hostile.check, words=flags("--huge")),
+]
