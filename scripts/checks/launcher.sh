@@ -179,7 +179,7 @@ at_work() { grep -lze "$dir/bin/[r]t" /proc/[0-9]*/cmdline 2>/dev/null | wc -l; 
 # stopped SIGNAL CRATE..: the status of a run that gets the signal while these crates, which are held, are built, how many of
 # its processes are left, and how many of its rooms.
 stopped() {
-    local status signal=$1
+    local it status signal=$1
     shift
     set -m
     HOLD=$* env --default-signal "$repo/rvfence" place x >"$dir/out" 2>"$dir/err" &
@@ -194,8 +194,7 @@ stopped() {
     wait $!
     status=$?
     # (what was told to end may take a while, where much else runs)
-    for it in {1..600}; do
-        [[ $(at_work) != 0 ]] || break
+    for ((it = 0; it < (signal == 9 ? 0 : 600) && $(at_work) > 0; it++)); do
         sleep 0.1
     done
     echo "$status $(at_work) $(find "$repo/crates" -path '*rooms*' | wc -l)"
@@ -221,7 +220,7 @@ edit rvfence/src/lib.rt
 : >"$log"
 check "a hangup" "129 0 0" "$(stopped HUP rvfence)"
 forget
-check "a kill" 137 "$(stopped KILL over_left 2>/dev/null | sed 's/ .*//')"
+check "a kill" 137 "$(stopped 9 over_left 2>/dev/null | sed 's/ .*//')"
 : >"$log"
 rest=$(unbuilt)
 check "a run after a kill" "$answer" "$(run place x)"
