@@ -194,7 +194,8 @@ stopped() {
     wait $!
     status=$?
     # (what was told to end may take a while, where much else runs)
-    for ((it = 0; it < (signal == 9 ? 0 : 600) && $(at_work) > 0; it++)); do
+    it=0
+    while [[ $signal != KILL ]] && (($(at_work) > 0 && it++ < 600)); do
         sleep 0.1
     done
     echo "$status $(at_work) $(find "$repo/crates" -path '*rooms*' | wc -l)"
@@ -220,7 +221,7 @@ edit rvfence/src/lib.rt
 : >"$log"
 check "a hangup" "129 0 0" "$(stopped HUP rvfence)"
 forget
-check "a kill" 137 "$(stopped 9 over_left 2>/dev/null | sed 's/ .*//')"
+check "a kill" 137 "$(stopped KILL over_left 2>/dev/null | sed 's/ .*//')"
 : >"$log"
 rest=$(unbuilt)
 check "a run after a kill" "$answer" "$(run place x)"
