@@ -87,8 +87,7 @@ def before(*closed, size=None, is_ignored=True):
     return prepare
 
 
-# --- Readers
-# ---------------------------------------------------------------------------------------------------------------
+# --- Readers ---------------------------------------------------------------------------------------------------------
 
 def check_readers(checks):
     """Each file of each command in turn is one that fails: missing, a folder, a device whose reads fail, and one that
@@ -159,8 +158,7 @@ def waiting(connection, which):
     return fcntl.ioctl(connection, which, left) or left[0]
 
 
-# --- Standard output
-# ---------------------------------------------------------------------------------------------------------
+# --- Standard output -------------------------------------------------------------------------------------------------
 
 def check_outputs(checks):
     """Standard output that is closed, full, open for reading alone, or a pipe that nobody reads; and one that takes
@@ -207,8 +205,7 @@ def check_errors(checks):
         checks.check(f"standard error takes {size} bytes, ignored: {is_ignored}", is_right, (found, said))
 
 
-# --- Certificates
-# ------------------------------------------------------------------------------------------------------------
+# --- Certificates ----------------------------------------------------------------------------------------------------
 
 def check_certificates(checks):
     """A certificate on a disk that takes each number of bytes and no more, where that is a write that fails and where
@@ -287,8 +284,7 @@ def check_signals(checks):
             checks.check(f"signal {number} after {at} of 40 parts of a run", read(path) in (OLD, whole))
 
 
-# --- Two runs at once, and calls that are interrupted
-# ------------------------------------------------------------------------------
+# --- Two runs at once, and calls that are interrupted ----------------------------------------------------------------
 
 # each call of a run at the file that it writes, and at one beside it
 HELD = ["statx", "open", "write", "rename", "unlink"]

@@ -59,8 +59,7 @@ def joined(atoms):
     return condition
 
 
-# --- What a test may have
-# ---------------------------------------------------------------------------------------------------
+# --- What a test may have --------------------------------------------------------------------------------------------
 
 
 def fullest(accesses=48, rows=INSTRUCTIONS, columns=8, locations=8, depth=64):
@@ -124,8 +123,7 @@ def fenced(cost, fences):
     return [f"fenced {cost}", *[f"fence P{hart} {at} {kind}" for (hart, at), kind in fences]]
 
 
-# --- How many runs and candidates there may be
-# ------------------------------------------------------------------------------
+# --- How many runs and candidates there may be -----------------------------------------------------------------------
 
 
 def runs_of(plan):
@@ -285,8 +283,7 @@ def adders(count):
     return Test("adders", ["a"], harts, " /\\ ".join([f"a={count - 1}", *stored]))
 
 
-# --- Files
-# ------------------------------------------------------------------------------------------------------------------
+# --- Files -----------------------------------------------------------------------------------------------------------
 
 SB_HARTS = "0:x5=1; 0:x6=x; 0:x8=y;\n1:x5=1; 1:x6=y; 1:x8=x;"
 SB = f"RISCV SB\n{{\nx=0; y=0;\n{SB_HARTS}\n}}\nP0 | P1 ;\nsw x5,0(x6) | sw x5,0(x6) ;\n" \

@@ -97,8 +97,7 @@ def are_built():
     return os.access(CALLS, os.X_OK) and max(map(os.path.getmtime, sources)) <= os.path.getmtime(CALLS)
 
 
-# --- The calls of `refusals`
-# ---------------------------------------------------------------------------------------------------------------------
+# --- The calls of `refusals` -----------------------------------------------------------------------------------------
 
 def ran_part(library, part, **settings):
     """The status and the lines of a run of the part."""

@@ -58,8 +58,7 @@ class Question:
         self.plain = None               # what is said without `--workers`
 
 
-# --- Questions
-# -------------------------------------------------------------------------------------------------------------
+# --- Questions -------------------------------------------------------------------------------------------------------
 
 def stored():
     """The tests of examples/ at each price list."""
@@ -95,8 +94,7 @@ def grown(folder):
         yield by_reference(f"made test {number}", *litmus.Maker(number).make())
 
 
-# --- Runs
-# ------------------------------------------------------------------------------------------------------------------
+# --- Runs ------------------------------------------------------------------------------------------------------------
 
 class Bench:
     """Makes runs, several at once, and counts what passed."""
