@@ -1,8 +1,9 @@
 """Tests at the limits of `rvfence`, each met and each passed by one. What the program must say of them is said where
 they are made, and why: it follows from docs/FORMAT.md, docs/MODEL.md and docs/SEARCH.md, and none of it is taken from
 the program."""
-import itertools
 import json
+
+import litmus
 
 KINDS = ["r,r", "r,w", "r,rw", "w,r", "w,w", "w,rw", "rw,r", "rw,w", "rw,rw", "tso"]
 NOTHING = "addi x0,x0,0"
@@ -28,26 +29,6 @@ class Hart:
         """The instructions before which a fence may stand: memory instructions behind another. There are no labels
         here."""
         return [at for at, cell in enumerate(self.cells) if cell.startswith(("lw ", "sw "))][1:]
-
-
-def text_of(name, locations, harts, condition, fences=()):
-    """A test in the printed form, with these fences: pairs of a slot, which is a hart and an instruction, and a
-    kind."""
-    kinds = dict(fences)
-    columns = []
-    for number, hart in enumerate(harts):
-        column = []
-        for at, cell in enumerate(hart.cells):
-            if (number, at) in kinds:
-                column.append(f"fence {kinds[number, at]}")
-            column.append(cell)
-        columns.append(column)
-    lines = [f"RISCV {name}", "{", " ".join(f"{location}=0;" for location in locations)]
-    for number, hart in enumerate(harts):
-        lines.append(" ".join(f"{number}:{register}={value};" for register, value in hart.registers.items()))
-    lines += ["}", " | ".join(f"P{number}" for number in range(len(harts))) + " ;"]
-    lines += [" | ".join(row) + " ;" for row in itertools.zip_longest(*columns, fillvalue="")]
-    return "\n".join([*lines, f"exists {condition}", ""])
 
 
 def joined(atoms):
@@ -105,9 +86,16 @@ class Test:
         self.condition = condition
 
     def text(self, fences=()):
-        lines = text_of(self.name, self.locations, self.harts, self.condition, fences)
+        """The test with these fences: pairs of a slot, which is a hart and an instruction, and a kind."""
+        kinds = dict(fences)
+        columns = [[cell for at, own in enumerate(hart.cells)
+                    for cell in ([f"fence {kinds[number, at]}"] if (number, at) in kinds else []) + [own]]
+                   for number, hart in enumerate(self.harts)]
         # a hart whose registers all begin at 0 has no line
-        return "\n".join(line for line in lines.split("\n")[:-1] if line) + "\n"
+        entries = [" ".join(f"{number}:{register}={value};" for register, value in hart.registers.items())
+                   for number, hart in enumerate(self.harts) if hart.registers]
+        words = " ".join(f"{location}=0;" for location in self.locations)
+        return litmus.text_of(self.name, [words, *entries], columns, f"exists {self.condition}")
 
     def slots(self):
         return [(number, at) for number, hart in enumerate(self.harts) for at in hart.slots()]

@@ -44,7 +44,8 @@ class Step:
 
     def __init__(self, check, words, folder):
         self.check, self.name = check, " ".join([check.name, *words])
-        self.command = [*(check.command or (f"{TOP}/scripts/check", check.name)), *words]
+        # (by env, which says it where there is no such command)
+        self.command = ["env", *(check.command or (f"{TOP}/scripts/check", check.name)), *words]
         self.log, self.process, self.wrong = f"{folder}/{check.name}", None, ""
 
     def start(self):
