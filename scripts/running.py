@@ -151,6 +151,12 @@ def written(path, data):
     return path
 
 
+def crates():
+    """The crates of crates.txt, with what its line says that each stands on."""
+    lines = [line.partition("#")[0].partition(":") for line in decoded(read(f"{TOP}/crates.txt")).splitlines()]
+    return {names.split()[0]: uses.split() for names, colon, uses in lines if colon}
+
+
 def tests_of_examples():
     """The paths of the tests below examples/, those known by name before the idioms."""
     folders = [EXAMPLES, f"{EXAMPLES}/idioms"]

@@ -3,6 +3,7 @@
 docs/FORMAT.md. None is taken from the program: they are derived where the file is made, as the comments say, and for
 the files that are changed or composed by a second reader of the formats. Those that a line describes are in
 scripts/transcripts/hostile.table."""
+import functools
 import itertools
 import json
 import os
@@ -10,6 +11,7 @@ import random
 import re
 
 import check_certificate
+import verdicts
 from reference import ANSWERED, READ, fault_of, is_witness
 from running import EXAMPLES, TOP, decoded, read
 
@@ -513,22 +515,15 @@ def witnesses():
         yield f"{text!r} in a name", whole.replace(b"P0:2", b"P0:2" + text), WITNESS
 
 
-class CertificateJudge:
+def checked(text):
     """What `check` answers to a certificate of SB, by scripts/check_certificate.py."""
+    said = judge().verdict(text)
+    return (said.out or said.err).rstrip("\n")
 
-    def __init__(self):
-        self.test = check_certificate.read(f"{EXAMPLES}/SB.litmus", check_certificate.test_of)
-        self.prices = check_certificate.read(f"{EXAMPLES}/prices.json", check_certificate.prices_of)
 
-    def verdict(self, text):
-        try:
-            checker = check_certificate.Checker(self.test, self.prices, check_certificate.certificate_of(text))
-            checker.check()
-        except check_certificate.NotACertificate:
-            return CERTIFICATE
-        except check_certificate.Refused as reason:
-            return f"no: {reason}"
-        return "\n".join(["yes", *checker.lines()])
+@functools.cache
+def judge():
+    return verdicts.Judge(f"{EXAMPLES}/SB.litmus", f"{EXAMPLES}/prices.json")
 
 
 def large_certificates(whole):
@@ -556,22 +551,21 @@ def large_certificates(whole):
 def certificates():
     """Every beginning of a certificate for SB, and the certificate with each byte replaced by some telling ones; then
     the large ones."""
-    judge = CertificateJudge()
     good = json.loads(read(f"{EXAMPLES}/certificates/SB.json"))
     whole = json.dumps(good, separators=(",", ":")).encode()
-    yield from beginnings_of("a certificate", whole, judge.verdict)
-    yield from bytes_replaced("a certificate", whole, b'"[]{,: 0129w\xff', judge.verdict)
+    yield from beginnings_of("a certificate", whole, checked)
+    yield from bytes_replaced("a certificate", whole, b'"[]{,: 0129w\xff', checked)
     for name, text in values_changed(good):
-        yield f"a certificate with {name}", text, judge.verdict(text)
+        yield f"a certificate with {name}", text, checked(text)
     for name, text, _ in noise():
         yield f"{name} for a certificate", text, CERTIFICATE
-    yield from pairs_of_surrogates("a certificate", b"tree", whole, judge.verdict(whole), CERTIFICATE)
+    yield from pairs_of_surrogates("a certificate", b"tree", whole, checked(whole), CERTIFICATE)
     for name, text in PAIRS:
         wanted = "no: answer" if name == "a pair" else CERTIFICATE
         yield f"a certificate with {name} of surrogates for a fence", whole.replace(b"P0:2=w,r", text), wanted
     for name, certificate in large_certificates(good):
         text = json.dumps(certificate, separators=(",", ":")).encode()
-        yield f"a certificate with {name}", text, judge.verdict(text)
+        yield f"a certificate with {name}", text, checked(text)
     for sign in (b"[", b'{"', b'{"tree":', b'"', b" ", b"0", b"[[", b"\xff"):
         text = sign * (1_048_576 // len(sign))
         yield f"a mebibyte of {sign!r} for a certificate", text, CERTIFICATE
@@ -608,16 +602,15 @@ def large_refutations(whole):
 
 def refutations():
     """The same of a certificate for SB of version 4."""
-    judge = CertificateJudge()
     good = json.loads(read(f"{EXAMPLES}/certificates/SB-v4.json"))
     whole = json.dumps(good, separators=(",", ":")).encode()
-    yield from beginnings_of("a refutation", whole, judge.verdict)
-    yield from bytes_replaced("a refutation", whole, b'"[],: 01249acdflos\xff', judge.verdict)
+    yield from beginnings_of("a refutation", whole, checked)
+    yield from bytes_replaced("a refutation", whole, b'"[],: 01249acdflos\xff', checked)
     for name, text in values_changed(good):
-        yield f"a refutation with {name}", text, judge.verdict(text)
+        yield f"a refutation with {name}", text, checked(text)
     for name, certificate in large_refutations(good):
         text = json.dumps(certificate, separators=(",", ":")).encode()
-        yield f"a refutation with {name}", text, judge.verdict(text)
+        yield f"a refutation with {name}", text, checked(text)
 
 
 HUGE = 100_000_000
