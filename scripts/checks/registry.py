@@ -6,6 +6,7 @@ import dataclasses
 import os
 import sys
 import tempfile
+import traceback
 
 from counting import Counts
 
@@ -81,7 +82,11 @@ def run_one(check, words):
         parser.add_argument(name, **how)
     with tempfile.TemporaryDirectory() as folder:
         run = Run(folder, parser.parse_args(words))
-        check.run(run)
+        try:
+            check.run(run)
+        except Exception as error:              # whatever it is, it is a check that failed
+            traceback.print_exc(file=sys.stdout)
+            run.check(f"{check.name} comes to its end", False, repr(error))
     if run.kinds:
         print(", ".join(f"{count} {kind}" for kind, count in sorted(run.kinds.items())))
     return run.counts.end()
