@@ -164,6 +164,11 @@ def tests_of_examples():
     return [path for path in paths if path.endswith(".litmus")]
 
 
+def transcript(said):
+    """What a run says in one text: standard output before standard error, and then its status."""
+    return f"{said.out}{said.err}[status {said.status}]"
+
+
 def stored_answers():
     """The transcripts of examples/answers/solve.transcripts, without their commands, by test and price list."""
     blocks = decoded(read(f"{EXAMPLES}/answers/solve.transcripts")).strip("\n").split("\n\n")

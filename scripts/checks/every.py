@@ -1,6 +1,6 @@
 """All checks, in the order in which what they print is shown."""
-from checks import (certificate_rows, compare_audit, compare_check, compare_solve, compare_states, compare_test, devices,
-                    hostile, limits, program, refused_memory, solve_answers, states_answers, workers)
+from checks import (certificate_rows, compare_audit, compare_check, compare_solve, compare_states, compare_test,
+                    devices, hostile, limits, program, refused_memory, solve_answers, states_answers, workers)
 from checks.registry import GATE, NOTHING, Check, flags, made, number
 from running import TOP
 

@@ -46,6 +46,7 @@ AUDIT = (rb"(forbidden|allowed|vacuous) as written(, \d+)?; (cheapest \d+|no fen
 # What `states` prints of a file.
 STATES = (rb"Test [^\n]+ (Allowed|Forbidden|Required)\nStates \d+\n([^\n]*;\n|\n)*(Ok|No)\nWitnesses\n"
           rb"Positive: \d+ Negative: \d+\nCondition [^\n]+\nObservation [^\n]+ (Never|Sometimes|Always) \d+ \d+\n\n")
+LOG_ERROR = rb"error: (log line \d+: expected [^\n]+|the log (isn't UTF-8|has no block of a test))"
 # What each command prints, by its status.
 SAID = {
     "test": {status: TESTED_LINE for status in (0, 1, 2, 4)},
@@ -86,8 +87,8 @@ LOG_OF = Use(["states", SB, "--log", "/dev/stdin"], "log: ", LOGGED, ", held aga
 LISTED_OF = Use(["states", "stdin"], "states: ", LISTED, ", all states")
 AUDITED_AS = Use(["audit", "stdin", PRICES], "audit: ", AUDITED, ", audited")
 GROUPS = [(group, PLACED) for group in files.TESTS]
-GROUPS += [(files.logs, LOG_OF), (files.prices, PRICED), (files.prices_changed, PRICED), (files.fences, Use(["place", "-v", MP])),
-           (files.witnesses, Use(["order", "-v", SB, "/dev/stdin"])),
+GROUPS += [(files.logs, LOG_OF), (files.prices, PRICED), (files.prices_changed, PRICED),
+           (files.fences, Use(["place", "-v", MP])), (files.witnesses, Use(["order", "-v", SB, "/dev/stdin"])),
            (files.certificates, Use(["check", "-v", SB, PRICES, "/dev/stdin"])),
            (files.refutations, Use(["check", "-v", SB, PRICES, "/dev/stdin"]))]
 GROUPS += [(group, use) for group in files.SEARCHED for use in (WITHIN_SEARCH, TESTED_AS, AUDITED_AS)]
@@ -167,7 +168,7 @@ def is_explained(words, said, error):
         found = re.match(rb"stdin  (fault F(?:[1-9]|20) [^\n]+)\n", said)
         return is_message(found[1], error) if found else not error
     line, _, message = error.partition(b"\n")
-    if "--log" in words and re.fullmatch(rb"error: (log line \d+: expected [^\n]+|the log (isn't UTF-8|has no block of a test))", line):
+    if "--log" in words and re.fullmatch(LOG_ERROR, line):
         return not message
     if not re.fullmatch(rb"fault F\d+ [^\n]+", line):
         return False

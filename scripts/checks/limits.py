@@ -14,6 +14,7 @@ from running import EXAMPLES, PRICES, Said, compiled, decoded, program, ran, rea
 MEBIBYTE = 1_048_576
 GIBIBYTE = 1_073_741_824
 LONGEST = 600                       # seconds of processor time
+F15 = "fault F15 TooManyCandidates"
 # The status of an answer, by its first word; another answer is the printed test.
 STATUSES = {"fenced": 0, "yes": 0, "none": 1, "no:": 1}
 
@@ -42,8 +43,8 @@ class Checks:
         self.measured(name, words)
 
     def too_long(self, name, path, limit, *words, stdin=None):
-        """The same where this file, one of the words, has more bytes than are read: a second line says so, but not of `solve`,
-        which is run with `-q`."""
+        """The same where this file, one of the words, has more bytes than are read: a second line says so, but not of
+        `solve`, which is run with `-q`."""
         second = "" if words[0] == "solve" else f"\n{path}: it has more than {limit} bytes"
         self.fault(name, f"fault F20 ReadFault{second}", *words, stdin=stdin)
 
@@ -174,32 +175,25 @@ def check_runs(checks):
     path = checks.file("lists.litmus", test.text())
     checks.certified("4,000,000 lists of runs and candidates", answer, path, PRICES)
     checks.verdict("the plans of 4,000,001 lists", 4_000_001, files.runs_of(files.FEW) * files.runs_of(files.MANY))
-    too_many_to_list(checks, "4,000,001 lists of runs", files.one_list_more())
-    too_many_to_list(checks, "4,000,001 candidates", files.one_candidate_more(), is_slow=True)
+    too_many(checks, "4,000,001 lists of runs", F15, files.one_list_more(), is_listed=False)
+    too_many(checks, "4,000,001 candidates", F15, files.one_candidate_more(), is_listed=False, is_slow=True)
 
     path = checks.file("stores.litmus", files.stores(10).text())
     checks.certified("10 stores to a location, 3,628,800 orders", ["fenced 0"], path, PRICES)
-    too_many(checks, "11 stores to a location, 39,916,800 orders", "fault F15 TooManyCandidates", files.stores(11))
+    too_many(checks, "11 stores to a location, 39,916,800 orders", F15, files.stores(11))
 
 
-def too_many(checks, name, line, test, is_slow=False):
-    """The fault comes from `solve`, and from `check` with a certificate too, which counts in the same way: where that
-    is slow it is left to heavy runs. `place` takes the test."""
+def too_many(checks, name, line, test, is_listed=True, is_slow=False):
+    """`check` has this fault with a certificate of version 2, for which it counts what it would list: where that is
+    slow it is left to heavy runs. So has `solve` where it has to list, too; else it answers: whatever is placed, each
+    execution shows the outcome. `place` takes the test."""
     path = checks.file("many.litmus", test.text())
-    checks.fault(f"solve: {name}", line, "solve", path, PRICES)
+    if is_listed:
+        checks.fault(f"solve: {name}", line, "solve", path, PRICES)
+    else:
+        checks.none(f"solve: {name}", path, PRICES)
     if checks.is_heavy or not is_slow:
         checks.fault(f"check: {name}", line, "check", path, PRICES, f"{EXAMPLES}/certificates/MP11.json")
-    checks.verdict(f"place: {name}", 0, checks.run(["place", path])[2])
-
-
-def too_many_to_list(checks, name, test, is_slow=False):
-    """`solve` lists no candidates, and answers: whatever is placed, each execution shows this outcome. `check` has to
-    list them for a certificate of version 2, and counts them first: where that is slow it is left to heavy runs."""
-    path = checks.file("many.litmus", test.text())
-    checks.none(f"solve: {name}", path, PRICES)
-    if checks.is_heavy or not is_slow:
-        checks.fault(f"check: {name}", "fault F15 TooManyCandidates", "check", path, PRICES,
-                     f"{EXAMPLES}/certificates/MP11.json")
     checks.verdict(f"place: {name}", 0, checks.run(["place", path])[2])
 
 
@@ -211,7 +205,7 @@ def check_hunts(checks):
     checks.answer("solve: a long hunt", ["fenced 0"], "solve", path, PRICES, "--cert", certificate)
     checks.verdict("inferences of a long hunt", 163_799, len(json.loads(read(certificate))["cycles"]))
     checks.answer("check: a long hunt", ["yes", "fenced 0"], "check", path, PRICES, certificate)
-    checks.fault("solve: a hunt that gives up", "fault F15 TooManyCandidates",
+    checks.fault("solve: a hunt that gives up", F15,
                  "solve", checks.file("more.litmus", files.adders(8).text()), PRICES)
 
 

@@ -15,7 +15,7 @@ import time
 
 from bench_tests import votes
 from running import (EXAMPLES, PRICES, TOP, Said, decoded, program, ran, ran_on_terminal, read, rvfence, side_by_side,
-                     stored_answers, tests_of_examples, written)
+                     stored_answers, tests_of_examples, transcript, written)
 from verdicts import YES, is_accepted
 
 TRANSCRIPTS = f"{TOP}/scripts/transcripts"
@@ -24,11 +24,6 @@ WORKERS = [1, 2, 4, 16]
 
 def text_of(path):
     return decoded(read(path))
-
-
-def transcript(said):
-    """What a run says in one text: standard output before standard error, and then its status."""
-    return f"{said.out}{said.err}[status {said.status}]"
 
 
 class Checks:

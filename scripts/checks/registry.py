@@ -76,7 +76,8 @@ def run_one(check, words):
     """Runs one check with these words, prints its counts, and gives the exit status."""
     if check.command:
         os.execvp(check.command[0], [*check.command, *words])
-    parser = argparse.ArgumentParser(f"scripts/check {check.name}", description=sys.modules[check.run.__module__].__doc__,
+    about = sys.modules[check.run.__module__].__doc__
+    parser = argparse.ArgumentParser(f"scripts/check {check.name}", description=about,
                                      formatter_class=argparse.RawDescriptionHelpFormatter)
     for name, how in check.words:
         parser.add_argument(name, **how)

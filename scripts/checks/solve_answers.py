@@ -17,7 +17,8 @@ import tempfile
 
 import check_certificate as model
 import solve_reference as reference
-from running import EXAMPLES, PRICE_LISTS, TOP, Said, decoded, ran, read, rvfence, stored_answers, tests_of_examples, written
+from running import (EXAMPLES, PRICE_LISTS, TOP, Said, decoded, ran, read, rvfence, stored_answers, tests_of_examples,
+                     written)
 from verdicts import is_accepted, is_listed, shows_outcome
 
 FILE = f'{EXAMPLES}/answers/solve.transcripts'

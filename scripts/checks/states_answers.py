@@ -9,7 +9,7 @@ import os
 
 import check_certificate as model
 import solve_reference as reference
-from running import EXAMPLES, Said, decoded, read, rvfence, tests_of_examples, written
+from running import EXAMPLES, Said, decoded, read, rvfence, tests_of_examples, transcript, written
 from states_reference import Listing, ends_so, shown_places, wanted_lines
 from verdicts import is_listed
 
@@ -63,20 +63,15 @@ def wanted_of(name):
     return by_reference(name, data) if is_listed(name, MOST_LISTED) else by_program(name, model.test_of(data))
 
 
-def transcript(said):
-    """As it stands in the file, below the command."""
-    return f"{said.out}{said.err}[status {said.status}]\n"
-
-
 def stored():
     """The transcripts of the file, by test."""
     blocks = decoded(read(FILE)).split("$ rvfence states ")[1:]
-    return dict(block.removesuffix("\n").split("\n", 1) for block in blocks)
+    return dict(block.removesuffix("\n\n").split("\n", 1) for block in blocks)
 
 
 def check(run):
     if run.options.write:
-        written(FILE, "".join(f"$ rvfence states {name}\n{transcript(wanted_of(name))}\n" for name in TESTS))
+        written(FILE, "".join(f"$ rvfence states {name}\n{transcript(wanted_of(name))}\n\n" for name in TESTS))
     answers = stored()
     run.expect("the tests", TESTS, [*answers])
     for name in TESTS:
