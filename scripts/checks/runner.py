@@ -1,8 +1,7 @@
-"""Runs all checks: first those that need nothing, then the gate, and then those of the program, side by side, the
-longest first. Each is a process in a group of its own, with its output in a log. It fails where a check in it does,
-where it makes none, where it ends without its counts, and where it takes far more processor time than it should, or
-no end comes. How long it takes by the clock fails nothing: other work may slow it."""
-import collections
+"""Runs all checks: first those that need nothing, then the gate, and then those of the program, side by side. Each is a
+process in a group of its own, with its output in a log, which is shown whole when it has ended. It fails where a check
+in it does, where it makes none, where it ends without its counts, and where it takes far more processor time than it
+should, or no end comes. How long it takes by the clock fails nothing: other work may slow it."""
 import contextlib
 import os
 import re
@@ -45,7 +44,7 @@ class Step:
         self.check, self.name = check, " ".join([check.name, *words])
         # (by env, which says it where there is no such command)
         self.command = ["env", *(check.command or (f"{TOP}/scripts/check", check.name)), *words]
-        self.log, self.process, self.wrong = f"{folder}/{check.name}", None, ""
+        self.log, self.shown, self.wrong = f"{folder}/{check.name}", 0, ""
 
     def start(self):
         with open(self.log, "wb") as log:
@@ -55,7 +54,7 @@ class Step:
         return self
 
     def has_ended(self):
-        return self.process is not None and self.process.poll() is not None
+        return self.process.poll() is not None
 
     def limit(self, taken):
         """Ends it where it has taken too long: so many seconds of processor time."""
@@ -68,17 +67,23 @@ class Step:
         if self.wrong:
             stop([self.process])
 
+    def show(self):
+        """Shows what it has printed, once it has ended; where it has no limit, what has come since the last time."""
+        if self.has_ended() or self.check.seconds is None:
+            print(self.text()[self.shown:], end="", flush=True)
+            self.shown = len(self.text())
+
     def text(self):
         with open(self.log, encoding="utf-8", errors="replace") as file:
             return file.read()
 
 
 class Report:
-    """What the steps have counted, a line or more for each, and the signal that came, if one did."""
+    """What the steps have counted, for each a line or more, and the signal that came, if one did."""
 
-    def __init__(self):
+    def __init__(self, steps):
         self.passed = self.failed = 0
-        self.lines, self.signal = [], None
+        self.lines, self.signal = {step.name: [] for step in steps}, None
         for number in (signal.SIGHUP, signal.SIGINT, signal.SIGTERM):
             signal.signal(number, self.note)
 
@@ -104,43 +109,37 @@ class Report:
         elif status and not failed:
             self.fail(f"{step.name} ended with status {status}")
         shown = f"{passed} passed, {failed} failed" if counts else "no counts"
-        self.lines.append(f"{step.name}: {shown}, status {status}")
-        if status:
-            self.lines += [f"    {line}" for line in TELLING.findall(text)[:MOST_TELLING]]
+        telling = TELLING.findall(text)[:MOST_TELLING] if status else []
+        self.lines[step.name] = [f"{step.name}: {shown}, status {status}", *[f"    {line}" for line in telling]]
         return self.failed == before
 
     def end(self):
         """Prints the lines and the sums, and gives the exit status."""
-        print(*self.lines, f"{self.passed} passed, {self.failed} failed", sep="\n", flush=True)
+        lines = [line for lines in self.lines.values() for line in lines]
+        print(*lines, f"{self.passed} passed, {self.failed} failed", sep="\n", flush=True)
         return 0 if self.passed and not self.failed else 1
 
 
 def run_steps(steps, report):
-    """Runs steps side by side, as many at once as there are processors, and shows in their order what each prints. Of
-    one that has no limit that comes as it is printed. Have all passed?"""
-    waiting = sorted(steps, key=lambda step: -(step.check.seconds or 0))
-    left, running, shown, is_right = collections.deque(steps), [], 0, True
+    """Runs steps side by side, the longest first, as many at once as there are processors. Have all passed?"""
+    waiting, running, is_right = sorted(steps, key=lambda step: -(step.check.seconds or 0)), [], True
     try:
-        while left:
+        while waiting or running:
             if report.signal:
                 raise Stopped
-            taken = seconds_of_groups()
-            for step in running:
-                step.limit(taken[step.process.pid])
-            running = [step for step in running if not step.has_ended()]
             while waiting and len(running) < len(os.sched_getaffinity(0)):
                 running.append(waiting.pop(0).start())
-            has_ended = left[0].has_ended()
-            if has_ended or left[0].check.seconds is None:
-                text = left[0].text()
-                print(text[shown:], end="", flush=True)
-                shown = 0 if has_ended else len(text)
-            if has_ended:
-                is_right &= report.add(left.popleft())
-            else:
-                time.sleep(0.3)
+            time.sleep(0.3)
+            taken = seconds_of_groups()
+            for step in list(running):
+                step.limit(taken[step.process.pid])
+                has_ended = step.has_ended()
+                step.show()
+                if has_ended:
+                    running.remove(step)
+                    is_right &= report.add(step)
     finally:
-        stop(step.process for step in running if not step.has_ended())
+        stop([step.process for step in running])
     return is_right
 
 
@@ -163,13 +162,13 @@ def program_to_check(is_built):
 
 def run_all(checks, is_quick):
     """Runs all checks, and gives the exit status."""
-    report = Report()
-    try:
-        with tempfile.TemporaryDirectory() as folder:
-            steps = [Step(check, check.quick * is_quick, folder) for check in checks]
+    with tempfile.TemporaryDirectory() as folder:
+        steps = [Step(check, check.quick * is_quick, folder) for check in checks]
+        report = Report(steps)
+        try:
             run_kinds(steps, report, is_quick)
-    except Stopped:
-        return 128 + report.signal
+        except Stopped:
+            return 128 + report.signal
     return report.end()
 
 
