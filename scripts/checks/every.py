@@ -1,4 +1,4 @@
-"""All checks, in the order in which what they print is shown."""
+"""All checks, in the order of the lines at the end of a run of all."""
 from checks import (certificate_rows, compare_audit, compare_check, compare_solve, compare_states, compare_test,
                     devices, hostile, limits, program, refused_memory, solve_answers, states_answers, workers)
 from checks.registry import GATE, NOTHING, Check, flags, made, number

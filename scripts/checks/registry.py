@@ -9,6 +9,7 @@ import tempfile
 import traceback
 
 from counting import Counts
+from running import TOP
 
 # What a check needs: nothing that is built, the gate (which it is, or what that has built), or the program.
 NOTHING, GATE, PROGRAM = "nothing", "the gate", "the program"
@@ -75,6 +76,7 @@ def flags(*names):
 def run_one(check, words):
     """Runs one check with these words, prints its counts, and gives the exit status."""
     if check.command:
+        os.chdir(TOP)
         os.execvp(check.command[0], [*check.command, *words])
     about = sys.modules[check.run.__module__].__doc__
     parser = argparse.ArgumentParser(f"scripts/check {check.name}", description=about,
