@@ -129,7 +129,7 @@ def run_steps(steps, report):
                 raise Stopped
             while waiting and len(running) < len(os.sched_getaffinity(0)):
                 running.append(waiting.pop(0).start())
-            time.sleep(0.3)
+            time.sleep(0.5)
             taken = seconds_of_groups()
             for step in list(running):
                 step.limit(taken[step.process.pid])
