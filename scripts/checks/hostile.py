@@ -32,7 +32,6 @@ LIMITS, HUGE_LIMITS = (2, 400_000_000), (60, 8_000_000_000)
 STACK = 8 * 1024 * 1024
 # A run that waits for something takes no processor time, so it is ended after this many seconds by the clock.
 LONGEST_WAIT = 1800
-MOST_SHOWN = 20
 # What is said of a test is shorter than this: `test` names the location that nothing stores to, which may fill a file.
 MOST_SAID = 2 << 20
 # What `solve` says of a test and prices that are read.
@@ -102,7 +101,8 @@ GROUPS += [(files.prices, Use(["solve", MP, "/dev/stdin"], "solve: ", SOLVED, ",
            (files.prices, Use(["check", "-v", MP, "/dev/stdin", CERTIFICATE], "check: ", CHECKED, ", checked with"))]
 
 Found = collections.namedtuple("Found", "end answer seconds memory")
-Tally = collections.namedtuple("Tally", "passed failed seconds memory lines")
+# Of runs their number, those that failed by name with what is wrong, and the most of both.
+Tally = collections.namedtuple("Tally", "count failed seconds memory")
 
 
 class Runner:
@@ -206,15 +206,12 @@ def complaint(wanted, found, limits):
 
 def tally_of(runs, limits):
     """What came of runs, each a name, the answer that is wanted, and what was found."""
-    lines, passed, failed, seconds, memory = [], 0, 0, 0.0, 0
-    for name, wanted, found in runs:
+    count, failed, seconds, memory = 0, [], 0.0, 0
+    for count, (name, wanted, found) in enumerate(runs, 1):
         wrong = complaint(wanted, found, limits)
-        passed += not wrong
-        failed += bool(wrong)
+        failed += [(name, wrong)] if wrong else []
         seconds, memory = max(seconds, found.seconds), max(memory, found.memory)
-        if wrong and failed <= MOST_SHOWN:
-            lines.append(f"FAILED {name}: {wrong}")
-    return Tally(passed, failed, seconds, memory, lines)
+    return Tally(count, failed, seconds, memory)
 
 
 def begin(folder):
@@ -242,7 +239,7 @@ def tallies_of_groups(folder):
     """What came of each group."""
     with ProcessPoolExecutor(initializer=begin, initargs=[folder]) as pool:
         for (group, use), tally in zip(GROUPS, pool.map(run_group, range(len(GROUPS)))):
-            print(f"{group.__name__.replace('_', ' ')}{use.shown}: {tally.passed + tally.failed} runs", flush=True)
+            print(f"{group.__name__.replace('_', ' ')}{use.shown}: {tally.count} runs", flush=True)
             yield tally
 
 
@@ -257,8 +254,9 @@ def tallies_of_huge(folder):
 
 def check(run):
     tallies = list(tallies_of_huge(run.folder) if run.options.huge else tallies_of_groups(run.folder))
-    print(*[line for tally in tallies for line in tally.lines][:MOST_SHOWN], sep="\n")
     for tally in tallies:
-        run.counts.add(tally.passed, tally.failed)
+        run.counts.add(tally.count - len(tally.failed))
+        for name, wrong in tally.failed:
+            run.check(name, False, wrong)
     seconds, memory = max(tally.seconds for tally in tallies), max(tally.memory for tally in tallies)
     print(f"at most {seconds:.2f} seconds of processor time and {memory / 1e6:.0f} MB of memory")
