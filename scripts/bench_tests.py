@@ -1,8 +1,9 @@
-"""The tests and files that scripts/bench measures. scripts/check-workers runs some of the tests too."""
+"""The tests and files that scripts/bench measures. scripts/check workers runs some of the tests too."""
 
-import itertools
 import json
 import re
+
+from litmus import text_of                                      # of this folder
 
 AND, OR = ' /\\ ', ' \\/ '
 HARTS = 8                               # of the tests for `order`
@@ -31,13 +32,11 @@ def laid_out(cells):
     return code, entries
 
 
-def text_of(name, harts, condition):
+def test_of(name, harts, condition):
     """A test as a file has it, of the cells of each hart and the parts of its condition."""
     codes, registers = zip(*map(laid_out, harts))
     entries = [f'{hart}:{name}={value};' for hart, each in enumerate(registers) for name, value in each.items()]
-    rows = [' | '.join(row) + ' ;' for row in itertools.zip_longest(*codes, fillvalue='')]
-    header = ' | '.join(f'P{hart}' for hart in range(len(harts))) + ' ;'
-    return '\n'.join([f'RISCV {name}', '{', *entries, '}', header, *rows, f'exists ({AND.join(condition)})', ''])
+    return text_of(name, entries, codes, f'exists ({AND.join(condition)})')
 
 
 def ring(kind, count, spare):
@@ -103,7 +102,7 @@ def families():
     made |= {f'stores-{count}': message(count, 1) for count in range(1, 9)}
     made |= {f'loads-{count}': message(1, count) for count in (1, 2, 4, 6, 8, 10, 12, 14)}
     made |= {f'rounds-{count}': rounds(count) for count in (1, 2, 3)}
-    return {name: text_of(name, *test) for name, test in (made | {'lock': lock()}).items()}
+    return {name: test_of(name, *test) for name, test in (made | {'lock': lock()}).items()}
 
 
 # --- Tests whose search takes long -------------------------------------------------------------------------------
@@ -126,7 +125,7 @@ def votes(pairs, least, spare):
               f'x10={words[at ^ 1]}']
              for at, word in enumerate(words)]
     seen = [f'({at}:x10=0 /\\ {at + 1}:x10=0)' for at in range(0, 2 * pairs, 2)]
-    return text_of('votes', harts, [at_least(least, seen)])
+    return test_of('votes', harts, [at_least(least, seen)])
 
 
 def long_searches():
@@ -154,7 +153,7 @@ DEPENDENT.append('L5:')
 def order_test(cells):
     """A test in which every hart has this code; its outcome is true of every execution."""
     harts = [[f'x6:a{hart}', f'x7:a{(hart + 1) % HARTS}', *cells] for hart in range(HARTS)]
-    return text_of('BENCH', harts, ['true'])
+    return test_of('BENCH', harts, ['true'])
 
 
 def accesses_of(cells):

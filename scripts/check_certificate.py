@@ -168,10 +168,8 @@ class Instruction:
     def __init__(self, form, function):
         self.form = form            # compute, load, store, lr, sc, amo, branch, jump or fence
         self.function = function    # what is computed, or when the branch jumps
-        self.rd = 0
-        self.plain = ()
-        self.address = None
-        self.data = None
+        self.rd, self.plain = 0, ()
+        self.address = self.data = None
         self.number = 0             # immediate or offset
         self.label = None           # where a branch goes: a name, and once all labels are known, a position
         self.aq = self.rl = False
@@ -239,9 +237,7 @@ class TestReader:
     """Reads the tokens of a test from first to last."""
 
     def __init__(self, tokens):
-        self.tokens = tokens
-        self.at = 0
-        self.test = Test()
+        self.tokens, self.at, self.test = tokens, 0, Test()
         self.entries = []           # hart, register and word: harts are known after the header only
 
     def peek(self, ahead=0):
@@ -282,8 +278,7 @@ class TestReader:
         test = self.test
         if name not in test.addresses:
             address = 4096 + 16 * len(test.addresses)
-            test.addresses[name] = address
-            test.words[address] = 0
+            test.addresses[name], test.words[address] = address, 0
         return test.addresses[name]
 
     def value(self):
@@ -488,8 +483,7 @@ class Prices:
     """The offered kinds in the order of the table, and what they cost at each slot."""
 
     def __init__(self, price, weight):
-        self.price = price
-        self.weight = weight
+        self.price, self.weight = price, weight
         self.offered = [kind for kind in KINDS if kind in price]
 
     def at(self, slot, kind):
@@ -535,19 +529,15 @@ class ChoicesEnd(NoRun):
 
     def __init__(self, address, results):
         super().__init__()
-        self.address = address
-        self.results = results
+        self.address, self.results = address, results
 
 
 class Step:
     """One executed instruction and its access. `origins` has for each of its sources the steps on which it depends."""
 
     def __init__(self, position, instruction):
-        self.position = position
-        self.instruction = instruction
-        self.address = None
-        self.loaded = None
-        self.stored = None
+        self.position, self.instruction = position, instruction
+        self.address = self.loaded = self.stored = None
         self.origins = {}
 
     def depends(self, register, step):
@@ -559,9 +549,7 @@ class Run:
     """The run of a hart that these choices make."""
 
     def __init__(self, test, hart, choices):
-        self.test = test
-        self.hart = hart
-        self.choices = choices
+        self.test, self.hart, self.choices = test, hart, choices
         self.steps = []
         self.pairs = []             # lr.w and sc.w, as numbers of steps
         self.registers = list(test.registers[hart])
@@ -626,8 +614,7 @@ class Run:
         if type(succeeds) is not bool or succeeds and not can_succeed:
             raise NoRun()
         if succeeds:
-            step.address = address
-            step.stored = data
+            step.address, step.stored = address, data
             self.pairs.append((self.reserving, number))
         self.reserving = None
         return 0 if succeeds else 1
@@ -682,11 +669,8 @@ class Operation:
     """A load, a store or both; of no hart where it is an initial store."""
 
     def __init__(self, number, address, hart=None, at=None, step=None, stored=None):
-        self.number = number
-        self.address = address
-        self.hart = hart
+        self.number, self.address, self.hart, self.step = number, address, hart, step
         self.at = at                # the number of its step in the run
-        self.step = step
         self.loaded = step.loaded if step else None
         self.stored = step.stored if step else stored
         self.name = 'P%d:%d' % (hart, step.position) if step else None
@@ -712,9 +696,7 @@ class Operations:
     """All operations of the runs by number, and after them the initial stores by location."""
 
     def __init__(self, test, runs):
-        self.test = test
-        self.runs = runs
-        self.all = []
+        self.test, self.runs, self.all = test, runs, []
         for hart, run in enumerate(runs):
             for at, step in enumerate(run.steps):
                 if step.loaded is not None or step.stored is not None:
@@ -768,8 +750,7 @@ class Preserved:
     """The thirteen rules, for these operations, a source for each load (`rf`, by number) and a placement."""
 
     def __init__(self, operations, rf, slots, placement):
-        self.operations = operations
-        self.rf = rf
+        self.operations, self.rf = operations, rf
         self.placed = [(slot, PAIRS[kind]) for slot, kind in zip(slots, placement) if kind is not None]
         self.rules = [getattr(self, 'rule_%d' % number) for number in range(1, 14)]
 
@@ -853,8 +834,7 @@ class Candidate:
     """Runs with a source for each load (`rf`) and a coherence order of each location's stores (`co`, by address)."""
 
     def __init__(self, operations, rf, co):
-        self.operations = operations
-        self.rf = rf
+        self.operations, self.rf = operations, rf
         self.place = {store.number: place for order in co.values() for place, store in enumerate(order)}
 
     def co(self, a, b):
@@ -1119,10 +1099,7 @@ class Region:
     the first comes first in coherence order; and conditions, each with the truth value that it is to have."""
 
     def __init__(self, runs, sources, before, wanted):
-        self.runs = runs
-        self.sources = sources
-        self.before = before
-        self.wanted = wanted
+        self.runs, self.sources, self.before, self.wanted = runs, sources, before, wanted
 
     def keeping(self, hart, passes):
         """With those runs of the hart that pass."""
@@ -1363,15 +1340,10 @@ class Checker:
     """A test, a price list and a certificate file. The checks raise Refused with the first reason."""
 
     def __init__(self, test, prices, certificate):
-        self.test = test
-        self.prices = prices
-        self.slots = test.slots()
-        self.certificate = certificate
-        self.version = certificate['version']
-        self.executions = {}
-        self.verdicts = {}
-        self.answer = None
-        self.cost = None
+        self.test, self.prices, self.slots = test, prices, test.slots()
+        self.certificate, self.version = certificate, certificate['version']
+        self.executions, self.verdicts = {}, {}
+        self.answer = self.cost = None
 
     def check(self):
         if self.certificate['answer'] == 'none':

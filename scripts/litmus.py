@@ -19,6 +19,13 @@ MOST_CANDIDATES = 300
 MOST_PLACEMENTS = 20000
 
 
+def text_of(name, entries, harts, condition):
+    """A test in the printed form: lines of its init block, the cells of each hart, and the line of its condition."""
+    rows = [" | ".join(row) + " ;" for row in itertools.zip_longest(*harts, fillvalue="")]
+    header = " | ".join(f"P{hart}" for hart in range(len(harts))) + " ;"
+    return "\n".join([f"RISCV {name}", "{", *entries, "}", header, *rows, condition, ""])
+
+
 class Code:
     """The code of a hart in the making."""
 
@@ -115,11 +122,7 @@ class Maker:
         """The test as a file has it."""
         entries = ['%d:%s=%s;' % (hart, register, value) for hart in range(len(codes))
                    for register, value in sorted(LOCATIONS.items()) + sorted(WORDS.items())]
-        words = self.words
-        rows = itertools.zip_longest(*codes, fillvalue='')
-        return '\n'.join(['RISCV made%d' % self.number, '{', *entries, *words, '}',
-                          ' | '.join('P%d' % hart for hart in range(len(codes))) + ' ;',
-                          *[' | '.join(row) + ' ;' for row in rows], condition]) + '\n'
+        return text_of('made%d' % self.number, entries + self.words, codes, condition)
 
     def condition(self, states):
         """A condition that is true of one or two of these final states."""
@@ -192,6 +195,5 @@ def last_word(candidate, address):
 
 def repeated(first, firsts, second, seconds, condition):
     """A test of two harts, each with a cell so many times. x6 is x, x5 is 1 and x7 is 0."""
-    cells = itertools.zip_longest([first] * firsts, [second] * seconds, fillvalue="")
-    rows = "".join(f"{' | '.join(row)} ;\n" for row in cells)
-    return f"RISCV repeated\n{{ 0:x5=1; 0:x6=x; 1:x5=1; 1:x6=x; }}\nP0 | P1 ;\n{rows}exists ({condition})\n"
+    harts = [[first] * firsts, [second] * seconds]
+    return text_of("repeated", ["0:x5=1; 0:x6=x; 1:x5=1; 1:x6=x;"], harts, f"exists ({condition})")

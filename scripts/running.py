@@ -3,6 +3,7 @@ standard input, files and limits on what a run may use, and many side by side. W
 processor time of a run, so no check fails by it."""
 import collections
 import concurrent.futures
+import contextlib
 import functools
 import os
 import pty
@@ -90,6 +91,13 @@ def ran_on_terminal(command):
     return Said(decoded(out), decoded(said), run.returncode)
 
 
+def compiled(source, folder, *words):
+    """The path of a program or a library in this folder, which is made of a file of scripts/ in C."""
+    path = f"{folder}/{source.rpartition('/')[2]}.made"
+    subprocess.run(["cc", "-O2", *words, "-o", path, f"{TOP}/scripts/{source}", "-ldl"], check=True)
+    return path
+
+
 def rvfence(*words, **options):
     """What a run of the program with these words says."""
     return ran([program(), *words], **options)
@@ -109,10 +117,25 @@ def decoded(data):
     return (data or b"").decode("utf-8", "surrogateescape")
 
 
-def side_by_side(function, items, workers=None):
-    """What the function gives of each item, in their order; it is called as many at once as there are processors."""
-    with concurrent.futures.ThreadPoolExecutor(workers or os.cpu_count()) as pool:
+def seconds_of_groups():
+    """Of each group of processes that there is, the seconds of processor time that those in it have taken, and those
+    that they have waited for."""
+    ticks = collections.Counter()
+    for name in filter(str.isdigit, os.listdir("/proc")):
+        with contextlib.suppress(OSError):              # it has ended
+            fields = read(f"/proc/{name}/stat").rpartition(b")")[2].split()
+            ticks[int(fields[2])] += sum(map(int, fields[11:15]))
+    return collections.Counter({group: count / os.sysconf("SC_CLK_TCK") for group, count in ticks.items()})
+
+
+def side_by_side(function, items):
+    """What the function gives of each item, in their order; it is called as many at once as there are processors. An
+    interrupt leaves out those that haven't begun."""
+    pool = concurrent.futures.ThreadPoolExecutor(os.cpu_count())
+    try:
         return list(pool.map(function, items))
+    finally:
+        pool.shutdown(cancel_futures=True)
 
 
 def read(path):
@@ -128,11 +151,22 @@ def written(path, data):
     return path
 
 
+def crates():
+    """The crates of crates.txt, with what its line says that each stands on."""
+    lines = [line.partition("#")[0].partition(":") for line in decoded(read(f"{TOP}/crates.txt")).splitlines()]
+    return {names.split()[0]: uses.split() for names, colon, uses in lines if colon}
+
+
 def tests_of_examples():
     """The paths of the tests below examples/, those known by name before the idioms."""
     folders = [EXAMPLES, f"{EXAMPLES}/idioms"]
     paths = [f"{folder}/{name}" for folder in folders for name in sorted(os.listdir(folder))]
     return [path for path in paths if path.endswith(".litmus")]
+
+
+def transcript(said):
+    """What a run says in one text: standard output before standard error, and then its status."""
+    return f"{said.out}{said.err}[status {said.status}]"
 
 
 def stored_answers():

@@ -173,9 +173,7 @@ class Live:
     """A candidate without a cycle where no fence is placed."""
 
     def __init__(self, candidate, rows, fences):
-        self.candidate = candidate
-        self.rows = rows
-        self.fences = fences
+        self.candidate, self.rows, self.fences = candidate, rows, fences
 
     def under(self, placement):
         """The judged relation under this placement."""
@@ -212,12 +210,9 @@ class Problem:
     """A test and prices, with the candidates that a placement must break, where they are few enough to be listed."""
 
     def __init__(self, test, prices, most_listed=MOST_CANDIDATES):
-        self.test = test
-        self.prices = prices
-        self.slots = test.slots()
+        self.test, self.prices, self.slots = test, prices, test.slots()
         self.raw = count_candidates(test, model.all_runs_over(test, sets_of(test)))
-        self.candidates = 0
-        self.live = []
+        self.candidates, self.live = 0, []
         self.is_listed = self.raw <= most_listed
         if self.is_listed:
             self.list_candidates()

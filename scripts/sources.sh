@@ -1,5 +1,5 @@
 # What the program is built from, and which built program is made of it: the launcher, scripts/program, scripts/release and
-# ./test read this file, with the repository's folder as `top`.
+# the check of the launcher read this file, with the repository's folder as `top`.
 
 out=$top/crates/rvfence/out
 own=$out/rvfence # the program that was built here, by the launcher or the gate

@@ -1,7 +1,61 @@
-"""Which tests are vacuous, in plain Python: whether runs and last words can make the outcome true at all."""
+"""What plain Python says of tests, executions and certificates: which tests are vacuous, by whether runs and last words
+can make the outcome true at all; which can be listed; and what check_certificate.py accepts."""
+import functools
 import itertools
+import tempfile
 
 import check_certificate as model                               # of this folder
+import solve_reference as reference
+from running import EXAMPLES, Said, rvfence, written
+
+YES = Said("yes\n", "", 0)
+
+
+class Judge:
+    """The checker in Python for a test and prices, whose files are read once."""
+
+    def __init__(self, test, prices):
+        self.test, self.prices = model.read(test, model.test_of), model.read(prices, model.prices_of)
+
+    def verdict(self, data):
+        """The same as `check` says of the bytes of a certificate."""
+        try:
+            checker = model.Checker(self.test, self.prices, model.certificate_of(data))
+            checker.check()
+            return Said("\n".join(["yes", *checker.lines(), ""]), "", 0)
+        except model.Refused as reason:
+            return Said(f"no: {reason}\n", "", 1)
+        except model.NotACertificate as fault:
+            return Said("", f"{fault}\n", 2)
+
+
+@functools.cache
+def is_listed(path, most):
+    """Has a test of examples/ so few lists of runs and candidates that scripts/solve_reference.py is asked?"""
+    test = model.read(f"{EXAMPLES}/{path}", model.test_of)
+    try:
+        reference.count_candidates(test, reference.runs_over(test, reference.sets_of(test)), most)
+    except reference.Fault as fault:
+        return str(fault) != "fault F15 TooManyCandidates"
+    return True
+
+
+def shows_outcome(test, text):
+    """Is this the text of an execution that shows the outcome of a test with `rw,rw` in every slot?"""
+    try:
+        witness = model.json_of(text.encode())
+    except ValueError:
+        return False
+    execution = model.execution_of(test, witness) if model.is_witness(witness) else None
+    slots = test.slots()
+    return execution is not None and execution.obeys_axioms(slots, ("rw,rw",) * len(slots)) and execution.has_outcome()
+
+
+def is_accepted(path, text):
+    """The same of the test in a file, by `order`."""
+    fences = [f"P{hart}:{at}=rw,rw" for hart, at in model.read(path, model.test_of).slots()]
+    with tempfile.NamedTemporaryFile() as file:
+        return rvfence("order", path, written(file.name, text), *fences) == YES
 
 
 def runs_of(test):

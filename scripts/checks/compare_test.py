@@ -1,30 +1,22 @@
-#!/usr/bin/env python3
 """Compares `rvfence test` with the solver and the checker in Python on the tests that scripts/litmus.py makes.
-
-    scripts/compare-test N [FIRST]      on the tests FIRST to FIRST + N - 1; FIRST is 0 or given
 
 In every second test one atom of the condition is changed by chance: it gets another word, or is joined with an atom
 that has one. So many outcomes are vacuous. Where one is, the words for it are compared too; of an outcome that is
 allowed, that the two operations are of one hart, the first later in its code; of one that is forbidden, the form of the
 words, and that they count contradictions where candidates show the outcome. Up to 200 files go into one run, and into
 one with four jobs, which must print the same bytes. In a run with `--json` the objects must say the same, and `order`
-says yes to their witnesses. What differs is printed with the test. The last line is `N passed, M failed`."""
+says yes to their witnesses. What differs is printed with the test."""
 import collections
 import itertools
 import json
-import os
 import random
 import re
-import sys
-import tempfile
 
-sys.dont_write_bytecode = True
-import check_certificate as model                               # of this folder
+import check_certificate as model
 import solve_reference as reference
-from counting import Counts, usage
 from litmus import Maker
 from running import rvfence, written
-from verdicts import atoms_of, is_vacuous, runs_of, stores_of
+from verdicts import YES, atoms_of, is_vacuous, runs_of, stores_of
 
 ONES = b'{"rw,rw":1}'
 AT_ONCE = 200
@@ -102,32 +94,32 @@ def summary(kinds):
     return f"{total} test{'' if total == 1 else 's'}: {', '.join(parts)}"
 
 
-def compare_objects(counts, folder, names, said):
+def compare_objects(run, names, said):
     """Compares the objects that `--json` prints of the files with the lines."""
     found = rvfence("test", "--json", "--jobs", "4", *names)
-    counts.expect("the status with --json", said.status, found.status)
+    run.expect("the status with --json", said.status, found.status)
     objects = [json.loads(line) for line in found.out.splitlines()]
-    counts.expect("the files with --json", names, [thing["file"] for thing in objects])
+    run.expect("the files with --json", names, [thing["file"] for thing in objects])
     width = max(map(len, names))
     for name, line, thing in zip(names, said.out.splitlines(), objects):
         verdict, why = thing["verdict"], thing["why"]
         wanted = line[width + 2:]
-        counts.expect(f"{name} with --json", wanted, why if verdict == "fault" else f"{verdict:9}  {why}")
+        run.expect(f"{name} with --json", wanted, why if verdict == "fault" else f"{verdict:9}  {why}")
         keys = ["file", "verdict", "why", "witness"] if verdict == "allowed" else ["file", "verdict", "why"]
-        counts.expect(f"the keys of {name}", keys, list(thing))
+        run.expect(f"the keys of {name}", keys, list(thing))
         if verdict == "allowed":
-            witness = written(f"{folder}/witness", json.dumps(thing["witness"]).encode())
-            counts.expect(f"the witness of {name}", "yes\n", rvfence("order", name, witness).out)
+            witness = written(f"{run.folder}/witness", json.dumps(thing["witness"]).encode())
+            run.expect(f"the witness of {name}", YES, rvfence("order", name, witness))
 
 
-def compare(counts, folder, numbers):
+def compare(run, numbers):
     """Compares what is said of the tests of these numbers in one run, and counts the kinds."""
     texts = [made(number) for number in numbers]
-    names = [written(f"{folder}/{number}", text) for number, text in zip(numbers, texts)]
+    names = [written(f"{run.folder}/{number}", text) for number, text in zip(numbers, texts)]
     said = rvfence("test", *names)
     by_jobs = rvfence("test", "--jobs", "4", *names)
-    counts.expect(f"{len(names)} files with 4 jobs", (said.status, said.out), (by_jobs.status, by_jobs.out))
-    compare_objects(counts, folder, names, said)
+    run.expect(f"{len(names)} files with 4 jobs", (said.status, said.out), (by_jobs.status, by_jobs.out))
+    compare_objects(run, names, said)
     lines, kinds = said.out.splitlines(), collections.Counter()
     width = max(map(len, names))
     for number, name, text, line in zip(numbers, names, texts, [*lines, *[""] * len(names)]):
@@ -136,27 +128,14 @@ def compare(counts, folder, numbers):
         kind, _, words = line[width + 2:].partition(" ")
         words = words if kind == "fault" else words.lstrip()
         is_right = line.startswith(f"{name:{width}}  ") and agree(wanted, kind, words)
-        counts.check(f"made test {number}", is_right, f"{text.decode()}wanted: {wanted}, found: {line}")
+        run.check(f"made test {number}", is_right, f"{text.decode()}wanted: {wanted}, found: {line}")
     status = next(STATUS[kind] for kind in STATUS if kinds[kind])
-    counts.expect("the last line", summary(kinds), lines[-1] if len(lines) == len(names) + 1 else "")
-    counts.expect("the status", status, said.status)
-    return kinds
+    run.expect("the last line", summary(kinds), lines[-1] if len(lines) == len(names) + 1 else "")
+    run.expect("the status", status, said.status)
+    run.kinds += kinds
 
 
-def main(arguments):
-    if len(arguments) not in (1, 2) or not all(word.isdecimal() for word in arguments):
-        usage("compare-test N [FIRST]")
-    first = int(arguments[1]) if len(arguments) == 2 else 0
-    counts, kinds = Counts(), collections.Counter()
-    with tempfile.TemporaryDirectory() as folder:
-        for begin in range(first, first + int(arguments[0]), AT_ONCE):
-            end = min(begin + AT_ONCE, first + int(arguments[0]))
-            kinds += compare(counts, folder, range(begin, end))
-            for name in os.listdir(folder):
-                os.remove(f"{folder}/{name}")
-    print(", ".join(f"{count} {kind}" for kind, count in sorted(kinds.items())))
-    return counts.end()
-
-
-if __name__ == "__main__":
-    sys.exit(main(sys.argv[1:]))
+def check(run):
+    numbers = run.numbers()
+    for at in range(0, len(numbers), AT_ONCE):
+        compare(run, numbers[at:at + AT_ONCE])

@@ -1,37 +1,21 @@
-#!/usr/bin/env python3
-"""Checks `rvfence states` on the examples.
-
-    scripts/states-answers              what it prints against examples/answers/states.transcripts
-    scripts/states-answers --write      writes that file
+"""Checks `rvfence states` on the examples: what it prints against examples/answers/states.transcripts; `--write` writes
+that file.
 
 The file has a transcript for each test, and an empty line after each: `$ rvfence states TEST`, as it runs in
 examples/, what is printed, and `[status N]`. The states of tests with at most 2,000 candidates are those of
 scripts/states_reference.py. Those of the others are the program's, where each of its executions is one by
-scripts/check_certificate.py and ends in the state above it; that no state is missing isn't looked at there.
-
-The last line is `N passed, M failed`; the exit status is 0 only where all passed."""
+scripts/check_certificate.py and ends in the state above it; that no state is missing isn't looked at there."""
 import os
-import sys
 
-sys.dont_write_bytecode = True
-import check_certificate as model                               # of this folder
+import check_certificate as model
 import solve_reference as reference
-from counting import Counts, usage
-from running import EXAMPLES, Said, decoded, read, rvfence, tests_of_examples, written
+from running import EXAMPLES, Said, decoded, read, rvfence, tests_of_examples, transcript, written
 from states_reference import Listing, ends_so, shown_places, wanted_lines
+from verdicts import is_listed
 
 FILE = f"{EXAMPLES}/answers/states.transcripts"
 TESTS = [os.path.relpath(path, EXAMPLES) for path in tests_of_examples()]
 MOST_LISTED = 2_000
-
-
-def is_listed(test):
-    """Has it so few candidates that they are listed?"""
-    try:
-        reference.count_candidates(test, reference.runs_over(test, reference.sets_of(test)), MOST_LISTED)
-    except reference.Fault as fault:
-        return str(fault) != "fault F15 TooManyCandidates"
-    return True
 
 
 def condition_of(name):
@@ -76,35 +60,21 @@ def by_program(name, test):
 
 def wanted_of(name):
     data = read(f"{EXAMPLES}/{name}")
-    test = model.test_of(data)
-    return by_reference(name, data) if is_listed(test) else by_program(name, test)
-
-
-def transcript(said):
-    """As it stands in the file, below the command."""
-    return f"{said.out}{said.err}[status {said.status}]\n"
+    return by_reference(name, data) if is_listed(name, MOST_LISTED) else by_program(name, model.test_of(data))
 
 
 def stored():
     """The transcripts of the file, by test."""
     blocks = decoded(read(FILE)).split("$ rvfence states ")[1:]
-    return dict(block.removesuffix("\n").split("\n", 1) for block in blocks)
+    return dict(block.removesuffix("\n\n").split("\n", 1) for block in blocks)
 
 
-def main(arguments):
-    if arguments == ["--write"]:
-        written(FILE, "".join(f"$ rvfence states {name}\n{transcript(wanted_of(name))}\n" for name in TESTS))
-        return 0
-    if arguments:
-        usage("states-answers [--write]")
-    counts, answers = Counts(), stored()
-    counts.expect("the tests", TESTS, [*answers])
+def check(run):
+    if run.options.write:
+        written(FILE, "".join(f"$ rvfence states {name}\n{transcript(wanted_of(name))}\n\n" for name in TESTS))
+    answers = stored()
+    run.expect("the tests", TESTS, [*answers])
     for name in TESTS:
         wanted = answers.get(name)
-        counts.expect(f"states {name}", wanted, transcript(rvfence("states", "-q", name, cwd=EXAMPLES)))
-        counts.expect(f"the states of {name} by another way", wanted, transcript(wanted_of(name)))
-    return counts.end()
-
-
-if __name__ == "__main__":
-    sys.exit(main(sys.argv[1:]))
+        run.expect(f"states {name}", wanted, transcript(rvfence("states", "-q", name, cwd=EXAMPLES)))
+        run.expect(f"the states of {name} by another way", wanted, transcript(wanted_of(name)))

@@ -1,18 +1,15 @@
-#!/usr/bin/env python3
-"""Feeds the built program the hostile files of scripts/hostile_files.py.
-
-    scripts/hostile [--huge]
+"""Feeds the built program the hostile files of scripts/checks/hostile_files.py.
 
 Each run must end by itself with the answer that is wanted: status 0 and nothing on standard error, or status 2,
 nothing on standard output and on standard error the one line of the fault, and with -v, of F20, and of `audit` and
-`states` its message;
-within 2 seconds of processor time, 400 MB and a stack of 8 MiB. `order` ends with status 0 and the line `yes`, or with
-status 1 and a line with its reason. `solve` ends with status 0 and lines of fences, or with status 1 and an execution,
-or says that it can't be answered within its limits (F13 to F16). `test` ends with status 0, 1, 2 or 4 and a line for
-the file, and a message where that has a fault of it, and `audit` with status 0, 1 or 4 and its lines, or like `solve`.
-`states` ends with status 0 and its block, or like `solve`. `check` says of a certificate what scripts/check_certificate.py says. A message has the form of docs/FORMAT.md, section
-14, and the line of its fault. Memory is ample, so status 3 is no answer here. The groups of files are split over as
-many processes as there are processors. The last line is `N passed, M failed`, which counts each run.
+`states` its message; within 2 seconds of processor time, 400 MB and a stack of 8 MiB. `order` ends with status 0 and
+the line `yes`, or with status 1 and a line with its reason. `solve` ends with status 0 and lines of fences, or with
+status 1 and an execution, or says that it can't be answered within its limits (F13 to F16). `test` ends with status 0,
+1, 2 or 4 and a line for the file, and a message where that has a fault of it, and `audit` with status 0, 1 or 4 and
+its lines, or like `solve`. `states` ends with status 0 and its block, or like `solve`. `check` says of a certificate
+what scripts/check_certificate.py says. A message has the form of docs/FORMAT.md, section 14, and the line of its
+fault. Memory is ample, so status 3 is no answer here. The groups of files are split over as many processes as there
+are processors.
 
 With `--huge` it feeds `check` certificates of 100 MB, one after the other, and nothing else: these may take 60
 seconds and 8 GB, and what each takes is printed."""
@@ -21,17 +18,12 @@ import os
 import re
 import resource
 import signal
-import sys
-import tempfile
 from concurrent.futures import ProcessPoolExecutor
 
-sys.dont_write_bytecode = True
-import hostile_files as files                                   # of this folder
-from counting import Counts
+from checks import hostile_files as files
 from reference import ANSWERED, READ
 from running import EXAMPLES, PRICES, program, read, written
 
-PROGRAM = program()
 MP = f"{EXAMPLES}/MP.litmus"
 SB = f"{EXAMPLES}/SB.litmus"
 # Seconds of processor time, and bytes: for files up to a mebibyte, and for huge ones.
@@ -40,7 +32,6 @@ LIMITS, HUGE_LIMITS = (2, 400_000_000), (60, 8_000_000_000)
 STACK = 8 * 1024 * 1024
 # A run that waits for something takes no processor time, so it is ended after this many seconds by the clock.
 LONGEST_WAIT = 1800
-MOST_SHOWN = 20
 # What is said of a test is shorter than this: `test` names the location that nothing stores to, which may fill a file.
 MOST_SAID = 2 << 20
 # What `solve` says of a test and prices that are read.
@@ -54,6 +45,7 @@ AUDIT = (rb"(forbidden|allowed|vacuous) as written(, \d+)?; (cheapest \d+|no fen
 # What `states` prints of a file.
 STATES = (rb"Test [^\n]+ (Allowed|Forbidden|Required)\nStates \d+\n([^\n]*;\n|\n)*(Ok|No)\nWitnesses\n"
           rb"Positive: \d+ Negative: \d+\nCondition [^\n]+\nObservation [^\n]+ (Never|Sometimes|Always) \d+ \d+\n\n")
+LOG_ERROR = rb"error: (log line \d+: expected [^\n]+|the log (isn't UTF-8|has no block of a test))"
 # What each command prints, by its status.
 SAID = {
     "test": {status: TESTED_LINE for status in (0, 1, 2, 4)},
@@ -94,8 +86,8 @@ LOG_OF = Use(["states", SB, "--log", "/dev/stdin"], "log: ", LOGGED, ", held aga
 LISTED_OF = Use(["states", "stdin"], "states: ", LISTED, ", all states")
 AUDITED_AS = Use(["audit", "stdin", PRICES], "audit: ", AUDITED, ", audited")
 GROUPS = [(group, PLACED) for group in files.TESTS]
-GROUPS += [(files.logs, LOG_OF), (files.prices, PRICED), (files.prices_changed, PRICED), (files.fences, Use(["place", "-v", MP])),
-           (files.witnesses, Use(["order", "-v", SB, "/dev/stdin"])),
+GROUPS += [(files.logs, LOG_OF), (files.prices, PRICED), (files.prices_changed, PRICED),
+           (files.fences, Use(["place", "-v", MP])), (files.witnesses, Use(["order", "-v", SB, "/dev/stdin"])),
            (files.certificates, Use(["check", "-v", SB, PRICES, "/dev/stdin"])),
            (files.refutations, Use(["check", "-v", SB, PRICES, "/dev/stdin"]))]
 GROUPS += [(group, use) for group in files.SEARCHED for use in (WITHIN_SEARCH, TESTED_AS, AUDITED_AS)]
@@ -109,7 +101,8 @@ GROUPS += [(files.prices, Use(["solve", MP, "/dev/stdin"], "solve: ", SOLVED, ",
            (files.prices, Use(["check", "-v", MP, "/dev/stdin", CERTIFICATE], "check: ", CHECKED, ", checked with"))]
 
 Found = collections.namedtuple("Found", "end answer seconds memory")
-Tally = collections.namedtuple("Tally", "passed failed seconds memory lines")
+# Of runs their number, those that failed by name with what is wrong, and the most of both.
+Tally = collections.namedtuple("Tally", "count failed seconds memory")
 
 
 class Runner:
@@ -129,7 +122,7 @@ class Runner:
         flags = [os.O_RDONLY, *[os.O_WRONLY | os.O_CREAT | os.O_TRUNC] * 2]
         actions = [(os.POSIX_SPAWN_OPEN, at, self.paths[at], flags[at], 0o600) for at in range(3)]
         written(self.paths[0], text)
-        self.child = os.posix_spawn(PROGRAM, [PROGRAM, *words], os.environ, file_actions=actions)
+        self.child = os.posix_spawn(program(), [program(), *words], os.environ, file_actions=actions)
         signal.alarm(LONGEST_WAIT)
         try:
             resource.prlimit(self.child, resource.RLIMIT_CPU, (self.most_seconds + 1, self.most_seconds + 1))
@@ -175,7 +168,7 @@ def is_explained(words, said, error):
         found = re.match(rb"stdin  (fault F(?:[1-9]|20) [^\n]+)\n", said)
         return is_message(found[1], error) if found else not error
     line, _, message = error.partition(b"\n")
-    if "--log" in words and re.fullmatch(rb"error: (log line \d+: expected [^\n]+|the log (isn't UTF-8|has no block of a test))", line):
+    if "--log" in words and re.fullmatch(LOG_ERROR, line):
         return not message
     if not re.fullmatch(rb"fault F\d+ [^\n]+", line):
         return False
@@ -213,15 +206,12 @@ def complaint(wanted, found, limits):
 
 def tally_of(runs, limits):
     """What came of runs, each a name, the answer that is wanted, and what was found."""
-    lines, passed, failed, seconds, memory = [], 0, 0, 0.0, 0
-    for name, wanted, found in runs:
+    count, failed, seconds, memory = 0, [], 0.0, 0
+    for count, (name, wanted, found) in enumerate(runs, 1):
         wrong = complaint(wanted, found, limits)
-        passed += not wrong
-        failed += bool(wrong)
+        failed += [(name, wrong)] if wrong else []
         seconds, memory = max(seconds, found.seconds), max(memory, found.memory)
-        if wrong and failed <= MOST_SHOWN:
-            lines.append(f"FAILED {name}: {wrong}")
-    return Tally(passed, failed, seconds, memory, lines)
+    return Tally(count, failed, seconds, memory)
 
 
 def begin(folder):
@@ -249,7 +239,7 @@ def tallies_of_groups(folder):
     """What came of each group."""
     with ProcessPoolExecutor(initializer=begin, initargs=[folder]) as pool:
         for (group, use), tally in zip(GROUPS, pool.map(run_group, range(len(GROUPS)))):
-            print(f"{group.__name__.replace('_', ' ')}{use.shown}: {tally.passed + tally.failed} runs", flush=True)
+            print(f"{group.__name__.replace('_', ' ')}{use.shown}: {tally.count} runs", flush=True)
             yield tally
 
 
@@ -262,18 +252,11 @@ def tallies_of_huge(folder):
         yield tally_of([(f"100 MB of {name}", wanted, found)], HUGE_LIMITS)
 
 
-def main():
-    counts = Counts()
-    with tempfile.TemporaryDirectory() as folder:
-        tallies = list(tallies_of_huge(folder) if sys.argv[1:] == ["--huge"] else tallies_of_groups(folder))
-    for line in [line for tally in tallies for line in tally.lines][:MOST_SHOWN]:
-        print(line)
+def check(run):
+    tallies = list(tallies_of_huge(run.folder) if run.options.huge else tallies_of_groups(run.folder))
     for tally in tallies:
-        counts.add(tally.passed, tally.failed)
+        run.counts.add(tally.count - len(tally.failed))
+        for name, wrong in tally.failed:
+            run.check(name, False, wrong)
     seconds, memory = max(tally.seconds for tally in tallies), max(tally.memory for tally in tallies)
     print(f"at most {seconds:.2f} seconds of processor time and {memory / 1e6:.0f} MB of memory")
-    return counts.end()
-
-
-if __name__ == "__main__":
-    sys.exit(main())

@@ -1,37 +1,30 @@
-#!/usr/bin/env python3
 """Checks that `rvfence solve` answers the same with 1, 2, 4 and 16 workers, again and again.
-
-    scripts/check-workers [ROUNDS]
 
 The questions are the tests of examples/ at each price list, with the answers of examples/answers/solve.transcripts;
 the rows of scripts/transcripts/workers.table, with answers worked out by hand; and tests that
 scripts/bench_tests.py and scripts/litmus.py make, with the answers of scripts/solve_reference.py. First each is asked
 without `--workers`, which must give that answer. (The execution beside `none` isn't in it: `order` must accept that.)
-Then it is asked ROUNDS (5) times with each number of workers, alone and with `--cert`. Each run must print the same
+Then it is asked ROUNDS times with each number of workers, alone and with `--cert`. Each run must print the same
 bytes on both outputs and end with the same status; and beside an answer stands a certificate, to which `check` says
 yes, with that answer. A question has one certificate, whatever the number of workers: in none of them does judging
 take so long that others join the first one, and then nothing depends on the turns of the threads. (That they answer the
 same where they join, crates/fs_crew_tests looks at.) Beside a fault there is none.
 
-A run that doesn't end is ended after a while and fails, and after some of these no more are made. The last line is `N
-passed, M failed`; the exit status is 0 only where all passed. """
+A run that doesn't end is ended after a while and fails, and after some of these no more are made."""
 import collections
 import os
-import sys
 import tempfile
 import threading
 
-sys.dont_write_bytecode = True
-import bench_tests                                              # of this folder
+import bench_tests
 import check_certificate as model
 import litmus
 import solve_reference as reference
-from counting import Counts, usage
 from running import (EXAMPLES, LONGEST, NO_END, PRICES, TOP, Said, decoded, read, rvfence, side_by_side,
                      stored_answers, written)
+from verdicts import is_accepted
 
 WORKERS = [1, 2, 4, 16]
-ROUNDS = 5
 MOST_ENDLESS = 8                    # runs that don't end, before no more are made
 TABLE = f"{TOP}/scripts/transcripts/workers.table"
 
@@ -65,8 +58,7 @@ class Question:
         self.plain = None               # what is said without `--workers`
 
 
-# --- Questions
-# -------------------------------------------------------------------------------------------------------------
+# --- Questions -------------------------------------------------------------------------------------------------------
 
 def stored():
     """The tests of examples/ at each price list."""
@@ -102,16 +94,14 @@ def grown(folder):
         yield by_reference(f"made test {number}", *litmus.Maker(number).make())
 
 
-# --- Runs
-# ------------------------------------------------------------------------------------------------------------------
+# --- Runs ------------------------------------------------------------------------------------------------------------
 
 class Bench:
     """Makes runs, several at once, and counts what passed."""
 
-    def __init__(self, folder):
-        self.folder = folder
+    def __init__(self, run):
+        self.folder, self.check, self.expect = run.folder, run.check, run.expect
         self.lock = threading.Lock()
-        self.counts = Counts(20)
         self.endless = 0
         self.verdicts = {}              # what `check` says, by question and certificate
 
@@ -133,15 +123,8 @@ class Bench:
         lines = printed.splitlines()
         is_right = lines == question.lines
         if question.lines[0] == "none" and lines[:1] == ["none"]:
-            is_right = len(lines) == 2 and self.is_accepted(question, lines[1])
-        self.counts.check(question.name, is_right and not silent and said.status == question.status, said)
-
-    def is_accepted(self, question, text):
-        """Does `order` accept this execution with `rw,rw` in every slot?"""
-        test = question.words[0]
-        fences = [f"P{hart}:{at}=rw,rw" for hart, at in model.read(test, model.test_of).slots()]
-        with tempfile.NamedTemporaryFile(dir=self.folder) as file:
-            return self.ran("order", test, written(file.name, text), *fences) == Said("yes\n", "", 0)
+            is_right = len(lines) == 2 and is_accepted(question.words[0], lines[1])
+        self.check(question.name, is_right and not silent and said.status == question.status, said)
 
     def ask(self, asked):
         """Asks with so many workers, alone and with a certificate."""
@@ -149,16 +132,16 @@ class Bench:
         name = f"{question.name} --workers {workers}"
         words = ["solve", *question.words, "--workers", str(workers)]
         said = self.ran(*words)
-        self.counts.check(name, said == question.plain, said)
+        self.check(name, said == question.plain, said)
         with tempfile.TemporaryDirectory(dir=self.folder) as own:
             path = f"{own}/certificate.json"
             said = self.ran(*words, "--cert", path)
-            self.counts.check(f"{name} --cert", said == question.plain, said)
+            self.check(f"{name} --cert", said == question.plain, said)
             is_answer = said.status in (0, 1)
-            self.counts.check(f"{name}: a certificate beside an answer alone", os.path.exists(path) == is_answer, said)
+            self.check(f"{name}: a certificate beside an answer alone", os.path.exists(path) == is_answer, said)
             if is_answer and os.path.exists(path):
                 verdict = self.verdict(question, path)
-                self.counts.expect(f"{name}: its certificate", Said(f"yes\n{said.out}", "", 0), verdict)
+                self.expect(f"{name}: its certificate", Said(f"yes\n{said.out}", "", 0), verdict)
 
     def verdict(self, question, path):
         """What `check` says of the certificate; it isn't asked twice of the same one."""
@@ -168,24 +151,16 @@ class Bench:
         return self.verdicts[key]
 
 
-def main(arguments):
-    if len(arguments) > 1 or not all(word.isdecimal() and int(word) > 0 for word in arguments):
-        usage("check-workers [ROUNDS]")
-    rounds = int(arguments[0]) if arguments else ROUNDS
-    with tempfile.TemporaryDirectory() as folder:
-        questions = [*stored(), *rows(folder), *grown(folder)]
-        bench = Bench(folder)
-        side_by_side(bench.ask_plainly, questions)
-        asked = [(question, workers) for _ in range(rounds) for question in questions for workers in WORKERS]
-        side_by_side(bench.ask, asked)
+def check(run):
+    rounds = run.options.rounds
+    questions = [*stored(), *rows(run.folder), *grown(run.folder)]
+    bench = Bench(run)
+    side_by_side(bench.ask_plainly, questions)
+    side_by_side(bench.ask, [(question, workers) for _ in range(rounds) for question in questions
+                             for workers in WORKERS])
     certificates = collections.Counter(question for question, _ in bench.verdicts)
     for question, count in certificates.items():
-        bench.counts.expect(f"{question.name}: its certificates", 1, count)
+        run.expect(f"{question.name}: its certificates", 1, count)
     many = certificates.values()
     print(f"{len(questions)} questions, {rounds} times each with {', '.join(map(str, WORKERS))} workers: "
           f"{sum(count > 1 for count in many)} of them have more certificates than one, up to {max(many, default=0)}")
-    return bench.counts.end()
-
-
-if __name__ == "__main__":
-    sys.exit(main(sys.argv[1:]))

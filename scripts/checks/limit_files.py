@@ -1,8 +1,9 @@
 """Tests at the limits of `rvfence`, each met and each passed by one. What the program must say of them is said where
 they are made, and why: it follows from docs/FORMAT.md, docs/MODEL.md and docs/SEARCH.md, and none of it is taken from
 the program."""
-import itertools
 import json
+
+import litmus
 
 KINDS = ["r,r", "r,w", "r,rw", "w,r", "w,w", "w,rw", "rw,r", "rw,w", "rw,rw", "tso"]
 NOTHING = "addi x0,x0,0"
@@ -30,26 +31,6 @@ class Hart:
         return [at for at, cell in enumerate(self.cells) if cell.startswith(("lw ", "sw "))][1:]
 
 
-def text_of(name, locations, harts, condition, fences=()):
-    """A test in the printed form, with these fences: pairs of a slot, which is a hart and an instruction, and a
-    kind."""
-    kinds = dict(fences)
-    columns = []
-    for number, hart in enumerate(harts):
-        column = []
-        for at, cell in enumerate(hart.cells):
-            if (number, at) in kinds:
-                column.append(f"fence {kinds[number, at]}")
-            column.append(cell)
-        columns.append(column)
-    lines = [f"RISCV {name}", "{", " ".join(f"{location}=0;" for location in locations)]
-    for number, hart in enumerate(harts):
-        lines.append(" ".join(f"{number}:{register}={value};" for register, value in hart.registers.items()))
-    lines += ["}", " | ".join(f"P{number}" for number in range(len(harts))) + " ;"]
-    lines += [" | ".join(row) + " ;" for row in itertools.zip_longest(*columns, fillvalue="")]
-    return "\n".join([*lines, f"exists {condition}", ""])
-
-
 def joined(atoms):
     """The condition that all these atoms hold, in the printed form. An atom of n stands in n - 1 parentheses, and as
     many signs."""
@@ -59,8 +40,7 @@ def joined(atoms):
     return condition
 
 
-# --- What a test may have
-# ---------------------------------------------------------------------------------------------------
+# --- What a test may have --------------------------------------------------------------------------------------------
 
 
 def fullest(accesses=48, rows=INSTRUCTIONS, columns=8, locations=8, depth=64):
@@ -106,9 +86,16 @@ class Test:
         self.condition = condition
 
     def text(self, fences=()):
-        lines = text_of(self.name, self.locations, self.harts, self.condition, fences)
+        """The test with these fences: pairs of a slot, which is a hart and an instruction, and a kind."""
+        kinds = dict(fences)
+        columns = [[cell for at, own in enumerate(hart.cells)
+                    for cell in ([f"fence {kinds[number, at]}"] if (number, at) in kinds else []) + [own]]
+                   for number, hart in enumerate(self.harts)]
         # a hart whose registers all begin at 0 has no line
-        return "\n".join(line for line in lines.split("\n")[:-1] if line) + "\n"
+        entries = [" ".join(f"{number}:{register}={value};" for register, value in hart.registers.items())
+                   for number, hart in enumerate(self.harts) if hart.registers]
+        words = " ".join(f"{location}=0;" for location in self.locations)
+        return litmus.text_of(self.name, [words, *entries], columns, f"exists {self.condition}")
 
     def slots(self):
         return [(number, at) for number, hart in enumerate(self.harts) for at in hart.slots()]
@@ -124,8 +111,7 @@ def fenced(cost, fences):
     return [f"fenced {cost}", *[f"fence P{hart} {at} {kind}" for (hart, at), kind in fences]]
 
 
-# --- How many runs and candidates there may be
-# ------------------------------------------------------------------------------
+# --- How many runs and candidates there may be -----------------------------------------------------------------------
 
 
 def runs_of(plan):
@@ -285,8 +271,7 @@ def adders(count):
     return Test("adders", ["a"], harts, " /\\ ".join([f"a={count - 1}", *stored]))
 
 
-# --- Files
-# ------------------------------------------------------------------------------------------------------------------
+# --- Files -----------------------------------------------------------------------------------------------------------
 
 SB_HARTS = "0:x5=1; 0:x6=x; 0:x8=y;\n1:x5=1; 1:x6=y; 1:x8=x;"
 SB = f"RISCV SB\n{{\nx=0; y=0;\n{SB_HARTS}\n}}\nP0 | P1 ;\nsw x5,0(x6) | sw x5,0(x6) ;\n" \

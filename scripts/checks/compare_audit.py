@@ -1,22 +1,14 @@
-#!/usr/bin/env python3
 """Compares `rvfence audit` with plain Python on tests with fences: those of scripts/litmus.py, into which more fences
 are put by chance, and in which the label that branches go to stands somewhere behind them.
 
-    scripts/compare-audit N [FIRST]      on the tests FIRST to FIRST + N - 1; FIRST is 0 or given
-
 The fences are taken out of the text here, cell by cell. What `--write` prints has the fences that are due, is judged
 by `test`, and written once more: then it stays as it is. Where no fence names devices it is audited, too: nothing can
-go, and the cost is what was said. What differs is printed with the test. The last line is `N passed, M failed`."""
-import collections
+go, and the cost is what was said. What differs is printed with the test."""
 import random
 import re
-import sys
-import tempfile
 
-sys.dont_write_bytecode = True
-import check_certificate as model                               # of this folder
+import check_certificate as model
 import solve_reference as reference
-from counting import Counts, usage
 from litmus import FENCES, Maker
 from running import rvfence, written
 from verdicts import is_vacuous
@@ -275,49 +267,38 @@ def mended_fences(columns, placed):
     return harts
 
 
-def check_mended(counts, name, files, columns, kind, mended):
+def check_mended(run, name, files, columns, kind, mended):
     """Checks what `--write` prints of a test of which this is the verdict."""
     said = rvfence("audit", "-q", *files, "--write")
-    counts.expect(f"{name}: the status of --write", mended.status(kind), said.status)
+    run.expect(f"{name}: the status of --write", mended.status(kind), said.status)
     if mended.best is None:
-        counts.expect(f"{name}: nothing is written", "", said.out)
+        run.expect(f"{name}: nothing is written", "", said.out)
         return
-    counts.expect(f"{name}: the written fences", mended_fences(columns, mended.placed), fences_of(said.out))
+    run.expect(f"{name}: the written fences", mended_fences(columns, mended.placed), fences_of(said.out))
     file = written(files[0].replace("test.litmus", "mended.litmus"), said.out)
     verdict = rvfence("test", file).out.split()
     wanted = "vacuous" if kind == "vacuous" else "forbidden"
-    counts.expect(f"{name}: the written test", wanted, verdict[1] if len(verdict) > 1 else "")
+    run.expect(f"{name}: the written test", wanted, verdict[1] if len(verdict) > 1 else "")
     again = rvfence("audit", file, files[1], "--write")
-    counts.expect(f"{name}: written again", (said.out, STATUS.get(wanted, 0)), (again.out, again.status))
+    run.expect(f"{name}: written again", (said.out, STATUS.get(wanted, 0)), (again.out, again.status))
     if not any(stays(cell) for column in columns.cells for cell in column):
         again = rvfence("audit", file, files[1])
         first = f"{wanted} as written, {mended.best_cost}; cheapest {mended.best_cost}"
-        counts.expect(f"{name}: the audit of it", first, again.out.split("\n")[0])
-        counts.expect(f"{name}: its status", STATUS.get(wanted, 0), again.status)
+        run.expect(f"{name}: the audit of it", first, again.out.split("\n")[0])
+        run.expect(f"{name}: its status", STATUS.get(wanted, 0), again.status)
 
 
-def main(arguments):
-    if len(arguments) not in (1, 2) or not all(word.isdecimal() for word in arguments):
-        usage("compare-audit N [FIRST]")
-    first = int(arguments[1]) if len(arguments) == 2 else 0
-    counts, kinds = Counts(), collections.Counter()
-    with tempfile.TemporaryDirectory() as folder:
-        for number in range(first, first + int(arguments[0])):
-            columns, prices = made(number)
-            text, _ = columns.text()
-            kind, wanted, mended = by_reference(columns, prices)
-            files = [written(f"{folder}/test.litmus", text), written(f"{folder}/prices.json", prices)]
-            said = rvfence("audit", "-q", *files)
-            found = ((said.out + said.err).splitlines(), said.status)
-            lists = [text, prices.decode(), f"\nwanted: {wanted}", f"\nfound:  {found}"]
-            counts.check(f"made test {number}", wanted == found, "".join(lists))
-            if kind is not None:
-                kinds[kind] += 1
-                kinds.update(re.sub("^[rwtso]+,?[rw]* ", "K ", line[28:]) for line in wanted[0][1:])
-                check_mended(counts, f"made test {number}", files, columns, kind, mended)
-    print(", ".join(f"{count} {kind}" for kind, count in sorted(kinds.items())))
-    return counts.end()
-
-
-if __name__ == "__main__":
-    sys.exit(main(sys.argv[1:]))
+def check(run):
+    for number in run.numbers():
+        columns, prices = made(number)
+        text, _ = columns.text()
+        kind, wanted, mended = by_reference(columns, prices)
+        files = [written(run.path("test.litmus"), text), written(run.path("prices.json"), prices)]
+        said = rvfence("audit", "-q", *files)
+        found = ((said.out + said.err).splitlines(), said.status)
+        lists = [text, prices.decode(), f"\nwanted: {wanted}", f"\nfound:  {found}"]
+        run.check(f"made test {number}", wanted == found, "".join(lists))
+        if kind is not None:
+            run.kinds[kind] += 1
+            run.kinds.update(re.sub("^[rwtso]+,?[rw]* ", "K ", line[28:]) for line in wanted[0][1:])
+            check_mended(run, f"made test {number}", files, columns, kind, mended)

@@ -1,37 +1,31 @@
-#!/usr/bin/env python3
 """Compares `rvfence states` with a plain list of final states on the tests that scripts/litmus.py makes.
-
-    scripts/compare-states [N [FIRST]]    on the tests FIRST to FIRST + N - 1; N is 300, and FIRST 0, or given
 
 The list is made in Python, from all candidates of the test, whatever its condition. Each test is asked without FENCE
 words and with some by chance, every second one with `--all`. All lines must be the same. Each witness of
 `--witnesses` must be an execution that ends in the state above it, and `order` must say of it what the condition does.
-What differs is printed with the test. The last line is `N passed, M failed`."""
+What differs is printed with the test."""
 import random
-import sys
-import tempfile
 
-sys.dont_write_bytecode = True
-import check_certificate as model                               # of this folder
+import check_certificate as model
 import solve_reference as reference
-from counting import Counts, usage
 from litmus import Maker
 from running import read, rvfence, written
 from states_reference import Listing, ends_so, shown_places, wanted_lines
 
-def compare_witnesses(counts, folder, listing, asked, states, lines):
+
+def compare_witnesses(run, listing, asked, states, lines):
     """Compares the witnesses, a line for each of the states."""
     name, placement, fences, places = asked
-    counts.expect(f"how many witnesses of {name}", len(states), len(lines))
+    run.expect(f"how many witnesses of {name}", len(states), len(lines))
     for state, line in zip(states, lines):
         shown = f"{name} with {fences} in {state}"
-        counts.check(f"the witness of {shown}", ends_so(listing.test, placement, places, state, line), line)
+        run.check(f"the witness of {shown}", ends_so(listing.test, placement, places, state, line), line)
         is_outcome = listing.is_true(places, state) == listing.test.wanted[1]
-        said = rvfence("order", name, written(f"{folder}/witness", line), *fences)
-        counts.expect(f"order of {shown}", "yes\n" if is_outcome else "no: outcome\n", said.out)
+        said = rvfence("order", name, written(f"{run.folder}/witness", line), *fences)
+        run.expect(f"order of {shown}", "yes\n" if is_outcome else "no: outcome\n", said.out)
 
 
-def compare_states(counts, folder, listing, name, placement, flags):
+def compare_states(run, listing, name, placement, flags):
     """Compares what is printed of a test with these fences, and says how many states there are."""
     fences = [f"P{hart}:{at}={kind}" for (hart, at), kind in zip(listing.test.slots(), placement) if kind]
     places = shown_places(listing.test, "--all" in flags)
@@ -39,43 +33,32 @@ def compare_states(counts, folder, listing, name, placement, flags):
     condition = rvfence("place", name, *fences).out.rstrip("\n").rsplit("\n", 1)[-1]
     wanted = "".join(f"{line}\n" for line in wanted_lines(listing, places, states, condition))
     found = rvfence("states", *flags, name, *fences)
-    counts.expect(f"{name} with {fences}\n{read(name).decode()}", wanted, found.out)
-    counts.expect(f"the status of {name} with {fences}", 0, found.status)
+    run.expect(f"{name} with {fences}\n{read(name).decode()}", wanted, found.out)
+    run.expect(f"the status of {name} with {fences}", 0, found.status)
     lines = rvfence("states", *flags, "--witnesses", name, *fences).out.splitlines()
     without = "".join(f"{line}\n" for line in lines if not line.startswith("{"))
-    counts.expect(f"{name} with {fences} without its witnesses", wanted, without)
+    run.expect(f"{name} with {fences} without its witnesses", wanted, without)
     witnesses = [line for line in lines if line.startswith("{")]
-    compare_witnesses(counts, folder, listing, (name, placement, fences, places), states, witnesses)
+    compare_witnesses(run, listing, (name, placement, fences, places), states, witnesses)
     return len(states)
 
 
-def compare(counts, folder, number):
+def compare(run, number):
     """Compares on the test of this number, and says how many states it has, without fences and with some."""
     data = Maker(number).make()[0]
-    name = written(f"{folder}/made{number}", data)
+    name = written(f"{run.folder}/made{number}", data)
     try:
         listing = Listing(data)
     except reference.Fault as fault:
         said = rvfence("states", "-q", name)
-        counts.expect(f"the fault of {name}", (f"{fault}\n", 2), (said.err, said.status))
+        run.expect(f"the fault of {name}", (f"{fault}\n", 2), (said.err, said.status))
         return 0
     chance = random.Random(f"states {number}")
     slots = listing.test.slots()
     placements = [(None,) * len(slots), tuple(chance.choice([None, *model.KINDS]) for _ in slots)]
     flags = ["--all"] if number % 2 else []
-    return sum(compare_states(counts, folder, listing, name, placement, flags) for placement in placements)
+    return sum(compare_states(run, listing, name, placement, flags) for placement in placements)
 
 
-def main(arguments):
-    if len(arguments) > 2 or not all(word.isdecimal() for word in arguments):
-        usage("compare-states [N [FIRST]]")
-    number, first = [*map(int, arguments), *[300, 0][len(arguments):]]
-    counts = Counts()
-    with tempfile.TemporaryDirectory() as folder:
-        states = sum(compare(counts, folder, test) for test in range(first, first + number))
-    print(f"{states} states")
-    return counts.end()
-
-
-if __name__ == "__main__":
-    sys.exit(main(sys.argv[1:]))
+def check(run):
+    print(f"{sum(compare(run, number) for number in run.numbers())} states")

@@ -1,30 +1,24 @@
-#!/usr/bin/env python3
 """Checks the built program from outside: what it prints on both outputs, and its exit status.
 
 What it must print stands in scripts/transcripts/*.txt, command by command: the command line, faults and their order,
 tests as they are printed, prices, witnesses good and bad, answers worked out by hand, certificates. Then come the
 examples with their answers, the commands of the documents with what stands below them, `solve` by several workers,
 what is printed as JSON, what a shell completes, and whether the other commands take what it answers; messages, and how
-far it is, as it says on a terminal; and the help that the launcher prints where there is no program.
-The last line is `N passed, M failed`."""
+far it is, as it says on a terminal; and the help that the launcher prints where there is no program."""
 import glob
 import json
 import os
 import re
 import shutil
-import sys
 import tempfile
 import time
 
-sys.dont_write_bytecode = True
-import check_certificate as model                               # of this folder
 from bench_tests import votes
-from counting import Counts
 from running import (EXAMPLES, PRICES, TOP, Said, decoded, program, ran, ran_on_terminal, read, rvfence, side_by_side,
-                     stored_answers, tests_of_examples, written)
+                     stored_answers, tests_of_examples, transcript, written)
+from verdicts import YES, is_accepted
 
 TRANSCRIPTS = f"{TOP}/scripts/transcripts"
-YES = Said("yes\n", "", 0)
 WORKERS = [1, 2, 4, 16]
 
 
@@ -32,17 +26,12 @@ def text_of(path):
     return decoded(read(path))
 
 
-def transcript(said):
-    """What a run says in one text: standard output before standard error, and then its status."""
-    return f"{said.out}{said.err}[status {said.status}]"
-
-
 class Checks:
     """The counts, and a folder with the program, the examples and the files of scripts/transcripts/files/."""
 
-    def __init__(self, folder):
-        self.folder = folder
-        self.counts = Counts()
+    def __init__(self, run):
+        folder = self.folder = run.folder
+        self.check, self.expect = run.check, run.expect
         os.mkdir(f"{folder}/bin")
         # under the name that help prints
         os.symlink(program(), f"{folder}/bin/rvfence")
@@ -64,7 +53,7 @@ class Checks:
         error = re.sub("(?m)^", "! ", said.err[:-1]) + "\n" if said.err else ""
         if error and "\n! ...\n" in f"\n{wanted}":
             error = "! ...\n"
-        self.counts.expect(f"{name}: {command}", wanted, f"{said.out}{error}[status {said.status}]")
+        self.expect(f"{name}: {command}", wanted, f"{said.out}{error}[status {said.status}]")
 
 
 def check_transcripts(checks):
@@ -81,11 +70,11 @@ def check_examples(checks):
             command, wanted = text_of(f"{EXAMPLES}/answers/{name}").rstrip("\n").split("\n", 1)
             quiet = ["-q"] if command.startswith("$ rvfence solve ") else []
             found = rvfence(*command.removeprefix("$ rvfence ").split(), *quiet, cwd=EXAMPLES)
-            checks.counts.expect(f"examples/answers/{name}", wanted, transcript(found))
+            checks.expect(f"examples/answers/{name}", wanted, transcript(found))
     for test in tests_of_examples():
         once = rvfence("place", test)
-        checks.counts.expect(f"{test} is answered", ("", 0), once[1:])
-        checks.counts.expect(f"{test} printed twice", once, rvfence("place", "stdin", stdin=once.out))
+        checks.expect(f"{test} is answered", ("", 0), once[1:])
+        checks.expect(f"{test} printed twice", once, rvfence("place", "stdin", stdin=once.out))
 
 
 def fences_of(lines):
@@ -112,11 +101,11 @@ def check_idioms(checks):
         for witness, others, less in cases:
             path = f"{folder}/witnesses/{witness}.json"
             for words in (others, *([*others, word] for word in less)):
-                checks.counts.expect(f"{witness} with {words}", YES, rvfence("order", test, path, *words))
+                checks.expect(f"{witness} with {words}", YES, rvfence("order", test, path, *words))
             said = rvfence("order", test, path, *fences)
-            checks.counts.expect(f"{witness} with all fences", ("no: rule 4", "", 1), (said.out[:10], *said[1:]))
+            checks.expect(f"{witness} with all fences", ("no: rule 4", "", 1), (said.out[:10], *said[1:]))
         names += [f"{witness}.json" for witness, _, _ in cases]
-    checks.counts.expect("the executions of the idioms", sorted(names), sorted(os.listdir(f"{folder}/witnesses")))
+    checks.expect("the executions of the idioms", sorted(names), sorted(os.listdir(f"{folder}/witnesses")))
 
 
 def check_documents(checks):
@@ -126,7 +115,7 @@ def check_documents(checks):
         for command, wanted in re.findall(r"(?m)^\$ (.*)\n((?:(?!```|\$ ).*\n)*)", text_of(f"{TOP}/{document}")):
             if command != "./test":
                 said = checks.shell(f"exec 2>&1; {command.replace('/tmp/', f'{checks.folder}/')}", cwd=TOP)
-                checks.counts.expect(f"{document}: {command}", wanted.rstrip("\n"), said.out.rstrip("\n"))
+                checks.expect(f"{document}: {command}", wanted.rstrip("\n"), said.out.rstrip("\n"))
 
 
 def check_paths(checks):
@@ -144,9 +133,9 @@ def check_paths(checks):
              *[(f"the file {path}", [program(), "place", path], None) for path in ("./stdin", "./-")]]
     wanted = rvfence("place", test)
     for name, command, stdin in table:
-        checks.counts.expect(name, wanted, ran(command, stdin=stdin, cwd=folder))
+        checks.expect(name, wanted, ran(command, stdin=stdin, cwd=folder))
     wanted = rvfence("place", test, "--prices", PRICES)
-    checks.counts.expect("prices before the test", wanted, rvfence("place", "--prices", PRICES, test))
+    checks.expect("prices before the test", wanted, rvfence("place", "--prices", PRICES, test))
 
 
 def check_answers(checks):
@@ -157,25 +146,23 @@ def check_answers(checks):
         said = rvfence("solve", test, PRICES)
         vacuous = re.fullmatch(r".*  vacuous    (.*\n).*\n", rvfence("test", test).out)
         if said.status != 2:
-            checks.counts.expect(f"the note for {test}", f"note: vacuous: {vacuous[1]}" if vacuous else "", said.err)
+            checks.expect(f"the note for {test}", f"note: vacuous: {vacuous[1]}" if vacuous else "", said.err)
         lines = said.out.splitlines()
         if lines[:1] == ["none"]:
-            fences = [f"P{hart}:{at}=rw,rw" for hart, at in model.read(test, model.test_of).slots()]
-            witness = written(f"{checks.folder}/witness.json", lines[1])
-            checks.counts.expect(f"the execution of none for {test}", YES, rvfence("order", test, witness, *fences))
+            checks.check(f"the execution of none for {test}", is_accepted(test, lines[1]), lines[1])
         elif not test.endswith("/STRAY.litmus"):
             fences = fences_of(lines)
             cost = "".join(lines[:1]).replace("fenced", "\n(* cost") + " *)\n"
             placed = rvfence("place", test, *fences, "--prices", PRICES).out
-            checks.counts.expect(f"the cost of the fences for {test}", cost, placed[-len(cost):])
+            checks.expect(f"the cost of the fences for {test}", cost, placed[-len(cost):])
             found = rvfence("solve", "stdin", PRICES, stdin=rvfence("place", test, *fences).out)
-            checks.counts.expect(f"{test} with its fences", ("fenced 0\n", 0), (found.out, found.status))
+            checks.expect(f"{test} with its fences", ("fenced 0\n", 0), (found.out, found.status))
 
 
 def check_workers(checks):
     """With each number of workers `solve` gives the stored answer, the bytes that it gives with one, and a
     certificate that `check` takes. Without its cycle such a certificate is refused, and cut at half it is none."""
-    answers, counts = stored_answers(), checks.counts
+    answers = stored_answers()
     for test in tests_of_examples():
         wanted = answers[os.path.relpath(test, EXAMPLES), "prices.json"]
         by_one = rvfence("solve", test, PRICES, "--workers", "1")
@@ -183,14 +170,14 @@ def check_workers(checks):
             path = f"{checks.folder}/{workers}.json"
             said = rvfence("solve", test, PRICES, "--workers", str(workers), "--cert", path)
             name = f"{test} by {workers} workers"
-            counts.expect(name, wanted, re.sub(r"(?m)^(\{|note: vacuous: ).*\n", "", transcript(said)))
-            counts.expect(f"{name} as by one", by_one, said)
+            checks.expect(name, wanted, re.sub(r"(?m)^(\{|note: vacuous: ).*\n", "", transcript(said)))
+            checks.expect(f"{name} as by one", by_one, said)
             if said.status == 2:
                 is_right = test.endswith("/STRAY.litmus") and not os.path.exists(path)
-                counts.check(f"no certificate of the fault of {name}", is_right)
+                checks.check(f"no certificate of the fault of {name}", is_right)
                 continue
             wanted_verdict = Said(f"yes\n{said.out}", "", 0)
-            counts.expect(f"the certificate of {name}", wanted_verdict, rvfence("check", test, PRICES, path))
+            checks.expect(f"the certificate of {name}", wanted_verdict, rvfence("check", test, PRICES, path))
             os.unlink(path)
     test = f"{EXAMPLES}/SBF.litmus"
     for workers in WORKERS:
@@ -202,7 +189,7 @@ def check_workers(checks):
         for name, text, wanted in (("without its cycle", json.dumps(changed), ("no: cycles\n", "", 1)),
                                    ("cut at half", whole[:len(whole) // 2], ("", "fault F18 BadCertificate\n", 2))):
             found = rvfence("check", test, PRICES, written(path, text))
-            counts.expect(f"a certificate by {workers} workers {name}", wanted, found)
+            checks.expect(f"a certificate by {workers} workers {name}", wanted, found)
 
 
 def line_of(found, width):
@@ -222,24 +209,24 @@ def answer_of(found):
 def check_objects(checks):
     """With `--json` the commands say what they say without, of each test of the examples and each certificate. `order`
     accepts the execution of an outcome that is allowed. With any number of jobs `test` prints the same."""
-    counts, tests = checks.counts, [*tests_of_examples(), *glob.glob(f"{EXAMPLES}/tests/*.litmus")]
+    tests = [*tests_of_examples(), *glob.glob(f"{EXAMPLES}/tests/*.litmus")]
     plain, objects = rvfence("test", *tests), rvfence("test", "--json", *tests)
     width, found = max(map(len, tests)), [json.loads(line) for line in objects.out.splitlines()]
-    counts.expect("the objects of the examples", plain.out.splitlines()[:-1], [line_of(each, width) for each in found])
-    counts.expect("their end", plain[1:], objects[1:])
+    checks.expect("the objects of the examples", plain.out.splitlines()[:-1], [line_of(each, width) for each in found])
+    checks.expect("their end", plain[1:], objects[1:])
     for each in found:
-        counts.check(f"{each['file']} has an execution", ("witness" in each) == (each["verdict"] == "allowed"), each)
+        checks.check(f"{each['file']} has an execution", ("witness" in each) == (each["verdict"] == "allowed"), each)
         if "witness" in each:
             witness = written(f"{checks.folder}/witness.json", json.dumps(each["witness"]))
-            counts.expect(f"the execution for {each['file']}", YES, rvfence("order", each["file"], witness))
+            checks.expect(f"the execution for {each['file']}", YES, rvfence("order", each["file"], witness))
     for jobs in ("1", "2", "3", "16"):
-        counts.expect(f"the examples by {jobs} jobs", plain, rvfence("test", "--jobs", jobs, *tests))
-        counts.expect(f"the objects by {jobs} jobs", objects, rvfence("test", "--jobs", jobs, "--json", *tests))
+        checks.expect(f"the examples by {jobs} jobs", plain, rvfence("test", "--jobs", jobs, *tests))
+        checks.expect(f"the objects by {jobs} jobs", objects, rvfence("test", "--jobs", jobs, "--json", *tests))
     for test in tests:
         plain, said = rvfence("solve", test, PRICES), rvfence("solve", test, PRICES, "--json")
         if plain.status != 2:
             said = said._replace(out=answer_of(json.loads(said.out)))
-        counts.expect(f"the object of the answer for {test}", plain, said)
+        checks.expect(f"the object of the answer for {test}", plain, said)
     for path in sorted(glob.glob(f"{EXAMPLES}/certificates/*.json")):
         for name in ("MP", "SB", "MP11"):
             words = ["check", f"{EXAMPLES}/{name}.litmus", PRICES, path]
@@ -248,14 +235,12 @@ def check_objects(checks):
                 each = json.loads(said.out)
                 text = f"yes\n{answer_of(each['answer'])}" if each["valid"] else f"no: {each['reason']}\n"
                 said = said._replace(out=text)
-            counts.expect(f"the object of {path} for {name}", plain, said)
+            checks.expect(f"the object of {path} for {name}", plain, said)
 
 
 def check_completions(checks):
     """In bash each command's options are completed, and no others than its help has, and the commands themselves. A
     shell that is here reads its script."""
-    counts = checks.counts
-
     def completed(*words):
         given = " ".join(f"'{word}'" for word in words)
         asked = f"COMP_WORDS=(rvfence {given}); COMP_CWORD={len(words)}; _rvfence; echo ${{COMPREPLY[*]}}"
@@ -263,19 +248,19 @@ def check_completions(checks):
         return sorted(said.out.split())
 
     commands = re.findall(r"(?m)^  ([a-z]+)  ", rvfence("--help").out)
-    counts.expect("the commands that are completed", sorted(commands), completed(""))
-    counts.expect("the command that is completed", ["completions"], completed("com"))
+    checks.expect("the commands that are completed", sorted(commands), completed(""))
+    checks.expect("the command that is completed", ["completions"], completed("com"))
     for command in commands:
         if command != "help":
             options = re.findall(r"(?m)^ +(?:-\w, )?(--[a-z]+)", rvfence(command, "--help").out.split("Options:")[1])
-            counts.expect(f"the options of {command} that are completed", sorted(set(options)), completed(command, "-"))
-    counts.expect("the options before a command", ["--help", "--version"], completed("-"))
-    counts.expect("the shells that are completed", ["bash", "fish", "zsh"], completed("completions", ""))
-    counts.expect("files are left to bash", [], completed("test", ""))
+            checks.expect(f"the options of {command} that are completed", sorted(set(options)), completed(command, "-"))
+    checks.expect("the options before a command", ["--help", "--version"], completed("-"))
+    checks.expect("the shells that are completed", ["bash", "fish", "zsh"], completed("completions", ""))
+    checks.expect("files are left to bash", [], completed("test", ""))
     for shell in ("bash", "zsh", "fish"):
         if shutil.which(shell):
             said = ran([shell, "-n"], stdin=rvfence("completions", shell).out)
-            counts.expect(f"{shell} reads its script", Said("", "", 0), said)
+            checks.expect(f"{shell} reads its script", Said("", "", 0), said)
 
 
 def check_messages(checks):
@@ -283,7 +268,7 @@ def check_messages(checks):
     and the other commands don't."""
     test = f"{EXAMPLES}/tests/bad.litmus"
     message = rvfence("place", test, "-v").err.partition("\n")[2]
-    checks.counts.check("a message", message.startswith(f"{test}:11:26: fault F3 Syntax line 11\n"), message)
+    checks.check("a message", message.startswith(f"{test}:11:26: fault F3 Syntax line 11\n"), message)
     line = "fault F3 Syntax line 11\n"
     for words in (["place", test], ["order", test, PRICES], ["solve", test, PRICES], ["check", test, PRICES, PRICES],
                   ["audit", test, PRICES], ["test", test]):
@@ -293,8 +278,8 @@ def check_messages(checks):
             shown = ran_on_terminal([program(), *words, *more])
             said = rvfence(*words, *more)
             expected = f"{first}{elsewhere}" if not more else wanted
-            checks.counts.expect(f"{words[0]}{name} on a terminal", wanted.replace("\n", "\r\n"), shown.err)
-            checks.counts.expect(f"{words[0]}{name} elsewhere", (shown.out, expected, shown.status), tuple(said))
+            checks.expect(f"{words[0]}{name} on a terminal", wanted.replace("\n", "\r\n"), shown.err)
+            checks.expect(f"{words[0]}{name} elsewhere", (shown.out, expected, shown.status), tuple(said))
 
 
 def check_progress(checks):
@@ -321,9 +306,9 @@ def check_progress(checks):
         fault = elsewhere.err.replace("\n", "\r\n")
         message = rf"{re.escape(test)}: {re.escape(fault)}  [^\r]+\r\n" if fault else ""
         wanted = rf"((\r{line}\x1b\[K){lines}\r\x1b\[K){times}{re.escape(fault)}{message}"
-        checks.counts.check(name, re.fullmatch(wanted, shown.err), repr(shown.err[-200:]))
-        checks.counts.check(f"{name}, elsewhere", fault in ("", "fault F16 NodeLimit\r\n"), fault)
-        checks.counts.expect(f"{name}, the answer", (elsewhere.out, elsewhere.status), (shown.out, shown.status))
+        checks.check(name, re.fullmatch(wanted, shown.err), repr(shown.err[-200:]))
+        checks.check(f"{name}, elsewhere", fault in ("", "fault F16 NodeLimit\r\n"), fault)
+        checks.expect(f"{name}, the answer", (elsewhere.out, elsewhere.status), (shown.out, shown.status))
 
     side_by_side(check, cases)
 
@@ -334,25 +319,19 @@ def check_help(checks):
     program_help = checks.shell("rvfence --help").out
     commands = re.findall(r"(?m)^  ([a-z]+) ", program_help.partition("Commands:")[2].partition("\n\n")[0])
     commands = sorted(set(commands) - {"help"})
-    checks.counts.expect("the stored help", program_help, text_of(f"{folder}/rvfence.txt"))
-    checks.counts.expect("the stored version", checks.shell("rvfence --version").out, text_of(f"{folder}/version.txt"))
-    checks.counts.expect("the commands whose help is stored", sorted(["rvfence", "version", *commands]),
+    checks.expect("the stored help", program_help, text_of(f"{folder}/rvfence.txt"))
+    checks.expect("the stored version", checks.shell("rvfence --version").out, text_of(f"{folder}/version.txt"))
+    checks.expect("the commands whose help is stored", sorted(["rvfence", "version", *commands]),
                          sorted(name.removesuffix(".txt") for name in os.listdir(folder)))
     for command in commands:
         found = text_of(f"{folder}/{command}.txt")
-        checks.counts.expect(f"the stored help of {command}", checks.shell(f"rvfence {command} --help").out, found)
+        checks.expect(f"the stored help of {command}", checks.shell(f"rvfence {command} --help").out, found)
 
 
-def main():
+def check(run):
     # the launcher builds the program, so that no progress comes between later checks
     ran([f"{TOP}/rvfence", "place", f"{EXAMPLES}/MP.litmus"], seconds=None)
-    with tempfile.TemporaryDirectory() as folder:
-        checks = Checks(folder)
-        for part in (check_transcripts, check_examples, check_idioms, check_documents, check_paths, check_answers,
-                     check_workers, check_objects, check_completions, check_messages, check_progress, check_help):
-            part(checks)
-        return checks.counts.end()
-
-
-if __name__ == "__main__":
-    sys.exit(main())
+    checks = Checks(run)
+    for part in (check_transcripts, check_examples, check_idioms, check_documents, check_paths, check_answers,
+                 check_workers, check_objects, check_completions, check_messages, check_progress, check_help):
+        part(checks)

@@ -1,28 +1,22 @@
-#!/usr/bin/env python3
 """Checks scripts/check_certificate.py and the command `check`: valid certificates, and mangled ones for each reason of
 docs/CERTIFICATE.md, section 5. Of each the two must print the same lines and end with the same status.
 
 The valid ones are in examples/certificates/, and `solve --cert` writes one more. What is expected of the mangled ones
 was worked out by hand; scripts/transcripts/certificates.table has most of them. The valid ones and files that can't
-be read go through the command; the others are checked in this process, which takes less time. The last line is `N
-passed, M failed`."""
+be read go through the command; the others are checked in this process, which takes less time."""
 import contextlib
 import io
 import json
 import os
 import sys
-import tempfile
 
-sys.dont_write_bytecode = True
-import check_certificate                                        # of this folder
-from counting import Counts
+import check_certificate
 from running import EXAMPLES, PRICES, TOP, Said, decoded, ran, read, rvfence, written
 
 FAULT = "fault F18 BadCertificate"
 TABLE = f"{TOP}/scripts/transcripts/certificates.table"
 FILES = f"{TOP}/scripts/transcripts/files"
 TIES = f"{EXAMPLES}/certificates/ties.json"                     # w,w and w,rw have one price
-counts = Counts()
 
 
 def here(name):
@@ -58,21 +52,26 @@ def run_here(*arguments):
     return Said(out.getvalue(), err.getvalue(), status)
 
 
-def judge(what, test, certificate, wanted, prices=PRICES, fault=None):
-    """Is the verdict on this certificate, a value or bytes, as wanted? `yes` stands for all answers. `check` must
-    print the same, but for the fault, where one is given: it looks for faults in the test too."""
-    data = certificate if isinstance(certificate, bytes) else json.dumps(certificate).encode()
-    with tempfile.NamedTemporaryFile(suffix=".json") as file:
-        written(file.name, data)
-        said = run_here(test, prices, file.name)
+class Judge:
+    """Judges certificates, and counts."""
+
+    def __init__(self, run):
+        self.expect, self.check, self.path = run.expect, run.check, run.path("certificate.json")
+
+    def judge(self, what, test, certificate, wanted, prices=PRICES, fault=None):
+        """Is the verdict on this certificate, a value or bytes, as wanted? `yes` stands for all answers. `check` must
+        print the same, but for the fault, where one is given: it looks for faults in the test too."""
+        data = certificate if isinstance(certificate, bytes) else json.dumps(certificate).encode()
+        files = [test, prices, written(self.path, data)]
+        said = run_here(*files)
         by_check = Said("", f"{fault}\n", 2) if fault else said
-        counts.expect(f"{what}, by check", by_check, rvfence("check", test, prices, file.name))
-    if wanted == FAULT:
-        counts.expect(what, Said("", f"{FAULT}\n", 2), said)
-    elif wanted == "yes":
-        counts.expect(what, ("yes", "", 0), (said.out.split("\n")[0], *said[1:]))
-    else:
-        counts.expect(what, Said(f"{wanted}\n", "", 1), said)
+        self.expect(f"{what}, by check", by_check, rvfence("check", *files))
+        if wanted == FAULT:
+            self.expect(what, Said("", f"{FAULT}\n", 2), said)
+        elif wanted == "yes":
+            self.expect(what, ("yes", "", 0), (said.out.split("\n")[0], *said[1:]))
+        else:
+            self.expect(what, Said(f"{wanted}\n", "", 1), said)
 
 
 def links(text):
@@ -96,7 +95,7 @@ def changed(certificate, changes):
     return json.dumps(certificate).replace(old, new).encode()
 
 
-def check_table():
+def check_table(judge):
     """The certificates of the table, and every beginning of one."""
     for line in decoded(read(TABLE)).splitlines():
         if line and not line.startswith("# "):
@@ -104,15 +103,15 @@ def check_table():
             wanted, _, fault = wanted.partition("; ")
             test, _, prices = test.partition("@")
             wanted = FAULT if wanted == "F18" else wanted
-            judge(what, here(f"{test}.litmus"), changed(stored(name), json.loads(changes)), wanted,
+            judge.judge(what, here(f"{test}.litmus"), changed(stored(name), json.loads(changes)), wanted,
                   here(prices or "prices.json"), fault)
     whole = json.dumps(stored("CoRR"), separators=(",", ":")).encode()
     for count in range(len(whole) + 1):
         wanted = FAULT if count < len(whole) else "yes"
-        judge(f"coherent reads: the first {count} bytes", here("CoRR.litmus"), whole[:count], wanted)
+        judge.judge(f"coherent reads: the first {count} bytes", here("CoRR.litmus"), whole[:count], wanted)
 
 
-def check_valid():
+def check_valid(judge):
     """What is printed of the stored certificates."""
     witness = '{"choices":[[],[1,1]],"order":["P0:1","P0:3","P1:0","P1:1"]}'
     for test, name, prices, *lines in [
@@ -124,30 +123,29 @@ def check_valid():
             ("SBF", "SBF", PRICES, "fenced 18", "fence P0 3 w,r", "fence P1 3 w,r")]:
         files = [here(f"{test}.litmus"), prices, certificate_file(name)]
         wanted = Said("\n".join(["yes", *lines, ""]), "", 0)
-        counts.expect(name, wanted, run(*files))
-        counts.expect(f"{name}, by check", wanted, rvfence("check", *files))
+        judge.expect(name, wanted, run(*files))
+        judge.expect(f"{name}, by check", wanted, rvfence("check", *files))
 
 
-def check_written():
+def check_written(judge):
     """What `solve --cert` writes begins each cycle at its least operation, and is accepted however they are turned."""
     test = here("ROUND.litmus")
-    with tempfile.NamedTemporaryFile(suffix=".json") as file:
-        said = rvfence("solve", test, PRICES, "--cert", file.name)
-        counts.expect("ROUND is answered", Said("fenced 0\n", "", 0), said)
-        certificate = json.loads(read(file.name))
+    said = rvfence("solve", test, PRICES, "--cert", judge.path)
+    judge.expect("ROUND is answered", Said("fenced 0\n", "", 0), said)
+    certificate = json.loads(read(judge.path))
     items = certificate["cycles"]
     numbers = [number for number, item in enumerate(items) if isinstance(item[0], list)]
-    counts.check("ROUND has cycles", numbers, items)
+    judge.check("ROUND has cycles", numbers, items)
     for number in numbers:
         cycle = items[number]
         for turns in range(len(cycle)):
             turned = cycle[turns:] + cycle[:turns]
             name = f"cycle {number} of ROUND, turned by {turns}"
-            counts.expect(name, turns == 0, check_certificate.begins_at_least(turned))
-            judge(name, test, {**certificate, "cycles": [*items[:number], turned, *items[number + 1:]]}, "yes")
+            judge.expect(name, turns == 0, check_certificate.begins_at_least(turned))
+            judge.judge(name, test, {**certificate, "cycles": [*items[:number], turned, *items[number + 1:]]}, "yes")
 
 
-def check_files():
+def check_files(judge):
     """Which bytes are a certificate."""
     sb, test = stored("SB"), here("SB.litmus")
     text = json.dumps(sb)
@@ -168,19 +166,14 @@ def check_files():
             ("a key without a value", {key: value for key, value in sb.items() if key != "witnesses"}, FAULT),
             ("a key more", {**sb, "note": ""}, FAULT), ("64 links", {**sb, "cycles": [sb["cycles"][0] * 16]}, "yes"),
             ("65 links", {**sb, "cycles": [links("P0:1 p4") * 65]}, FAULT)]:
-        judge(f"file: {what}", test, data, wanted)
+        judge.judge(f"file: {what}", test, data, wanted)
     for what, files in [("no such certificate", (test, PRICES, certificate_file("nothing"))),
                         ("no test", (PRICES, PRICES, certificate_file("SB"))),
                         ("no prices", (test, test, certificate_file("SB")))]:
         out, err, status = run(*files)
-        counts.expect(what, ("", 1, 2), (out, err.count("\n"), status))
+        judge.expect(what, ("", 1, 2), (out, err.count("\n"), status))
 
 
-def main():
+def check(run):
     for part in (check_valid, check_table, check_written, check_files):
-        part()
-    return counts.end()
-
-
-if __name__ == "__main__":
-    sys.exit(main())
+        part(Judge(run))

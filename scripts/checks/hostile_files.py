@@ -3,6 +3,7 @@
 docs/FORMAT.md. None is taken from the program: they are derived where the file is made, as the comments say, and for
 the files that are changed or composed by a second reader of the formats. Those that a line describes are in
 scripts/transcripts/hostile.table."""
+import functools
 import itertools
 import json
 import os
@@ -10,6 +11,7 @@ import random
 import re
 
 import check_certificate
+import verdicts
 from reference import ANSWERED, READ, fault_of, is_witness
 from running import EXAMPLES, TOP, decoded, read
 
@@ -74,14 +76,26 @@ def repeated(found):
     return text * count
 
 
+def lines_of(group):
+    """The lines of a group of the table."""
+    section = decoded(read(TABLE)).partition(f"\n## {group}\n")[2].partition("\n\n")[0]
+    return [line for line in section.rstrip("\n").split("\n") if not line.startswith("# ")]
+
+
+def expanded(text):
+    return re.sub("«(.*?)×([0-9]+)»", repeated, text.replace("⏎", "\n"), flags=re.S)
+
+
 def of_table(group):
     """The files of a group of the table."""
-    section = decoded(read(TABLE)).partition(f"\n## {group}\n")[2].partition("\n\n")[0]
-    for line in section.rstrip("\n").split("\n"):
-        if not line.startswith("# "):
-            wanted, part, name, text = line.split(" | ", 3)
-            text = re.sub("«(.*?)×([0-9]+)»", repeated, text.replace("⏎", "\n"), flags=re.S)
-            yield name, PARTS[part](text), READ if wanted == "READ" else wanted
+    for line in lines_of(group):
+        wanted, part, name, text = line.split(" | ", 3)
+        yield name, PARTS[part](expanded(text)), READ if wanted == "READ" else wanted
+
+
+def words(group):
+    """The words of a group of the table."""
+    return [expanded(word) for line in lines_of(group) for word in line.split(" ¦ ")]
 
 
 def beginnings_of(what, whole, answer):
@@ -134,25 +148,13 @@ def bytes_changed():
     yield from bytes_replaced("MP", whole, TELLING, lambda text: fault_of(text) if is_ascii(text) else UTF8)
 
 
-# What may come in place of a token: marks, line ends, comments, keywords, numbers at the borders of their ranges,
-# names, and instructions whole and in parts.
-WORDS = (
-    "{ } ; | , : = ( ) [ ] ~ - /\\ \\/ # * / \n (* *) (*) (*a\n*) not true false int uint32_t exists forall locations"
-    " 0 1 00 0x0 0x 0x7ff 31 32 2047 2048 1048575 1048576 2147483648 2147483649 4294967295 4294967296 -1 -0 -2048"
-    " -2049 0: 1: 2: 8: [x] x y z P0 P1 P00"
-    " P2 x0 x5 x6 x31 x32 t0 s0 fp zero ra a7 s12 L: LC00: L LC00 _a a.b 0:x6 1:s0"
-    " x=1 x=0 x=1; [y]=2; 0:x9=z; int 1:x9=1; 0:x6=1;"
-    " nop fence fence.tso rw,rw wr,r w,w r,r iorw lw sw lr.w sc.w lr.w.rl lr.w.aqrl sc.w.aq sc.w.aq.rl amoadd.w"
-    " amomaxu.w.rl beq bnez j jal li lui add addi slli srai mv lw.aq 0(x6) (x6) -0(x6) 4(x6) x5,0(x6) x5,(x6)"
-    " x5,x5,(x6) x5,x6 x0,L addi\0x5,x5,-2048 slli\0x5,x5,31 li\0x5,-2147483648 beq\0x5,x0,LC00"
-    " j\0LC00 ;\nnop;\n ;\nnop|nop;\n"
-).split(" ")
+WORDS, VALUES = words("words"), words("values")
 
 
 def one_changed(chance, parts):
     """The parts with one left out, put in, doubled, replaced, or swapped with another."""
     at = chance.randrange(len(parts))
-    word = chance.choice(WORDS).replace("\0", " ")
+    word = chance.choice(WORDS)
     way = chance.randrange(5)
     if way == 0:
         return parts[:at] + parts[at + 1 :]
@@ -181,46 +183,20 @@ def tokens_changed():
         yield f"change {number} of {name} to {text!r}", text, fault_of(text)
 
 
-# Parts of tests: those that are in order wherever they stand, and those that are a fault somewhere.
-ENTRIES = [
-    "x=1", "y=-1", "z=0x10", "[w]=y", "int v=u", "uint32_t int=2", "0:x6=x", "0:t2=y", "0x0:s0=4096", "00:x31=-0",
-]
-ODD_ENTRIES = [
-    "0:x0=1", "0:zero=x", "1:x6=x", "2:x6=y", "99:x6=x", "0:x32=1", "0:X5=1", "0:x=y", "x=4294967296", "x=2", "[x]=3",
-    "0:x6=0", "0:fp=1", "0:x8=1", "y=-2147483649", "a=b", "c=d", "e=f", "0:x9=99999999999999999999",
-]
-CELLS = [
-    "", "nop", "lw x5,0(x6)", "sw a0,-4(s1)", "A: lr.w x5,(x6)", "sc.w x5,x6,0(x7)", "amoadd.w.aqrl x5,x5,-0(x5)",
-    "B: C: fence", "fence rw,w", "fence.tso", "li x5,-2147483648", "lui x0,1048575", "addi t0,t0,2047", "mv x5,x6",
-    "slli x5,x5,31", "j Z", "beq x5,x0,Z", "bnez x5,Z", "jal zero,Z", "D:", "lr.w.aq.rl x5,(x6)",
-    "sc.w.rl x5,x6,(x7)",
-]
-ODD_CELLS = [
-    "lw.aq x5,0(x6)", "LW x5,0(x6)", "fence.i", "5: nop", "exist", "lr.w.rl x5,(x6)", "sc.w.aq x5,x6,(x7)",
-    "lr.w.rl x5,4(x6)", "sc.w.aq x5,x6", "addi x5,x5,2048", "addi x5,x5,-2049", "slli x5,x5,32", "lui x5,1048576",
-    "lui x5,-1", "li x5,4294967296", "lw x5,(x6)", "lr.w x5,4(x6)", "fence wr,w", "fence rr,w", "fence r", "nop nop",
-    "jal x1,Z", "j Q", "E: j E", "beq x5,x0,A", "A: nop", "Z: nop", "B:\nB: nop", "(nop)", "A: : nop", "nop # x", "-",
-]
-ATOMS = [
-    "x=1", "[y]=x", "0:x5=0", "0:a0=-1", "0x0:x0=0", "true", "false", "not=1", "true=x", "exists=0", "z=4294967295",
-]
-ODD_ATOMS = [
-    "1:x5=0", "7:x5=0", "0:x32=1", "0:y=1", "x=4294967296", "0:x5=-2147483649", "p=q", "r=s", "x", "0:5", "[0]=1",
-    "1=1",
-]
+ENTRIES, CELLS, ATOMS = [(words(name), words(f"odd {name}")) for name in ("entries", "cells", "atoms")]
 CONNECTIVES = ["/\\", "\\/"]
 
 
-def picked(chance, plain, odd, oddness):
+def picked(chance, parts, oddness):
     """One of the plain parts, or with this chance one of the odd ones."""
-    return chance.choice(odd if chance.random() < oddness else plain)
+    return chance.choice(parts[chance.random() < oddness])
 
 
 def condition_of(chance, oddness, height):
     """A condition that is a tree of at most this height, as text."""
     way = chance.randrange(6) if height else 0
     if way < 2:
-        return picked(chance, ATOMS, ODD_ATOMS, oddness)
+        return picked(chance, ATOMS, oddness)
     first = condition_of(chance, oddness, height - 1)
     if way < 4:
         second = condition_of(chance, oddness, height - 1)
@@ -233,13 +209,13 @@ def composed(chance):
     oddness = chance.choice((0, 0.03, 0.1))
     harts = chance.choice((1, 1, 2, 2, 3, 8, 9))
     many = chance.random() < 0.1
-    entries = [picked(chance, ENTRIES, ODD_ENTRIES, oddness) for _ in range(chance.randrange(4))]
+    entries = [picked(chance, ENTRIES, oddness) for _ in range(chance.randrange(4))]
     entries = list(dict.fromkeys(entries))
     lines = ["RISCV T", "{", *[f"{entry};" for entry in entries], "}"]
     lines.append(" | ".join(f"P{hart}" for hart in range(harts)) + " ;")
-    cells = CELLS[: 4 if many else chance.choice((4, 12, 99))]
+    cells = CELLS[0][:4 if many else chance.choice((4, 12, 99))], CELLS[1]
     for _ in range(chance.randrange(20, 48) if many else chance.randrange(6)):
-        lines.append(" | ".join(picked(chance, cells, ODD_CELLS, oddness / harts) for _ in range(harts)) + " ;")
+        lines.append(" | ".join(picked(chance, cells, oddness / harts) for _ in range(harts)) + " ;")
     lines.append("| ".join(["Z: "] * harts) + ";")
     lines += chance.choice(([], [], ["locations [x; 0:x5 ~(]"]))
     joined = chance.choice(([],) * 10 + (["x=0"] * chance.randrange(63, 67), [f"n{name}=0" for name in range(8)]))
@@ -395,14 +371,6 @@ def prices_changed():
     yield from pairs_of_surrogates("prices", b"tso", whole, READ, PRICES)
 
 
-# What may come in place of a value of JSON, as its text.
-VALUES = [
-    "null", "true", "false", "0", "-0", "1", "-1", "2", "1000", "1001", "1000000", "1000001", "1.0", "1e2", "1e308",
-    "1e309", "-1e309", "2147483648", "4294967295", "4294967296", "18446744073709551615", "18446744073709551616", "9"
-    * 400, '""', '"c"', '"w"', '"none"', '"P0:2"', '"P1:1"', '"P0:2=w,r"', '"rw,rw"', '"p4"', '"\\u0000"',
-    '"\\ud800"', "[]", "[0]", "[[]]", '["c"]', '["w",0]', "{}", '{"choices":[],"order":[]}',
-]
-
 # Escapes of surrogates, which stand for a sign only as a pair: the first half and then the second.
 PAIRS = [("a pair", b"\\ud83d\\ude00"), ("a first half", b"\\ud83d"), ("a second half", b"\\ude00"),
          ("two first halves", b"\\ud83d\\ud83d"), ("a first half before another sign", b"\\ud83dx"),
@@ -547,22 +515,15 @@ def witnesses():
         yield f"{text!r} in a name", whole.replace(b"P0:2", b"P0:2" + text), WITNESS
 
 
-class CertificateJudge:
+def checked(text):
     """What `check` answers to a certificate of SB, by scripts/check_certificate.py."""
+    said = judge().verdict(text)
+    return (said.out or said.err).rstrip("\n")
 
-    def __init__(self):
-        self.test = check_certificate.read(f"{EXAMPLES}/SB.litmus", check_certificate.test_of)
-        self.prices = check_certificate.read(f"{EXAMPLES}/prices.json", check_certificate.prices_of)
 
-    def verdict(self, text):
-        try:
-            checker = check_certificate.Checker(self.test, self.prices, check_certificate.certificate_of(text))
-            checker.check()
-        except check_certificate.NotACertificate:
-            return CERTIFICATE
-        except check_certificate.Refused as reason:
-            return f"no: {reason}"
-        return "\n".join(["yes", *checker.lines()])
+@functools.cache
+def judge():
+    return verdicts.Judge(f"{EXAMPLES}/SB.litmus", f"{EXAMPLES}/prices.json")
 
 
 def large_certificates(whole):
@@ -590,22 +551,21 @@ def large_certificates(whole):
 def certificates():
     """Every beginning of a certificate for SB, and the certificate with each byte replaced by some telling ones; then
     the large ones."""
-    judge = CertificateJudge()
     good = json.loads(read(f"{EXAMPLES}/certificates/SB.json"))
     whole = json.dumps(good, separators=(",", ":")).encode()
-    yield from beginnings_of("a certificate", whole, judge.verdict)
-    yield from bytes_replaced("a certificate", whole, b'"[]{,: 0129w\xff', judge.verdict)
+    yield from beginnings_of("a certificate", whole, checked)
+    yield from bytes_replaced("a certificate", whole, b'"[]{,: 0129w\xff', checked)
     for name, text in values_changed(good):
-        yield f"a certificate with {name}", text, judge.verdict(text)
+        yield f"a certificate with {name}", text, checked(text)
     for name, text, _ in noise():
         yield f"{name} for a certificate", text, CERTIFICATE
-    yield from pairs_of_surrogates("a certificate", b"tree", whole, judge.verdict(whole), CERTIFICATE)
+    yield from pairs_of_surrogates("a certificate", b"tree", whole, checked(whole), CERTIFICATE)
     for name, text in PAIRS:
         wanted = "no: answer" if name == "a pair" else CERTIFICATE
         yield f"a certificate with {name} of surrogates for a fence", whole.replace(b"P0:2=w,r", text), wanted
     for name, certificate in large_certificates(good):
         text = json.dumps(certificate, separators=(",", ":")).encode()
-        yield f"a certificate with {name}", text, judge.verdict(text)
+        yield f"a certificate with {name}", text, checked(text)
     for sign in (b"[", b'{"', b'{"tree":', b'"', b" ", b"0", b"[[", b"\xff"):
         text = sign * (1_048_576 // len(sign))
         yield f"a mebibyte of {sign!r} for a certificate", text, CERTIFICATE
@@ -642,16 +602,15 @@ def large_refutations(whole):
 
 def refutations():
     """The same of a certificate for SB of version 4."""
-    judge = CertificateJudge()
     good = json.loads(read(f"{EXAMPLES}/certificates/SB-v4.json"))
     whole = json.dumps(good, separators=(",", ":")).encode()
-    yield from beginnings_of("a refutation", whole, judge.verdict)
-    yield from bytes_replaced("a refutation", whole, b'"[],: 01249acdflos\xff', judge.verdict)
+    yield from beginnings_of("a refutation", whole, checked)
+    yield from bytes_replaced("a refutation", whole, b'"[],: 01249acdflos\xff', checked)
     for name, text in values_changed(good):
-        yield f"a refutation with {name}", text, judge.verdict(text)
+        yield f"a refutation with {name}", text, checked(text)
     for name, certificate in large_refutations(good):
         text = json.dumps(certificate, separators=(",", ":")).encode()
-        yield f"a refutation with {name}", text, judge.verdict(text)
+        yield f"a refutation with {name}", text, checked(text)
 
 
 HUGE = 100_000_000
@@ -690,24 +649,6 @@ def huge_certificates():
         yield f"{sign!r} alone", sign * (HUGE // len(sign)), CERTIFICATE
 
 
-# All the kinds of hostile tests.
-TESTS = [
-    beginnings,
-    bytes_changed,
-    tokens_changed,
-    tests_composed,
-    floods,
-    depths,
-    numbers_of_parts,
-    long_words,
-    sizes,
-]
-
-# Those that are searched too.
-SEARCHED = [
-    tokens_changed,
-    tests_composed,
-    depths,
-    numbers_of_parts,
-    long_words,
-]
+# All the kinds of hostile tests, and those that are searched too.
+TESTS = [beginnings, bytes_changed, tokens_changed, tests_composed, floods, depths, numbers_of_parts, long_words, sizes]
+SEARCHED = [tokens_changed, tests_composed, depths, numbers_of_parts, long_words]

@@ -1,27 +1,20 @@
-#!/usr/bin/env python3
 """Runs the built program at its limits: each is met, where there must be an answer, and passed by one, where there
-must be a fault.
+must be a fault. The tests are those of scripts/checks/limit_files.py.
 
-    scripts/check-limits [--heavy]
-
-The tests are those of scripts/limit_files.py. With `--heavy` those come too that take minutes or gigabytes, and after
-each large run stand its milliseconds of processor time and its mebibytes at the peak. Prints a line for each check
-that fails, and at last `N passed, M failed`; the exit status is 0 only where all passed."""
+With `--heavy` those come too that take minutes or gigabytes, and after each large run stand its milliseconds of
+processor time and its mebibytes at the peak."""
 import json
 import os
 import re
-import subprocess
-import sys
-import tempfile
 
-sys.dont_write_bytecode = True
-import limit_files as files                                     # of this folder
-from counting import Counts, shown, usage
-from running import EXAMPLES, PRICES, TOP, Said, decoded, program, read, rvfence, written
+from checks import limit_files as files
+from counting import shown
+from running import EXAMPLES, PRICES, Said, compiled, decoded, program, ran, read, rvfence, written
 
 MEBIBYTE = 1_048_576
 GIBIBYTE = 1_073_741_824
 LONGEST = 600                       # seconds of processor time
+F15 = "fault F15 TooManyCandidates"
 # The status of an answer, by its first word; another answer is the printed test.
 STATUSES = {"fenced": 0, "yes": 0, "none": 1, "no:": 1}
 
@@ -29,14 +22,10 @@ STATUSES = {"fenced": 0, "yes": 0, "none": 1, "no:": 1}
 class Checks:
     """Runs the program in a folder, and counts what it does as it should."""
 
-    def __init__(self, folder, is_heavy):
-        self.folder = folder
-        self.is_heavy = is_heavy
-        self.counts = Counts()
-        self.verdict = self.counts.expect
-        self.measure = f"{folder}/measure"
-        if is_heavy:
-            subprocess.run(["cc", "-O2", "-o", self.measure, f"{TOP}/scripts/measure.c"], check=True)
+    def __init__(self, run):
+        self.folder, self.is_heavy = run.folder, run.options.heavy
+        self.check, self.verdict = run.check, run.expect
+        self.measure = compiled("measure.c", run.folder) if self.is_heavy else None
 
     def file(self, name, data):
         """The path of a new file with these bytes or this text."""
@@ -54,8 +43,8 @@ class Checks:
         self.measured(name, words)
 
     def too_long(self, name, path, limit, *words, stdin=None):
-        """The same where this file, one of the words, has more bytes than are read: a second line says so, but not of `solve`,
-        which is run with `-q`."""
+        """The same where this file, one of the words, has more bytes than are read: a second line says so, but not of
+        `solve`, which is run with `-q`."""
         second = "" if words[0] == "solve" else f"\n{path}: it has more than {limit} bytes"
         self.fault(name, f"fault F20 ReadFault{second}", *words, stdin=stdin)
 
@@ -68,12 +57,12 @@ class Checks:
     def refused(self, name, *words):
         """A bad command line is explained on standard error alone."""
         said = self.run(words)
-        self.counts.check(name, not said.out and said.err and said.status == 2, shown(said))
+        self.check(name, not said.out and said.err and said.status == 2, shown(said))
 
     def none(self, name, *words):
         """The run prints none and an execution."""
         said = self.run(["solve", *words])
-        self.counts.check(name, re.fullmatch(r"none\n\{[^\n]*\}\n", said.out) and said[1:] == ("", 1), shown(said))
+        self.check(name, re.fullmatch(r"none\n\{[^\n]*\}\n", said.out) and said[1:] == ("", 1), shown(said))
         self.measured(name, ["solve", *words])
 
     def certified(self, name, lines, test, prices):
@@ -89,8 +78,8 @@ class Checks:
         """Where it is wanted, time and memory of one run more of what may be large."""
         if not self.is_heavy:
             return
-        done = subprocess.run([self.measure, "1", "/dev/null", program(), *words], capture_output=True, text=True)
-        nanoseconds, peak, _ = map(int, done.stdout.split())
+        measured = ran([self.measure, "1", "/dev/null", program(), *words], seconds=LONGEST)
+        nanoseconds, peak, _ = map(int, measured.out.split())
         if nanoseconds > 20_000_000 or peak > 8_000_000:
             print(f"{name}: {nanoseconds / 1e6:.0f} ms, {peak / MEBIBYTE:.0f} MiB", flush=True)
 
@@ -186,32 +175,25 @@ def check_runs(checks):
     path = checks.file("lists.litmus", test.text())
     checks.certified("4,000,000 lists of runs and candidates", answer, path, PRICES)
     checks.verdict("the plans of 4,000,001 lists", 4_000_001, files.runs_of(files.FEW) * files.runs_of(files.MANY))
-    too_many_to_list(checks, "4,000,001 lists of runs", files.one_list_more())
-    too_many_to_list(checks, "4,000,001 candidates", files.one_candidate_more(), is_slow=True)
+    too_many(checks, "4,000,001 lists of runs", F15, files.one_list_more(), is_listed=False)
+    too_many(checks, "4,000,001 candidates", F15, files.one_candidate_more(), is_listed=False, is_slow=True)
 
     path = checks.file("stores.litmus", files.stores(10).text())
     checks.certified("10 stores to a location, 3,628,800 orders", ["fenced 0"], path, PRICES)
-    too_many(checks, "11 stores to a location, 39,916,800 orders", "fault F15 TooManyCandidates", files.stores(11))
+    too_many(checks, "11 stores to a location, 39,916,800 orders", F15, files.stores(11))
 
 
-def too_many(checks, name, line, test, is_slow=False):
-    """The fault comes from `solve`, and from `check` with a certificate too, which counts in the same way: where that
-    is slow it is left to heavy runs. `place` takes the test."""
+def too_many(checks, name, line, test, is_listed=True, is_slow=False):
+    """`check` has this fault with a certificate of version 2, for which it counts what it would list: where that is
+    slow it is left to heavy runs. So has `solve` where it has to list, too; else it answers: whatever is placed, each
+    execution shows the outcome. `place` takes the test."""
     path = checks.file("many.litmus", test.text())
-    checks.fault(f"solve: {name}", line, "solve", path, PRICES)
+    if is_listed:
+        checks.fault(f"solve: {name}", line, "solve", path, PRICES)
+    else:
+        checks.none(f"solve: {name}", path, PRICES)
     if checks.is_heavy or not is_slow:
         checks.fault(f"check: {name}", line, "check", path, PRICES, f"{EXAMPLES}/certificates/MP11.json")
-    checks.verdict(f"place: {name}", 0, checks.run(["place", path])[2])
-
-
-def too_many_to_list(checks, name, test, is_slow=False):
-    """`solve` lists no candidates, and answers: whatever is placed, each execution shows this outcome. `check` has to
-    list them for a certificate of version 2, and counts them first: where that is slow it is left to heavy runs."""
-    path = checks.file("many.litmus", test.text())
-    checks.none(f"solve: {name}", path, PRICES)
-    if checks.is_heavy or not is_slow:
-        checks.fault(f"check: {name}", "fault F15 TooManyCandidates", "check", path, PRICES,
-                     f"{EXAMPLES}/certificates/MP11.json")
     checks.verdict(f"place: {name}", 0, checks.run(["place", path])[2])
 
 
@@ -223,7 +205,7 @@ def check_hunts(checks):
     checks.answer("solve: a long hunt", ["fenced 0"], "solve", path, PRICES, "--cert", certificate)
     checks.verdict("inferences of a long hunt", 163_799, len(json.loads(read(certificate))["cycles"]))
     checks.answer("check: a long hunt", ["yes", "fenced 0"], "check", path, PRICES, certificate)
-    checks.fault("solve: a hunt that gives up", "fault F15 TooManyCandidates",
+    checks.fault("solve: a hunt that gives up", F15,
                  "solve", checks.file("more.litmus", files.adders(8).text()), PRICES)
 
 
@@ -301,15 +283,8 @@ def check_heavy(checks):
     checks.too_long("a certificate of a gibibyte and a byte", long, GIBIBYTE, "check", path, PRICES, long)
 
 
-def main(words):
-    if words not in ([], ["--heavy"]):
-        usage("check-limits [--heavy]")
-    with tempfile.TemporaryDirectory() as folder:
-        checks = Checks(folder, bool(words))
-        for part in (check_fullest, check_slots, check_runs, check_hunts, check_nodes, check_bytes, *[check_heavy] * bool(words)):
-            part(checks)
-        return checks.counts.end()
-
-
-if __name__ == "__main__":
-    sys.exit(main(sys.argv[1:]))
+def check(run):
+    checks = Checks(run)
+    for part in (check_fullest, check_slots, check_runs, check_hunts, check_nodes, check_bytes,
+                 *[check_heavy] * checks.is_heavy):
+        part(checks)

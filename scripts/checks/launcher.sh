@@ -1,7 +1,7 @@
 #!/usr/bin/env bash
 # Runs the launcher in a small repository of its own, with a stand-in for `rt` that proves nothing and notes what it is
 # asked for. Prints a line for each check that fails, and at last `N passed, M failed`.
-cd -- "$(dirname -- "${BASH_SOURCE[0]}")/.." || exit 2
+cd -- "$(dirname -- "${BASH_SOURCE[0]}")/../.." || exit 2
 passed=0
 failed=0
 dir=$(mktemp -d) || exit 2
@@ -173,10 +173,13 @@ forget
 "$repo/rvfence" quiet >&- <&- 2>/dev/null
 check "closed standard output and input" "7 $all" "$? $(begun)"
 
+# How many processes of the stand-in there are.
+at_work() { grep -lze "$dir/bin/[r]t" /proc/[0-9]*/cmdline 2>/dev/null | wc -l; }
+
 # stopped SIGNAL CRATE..: the status of a run that gets the signal while these crates, which are held, are built, how many of
 # its processes are left, and how many of its rooms.
 stopped() {
-    local status signal=$1
+    local it status signal=$1
     shift
     set -m
     HOLD=$* env --default-signal "$repo/rvfence" place x >"$dir/out" 2>"$dir/err" &
@@ -190,7 +193,12 @@ stopped() {
     kill "-$signal" $!
     wait $!
     status=$?
-    echo "$status $(grep -lze "$dir/bin/[r]t" /proc/[0-9]*/cmdline 2>/dev/null | wc -l) $(find "$repo/crates" -path '*rooms*' | wc -l)"
+    # (what was told to end may take a while, where much else runs)
+    it=0
+    while [[ $signal != KILL ]] && (($(at_work) > 0 && it++ < 600)); do
+        sleep 0.1
+    done
+    echo "$status $(at_work) $(find "$repo/crates" -path '*rooms*' | wc -l)"
 }
 forget
 check "an interrupt" "130 0 0" "$(stopped INT over_left over_right)"

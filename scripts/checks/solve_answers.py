@@ -1,35 +1,25 @@
-#!/usr/bin/env python3
-"""Checks `rvfence solve` on the examples, at each price list.
-
-    scripts/solve-answers                   the program's answers against examples/answers/solve.transcripts
-    scripts/solve-answers --reference       the answers of scripts/solve_reference.py against the same file, and the
-                                            table of docs/ANSWERS.md against it
-    scripts/solve-answers --write           writes the file by scripts/solve_reference.py, and the table
+"""Checks `rvfence solve` on the examples, at each price list: the program's answers against
+examples/answers/solve.transcripts; `--write` writes the file by scripts/solve_reference.py, and the table of
+docs/ANSWERS.md.
 
 scripts/solve_reference.py lists candidates, so it is asked only of tests with at most 100,000 lists of runs, and as
 many candidates. The answers to the others are the program's, where scripts/check_certificate.py says yes to the
-certificate that `solve --cert` writes: so it is with --write and without an option. A certificate shows that the
-fences are enough and that nothing better is. With --reference, where no program is run, these tests are left out.
+certificate that `solve --cert` writes. A certificate shows that the fences are enough and that nothing better is.
+Where no program is run, these tests are left out.
 
 The file has a transcript for each test and price list, and an empty line after each: `$ rvfence solve TEST PRICES`,
 as it runs in examples/, what is printed, and `[status N]`. The second line of an answer `none` is an execution, of
-which there may be many, so it isn't there: `order` must accept it with `rw,rw` in every slot.
-
-The last line is `N passed, M failed`; the exit status is 0 only where all passed.
-"""
-
-import functools
+which there may be many, so it isn't there: `order` must accept it with `rw,rw` in every slot."""
 import os
 import re
 import sys
 import tempfile
 
-sys.dont_write_bytecode = True
-import check_certificate as model                               # of this folder
+import check_certificate as model
 import solve_reference as reference
-from counting import Counts, usage
-from running import (EXAMPLES, PRICE_LISTS, TOP, Said, decoded, ran, read, rvfence, stored_answers,
-                     tests_of_examples, written)
+from running import (EXAMPLES, PRICE_LISTS, TOP, Said, decoded, ran, read, rvfence, stored_answers, tests_of_examples,
+                     written)
+from verdicts import is_accepted, is_listed, shows_outcome
 
 FILE = f'{EXAMPLES}/answers/solve.transcripts'
 GUIDE = f'{TOP}/docs/ANSWERS.md'
@@ -43,27 +33,16 @@ def read_test(path):
     return model.read(f'{EXAMPLES}/{path}', model.test_of)
 
 
-@functools.cache
-def is_listed(test):
-    """Has it so few lists of runs and candidates that scripts/solve_reference.py is asked?"""
-    read = read_test(test)
-    try:
-        reference.count_candidates(read, reference.runs_over(read, reference.sets_of(read)), MOST_LISTED)
-    except reference.Fault as fault:
-        return str(fault) != 'fault F15 TooManyCandidates'
-    return True
-
-
 def by_reference(test, prices):
     """The lines and the status of the answer of scripts/solve_reference.py, or by a certificate."""
-    if not is_listed(test):
+    if not is_listed(test, MOST_LISTED):
         return by_certificate(test, prices)
     return reference.answer(read_test(test), model.read(f'{EXAMPLES}/{prices}', model.prices_of))
 
 
 def by_program(test, prices):
     """Those of the program, with standard error last."""
-    if not is_listed(test):
+    if not is_listed(test, MOST_LISTED):
         return by_certificate(test, prices)
     said = rvfence('solve', '-q', test, prices, cwd=EXAMPLES)    # without the note of a vacuous outcome
     return (said.out + said.err).splitlines(), said.status
@@ -84,21 +63,6 @@ def transcript(lines, status):
     """As it stands in the file, below the command."""
     shown = lines[:1] if lines[:1] == ['none'] else lines
     return '\n'.join([*shown, f'[status {status}]'])
-
-
-def is_accepted(test, text):
-    """Does `order` accept this execution with `rw,rw` in every slot?"""
-    fences = ['P%d:%d=rw,rw' % slot for slot in read_test(test).slots()]
-    with tempfile.NamedTemporaryFile() as file:
-        return rvfence('order', test, written(file.name, text), *fences, cwd=EXAMPLES) == Said('yes\n', '', 0)
-
-
-def is_executed(test, text):
-    """The same, by scripts/check_certificate.py."""
-    read = read_test(test)
-    execution = model.execution_of(read, model.json_of(text.encode()))
-    slots = read.slots()
-    return execution is not None and execution.obeys_axioms(slots, ('rw,rw',) * len(slots)) and execution.has_outcome()
 
 
 def cell(answer):
@@ -134,35 +98,30 @@ def write():
     written(FILE, ''.join(f'$ rvfence solve {test} {prices}\n{it}\n\n' for (test, prices), it in answers.items()))
     before, _, after = table_of_guide()
     written(GUIDE, '\n'.join([*before, *table(answers), *after]))
-    return 0
 
 
-def check(solve, accepts, questions):
-    """Compares answers with the file, and prints those that differ."""
-    counts, answers = Counts(), stored_answers()
+def compare(run, solve, accepts, questions):
+    """Compares answers with the file."""
+    answers = stored_answers()
     for test, prices in questions:
         lines, status = solve(test, prices)
         wanted = answers.get((test, prices), 'no transcript')
         is_right = transcript(lines, status) == wanted
         if lines[:1] == ['none']:
             is_right = is_right and len(lines) == 2 and accepts(test, lines[1])
-        counts.check(f'solve {test} {prices}', is_right, f'{lines}, and {wanted.splitlines()} is wanted')
+        run.check(f'solve {test} {prices}', is_right, f'{lines}, and {wanted.splitlines()} is wanted')
     for test, prices in answers.keys() - set(QUESTIONS):
-        counts.check(f'a transcript of no example: {test} {prices}', False)
-    return counts
+        run.check(f'a transcript of no example: {test} {prices}', False)
 
 
-def main(arguments):
-    if arguments == ['--write']:
-        return write()
-    if arguments not in ([], ['--reference']):
-        usage('solve-answers [--reference | --write]')
-    if not arguments:
-        return check(by_program, is_accepted, QUESTIONS).end()
-    counts = check(by_reference, is_executed, [(test, prices) for test, prices in QUESTIONS if is_listed(test)])
-    counts.expect('the table of docs/ANSWERS.md', table(stored_answers()), table_of_guide()[1])
-    return counts.end()
+def check(run):
+    if run.options.write:
+        write()
+    compare(run, by_program, lambda test, text: is_accepted(f'{EXAMPLES}/{test}', text), QUESTIONS)
 
 
-if __name__ == '__main__':
-    sys.exit(main(sys.argv[1:]))
+def check_reference(run):
+    """The answers of scripts/solve_reference.py against the file, and the table of docs/ANSWERS.md against it."""
+    questions = [(test, prices) for test, prices in QUESTIONS if is_listed(test, MOST_LISTED)]
+    compare(run, by_reference, lambda test, text: shows_outcome(read_test(test), text), questions)
+    run.expect('the table of docs/ANSWERS.md', table(stored_answers()), table_of_guide()[1])

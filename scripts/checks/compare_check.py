@@ -1,66 +1,35 @@
-#!/usr/bin/env python3
 """Compares the command `check` with scripts/check_certificate.py, which shares no code with it.
-
-    scripts/compare-check [COUNT]
 
 For each test of examples/ and each price list, `solve --cert` must write a certificate to which both say yes, with
 the answer that `solve` printed, and each of its cycles must begin at its least operation. At prices.json both must
-say yes to the same with the items of examples/refutations.json. Then COUNT (300) certificates are made of these, and
-of those of versions 1 and 2 in examples/certificates/, each with one change or two by a number: a link, a cycle, an
-item of a refutation or of the tree, a witness, the cost, a fence. Of each the two must print the same and end with the
-same status. The last line is `N passed, M failed`; the exit status is 0 only where all passed. """
-
-import collections
+say yes to the same with the items of examples/refutations.json. Then COUNT certificates are made of these, and of
+those of versions 1 and 2 in examples/certificates/, each with one change or two by a number: a link, a cycle, an item
+of a refutation or of the tree, a witness, the cost, a fence. Of each the two must print the same and end with the same
+status."""
 import copy
 import json
 import os
 import random
-import sys
-import tempfile
 
-sys.dont_write_bytecode = True
-import check_certificate as model                               # of this folder
-from counting import Counts
+import check_certificate as model
 from running import EXAMPLES, PRICE_LISTS, Said, read, rvfence, tests_of_examples, written
+from verdicts import Judge
 
-CAUSES = ['p%d' % rule for rule in range(1, 14)] + ['rf', 'co', 'fr']
-KINDS = 'r,r r,w r,rw w,r w,w w,rw rw,r rw,w rw,rw tso'.split()
-COUNT = 300
 LISTED = ['CoRR', 'MP', 'SB', 'SBF']    # of version 1, and of version 2
-
-
-class Judge:
-    """The Python checker for a test and prices, whose files are read once."""
-
-    def __init__(self, test, prices):
-        self.test = model.read(test, model.test_of)
-        self.prices = model.read(prices, model.prices_of)
-
-    def verdict(self, certificate):
-        """The same as the program says."""
-        try:
-            checker = model.Checker(self.test, self.prices, model.certificate_of(read(certificate)))
-            checker.check()
-            return Said('\n'.join(['yes', *checker.lines(), '']), '', 0)
-        except model.Refused as reason:
-            return Said(f'no: {reason}\n', '', 1)
-        except model.NotACertificate:
-            return Said('', 'fault F18 BadCertificate\n', 2)
 
 
 def changed_link(cert, dice):
     cycle = dice.choice(cert['cycles'])
     link = dice.choice(cycle)
     if dice.random() < 0.5:
-        link[1] = dice.choice(CAUSES)
+        link[1] = dice.choice(model.CAUSES)
     else:
         link[0] = dice.choice(cycle)[0] if dice.random() < 0.5 else 'P%d:%d' % (dice.randrange(3), dice.randrange(6))
 
 
 def changed_cycle(cert, dice):
     cycles = cert['cycles']
-    at, other = dice.randrange(len(cycles)), dice.randrange(len(cycles))
-    kind = dice.randrange(6)
+    at, other, kind = dice.randrange(len(cycles)), dice.randrange(len(cycles)), dice.randrange(6)
     if kind == 3:
         cycles[at].reverse()
     elif kind == 4:
@@ -95,8 +64,7 @@ def any_item(cert, dice):
 
 def changed_tree(cert, dice):
     tree = cert['tree']
-    at = dice.randrange(len(tree))
-    kind = dice.randrange(5)
+    at, kind = dice.randrange(len(tree)), dice.randrange(5)
     if kind == 0:
         del tree[at]
     elif kind == 1:
@@ -110,8 +78,7 @@ def changed_tree(cert, dice):
 
 def changed_witness(cert, dice):
     witnesses = cert['witnesses']
-    at = dice.randrange(len(witnesses))
-    kind = dice.randrange(6)
+    at, kind = dice.randrange(len(witnesses)), dice.randrange(6)
     if kind == 0:
         del witnesses[at]
     elif kind == 1:
@@ -141,7 +108,7 @@ def changed_answer(cert, dice):
         del answer['fences'][dice.randrange(len(answer['fences']))]
     elif kind == 3 and answer['fences']:
         at = dice.randrange(len(answer['fences']))
-        answer['fences'][at] = answer['fences'][at].partition('=')[0] + '=' + dice.choice(KINDS)
+        answer['fences'][at] = answer['fences'][at].partition('=')[0] + '=' + dice.choice(model.KINDS)
     else:
         answer['fences'].reverse()
 
@@ -166,7 +133,7 @@ def changed_part(item, items, dice):
     if type(item[0]) is list:
         link = dice.choice(item)
         if dice.random() < 0.5:
-            link[1] = dice.choice(CAUSES)
+            link[1] = dice.choice(model.CAUSES)
         else:
             link[0] = dice.choice([any_name(dice), dice.choice(item)[0]])
     elif dice.random() < 0.2:
@@ -212,38 +179,42 @@ def mangled(cert, number):
     return cert
 
 
-def refuted(counts, folder, test, judge, cert, wanted):
+def judge_both(run, name, files, judge, wanted):
+    """Do both say this of the certificate, the last of the files?"""
+    run.expect(f'check of {name}', wanted, rvfence('check', *files))
+    run.expect(f'check_certificate.py of {name}', wanted, judge.verdict(read(files[2])))
+
+
+def refuted(run, test, judge, cert, wanted):
     """The certificate in version 4, with a refutation in the place of its cycles, where there is one."""
     items = json.loads(read(f'{EXAMPLES}/refutations.json')).get(os.path.relpath(test, EXAMPLES)[:-len('.litmus')])
     if items is None or cert['answer'] == 'none':
         return None
     cert = dict(cert, version=4, cycles=items)
-    path = written(f'{folder}/refuted.json', json.dumps(cert))
-    counts.expect(f'check of {test}, refuted', wanted, rvfence('check', test, f'{EXAMPLES}/prices.json', path))
-    counts.expect(f'check_certificate.py of {test}, refuted', wanted, judge.verdict(path))
+    files = [test, f'{EXAMPLES}/prices.json', written(run.path('refuted.json'), json.dumps(cert))]
+    judge_both(run, f'{test}, refuted', files, judge, wanted)
     return cert
 
 
-def certified(counts, folder):
+def certified(run):
     """For each test and price list with a certificate: a name, the two files, the judge of both, and the
     certificate; and the same in version 4."""
-    found, path = [], f'{folder}/answer.json'
+    found, path = [], run.path('answer.json')
     for test, name in [(test, name) for test in tests_of_examples() for name in PRICE_LISTS]:
         prices, what = f'{EXAMPLES}/{name}', f'{os.path.relpath(test, EXAMPLES)} at {name}'
         said = rvfence('solve', test, prices, '--cert', path)
         if said.status == 2:
-            counts.check(f'a fault leaves no certificate, {what}', not os.path.exists(path))
+            run.check(f'a fault leaves no certificate, {what}', not os.path.exists(path))
             continue
         judge, wanted = Judge(test, prices), Said(f'yes\n{said.out}', '', 0)
-        counts.expect(f'check of {what}', wanted, rvfence('check', test, prices, path))
-        counts.expect(f'check_certificate.py of {what}', wanted, judge.verdict(path))
+        judge_both(run, what, (test, prices, path), judge, wanted)
         cert = json.loads(read(path))
         cycles = [item for item in cert['cycles'] if type(item[0]) is list]
         late = [cycle for cycle in cycles if not model.begins_at_least(cycle)]
-        counts.expect(f'cycles that begin after their least operation, {what}', [], late)
+        run.expect(f'cycles that begin after their least operation, {what}', [], late)
         found.append((what, test, prices, judge, cert))
         if name == 'prices.json':
-            cert = refuted(counts, folder, test, judge, cert, wanted)
+            cert = refuted(run, test, judge, cert, wanted)
             found += [(f'{what}, refuted', test, prices, judge, cert)] * 3 if cert else []
         os.remove(path)
     return found
@@ -257,20 +228,12 @@ def listed():
         yield from [(f'{name}, listed', test, prices, Judge(test, prices), cert)] * 10
 
 
-def main():
-    counts, verdicts = Counts(), collections.Counter()
-    with tempfile.TemporaryDirectory() as folder:
-        found = [*certified(counts, folder), *listed()]
-        for number in range(int(sys.argv[1]) if len(sys.argv) > 1 else COUNT):
-            what, test, prices, judge, cert = found[number % len(found)]
-            path = written(f'{folder}/mangled.json', json.dumps(mangled(cert, number)))
-            wanted = judge.verdict(path)
-            words = wanted.out.split() or ['fault']
-            verdicts[' '.join(words[:2]) if words[0] != 'yes' else 'yes'] += 1
-            counts.expect(f'certificate {number}, of {what}', wanted, rvfence('check', test, prices, path))
-    print('; '.join('%s %d' % it for it in sorted(verdicts.items())))
-    return counts.end()
-
-
-if __name__ == '__main__':
-    sys.exit(main())
+def check(run):
+    found = [*certified(run), *listed()]
+    for number in run.numbers():
+        what, test, prices, judge, cert = found[number % len(found)]
+        path = written(run.path('mangled.json'), json.dumps(mangled(cert, number)))
+        wanted = judge.verdict(read(path))
+        words = wanted.out.split() or ['fault']
+        run.kinds[' '.join(words[:2]) if words[0] != 'yes' else 'yes'] += 1
+        run.expect(f'certificate {number}, of {what}', wanted, rvfence('check', test, prices, path))

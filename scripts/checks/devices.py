@@ -1,16 +1,13 @@
-#!/usr/bin/env python3
 """Runs the built program where files and devices fail: readers that fail at once or later, files that may not be
 read, standard output that is closed, full, gone, or full after each number of bytes, and disks that are so while a
 certificate is written; calls that a signal interrupts; and two runs at once that write one certificate, each of which
-is held at each of its calls (scripts/hinder.c).
+is held at each of its calls (scripts/checks/hinder.c).
 
 What can't be read is F20 and what can't be written F21, with status 2, and of F20 a line says which file it is, and
 why; nothing more is on standard output than what it took before it failed, and that is a beginning of the answer;
 status 0 or 1 comes only where the whole answer was written. No signal ends a run where a file may not grow further.
-A certificate stands under its name whole or not at all,
-with the mode of what was there; what was there stays where it can't be written, and so does each other file.
-Prints a line for each check that fails, and at last `N passed, M failed`; the exit status is 0 only where all
-passed."""
+A certificate stands under its name whole or not at all, with the mode of what was there; what was there stays where it
+can't be written, and so does each other file."""
 import array
 import errno
 import fcntl
@@ -23,15 +20,12 @@ import socket
 import stat
 import struct
 import subprocess
-import sys
 import tempfile
 import termios
 import time
 
-sys.dont_write_bytecode = True
-import limit_files as files                                     # of this folder
-from counting import Counts
-from running import LONGEST, PRICES, TOP, Said, decoded, program, ran, read, waited_for, written
+from checks import limit_files as files
+from running import LONGEST, PRICES, Said, compiled, decoded, program, ran, read, waited_for, written
 
 MISSING, FOLDER, UNREAD = "there is no such file", "it is a folder", "it can't be opened or read"
 UNWRITTEN = Said("", "fault F21 WriteFault\n", 2)
@@ -48,18 +42,16 @@ def unread(name, why):
 class Checks:
     """A folder with the files of store buffering, and the counts."""
 
-    def __init__(self, folder):
-        self.folder = folder
-        self.counts = Counts()
-        self.expect = self.counts.expect
+    def __init__(self, run):
+        folder = self.folder = run.folder
+        self.check, self.expect = run.check, run.expect
         # a user who may read little must reach the program and the files
         os.chmod(folder, 0o755)
         self.program = shutil.copy(program(), folder)
         self.prices = shutil.copy(PRICES, folder)
         self.test = written(f"{folder}/sb.litmus", files.SB)
         self.witness = written(f"{folder}/witness.json", files.SB_WITNESS)
-        self.hinder = f"{folder}/hinder.so"
-        subprocess.run(["cc", "-O2", "-shared", "-fPIC", "-o", self.hinder, f"{TOP}/scripts/hinder.c"], check=True)
+        self.hinder = compiled("checks/hinder.c", folder, "-shared", "-fPIC")
         self.certificate = f"{folder}/certificate.json"
         self.run(["solve", self.test, self.prices, "--cert", self.certificate])
         self.answer = Said("\n".join([*files.SB_ANSWER, ""]), "", 0)
@@ -95,8 +87,7 @@ def before(*closed, size=None, is_ignored=True):
     return prepare
 
 
-# --- Readers
-# ---------------------------------------------------------------------------------------------------------------
+# --- Readers ---------------------------------------------------------------------------------------------------------
 
 def check_readers(checks):
     """Each file of each command in turn is one that fails: missing, a folder, a device whose reads fail, and one that
@@ -167,8 +158,7 @@ def waiting(connection, which):
     return fcntl.ioctl(connection, which, left) or left[0]
 
 
-# --- Standard output
-# ---------------------------------------------------------------------------------------------------------
+# --- Standard output -------------------------------------------------------------------------------------------------
 
 def check_outputs(checks):
     """Standard output that is closed, full, open for reading alone, or a pipe that nobody reads; and one that takes
@@ -212,11 +202,10 @@ def check_errors(checks):
             found = checks.run(missing, stderr=file, preexec_fn=before(size=size, is_ignored=is_ignored))
         said = decoded(read(path))
         is_right = found.status == 2 and (line.startswith(said) if size < len(line) else line == said)
-        checks.counts.check(f"standard error takes {size} bytes, ignored: {is_ignored}", is_right, (found, said))
+        checks.check(f"standard error takes {size} bytes, ignored: {is_ignored}", is_right, (found, said))
 
 
-# --- Certificates
-# ------------------------------------------------------------------------------------------------------------
+# --- Certificates ----------------------------------------------------------------------------------------------------
 
 def check_certificates(checks):
     """A certificate on a disk that takes each number of bytes and no more, where that is a write that fails and where
@@ -292,11 +281,10 @@ def check_signals(checks):
             time.sleep(took * at / 40)
             child.send_signal(number)
             child.wait(longest)
-            checks.counts.check(f"signal {number} after {at} of 40 parts of a run", read(path) in (OLD, whole))
+            checks.check(f"signal {number} after {at} of 40 parts of a run", read(path) in (OLD, whole))
 
 
-# --- Two runs at once, and calls that are interrupted
-# ------------------------------------------------------------------------------
+# --- Two runs at once, and calls that are interrupted ----------------------------------------------------------------
 
 # each call of a run at the file that it writes, and at one beside it
 HELD = ["statx", "open", "write", "rename", "unlink"]
@@ -348,7 +336,7 @@ def check_two_runs(checks):
         said = checks.run(["solve", test, checks.prices, "--cert", f"{checks.folder}/alone.json"])
         runs.append((test, said, read(f"{checks.folder}/alone.json")))
     wanted, wholes = [said for _, said, _ in runs], [whole for _, _, whole in runs]
-    checks.counts.check("the certificates differ", wholes[0] != wholes[1])
+    checks.check("the certificates differ", wholes[0] != wholes[1])
     for calls, kept, order in itertools.product(itertools.product(HELD, HELD), (OLD, None), ((0, 1), (1, 0))):
         with tempfile.TemporaryDirectory(dir=checks.folder) as folder:
             if kept is not None:
@@ -358,7 +346,7 @@ def check_two_runs(checks):
             name = f"two runs held at {' and '.join(calls)}, {kept} there, run {order[0]} goes on first"
             checks.expect(name, wanted, [said[0], said[1]])
             left = contents(folder)
-            checks.counts.check(f"{name}: what is left", left in [{"kept.json": whole} for whole in wholes], left)
+            checks.check(f"{name}: what is left", left in [{"kept.json": whole} for whole in wholes], left)
 
 
 def check_ended_runs(checks):
@@ -376,7 +364,7 @@ def check_ended_runs(checks):
             left = contents(folder)
             name = f"signal {number} before {call}, {kept} there"
             is_right = left.pop("kept.json", None) in (kept, whole) and set(left) <= {"kept.json.part"}
-            checks.counts.check(name, is_right, left)
+            checks.check(name, is_right, left)
             checks.expect(f"{name}: a later run", checks.answer, checks.certify(path))
             checks.expect(f"{name}: a later run's certificate", {**left, "kept.json": whole}, contents(folder))
 
@@ -411,7 +399,7 @@ def check_modes(checks):
                 os.chmod(path, mode)
                 held = Held(checks, folder, checks.test, "write")
                 during = stat.S_IMODE(os.stat(f"{path}.part").st_mode)
-                checks.counts.check(f"mode {mode:o} at mask {mask:o}, while it is written", not during & ~mode)
+                checks.check(f"mode {mode:o} at mask {mask:o}, while it is written", not during & ~mode)
                 said = held.let_go()
                 found = (said, contents(folder), mode_of(path))
                 wanted = (checks.answer, {"kept.json": whole}, oct(mode))
@@ -471,15 +459,9 @@ def check_stacks(checks):
             checks.expect(f"{command}: a stack of {kibibytes} KiB", wanted, found)
 
 
-def main():
-    with tempfile.TemporaryDirectory() as folder:
-        checks = Checks(folder)
-        for part in (check_readers, check_inputs, check_outputs, check_errors, check_certificates, check_links,
-                     check_signals, check_two_runs, check_ended_runs, check_beside, check_modes, check_interrupted,
-                     check_stacks):
-            part(checks)
-        return checks.counts.end()
-
-
-if __name__ == "__main__":
-    sys.exit(main())
+def check(run):
+    checks = Checks(run)
+    for part in (check_readers, check_inputs, check_outputs, check_errors, check_certificates, check_links,
+                 check_signals, check_two_runs, check_ended_runs, check_beside, check_modes, check_interrupted,
+                 check_stacks):
+        part(checks)

@@ -1,0 +1,1 @@
+"""The checks, which scripts/check runs."""

@@ -1,0 +1,33 @@
+"""All checks, in the order of the lines at the end of a run of all."""
+from checks import (certificate_rows, compare_audit, compare_check, compare_solve, compare_states, compare_test,
+                    devices, hostile, limits, program, refused_memory, solve_answers, states_answers, workers)
+from checks.registry import GATE, NOTHING, Check, flags, made, number
+from running import TOP
+
+SCRIPTS = f"{TOP}/scripts"
+CHECKS = [
+    Check("launcher", 60, command=(f"{SCRIPTS}/checks/launcher.sh",), needs=NOTHING,
+          text="Runs the launcher in a small repository of its own, with a stand-in for `rt` that proves nothing"),
+    Check("trusted", 10, command=(f"{SCRIPTS}/trusted",), needs=NOTHING, text="The list of what must be believed"),
+    Check("tables", 20, command=(f"{SCRIPTS}/tables", "--check"), needs=NOTHING, text="The lists of the documents"),
+    Check("manual", 10, command=(f"{SCRIPTS}/manual", "--check"), needs=NOTHING, text="The manual page"),
+    Check("solve-reference", 120, solve_answers.check_reference, needs=NOTHING),
+    Check("gate", None, command=("rt", "ci"), needs=GATE,
+          text="Every proof from nothing, the must-fail edits, tests and stored runs"),
+    Check("release", 60, command=(f"{SCRIPTS}/check-release",), needs=GATE,
+          text="Whether the program in bin/ is, byte for byte, what was built from its sources"),
+    Check("program", 120, program.check),
+    Check("limits", 120, limits.check, words=flags("--heavy")),
+    Check("devices", 150, devices.check),
+    Check("certificate-rows", 20, certificate_rows.check),
+    Check("compare-check", 130, compare_check.check, words=made(300)),
+    Check("solve-answers", 110, solve_answers.check, words=flags("--write")),
+    Check("states-answers", 60, states_answers.check, words=flags("--write")),
+    Check("compare-solve", 300, compare_solve.check, words=(*made(300), *flags("--reference", "--show"))),
+    Check("compare-test", 150, compare_test.check, words=made(300)),
+    Check("compare-audit", 450, compare_audit.check, words=made(300)),
+    Check("compare-states", 180, compare_states.check, words=made(100)),
+    Check("workers", 150, workers.check, words=(number("rounds", 5),)),
+    Check("refused-memory", 300, refused_memory.check, words=flags("--quick"), quick=("--quick",)),
+    Check("hostile", 500, hostile.check, words=flags("--huge")),
+]

@@ -1,0 +1,95 @@
+"""What a check is: its name, its function or command, what it needs, about how long it takes, and the words that it
+takes. Its module has the function, and scripts/checks/every.py the list of all."""
+import argparse
+import collections
+import dataclasses
+import os
+import sys
+import tempfile
+import traceback
+
+from counting import Counts
+from running import TOP
+
+# What a check needs: nothing that is built, the gate (which it is, or what that has built), or the program.
+NOTHING, GATE, PROGRAM = "nothing", "the gate", "the program"
+
+
+@dataclasses.dataclass(frozen=True)
+class Check:
+    """A check. `seconds` is about what it takes of processor time, and None where that has no limit. Its words are
+    pairs of what argparse takes; those of `quick` are given where there is no gate."""
+
+    name: str
+    seconds: int | None
+    run: object = None          # a function that takes a Run
+    command: tuple = ()         # or a command that prints its counts itself
+    needs: str = PROGRAM
+    words: tuple = ()
+    quick: tuple = ()
+    text: str = ""              # of a command, what it looks at
+
+    def about(self):
+        """What it looks at, in a sentence."""
+        text = self.text or self.run.__doc__ or sys.modules[self.run.__module__].__doc__
+        return " ".join(text.split("\n\n")[0].split())
+
+
+class Run:
+    """A run of a check: its counts, a folder of its own, its options, and how many there were of each kind."""
+
+    def __init__(self, folder, options):
+        self.folder, self.options = folder, options
+        self.counts, self.kinds = Counts(), collections.Counter()
+        self.check, self.expect = self.counts.check, self.counts.expect
+
+    def numbers(self):
+        """The numbers of the made tests that are asked for."""
+        return range(self.options.first, self.options.first + self.options.count)
+
+    def path(self, name):
+        return f"{self.folder}/{name}"
+
+
+def count_of(word):
+    """A number that is given as a word."""
+    if not word.isdecimal():
+        raise ValueError(word)
+    return int(word)
+
+
+def number(name, default):
+    """A number that may be given."""
+    return name, {"type": count_of, "nargs": "?", "default": default}
+
+
+def made(count):
+    """The words COUNT and FIRST: how many made tests, and the first of them."""
+    return number("count", count), number("first", 0)
+
+
+def flags(*names):
+    """Options that may be given."""
+    return tuple((name, {"action": "store_true"}) for name in names)
+
+
+def run_one(check, words):
+    """Runs one check with these words, prints its counts, and gives the exit status."""
+    if check.command:
+        os.chdir(TOP)
+        os.execvp(check.command[0], [*check.command, *words])
+    about = sys.modules[check.run.__module__].__doc__
+    parser = argparse.ArgumentParser(f"scripts/check {check.name}", description=about,
+                                     formatter_class=argparse.RawDescriptionHelpFormatter)
+    for name, how in check.words:
+        parser.add_argument(name, **how)
+    with tempfile.TemporaryDirectory() as folder:
+        run = Run(folder, parser.parse_args(words))
+        try:
+            check.run(run)
+        except Exception as error:              # whatever it is, it is a check that failed
+            traceback.print_exc(file=sys.stdout)
+            run.check(f"{check.name} comes to its end", False, repr(error))
+    if run.kinds:
+        print(", ".join(f"{count} {kind}" for kind, count in sorted(run.kinds.items())))
+    return run.counts.end()
