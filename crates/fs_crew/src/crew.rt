@@ -1,14 +1,16 @@
 //! The answer to a question, searched by many workers.
 
-ghost use Rattle.std.specs.Prelude.{◌≡◌, ◌≢◌, ◌≤◌, [], IfOk, IfErr, IfSome, IsOkUnless, OnOk, All, map};
+ghost use Rattle.std.specs.Prelude.{◌≡◌, ◌≢◌, ◌≤◌, [], IfOk, IfErr, IfSome, IsOkUnless, OnOk, All, drop, map};
 ghost use Rattle.std.specs.Arc.{arc_value};
 ghost use Rattle.fs_kinds.specs.PriceTable.{IsPriceTable};
 ghost use Rattle.fs_model.specs.Test.{IsBounded, IsStart};
+ghost use Rattle.fs_history.specs.Receipts.{IsAgreed};
 ghost use Rattle.fs_history.specs.Sizes.{HasNoRunFault};
 ghost use Rattle.fs_board.specs.Growth.{AreWitnesses};
 ghost use Rattle.fs_pool.specs.Asked.{IsAsked};
 ghost use Rattle.fs_search.specs.Answers.{IsAnswer, IsSolveFault, Rests};
 ghost use Rattle.fs_search.specs.Histories.{GoesOn};
+ghost use Rattle.fs_crew.specs.Ends.{GoesOnFrom};
 
 use crate::gate::{Alone, Gate};
 use crate::work::Workplace;
@@ -86,10 +88,45 @@ fn work_together<A: Asked + Send + Sync, R: Threads + Wait + Sync, G: Gate + Syn
     Ok(came)
 }
 
-/// Some board of the question: the one that the workers searched and `finish` handed out, with nodes that are open or held
-/// where they lacked memory or met the limit; none where `finish`
-/// hands none out, since its log and what they saw of it don't agree. That it is the workers' own is what the code does and
-/// tests see; the contract says that it is a board of the question with one history. The error is F19.
+/// The board that the workers leave, with nodes that are open or held where they lacked memory or met the limit: its log since the desk was
+/// made agrees with the passes. None where `finish` hands none out: then the lock or the threads didn't do as they should.
+fn handed_out<A: Asked>(desk: Desk<A>, passes: Vec<Pass<A>>) -> Option<Board>
+    ensures asked { IfSome result (λ b. IsAsked b A.question A.limit) }
+    ensures agreed { IfSome result (λ b. IsAgreed passes.items (drop desk.since b.log)) }
+{
+    finish(desk, passes).ok()
+}
+
+/// The answer, from the board that the workers leave, which is searched to its end as by one: the log of the board that comes with the
+/// answer begins with its log, which agrees with their passes. None where they leave none. The gate is told which.
+fn concluded<A: Asked, G: Gate>(
+    alloc: Global,
+    problem: &Arc<Problem>,
+    desk: Desk<A>,
+    passes: Vec<Pass<A>>,
+    gate: &G,
+) -> Result<Option<Solved>, Fault>
+    requires test { IsBounded (arc_value problem.now).test }
+    requires prices { IsPriceTable (arc_value problem.now).prices }
+    requires clean { HasNoRunFault (arc_value problem.now).test }
+    requires same { arc_value problem.now ≡ A.question }
+    ensures ok { IfOk result (λ found. IfSome found (λ s. IsAnswer (arc_value problem.now).test (arc_value problem.now).prices s.answer)) }
+    ensures rests { IfOk result (λ found. IfSome found (Rests (arc_value problem.now) A.limit)) }
+    ensures left { IfOk result (λ found. IfSome found (λ s. IfSome s.board (GoesOnFrom passes.items desk.since))) }
+    ensures err { IfErr result (λ f. f ≢ Fault.Memory → IsSolveFault (arc_value problem.now) A.limit f) }
+{
+    let Some(board) = handed_out(desk, passes) else {
+        gate.ended(None);
+        return Ok(None);
+    };
+    gate.ended(Some(board.log().len()));
+    let shared = Arc::try_clone(problem)?;
+    let solved = conclude(alloc, shared, board, &mut Unwatched)?;
+    Ok(Some(solved))
+}
+
+/// The answer by many workers, who go on with the board that one has begun; none where `concluded` gives none. That the passes which it is
+/// given are those of these workers is what the code does and tests see: no contract can name them once they are gone.
 fn search_together<A: Asked + Send + Sync, R: Threads + Wait + Sync, G: Gate + Sync>(
     rt: &R,
     alloc: Global,
@@ -97,14 +134,18 @@ fn search_together<A: Asked + Send + Sync, R: Threads + Wait + Sync, G: Gate + S
     begun: Begun,
     workers: u8,
     gate: &G,
-) -> Result<Option<Board>, Fault>
+) -> Result<Option<Solved>, Fault>
     requires asked { IsAsked begun.board A.question A.limit }
+    requires test { IsBounded (arc_value problem.now).test }
+    requires prices { IsPriceTable (arc_value problem.now).prices }
+    requires clean { HasNoRunFault (arc_value problem.now).test }
     requires same { arc_value problem.now ≡ A.question }
     requires met { AreWitnesses A.question.test (map arc_value begun.met.items) }
     requires some { 1 ≤ workers }
     requires few { workers ≤ 16 }
-    ensures asked { IfOk result (λ left. IfSome left (λ b. IsAsked b A.question A.limit)) }
-    ensures err { IsOkUnless result Fault.Memory }
+    ensures ok { IfOk result (λ found. IfSome found (λ s. IsAnswer (arc_value problem.now).test (arc_value problem.now).prices s.answer)) }
+    ensures rests { IfOk result (λ found. IfSome found (Rests (arc_value problem.now) A.limit)) }
+    ensures err { IfErr result (λ f. f ≢ Fault.Memory → IsSolveFault (arc_value problem.now) A.limit f) }
 {
     let Begun { board, met } = begun;
     let (desk, passes) = Desk::<A>::new(alloc, board, workers)?;
@@ -116,7 +157,7 @@ fn search_together<A: Asked + Send + Sync, R: Threads + Wait + Sync, G: Gate + S
         met: &met,
     };
     let passes = work_together(&place, problem, passes, workers)?;
-    Ok(finish(desk, passes).ok())
+    concluded(alloc, problem, desk, passes, gate)
 }
 
 /// The board of the problem's question, on which nothing was searched yet. The error is F19.
@@ -131,54 +172,17 @@ fn opened(alloc: Global, problem: &Problem, limit: usize) -> Result<Board, Fault
     Board::new(alloc, question, limit)
 }
 
-/// The board that the workers left. Where they left none, the lock or the threads didn't do as they should: then it is a board anew,
-/// on which nothing is searched yet. The gate is told which. The error is F19.
-fn taken_up<G: Gate>(
-    alloc: Global,
-    problem: &Problem,
-    left: Option<Board>,
-    limit: usize,
-    gate: &G,
-) -> Result<Board, Fault>
-    requires test { IsBounded problem.now.test }
-    requires most { limit ≤ 1000000 }
-    requires asked { IfSome left (λ b. IsAsked b problem.now limit) }
-    ensures asked { IfOk result (λ b. IsAsked b problem.now limit) }
-    ensures same { IfSome left (λ b. IfOk result (λ taken. taken ≡ b)) }
-    ensures err { IsOkUnless result Fault.Memory }
-{
-    match left {
-        Some(board) => {
-            gate.ended(Some(board.log().len()));
-            Ok(board)
-        }
-        None => {
-            gate.ended(None);
-            opened(alloc, problem, limit)
-        }
-    }
-}
-
-/// The answer, from what the workers left: this is searched to its end as by one worker, all of it where they left no board. Where they
-/// left one, the log of the board that comes with the answer begins with its log.
-fn concluded<G: Gate>(
-    alloc: Global,
-    problem: Arc<Problem>,
-    left: Option<Board>,
-    limit: usize,
-    gate: &G,
-) -> Result<Solved, Fault>
+/// The answer by one worker, from a board anew.
+fn searched_anew(alloc: Global, problem: Arc<Problem>, limit: usize) -> Result<Solved, Fault>
     requires test { IsBounded (arc_value problem).test }
     requires prices { IsPriceTable (arc_value problem).prices }
     requires clean { HasNoRunFault (arc_value problem).test }
     requires most { limit ≤ 1000000 }
-    requires asked { IfSome left (λ b. IsAsked b (arc_value problem) limit) }
     ensures ok { IfOk result (λ s. IsAnswer (arc_value problem).test (arc_value problem).prices s.answer) }
     ensures rests { IfOk result (Rests (arc_value problem) limit) }
-    ensures goes { IfSome left (λ b. IfOk result (λ s. IfSome s.board (GoesOn b))) }
     ensures err { IfErr result (λ f. f ≢ Fault.Memory → IsSolveFault (arc_value problem) limit f) }
 {
-    let board = taken_up(alloc, &problem, left, limit, gate)?;
+    let board = opened(alloc, &problem, limit)?;
     let solved = conclude(alloc, problem, board, &mut Unwatched)?;
     Ok(solved)
 }
@@ -239,7 +243,10 @@ pub fn solve<R: Threads + Wait + Sync, G: Gate + Sync>(
         return Ok(solved);
     };
     let begun = Begun { board, met };
-    let left = search_together::<Brand, R, G>(rt, alloc, &problem, begun, workers, gate)?;
-    let solved = concluded(alloc, problem, left, limit, gate)?;
+    let found = search_together::<Brand, R, G>(rt, alloc, &problem, begun, workers, gate)?;
+    if let Some(solved) = found {
+        return Ok(solved);
+    }
+    let solved = searched_anew(alloc, problem, limit)?;
     Ok(solved)
 }

@@ -1,6 +1,6 @@
-//! Tests that are answered only where hunts and plans go on for long.
+//! Tests that are answered only where hunts and plans go on for long, and a short one beside them.
 
-use fs_examples::{PRICES, question_of};
+use fs_examples::{PRICES, SB, question_of};
 use fs_kinds::Fault;
 use fs_search::{Unwatched, solve};
 use std::alloc::Global;
@@ -85,9 +85,11 @@ fn are_few(alloc: Global, rows: &[(&str, usize)]) -> Result<bool, Fault> {
     Ok(true)
 }
 
+/// Store buffering needs two fences, and they are posted only at a node where both slots are decided. So 15 nodes are the fewest: the root,
+/// seven that decide one of the slots, since six kinds are offered, and seven below one of these.
 #[test]
 fn hunts_and_plans_go_on_for_long(rt: HostRuntime) -> Result<(), Fail> {
-    let rows = [(PASSED, 100), (BUFFERED, 100), (ADDERS, 1)];
+    let rows = [(PASSED, 100), (BUFFERED, 100), (ADDERS, 1), (SB, 15)];
     assert!(rt; are_few(rt.alloc(), &rows)?);
     Ok(())
 }

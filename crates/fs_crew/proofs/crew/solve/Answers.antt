@@ -13,8 +13,12 @@ returns-in_err-problem-clause-err g c =
     handed c.from_residual.result _ _ c.from_residual.ensures.1
     (λ other. inl (c.in_err-problem.ensures.err other))
 
-pub concluded-requires-clause-clean : goal.concluded-requires-clause-clean
-concluded-requires-clause-clean g c =
+pub search_together-requires-clause-clean : goal.search_together-requires-clause-clean
+search_together-requires-clause-clean g c κs within =
+    subst (λ (x : Question). HasNoRunFault x.test) (sym c.in_ok-problem.ensures.value) c.in_ok-problem.ensures.clean
+
+pub searched_anew-requires-clause-clean : goal.searched_anew-requires-clause-clean
+searched_anew-requires-clause-clean g c =
     subst (λ (x : Question). HasNoRunFault x.test) (sym c.in_ok-problem.ensures.value) c.in_ok-problem.ensures.clean
 
 pub returns-in_err-met-clause-err : goal.returns-in_err-met-clause-err
@@ -39,6 +43,12 @@ returns-in_err-solved-clause-err g c =
     handed c.from_residual-in_err-solved.result _ _ c.from_residual-in_err-solved.ensures.1
     (λ other. same-fault _ c.args.question.value c.begin.new.board.board.limit c.args.limit _ c.in_ok-problem.ensures.value
     (c.in_ok-met.ensures.goes.limit ∙ c.in_ok-board.ensures.asked.limit) (c.in_err-solved.ensures.err other))
+
+pub returns-in_err-found-clause-err : goal.returns-in_err-found-clause-err
+returns-in_err-found-clause-err g c =
+    handed c.from_residual-in_err-found.result _ _ c.from_residual-in_err-found.ensures.1
+    (λ other. same-fault _ c.args.question.value c.begin.new.board.board.limit c.args.limit _ c.in_ok-problem.ensures.value
+    (c.in_ok-met.ensures.goes.limit ∙ c.in_ok-board.ensures.asked.limit) (c.in_err-found.ensures.err other))
 
 pub returns-in_err-solved-2-clause-err : goal.returns-in_err-solved-2-clause-err
 returns-in_err-solved-2-clause-err g c =
