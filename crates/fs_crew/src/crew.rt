@@ -57,7 +57,8 @@ fn work_together<A: Asked + Send + Sync, R: Threads + Wait + Sync, G: Gate + Syn
     passes: Vec<Pass<A>>,
     workers: u8,
 ) -> Result<Vec<Pass<A>>, Fault>
-    requires same { arc_value problem.now ≡ A.question }
+    requires question { arc_value place.now.question.now ≡ A.question }
+    requires problem { arc_value problem.now ≡ A.question.test }
     requires met { AreWitnesses A.question.test (map arc_value place.now.met.now.items) }
     requires some { 1 ≤ workers }
     ensures { IsOkUnless result Fault.Memory }
@@ -66,6 +67,7 @@ fn work_together<A: Asked + Send + Sync, R: Threads + Wait + Sync, G: Gate + Syn
     let alloc = place.alloc;
     let desk = place.desk;
     let gate = place.gate;
+    let question = place.question;
     let met = place.met;
     let jobs = side_by_side(alloc, passes, hands(alloc, workers)?)?;
     let came = thread::map_vec(
@@ -78,6 +80,7 @@ fn work_together<A: Asked + Send + Sync, R: Threads + Wait + Sync, G: Gate + Syn
                 alloc,
                 desk,
                 gate,
+                question,
                 met,
             };
             place.work(pass, hand, problem)
@@ -99,7 +102,7 @@ fn search_together<A: Asked + Send + Sync, R: Threads + Wait + Sync, G: Gate + S
     gate: &G,
 ) -> Result<Option<Board>, Fault>
     requires asked { IsAsked begun.board A.question A.limit }
-    requires same { arc_value problem.now ≡ A.question }
+    requires same { arc_value problem.now ≡ A.question.test }
     requires met { AreWitnesses A.question.test (map arc_value begun.met.items) }
     requires some { 1 ≤ workers }
     requires few { workers ≤ 16 }
@@ -107,27 +110,29 @@ fn search_together<A: Asked + Send + Sync, R: Threads + Wait + Sync, G: Gate + S
     ensures err { IsOkUnless result Fault.Memory }
 {
     let Begun { board, met } = begun;
+    let question = Arc::try_clone(board.question())?;
     let (desk, passes) = Desk::<A>::new(alloc, board, workers)?;
     let place = Workplace {
         rt,
         alloc,
         desk: &desk,
         gate,
+        question: &question,
         met: &met,
     };
     let passes = work_together(&place, problem, passes, workers)?;
     Ok(finish(desk, passes).ok())
 }
 
-/// The board of the problem's question, on which nothing was searched yet. The error is F19.
-fn opened(alloc: Global, problem: &Problem, limit: usize) -> Result<Board, Fault>
-    requires test { IsBounded problem.now.test }
+/// The board of the question, on which nothing was searched yet. The error is F19.
+fn opened(alloc: Global, question: &Arc<Question>, limit: usize) -> Result<Board, Fault>
+    requires test { IsBounded (arc_value question.now).test }
     requires limit { limit ≤ 1000000 }
-    ensures asked { IfOk result (λ b. IsAsked b problem.now limit) }
+    ensures asked { IfOk result (λ b. IsAsked b (arc_value question.now) limit) }
     ensures empty { IfOk result (λ b. b.log ≡ []) }
     ensures err { IsOkUnless result Fault.Memory }
 {
-    let question = Arc::try_clone(problem.question())?;
+    let question = Arc::try_clone(question)?;
     Board::new(alloc, question, limit)
 }
 
@@ -135,15 +140,15 @@ fn opened(alloc: Global, problem: &Problem, limit: usize) -> Result<Board, Fault
 /// on which nothing is searched yet. The gate is told which. The error is F19.
 fn taken_up<G: Gate>(
     alloc: Global,
-    problem: &Problem,
+    question: &Arc<Question>,
     left: Option<Board>,
     limit: usize,
     gate: &G,
 ) -> Result<Board, Fault>
-    requires test { IsBounded problem.now.test }
+    requires test { IsBounded (arc_value question.now).test }
     requires most { limit ≤ 1000000 }
-    requires asked { IfSome left (λ b. IsAsked b problem.now limit) }
-    ensures asked { IfOk result (λ b. IsAsked b problem.now limit) }
+    requires asked { IfSome left (λ b. IsAsked b (arc_value question.now) limit) }
+    ensures asked { IfOk result (λ b. IsAsked b (arc_value question.now) limit) }
     ensures same { IfSome left (λ b. IfOk result (λ taken. taken ≡ b)) }
     ensures err { IsOkUnless result Fault.Memory }
 {
@@ -154,7 +159,7 @@ fn taken_up<G: Gate>(
         }
         None => {
             gate.ended(None);
-            opened(alloc, problem, limit)
+            opened(alloc, question, limit)
         }
     }
 }
@@ -163,22 +168,24 @@ fn taken_up<G: Gate>(
 /// left one, the log of the board that comes with the answer begins with its log.
 fn concluded<G: Gate>(
     alloc: Global,
+    question: &Arc<Question>,
     problem: Arc<Problem>,
     left: Option<Board>,
     limit: usize,
     gate: &G,
 ) -> Result<Solved, Fault>
-    requires test { IsBounded (arc_value problem).test }
-    requires prices { IsPriceTable (arc_value problem).prices }
-    requires clean { HasNoRunFault (arc_value problem).test }
+    requires test { IsBounded (arc_value question.now).test }
+    requires prices { IsPriceTable (arc_value question.now).prices }
+    requires same { (arc_value question.now).test ≡ arc_value problem }
+    requires clean { HasNoRunFault (arc_value problem) }
     requires most { limit ≤ 1000000 }
-    requires asked { IfSome left (λ b. IsAsked b (arc_value problem) limit) }
-    ensures ok { IfOk result (λ s. IsAnswer (arc_value problem).test (arc_value problem).prices s.answer) }
-    ensures rests { IfOk result (Rests (arc_value problem) limit) }
+    requires asked { IfSome left (λ b. IsAsked b (arc_value question.now) limit) }
+    ensures ok { IfOk result (λ s. IsAnswer (arc_value question.now).test (arc_value question.now).prices s.answer) }
+    ensures rests { IfOk result (Rests (arc_value question.now) limit) }
     ensures goes { IfSome left (λ b. IfOk result (λ s. IfSome s.board (GoesOn b))) }
-    ensures err { IfErr result (λ f. f ≢ Fault.Memory → IsSolveFault (arc_value problem) limit f) }
+    ensures err { IfErr result (λ f. f ≢ Fault.Memory → IsSolveFault (arc_value question.now) limit f) }
 {
-    let board = taken_up(alloc, &problem, left, limit, gate)?;
+    let board = taken_up(alloc, question, left, limit, gate)?;
     let solved = conclude(alloc, problem, board, &mut Unwatched)?;
     Ok(solved)
 }
@@ -191,10 +198,10 @@ fn begin<G: Gate>(
     board: &mut Board,
     gate: &G,
 ) -> Result<Option<Vec<Arc<Witness>>>, Fault>
-    requires { board.old.question ≡ arc_value problem.now }
+    requires { board.old.question.test ≡ arc_value problem.now }
     ensures goes { GoesOn board.old board.new }
-    ensures met { IfOk result (λ found. IfSome found (λ met. AreWitnesses (arc_value problem.now).test (map arc_value met.items))) }
-    ensures err { IfErr result (λ f. f ≢ Fault.Memory → IsSolveFault (arc_value problem.now) board.old.board.limit f) }
+    ensures met { IfOk result (λ found. IfSome found (λ met. AreWitnesses (arc_value problem.now) (map arc_value met.items))) }
+    ensures err { IfErr result (λ f. f ≢ Fault.Memory → IsSolveFault board.old.question board.old.board.limit f) }
 {
     let shared = Arc::try_clone(problem)?;
     let most = gate.nodes_alone();
@@ -232,14 +239,15 @@ pub fn solve<R: Threads + Wait + Sync, G: Gate + Sync>(
     if workers == 1 {
         return fs_search::solve(alloc, question, limit, &mut Alone { gate });
     }
-    let problem = Problem::shared(alloc, question)?;
-    let mut board = opened(alloc, &problem, limit)?;
+    let test = Arc::try_clone(&question.test)?;
+    let problem = Problem::shared(alloc, test)?;
+    let mut board = opened(alloc, &question, limit)?;
     let Some(met) = begin(alloc, &problem, &mut board, gate)? else {
         let solved = conclude(alloc, problem, board, &mut Unwatched)?;
         return Ok(solved);
     };
     let begun = Begun { board, met };
     let left = search_together::<Brand, R, G>(rt, alloc, &problem, begun, workers, gate)?;
-    let solved = concluded(alloc, problem, left, limit, gate)?;
+    let solved = concluded(alloc, &question, problem, left, limit, gate)?;
     Ok(solved)
 }
