@@ -1,5 +1,5 @@
 -- What a command answers, of the files that it has read. What a file gives when it is read no definition says.
-use Rattle.std.specs.Prelude.{◌≡◌, ℕ, ◌==◌, Bool, true, false, List, length, Option, None, Some, IfSome, map, string_bytes, if◌then◌else◌}
+use Rattle.std.specs.Prelude.{◌≡◌, ℕ, Bool, true, false, List, Option, IfSome, map, option_map, string_bytes, if◌then◌else◌}
 use Rattle.fs_io.specs.declared.status.Output.{Output}
 use Rattle.fs_io.specs.declared.status.Status.{Status}
 use Rattle.fs_io.specs.declared.status.Status.TheVariants.{Success}
@@ -23,9 +23,9 @@ use Rattle.fs_command.specs.declared.command.Audit.{Audit}
 use Rattle.fs_command.specs.declared.command.Check.{Check}
 use Rattle.fs_app.specs.declared.papers.Papers.{Papers}
 
--- the bytes of the prices, where a file of prices was read
-abbrev pub offered : Papers → Option (List ℕ)
-offered papers = if length papers.prices.name.now == 0 then None else Some papers.prices.bytes.items
+-- the bytes of the prices that were read, where `place` is to read some
+abbrev pub offered : Place → Papers → Option (List ℕ)
+offered place papers = option_map (λ name. papers.prices.bytes.items) place.prices
 
 -- what is printed: the lines of an answer, or its object
 abbrev pub in_form : (is_json : Bool) (lines object : List ℕ) → List ℕ
@@ -35,7 +35,7 @@ in_form is_json lines object = if is_json then object else lines
 pub record AnswersPlace (place : Place) (papers : Papers) (output : Output) : Type 0 where
   pub test_name : papers.test.name.now ≡ place.test.now
   pub prices_name : IfSome place.prices (λ name. papers.prices.name.now ≡ name.now)
-  pub text : IsFencedText papers.test.bytes.items (offered papers) (map string_bytes place.fences.items) (string_bytes output.text)
+  pub text : IsFencedText papers.test.bytes.items (offered place papers) (map string_bytes place.fences.items) (string_bytes output.text)
   pub ends : output.status ≡ Success
 
 pub record AnswersOrder (order : Order) (papers : Papers) (output : Output) : Type 0 where

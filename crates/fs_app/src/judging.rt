@@ -6,7 +6,6 @@ use fs_kinds::Fault;
 use fs_test::{Line, test_file};
 use std::alloc::{AllocError, Global};
 use std::rt::Files;
-use std::sync::Wait;
 use std::thread;
 use std::thread::Threads;
 
@@ -68,7 +67,7 @@ impl Judged {
 /// Judges the files, in their order, and explains their faults where that is asked for. With more than one job so many
 /// threads judge files side by side, which changes nothing of what is said: files are read here alone, in their order.
 /// Of up to eight files for each job the bytes are kept at once.
-pub(crate) fn judge_files<R: Files + Input + AllocGlobal + Threads + Wait + Sync>(
+pub(crate) fn judge_files<R: Files + Input + AllocGlobal + Threads + Sync>(
     rt: &R,
     files: &[String],
     jobs: u8,

@@ -73,15 +73,25 @@ pub(crate) fn write_within<W: Write>(
     Ok(())
 }
 
-/// Prints on standard error, where there is room. Where that fails the status alone tells.
+/// The lines of the text that fit into so many bytes, from the first on.
+fn lines_within(text: &str, room: usize) -> &str {
+    let mut end = 0;
+    for line in text.split_inclusive('\n') {
+        if line.len() > room - end {
+            break;
+        }
+        end += line.len();
+    }
+    &text[..end]
+}
+
+/// Prints on standard error the lines for which there is room. Where that fails the status alone tells.
 pub(crate) fn tell<R: Files + Eprint + AllocGlobal>(rt: &R, said: &impl Display) {
     let Some(room) = room_of(rt, "/dev/stderr") else {
         let _ = rt.eprint(said);
         return;
     };
     if let Ok(text) = format!(in rt.alloc(); "{said}") {
-        if text.len() <= room {
-            let _ = rt.eprint(text.as_str());
-        }
+        let _ = rt.eprint(lines_within(text.as_str(), room));
     }
 }

@@ -1,8 +1,6 @@
 //! What a run has read, and what is said of its fault from that.
 
 ghost use Rattle.std.specs.Prelude.{◌≡◌, IfOk, OnOk};
-ghost use Rattle.std.specs.Option.{option_copied};
-ghost use Rattle.fs_app.specs.Answers.{offered};
 
 use crate::input::{INPUT_LIMIT, read_file, read_input};
 use fs_io::Unread;
@@ -101,10 +99,8 @@ impl<'a> Papers<'a> {
         }
     }
 
-    /// The prices, where they were given.
-    pub(crate) fn offered(&self) -> Option<&[u8]>
-        ensures { option_copied result ≡ offered self.now }
-    {
+    /// The prices, where some were read.
+    fn offered(&self) -> Option<&[u8]> {
         if self.prices.name.is_empty() {
             None
         } else {

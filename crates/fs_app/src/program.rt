@@ -227,7 +227,7 @@ fn answer<'a, R: Files + Input + Eprint + AllocGlobal + Clock + Threads + Wait +
 }
 
 /// Messages come before the lines, and only where there is memory for these.
-fn answer_test<R: Files + Input + Eprint + AllocGlobal + Threads + Wait + Sync>(
+fn answer_test<R: Files + Input + Eprint + AllocGlobal + Threads + Sync>(
     rt: &R,
     test: &Test,
     voice: Voice,
@@ -258,18 +258,19 @@ fn answer_place<'a, R: Files + Input + AllocGlobal>(
     if let Some(path) = place.prices {
         papers.read_prices(rt, path)?;
     }
-    placed(rt.alloc(), papers)
+    placed(rt.alloc(), place, papers)
 }
 
-/// The test that was read, with the fences.
-fn placed(alloc: Global, papers: &Papers<'_>) -> Result<Output, Fault>
-    ensures text { IfOk result (λ output. IsFencedText papers.now.test.bytes.items (offered papers.now)
+/// The test that was read, with the fences, and with the prices where some were to be read.
+fn placed(alloc: Global, place: &Place<'_>, papers: &Papers<'_>) -> Result<Output, Fault>
+    ensures text { IfOk result (λ output. IsFencedText papers.now.test.bytes.items (offered place.now papers.now)
         (map string_bytes papers.now.fences.now) (string_bytes output.text)) }
     ensures status { IfOk result (λ output. output.status ≡ Success) }
-    ensures fault { IfErr result (IsFirstPlaceFault papers.now.test.bytes.items (offered papers.now)
+    ensures fault { IfErr result (IsFirstPlaceFault papers.now.test.bytes.items (offered place.now papers.now)
         (map string_bytes papers.now.fences.now)) }
 {
-    run_place(alloc, &papers.test.bytes, papers.offered(), papers.fences)
+    let prices = place.prices.map(|_| papers.prices.bytes.as_slice());
+    run_place(alloc, &papers.test.bytes, prices, papers.fences)
 }
 
 fn answer_order<'a, R: Files + Input + AllocGlobal>(

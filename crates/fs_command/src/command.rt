@@ -208,6 +208,9 @@ each FENCE, and for each fence that is missing:
   not for memory  it orders devices alone, and stays
   K is missing    a fence of kind K is needed before this instruction
 
+Behind these words `for memory` stands where a FENCE has i or o among its letters: what it
+orders of devices isn't judged.
+
 Followed together the lines rule the outcome out at the least cost; one alone may not.
 
 Lines and instructions are those of the file; instructions count from 0, FENCEs too. A

@@ -44,7 +44,8 @@ fn whole_words(fault: Fault) -> &'static str {
             "a hart has more than 100,000 runs: leave loads out, or words that they may return",
         Fault::Astray { .. } =>
             "a run comes to this instruction with an address of no location: see the initial values, as `0:x6=x;`",
-        Fault::TooManyCandidates => "there are more than 4,000,000 candidates: leave accesses out",
+        Fault::TooManyCandidates =>
+            "there are more candidates, states or lists of runs than may be looked at: leave accesses out",
         Fault::NodeLimit => "the search came to its end: `--nodes` says how far it may go",
         Fault::ReadFault =>
             "it can't be opened or read, or is longer than a test may be, 1,048,576 bytes",

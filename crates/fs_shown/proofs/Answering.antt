@@ -29,10 +29,11 @@ module _ (test : List ℕ) (fences : List (List ℕ)) (asked : Shown) where
   pub first-locations : (f : Fault) (t : Test) → Reads test t → (f ≢ Memory → IsColumnsFault test t f) → IsFirstStatesFault test fences asked f
   first-locations f t reads h = elim (is_memory f) [ inl e ↦ first-memory f e | inr n ↦ of_locations t reads (h n) ]
 
-  pub first-fences : (f : Fault) (t : Test) → Reads test t → (f ≡ BadFence → IsBadFences None t fences) → (f ≡ BadFence) ⊎ (f ≡ Memory) → IsFirstStatesFault test fences asked f
-  first-fences f t reads bad other =
+  pub first-fences : (f : Fault) (t : Test) (columns : List Column) → Reads test t → AreColumns test t asked.all columns
+      → (f ≡ BadFence → IsBadFences None t fences) → (f ≡ BadFence) ⊎ (f ≡ Memory) → IsFirstStatesFault test fences asked f
+  first-fences f t columns reads are bad other =
       elim other [
-        | inl e ↦ subst (IsFirstStatesFault test fences asked) (sym e) (of_fences t reads (bad e))
+        | inl e ↦ subst (IsFirstStatesFault test fences asked) (sym e) (of_fences t columns reads are (bad e))
         | inr e ↦ first-memory f e
       ]
 

@@ -45,7 +45,8 @@ pub record IsStatesText (test : List ℕ) (fences : List (List ℕ)) (asked : Sh
 pub data IsFirstStatesFault (test : List ℕ) (fences : List (List ℕ)) (asked : Shown) : Fault → Type 0 where
   of_test : {fault : Fault} → IsTestFault test fault → IsFirstStatesFault test fences asked fault
   of_locations : {fault : Fault} (t : Test) → Reads test t → IsColumnsFault test t fault → IsFirstStatesFault test fences asked fault
-  of_fences : (t : Test) → Reads test t → IsBadFences None t fences → IsFirstStatesFault test fences asked BadFence
+  of_fences : (t : Test) (columns : List Column) → Reads test t → AreColumns test t asked.all columns → IsBadFences None t fences
+      → IsFirstStatesFault test fences asked BadFence
   of_states : {fault : Fault} (t : Test) (p : List Entry) (columns : List Column) → Reads test t → IsPlaced None (slots t) fences (Some p)
       → AreColumns test t asked.all columns → IsStatesFault t p (places_of columns) fault → IsFirstStatesFault test fences asked fault
   of_memory : IsFirstStatesFault test fences asked Memory

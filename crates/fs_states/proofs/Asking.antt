@@ -17,8 +17,8 @@ use Rattle.fs_answer.specs.CandidateFaults.{IsCandidateFault}
 use Rattle.fs_states.specs.declared.part.Atom.{Atom}
 use Rattle.fs_states.specs.declared.place.Place.{Place}
 use Rattle.fs_states.specs.declared.state.State.{State}
-use Rattle.fs_states.specs.States.{word_of, IsPlaceOf, IsShownState, IsState}
-use Rattle.fs_states.specs.inner.Parts.{is_in, with_condition, AsksFor}
+use Rattle.fs_states.specs.States.{word_of, IsPlaceOf, IsState}
+use Rattle.fs_states.specs.inner.Parts.{is_in, with_condition, AsksFor, EndsIn, IsFoundIn}
 use Rattle.fs_states.proofs.Conditions.{back, candidate_fault, execution, given}
 
 -- what holds of the error handed on holds of the result
@@ -57,14 +57,19 @@ module _ (t : Test) (places : List Place) (part : List Atom) (asked : Test) (ask
   pub same_slots : slots asked ≡ slots t
   same_slots = ap slots asks_for.same
 
-  pub same_state : (p : List Entry) (state : State) → IsShownState asked p places state → IsShownState t p places state
-  same_state p state h =
-      let own : IsShownState (with_condition asks_for.condition t) p places state =
-      subst (λ (u : Test). IsShownState u p places state) asks_for.same h in (
-        own.0,
-        back (λ u. _) (given state.witness.witness own.0) t Exists asks_for.condition own.1,
-        back (λ u. _) (execution p own.0) t Exists asks_for.condition own.2,
-        own.3,
+  pub found_in : (p : List Entry) (state : State) → EndsIn asked p places state.witness.witness state.words → IsFoundIn t p places part state
+  found_in p state h =
+      let own : EndsIn (with_condition asks_for.condition t) p places state.witness.witness state.words =
+      subst (λ (u : Test). EndsIn u p places state.witness.witness state.words) asks_for.same h in
+      let e = own.0 in
+      let says = asks_for.holds (final_register t e.traces) (final_word (pre_execution t e.traces) e.order) in (
+        (
+          e,
+          back (λ u. _) (given state.witness.witness e) t Exists asks_for.condition own.1,
+          back (λ u. _) (execution p e) t Exists asks_for.condition own.2.execution,
+          own.3,
+        ),
+        sym (says ∙ ap (is_in part) own.3) ∙ own.2.outcome,
       )
 
   pub none_in : (p : List Entry) → (Allows asked p → ⊥) → (s : List ℕ) → IsState t p places s → is_in part s ≡ true → ⊥

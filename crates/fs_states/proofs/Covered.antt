@@ -1,12 +1,12 @@
 -- How far a listing is, step by step.
-use Rattle.std.proofs.Common.{◌≡◌, ◌∙◌, ap, sym, refl, subst, ℕ, zero, suc, ◌-◌, ◌<◌, true, Some, List, [], ◌∷◌, ◌++◌, All, length, take, inl, inr, arith}
-use Rattle.std.specs.Prelude.{◌⊎◌, slice_get}
-use Rattle.std.specs.List.{Contains, slice_index_or}
+use Rattle.std.proofs.Common.{◌≡◌, ◌∙◌, ap, sym, refl, subst, ℕ, ◌-◌, ◌<◌, true, Some, List, [], ◌∷◌, ◌++◌, All, length, take, inl, inr}
+use Rattle.std.specs.Prelude.{◌⊎◌}
+use Rattle.std.specs.List.{Contains}
 use Rattle.std.specs.List.Sorted.{IsStrictlySortedBy}
 use Rattle.std.specs.Ordering.{nat_cmp}
 use Rattle.std.specs.Cmp.Lexicographic.{slice_cmp}
 use Rattle.std.proofs.lemmas.Bool.{false≢true}
-use Rattle.std.proofs.lemmas.List.{get_or-map, length-map}
+use Rattle.std.proofs.lemmas.List.{length-map}
 use Rattle.std.proofs.lemmas.List.Elements.{All-nil, All-cons, All-contains, All-map, All-pop, All-weaker}
 use Rattle.fs_kinds.specs.declared.placement.Entry.{Entry}
 use Rattle.fs_model.specs.declared.test.Test.{Test}
@@ -14,7 +14,7 @@ use Rattle.fs_states.specs.declared.part.Atom.{Atom}
 use Rattle.fs_states.specs.declared.place.Place.{Place}
 use Rattle.fs_states.specs.declared.state.State.{State}
 use Rattle.fs_states.specs.States.{AreStates, IsShownState, IsState, word_at, words_of}
-use Rattle.fs_states.specs.inner.Parts.{is_in, IsListed, IsPartOf, SplitsBy}
+use Rattle.fs_states.specs.inner.Parts.{is_in, IsFoundIn, IsListed, IsPartOf, SplitsBy}
 use Rattle.fs_states.proofs.Halves.{left_cases}
 
 module _ (t : Test) (p : List Entry) (places : List Place) where
@@ -48,9 +48,6 @@ module _ (t : Test) (p : List Entry) (places : List Place) where
     asked_before : All (IsPartOf (length places)) parts × IsPartOf (length places) part
     asked_before = All-pop (IsPartOf (length places)) (parts ++ part ∷ []) parts (Some part) refl h.asked
 
-    pub part_of : IsPartOf (length places) part
-    part_of = asked_before.1
-
     -- no state is in the part
     pub dropped : ((s : List ℕ) → IsState t p places s → is_in part s ≡ true → ⊥) → IsListed t p places known parts
     dropped none = record {
@@ -64,66 +61,44 @@ module _ (t : Test) (p : List Entry) (places : List Place) where
           ];
     }
 
-    -- one state more is known
-    pub extended : (state : State) (new : List State) → IsShownState t p places state
-        → IsStrictlySortedBy (slice_cmp nat_cmp) (words_of new)
-        → All (λ one. Contains known one ⊎ (one ≡ state)) new
-        → ((s : List ℕ) → Contains (words_of known) s → Contains (words_of new) s)
-        → IsListed t p places new (parts ++ part ∷ [])
-    extended state new shown rising each old = record {
-      rising = rising;
-      shown =
-          All-weaker (λ one. Contains known one ⊎ (one ≡ state)) (IsShownState t p places)
-          (λ one from. elim from [
-            | inl there ↦ All-contains (IsShownState t p places) known one h.shown there
-            | inr same ↦ subst (IsShownState t p places) (sym same) shown
-          ]) new each;
-      asked = h.asked;
-      covered = λ s is. elim (h.covered s is) [ inl there ↦ inl (old s there) | inr left ↦ inr left ];
-    }
-
-    -- ---- the part is split by a known state
-
     long_state : (s : List ℕ) → IsState t p places s → length s ≡ length places
     long_state s is = sym (ap length is.2) ∙ length-map places (word_at t is.0)
 
-    module _ (index : ℕ) (state : State) (low : index < length known) (there : state ≡ slice_index_or known index state) where
-      known_state : IsShownState t p places state
-      known_state = subst (IsShownState t p places) (sym there) (h.shown index state low)
+    -- a state in the part is known, and what is left of the part is asked later
+    module _ (state : State) (found : IsFoundIn t p places part state) where
+      long_found : length state.words ≡ length places
+      long_found = long_state state.words (shown_state state found.0)
 
-      pub long_known : length state.words ≡ length places
-      long_known = long_state state.words (shown_state state known_state)
+      pub own_places : IsPartOf (length state.words) part
+      own_places = subst (λ n. IsPartOf n part) (sym long_found) asked_before.1
 
-      known_words : Contains (words_of known) state.words
-      known_words =
-          let long = length-map known (λ (one : State). one.words) in
-          (index, omega (arith, low, long), get_or-map (λ one. one.words) known index state state.words low ∙ ap (λ (one : State). one.words) (sym there))
-
-      pub split : (new : List (List Atom)) → SplitsBy part state.words parts new → IsListed t p places known new
-      split new splits = record {
-        rising = h.rising;
-        shown = h.shown;
-        asked = subst (λ n. All (IsPartOf n) new) long_known (splits.parts (subst (λ n. All (IsPartOf n) parts) (sym long_known) asked_before.0));
+      pub extended : (new : List State) (later : List (List Atom)) → SplitsBy part state.words parts later
+          → IsStrictlySortedBy (slice_cmp nat_cmp) (words_of new)
+          → All (λ one. Contains known one ⊎ (one ≡ state)) new
+          → ((s : List ℕ) → Contains (words_of known) s → Contains (words_of new) s)
+          → Contains (words_of new) state.words
+          → IsListed t p places new later
+      extended new later splits rising each old there = record {
+        rising = rising;
+        shown =
+            All-weaker (λ one. Contains known one ⊎ (one ≡ state)) (IsShownState t p places)
+            (λ one from. elim from [
+              | inl before ↦ All-contains (IsShownState t p places) known one h.shown before
+              | inr same ↦ subst (IsShownState t p places) (sym same) found.0
+            ]) new each;
+        asked = subst (λ n. All (IsPartOf n) later) long_found (splits.parts (subst (λ n. All (IsPartOf n) parts) (sym long_found) asked_before.0));
         covered =
             λ s is. elim (h.covered s is) [
-              | inl listed ↦ inl listed
+              | inl listed ↦ inl (old s listed)
               | inr left ↦ elim (left_cases parts part s left) [
                 | inl before ↦ inr (splits.kept s before)
-                | inr inside ↦ elim (splits.halves s (long_state s is ∙ sym long_known) inside) [
-                  | inl same ↦ inl (subst (Contains (words_of known)) (sym same) known_words)
-                  | inr later ↦ inr later
+                | inr inside ↦ elim (splits.halves s (long_state s is ∙ sym long_found) inside) [
+                  | inl same ↦ inl (subst (Contains (words_of new)) (sym same) there)
+                  | inr later_on ↦ inr later_on
                 ]
               ]
             ];
       }
-
-      pub part_fits : IsPartOf (length state.words) part
-      part_fits = subst (λ n. IsPartOf n part) (sym long_known) part_of
-
-pub some_at : (known : List State) (index : ℕ) → index < length known → (state : State) × (slice_get known index ≡ Some state)
-some_at [] index low = absurd (omega (arith, low))
-some_at (state ∷ known) zero low = (state, refl)
-some_at (state ∷ known) (suc index) low = some_at known index (omega (arith, low))
 
 pub none_left : (parts rest : List (List Atom)) (n : ℕ) → n ≡ 0 → rest ≡ take (n - 1) parts → parts ≡ rest ++ [] → parts ≡ []
 none_left parts rest n none before all =

@@ -1,5 +1,5 @@
 pub mod Halves
-pub mod Rising
+mod Kept
 pub mod Balanced
 pub mod Ending
 pub mod Conditions

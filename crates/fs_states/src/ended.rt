@@ -10,7 +10,7 @@ ghost use Rattle.fs_answer.specs.Shown.{IsShownBy};
 ghost use Rattle.fs_answer.specs.WitnessFile.{KeepsWitness, in_range};
 ghost use Rattle.fs_check.specs.Ordered.{IsOrdered, execution_in};
 ghost use Rattle.fs_judge.specs.Verdicts.{IsShownWith};
-ghost use Rattle.fs_states.specs.States.{word_at, state_of, ArePlacesOf, IsPlaceOf, IsShownState};
+ghost use Rattle.fs_states.specs.States.{word_at, state_of, ArePlacesOf, IsPlaceOf};
 ghost use Rattle.fs_states.specs.inner.Parts.{IsGivenBy, EndsIn};
 
 use crate::place::Place;
@@ -156,7 +156,7 @@ pub(crate) fn ended(
     requires starts { All IsStart test.now.starts }
     requires places { ArePlacesOf test.now places.now }
     requires shown { IsShownWith test.now placement.now witness }
-    ensures ok { IfOk result (IsShownState test.now placement.now places.now) }
+    ensures ok { IfOk result (λ state. EndsIn test.now placement.now places.now state.witness.witness state.words) }
     ensures err { IsOkUnless result Memory }
 {
     let Witness {

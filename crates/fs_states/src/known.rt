@@ -1,56 +1,44 @@
-//! The states that are known, in their order.
+//! The states that are known.
 
-ghost use Rattle.std.specs.Prelude.{◌≡◌, ℕ, ◌<◌, ◌⊎◌, true, Some, List, All, IfNone, IfSome, OnOk, slice_get, length};
+ghost use Rattle.std.specs.Prelude.{◌≡◌, ℕ, ◌⊎◌, List, All, IfOk, OnOk};
 ghost use Rattle.std.specs.List.{Contains};
 ghost use Rattle.std.specs.List.Sorted.{IsStrictlySortedBy};
 ghost use Rattle.std.specs.Ordering.{nat_cmp};
 ghost use Rattle.std.specs.Cmp.Lexicographic.{slice_cmp};
-ghost use Rattle.fs_states.specs.declared.state.State.{State as States};
 ghost use Rattle.fs_states.specs.States.{words_of};
-ghost use Rattle.fs_states.specs.inner.Parts.{is_in, IsPlaceFor};
+ghost use Rattle.fs_states.specs.inner.Parts.{states_in};
 
-use crate::part::{Atom, is_in};
 use crate::state::State;
-use std::alloc::AllocError;
-use std::cmp::Ordering;
+use fs_evidence::Witness;
+use fs_list::List;
+use std::alloc::{AllocError, Global};
+use std::collections::BTreeMap;
 
-// The number of the first state in the part.
-pub(crate) fn first_in(known: &[State], part: &[Atom]) -> Option<usize>
-    ensures low { IfSome result (λ index. index < length known.now) }
-    ensures some { IfSome result (λ index. (state : States) → slice_get known.now index ≡ Some state
-        → is_in part.now state.words ≡ true) }
-{
-    known
-        .iter()
-        .position(|state| is_in(part, state.words.as_slice()))
-}
+/// By the words of each state an execution that ends in it.
+pub(crate) type Known = BTreeMap<Vec<u32>, Witness>;
 
-// Where a state of these words stands among the states, which rise; none where there is one already.
-fn place_for(known: &[State], words: &[u32]) -> Option<usize>
-    requires { IsStrictlySortedBy (slice_cmp nat_cmp) (words_of known.now) }
-    ensures some { IfSome result (IsPlaceFor (words_of known.now) words.now) }
-    ensures none { IfNone result (Contains (words_of known.now) words.now) }
-{
-    for (index, state) in known.iter().enumerate() {
-        match state.words.as_slice().cmp(words) {
-            Ordering::Less => {}
-            Ordering::Equal => return None,
-            Ordering::Greater => return Some(index),
-        }
-    }
-    Some(known.len())
-}
-
-// Puts the state among these, unless there is one with its words. Linear in the states.
-pub(crate) fn keep(known: &mut Vec<State>, state: State) -> Result<(), AllocError>
-    requires { IsStrictlySortedBy (slice_cmp nat_cmp) (words_of known.old.items) }
-    ensures rising { OnOk result (IsStrictlySortedBy (slice_cmp nat_cmp) (words_of known.new.items)) }
-    ensures each { OnOk result (All (λ one. Contains known.old.items one ⊎ (one ≡ state)) known.new.items) }
+// Puts the state among these; one of its words has its execution from then on. Logarithmic in the states.
+pub(crate) fn keep(alloc: Global, known: &mut Known, state: State) -> Result<(), AllocError>
+    ensures rising { OnOk result (IsStrictlySortedBy (slice_cmp nat_cmp) (words_of (states_in known.new))) }
+    ensures each { OnOk result (All (λ one. Contains (states_in known.old) one ⊎ (one ≡ state)) (states_in known.new)) }
     ensures old { (s : List ℕ)
-        → OnOk result (Contains (words_of known.old.items) s → Contains (words_of known.new.items) s) }
+        → OnOk result (Contains (words_of (states_in known.old)) s → Contains (words_of (states_in known.new)) s) }
+    ensures new { OnOk result (Contains (words_of (states_in known.new)) state.words) }
 {
-    if let Some(index) = place_for(known, state.words.as_slice()) {
-        known.insert(index, state)?;
-    }
+    let State { words, witness } = state;
+    let words = Vec::from_slice(alloc, words.as_slice())?;
+    known.insert(words, witness)?;
     Ok(())
+}
+
+// The states, in the order of their words.
+pub(crate) fn listed(alloc: Global, known: Known) -> Result<List<State>, AllocError>
+    ensures { IfOk result (λ states. states ≡ states_in known) }
+{
+    let mut states = Vec::new(alloc);
+    for (words, witness) in known {
+        let words = List::new(words);
+        states.push(State { words, witness })?;
+    }
+    Ok(List::new(states))
 }

@@ -1,9 +1,8 @@
 //! Parts of the states of a test: those that have some words at some places, and don't have others at others.
 
-ghost use Rattle.std.specs.Prelude.{◌≡◌, ◌<◌, ◌++◌, ◌∷◌, [], true, false, filter, not, ◌==◌, IfOk, IfSome};
-ghost use Rattle.std.specs.List.{find, list_any};
-ghost use Rattle.fs_model.specs.Numbers.{numbers_below};
-ghost use Rattle.fs_states.specs.inner.Parts.{as_wanted, is_so, is_in, is_fixing, is_open_at};
+ghost use Rattle.std.specs.Prelude.{◌≡◌, ◌++◌, ◌∷◌, [], true, false, filter, not, ◌==◌, IfOk};
+ghost use Rattle.std.specs.List.{list_any};
+ghost use Rattle.fs_states.specs.inner.Parts.{is_fixing, is_open_at};
 
 use fs_list::List;
 use std::alloc::{AllocError, Global};
@@ -18,27 +17,6 @@ pub(crate) struct Atom {
 
 /// The states of which all these are true.
 pub(crate) type Part = List<Atom>;
-
-// The truth value, turned round where it isn't wanted.
-fn as_wanted(wanted: bool, found: bool) -> bool
-    ensures { result ≡ as_wanted wanted found }
-{
-    if wanted { found } else { !found }
-}
-
-// Is the atom true of the state?
-fn is_so(state: &[u32], atom: &Atom) -> bool
-    ensures { result ≡ is_so state.now atom.now }
-{
-    as_wanted(atom.is, state.get(atom.index).copied() == Some(atom.word))
-}
-
-// Is the state in the part?
-pub(crate) fn is_in(part: &[Atom], state: &[u32]) -> bool
-    ensures { result ≡ is_in part.now state.now }
-{
-    part.iter().all(|atom| is_so(state, atom))
-}
 
 // Does the atom say which word the place has?
 fn is_fixing(index: usize, atom: &Atom) -> bool
@@ -55,24 +33,10 @@ fn is_fixed_at(part: &[Atom], index: usize) -> bool
 }
 
 // Does no atom of the part say so?
-fn is_open_at(part: &[Atom], index: usize) -> bool
+pub(crate) fn is_open_at(part: &[Atom], index: usize) -> bool
     ensures { result ≡ is_open_at part.now index }
 {
     !is_fixed_at(part, index)
-}
-
-fn find_open(part: &[Atom], places: usize) -> Option<usize>
-    ensures { result ≡ find (is_open_at part.now) (numbers_below places) }
-{
-    (0..places).find(|index| is_open_at(part, *index))
-}
-
-// The first of so many places whose word no atom says.
-pub(crate) fn first_open(part: &[Atom], places: usize) -> Option<usize>
-    ensures low { IfSome result (λ index. index < places) }
-    ensures first { result ≡ find (is_open_at part.now) (numbers_below places) }
-{
-    find_open(part, places)
 }
 
 fn is_elsewhere(index: usize, atom: &Atom) -> bool

@@ -9,8 +9,8 @@ ghost use Rattle.fs_model.specs.Slots.{slots};
 ghost use Rattle.fs_model.specs.Test.{IsBounded, IsStart};
 ghost use Rattle.fs_answer.specs.CandidateFaults.{IsCandidateFault};
 ghost use Rattle.fs_judge.specs.Verdicts.{IsVerdict};
-ghost use Rattle.fs_states.specs.States.{ArePlacesOf, IsShownState, IsState};
-ghost use Rattle.fs_states.specs.inner.Parts.{is_in, AsksFor, IsPartOf};
+ghost use Rattle.fs_states.specs.States.{ArePlacesOf, IsState};
+ghost use Rattle.fs_states.specs.inner.Parts.{is_in, AsksFor, EndsIn, IsFoundIn, IsPartOf};
 
 use crate::asked::asked;
 use crate::condition::condition;
@@ -48,7 +48,8 @@ fn shown_state(
     requires starts { All IsStart (arc_value test.now).starts }
     requires placement { slots_of placement.now ≡ slots (arc_value test.now) }
     requires places { ArePlacesOf (arc_value test.now) places.now }
-    ensures some { IfOk result (λ found. IfSome found (IsShownState (arc_value test.now) placement.now places.now)) }
+    ensures some { IfOk result (λ found. IfSome found
+        (λ state. EndsIn (arc_value test.now) placement.now places.now state.witness.witness state.words)) }
     ensures none { IfOk result (λ found. IfNone found (Allows (arc_value test.now) placement.now → ⊥)) }
     ensures err { IfErr result (λ f. f ≢ Memory → IsCandidateFault (arc_value test.now) f) }
 {
@@ -86,7 +87,7 @@ pub(crate) fn sought(
     requires placement { slots_of placement.now ≡ slots test.now }
     requires places { ArePlacesOf test.now places.now }
     requires part { IsPartOf (length places.now) part.now }
-    ensures some { IfOk result (λ found. IfSome found (IsShownState test.now placement.now places.now)) }
+    ensures some { IfOk result (λ found. IfSome found (IsFoundIn test.now placement.now places.now part.now)) }
     ensures none { IfOk result (λ found. IfNone found ((s : List ℕ) → IsState test.now placement.now places.now s
         → is_in part.now s ≡ true → ⊥)) }
     ensures err { IfErr result (λ f. f ≢ Memory → IsCandidateFault test.now f) }

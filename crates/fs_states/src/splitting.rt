@@ -3,27 +3,28 @@
 ghost use Rattle.std.specs.Prelude.{◌≡◌, true, length, OnOk};
 ghost use Rattle.fs_states.specs.inner.Parts.{is_in, IsPartOf, SplitsBy};
 
-use crate::part::{Atom, Part, first_open, with_word, without_word};
+use crate::part::{Part, is_open_at, with_word, without_word};
 use std::alloc::{AllocError, Global};
 
-// Adds the part's two halves: the states that have the word of this state at the first place whose word isn't said
-// yet, and those that don't. Where each place's word is said, the part has this state alone, and nothing is added.
+// Adds all that is left of the part beside this state: for each place whose word the part doesn't say the states that have
+// another word there, and at the places before it the words of this state. No two of these have a state in common.
 pub(crate) fn split(
     alloc: Global,
     parts: &mut Vec<Part>,
-    part: &[Atom],
+    part: Part,
     state: &[u32],
 ) -> Result<(), AllocError>
-    requires part { IsPartOf (length state.now) part.now }
-    requires inside { is_in part.now state.now ≡ true }
-    ensures { OnOk result (SplitsBy part.now state.now parts.old.items parts.new.items) }
+    requires part { IsPartOf (length state.now) part }
+    requires inside { is_in part state.now ≡ true }
+    ensures { OnOk result (SplitsBy part state.now parts.old.items parts.new.items) }
 {
-    if let Some(index) = first_open(part, state.len()) {
-        let word = state[index];
-        let without = without_word(alloc, part, index, word)?;
-        parts.push(without)?;
-        let with = with_word(alloc, part, index, word)?;
-        parts.push(with)?;
+    let mut part = part;
+    for index in 0..state.len() {
+        if is_open_at(part.as_slice(), index) {
+            let word = state[index];
+            parts.push(without_word(alloc, part.as_slice(), index, word)?)?;
+            part = with_word(alloc, part.as_slice(), index, word)?;
+        }
     }
     Ok(())
 }

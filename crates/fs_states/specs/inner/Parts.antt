@@ -1,9 +1,10 @@
 -- Parts of the states that words at some of the places single out, and the test that asks for one of them.
-use Rattle.std.specs.Prelude.{◌≡◌, ℕ, ◌<◌, ◌≤◌, ◌==◌, ◌⊎◌, Bool, true, false, not, ◌&&◌, Some, List, [], All, length, map, slice_get}
+use Rattle.std.specs.Prelude.{◌≡◌, ℕ, ◌<◌, ◌==◌, ◌⊎◌, Bool, true, false, not, ◌&&◌, Some, List, [], All, length, map, slice_get, Vec}
+use Rattle.std.specs.BTreeMap.{BTreeMap}
+use Rattle.std.specs.declared.alloc.Global.{Global}
 use Rattle.std.specs.List.{Contains, list_all, list_any, slice_index_or}
 use Rattle.std.specs.List.Sorted.{IsStrictlySortedBy}
 use Rattle.std.specs.Ordering.{nat_cmp}
-use Rattle.std.specs.declared.cmp.Ordering.TheVariants.{Less}
 use Rattle.std.specs.Cmp.Lexicographic.{slice_cmp}
 use Rattle.fs_kinds.specs.declared.placement.Entry.{Entry}
 use Rattle.fs_model.specs.declared.outcome.Outcome.{Outcome}
@@ -14,9 +15,11 @@ use Rattle.fs_model.specs.Condition.{condition_of}
 use Rattle.fs_model.specs.Numbers.{is_same}
 use Rattle.fs_model.specs.Shows.{holds}
 use Rattle.fs_model.specs.Test.{IsBounded}
-use Rattle.fs_model.specs.Execution.{Execution, IsExecution}
+use Rattle.fs_model.specs.Allows.{Shows}
+use Rattle.fs_model.specs.Execution.{Execution}
 use Rattle.fs_model.specs.Operations.{steps_of}
 use Rattle.fs_model.specs.Witness.{Witness, Chooses, IsOfWitness}
+use Rattle.fs_evidence.specs.Evidence.{Shown}
 use Rattle.fs_states.specs.declared.part.Atom.{Atom}
 use Rattle.fs_states.specs.declared.place.Place.{Place}
 use Rattle.fs_states.specs.declared.state.State.{State}
@@ -68,11 +71,22 @@ pub record IsGivenBy (t : Test) (choices : List (List Choice)) (e : Execution) :
   pub runs :
       (hart : ℕ) → hart < length t.codes → Chooses t hart (slice_index_or choices hart []) (steps_of e.traces hart)
 
--- the witness gives an execution of the test with these fences that ends in the state
+-- the witness gives an execution that shows the outcome with these fences and ends in the state
 abbrev pub EndsIn : Test → List Entry → List Place → Witness → List ℕ → Type 0
-EndsIn t p places w s = (e : Execution) × IsOfWitness t w e × IsExecution t p e × (state_of t places e ≡ s)
+EndsIn t p places w s = (e : Execution) × IsOfWitness t w e × Shows t p e × (state_of t places e ≡ s)
+
+-- its execution ends in it, and it is in the part
+abbrev pub IsFoundIn : Test → List Entry → List Place → List Atom → State → Type 0
+IsFoundIn t p places part state = IsShownState t p places state × (is_in part state.words ≡ true)
 
 -- ---- listings
+
+-- the states of a map by their words
+abbrev pub state_in : Vec ℕ Global × Shown → State
+state_in entry = record { words = entry.0.items; witness = entry.1 }
+
+abbrev pub states_in : BTreeMap (Vec ℕ Global) Shown → List State
+states_in known = map state_in known.entries
 
 -- some part has the state
 abbrev pub IsLeft : List (List Atom) → List ℕ → Type 0
@@ -91,9 +105,3 @@ pub record SplitsBy (part : List Atom) (state : List ℕ) (old new : List (List 
   pub kept : (s : List ℕ) → IsLeft old s → IsLeft new s
   pub halves : (s : List ℕ) → length s ≡ length state → is_in part s ≡ true → (s ≡ state) ⊎ IsLeft new s
   pub parts : All (IsPartOf (length state)) old → All (IsPartOf (length state)) new
-
--- the words stand before this place among rising ones, and after all before it
-pub record IsPlaceFor (lists : List (List ℕ)) (words : List ℕ) (index : ℕ) : Type 0 where
-  pub low : index ≤ length lists
-  pub before : (k : ℕ) (d : List ℕ) → k < index → slice_cmp nat_cmp (slice_index_or lists k d) words ≡ Less
-  pub after : (d : List ℕ) → index < length lists → slice_cmp nat_cmp words (slice_index_or lists index d) ≡ Less

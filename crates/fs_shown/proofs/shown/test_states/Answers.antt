@@ -15,7 +15,7 @@ returns-in_err-columns-clause-fault c =
 pub returns-in_err-placement-clause-fault : goal.returns-in_err-placement-clause-fault
 returns-in_err-placement-clause-fault c =
     IfErr-handed c.from_residual-in_err-placement.result _ _ c.from_residual-in_err-placement.ensures.1
-    (first-fences _ _ _ _ c.args.test c.requires.reads (λ e. c.in_err-placement.ensures.bad_fence (ap (λ f. Err f) e)) c.in_err-placement.ensures.err)
+    (first-fences _ _ _ _ c.args.test c.in_ok-columns.columns.items c.requires.reads c.in_ok-columns.ensures.ok (λ e. c.in_err-placement.ensures.bad_fence (ap (λ f. Err f) e)) c.in_err-placement.ensures.err)
 
 pub owned_states-requires-clause-placement : goal.owned_states-requires-clause-placement
 owned_states-requires-clause-placement c = slots_of-IsPlaced None (slots c.args.test) (map string_bytes c.args.fences.now) c.in_ok-placement.placement c.in_ok-placement.ensures.ok

@@ -12,4 +12,4 @@ returns-clause-ok c = λ w keeps.
     let shows : ShowsAs c.args.test.now c.args.placement.now w e =
     subst (λ (found : Option OrderedCandidate). IfSome found (λ o. ShowsAs c.args.test.now c.args.placement.now w (execution_in o)))
     c.in-Some.is (c.in_ok-ordered.ensures.some w keeps) in
-    IfOk-weaker c.words_at.result _ _ (λ words is. (e, shows.0, shows.1.execution, sym is)) c.words_at.ensures.ok
+    IfOk-weaker c.words_at.result _ _ (λ words is. (e, shows.0, shows.1, sym is)) c.words_at.ensures.ok

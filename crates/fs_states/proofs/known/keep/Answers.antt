@@ -1,32 +1,34 @@
-use Rattle.std.proofs.Common.{◌≡◌, ℕ, sym, subst, List, All}
+use Rattle.std.proofs.Common.{◌≡◌, ◌∙◌, ap, sym, subst, ℕ, List, All, map}
 use Rattle.std.specs.Prelude.{◌⊎◌}
+use Rattle.std.specs.BTreeMap.{insert_entry}
 use Rattle.std.specs.List.{Contains}
-use Rattle.std.specs.List.Sorted.{IsStrictlySortedBy}
-use Rattle.std.specs.Ordering.{nat_cmp}
-use Rattle.std.specs.Cmp.Lexicographic.{slice_cmp}
 use Rattle.fs_states.specs.declared.state.State.{State}
 use Rattle.fs_states.specs.States.{words_of}
-use Rattle.fs_states.specs.inner.Parts.{IsPlaceFor}
-use Rattle.fs_states.proofs.Rising.{rising_put, known_put, each_put}
+use Rattle.fs_states.specs.inner.Parts.{state_in}
+use Rattle.fs_states.proofs.Kept.{Entry, order, rising_states, each_put, old_put, new_put}
 use Rattle.fs_states.proofs.known.keep.Goals as goal
 
-pub returns-in_ok-insert-clause-rising : goal.returns-in_ok-insert-clause-rising
-returns-in_ok-insert-clause-rising c =
-    let known = c.args.known.now.items in
-    let index = c.in-Some.index in
-    let place : IsPlaceFor (words_of known) c.args.state.words index =
-    subst (λ (ws : List ℕ). IsPlaceFor (words_of known) ws index) c.as_slice.ensures
-    (subst (λ (ks : List State). IsPlaceFor (words_of ks) c.as_slice.result.now index) c.deref.ensures.value c.in-Some.ensures.some) in
-    subst (λ (ks : List State). IsStrictlySortedBy (slice_cmp nat_cmp) (words_of ks)) (sym c.in_ok-insert.ensures.items)
-    (rising_put known index c.args.state c.requires place)
+pub returns-clause-rising : goal.returns-clause-rising
+returns-clause-rising c = rising_states c.insert.new.self.entries c.insert.ensures.ordered
 
-pub returns-in_ok-insert-clause-each : goal.returns-in_ok-insert-clause-each
-returns-in_ok-insert-clause-each c =
-    let known = c.args.known.now.items in
-    subst (λ (ks : List State). All (λ one. Contains known one ⊎ (one ≡ c.args.state)) ks) (sym c.in_ok-insert.ensures.items)
-    (each_put known c.in-Some.index c.args.state)
+pub returns-clause-each : goal.returns-clause-each
+returns-clause-each c =
+    let old : List Entry = c.args.known.now.entries in
+    let words : c.in_ok-words.words.items ≡ c.args.state.words = c.in_ok-words.ensures.items ∙ c.as_slice.ensures in
+    let state : state_in (c.in_ok-words.words, c.args.state.witness) ≡ c.args.state =
+    ap (λ (ws : List ℕ). record { words = ws; witness = c.args.state.witness }) words in
+    subst (λ (es : List Entry). All (λ one. Contains (map state_in old) one ⊎ (one ≡ c.args.state)) (map state_in es)) (sym c.in_ok-insert.ensures.entries)
+    (subst (λ (s : State). All (λ one. Contains (map state_in old) one ⊎ (one ≡ s))
+    (map state_in (insert_entry order old c.in_ok-words.words c.args.state.witness))) state (each_put old c.in_ok-words.words c.args.state.witness))
 
-pub returns-in_ok-insert-clause-old : goal.returns-in_ok-insert-clause-old
-returns-in_ok-insert-clause-old c = λ s h.
-    subst (λ (ks : List State). Contains (words_of ks) s) (sym c.in_ok-insert.ensures.items)
-    (known_put c.args.known.now.items c.in-Some.index c.args.state s h)
+pub returns-clause-old : goal.returns-clause-old
+returns-clause-old c = λ s there.
+    subst (λ (es : List Entry). Contains (words_of (map state_in es)) s) (sym c.in_ok-insert.ensures.entries)
+    (old_put c.args.known.now.entries c.in_ok-words.words c.args.state.witness s there)
+
+pub returns-clause-new : goal.returns-clause-new
+returns-clause-new c =
+    let words : c.in_ok-words.words.items ≡ c.args.state.words = c.in_ok-words.ensures.items ∙ c.as_slice.ensures in
+    subst (λ (es : List Entry). Contains (words_of (map state_in es)) c.args.state.words) (sym c.in_ok-insert.ensures.entries)
+    (subst (λ (ws : List ℕ). Contains (words_of (map state_in (insert_entry order c.args.known.now.entries c.in_ok-words.words c.args.state.witness))) ws) words
+    (new_put c.args.known.now.entries c.in_ok-words.words c.args.state.witness))

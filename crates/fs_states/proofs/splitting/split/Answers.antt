@@ -1,27 +1,39 @@
-use Rattle.std.proofs.Common.{◌∙◌, ap, sym, subst, false, List, [], ◌∷◌, ◌++◌, length}
-use Rattle.std.specs.List.{slice_index_or}
-use Rattle.fs_check.proofs.Breaking.{none_found}
+use Rattle.std.proofs.Common.{◌≡◌, ◌∙◌, ap, sym, refl, subst, ◌+◌, ◌<◌, Bool, true, false, List, [], ◌∷◌, ◌++◌, filter, length, arith}
+use Rattle.std.specs.List.{list_any, slice_index_or}
+use Rattle.std.proofs.lemmas.Bool.{not-false}
 use Rattle.fs_states.specs.declared.part.Atom.{Atom}
-use Rattle.fs_states.specs.inner.Parts.{is_open_at, SplitsBy}
-use Rattle.fs_states.proofs.Halves.{halves, alone}
+use Rattle.fs_states.specs.inner.Parts.{is_fixing, is_open_at}
+use Rattle.fs_states.proofs.Halves.{apart_from, Splitting, passes, goes_on, ends}
+use Rattle.fs_states.proofs.splitting.split.Goals.{then-is_open_at+in_ok-without_word+in_ok-push+in_ok-part, else-is_open_at}
 use Rattle.fs_states.proofs.splitting.split.Goals as goal
 
-pub returns-in_ok-push-2 : goal.returns-in_ok-push-2
-returns-in_ok-push-2 c =
-    let part = c.args.part.now in
+pub loop-index-preserved : goal.loop-index-preserved
+loop-index-preserved c =
+    let whole = c.args.part in
     let state = c.args.state.now in
     let old = c.args.parts.now.items in
-    let index = c.in-Some.index in
-    let word = slice_index_or state index 0 in
-    let without = part ++ (record { index = index; word = word; is = false }) ∷ [] in
-    let first = c.in_ok-push.ensures.items ∙ ap (λ (w : List Atom). old ++ w ∷ []) c.in_ok-without.ensures in
-    let new =
-    c.in_ok-push-2.ensures.items
-    ∙ ap (λ (ps : List (List Atom)). ps ++ c.in_ok-with.with ∷ []) first
-    ∙ ap (λ (w : List Atom). (old ++ without ∷ []) ++ w ∷ []) c.in_ok-with.ensures in
-    subst (SplitsBy part state old) (sym new) (halves part state old index word c.in-Some.ensures.low c.requires.part)
+    let n = c.loop-index.index in
+    let part = c.loop-index.part in
+    let parts = c.loop-index.parts.items in
+    let low : n < length state = omega (arith, c.loop-index-test.true) in
+    let word = slice_index_or state n 0 in
+    elim c.if-is_open_at.branch [
+      | then-is_open_at+in_ok-without_word+in_ok-push+in_ok-part w ↦ rw (w.parts-is, w.part-is) (
+          let without = w.in_ok-without_word.ensures
+          ∙ ap (λ (atoms : List Atom). atoms ++ (record { index = n; word = word; is = false }) ∷ []) w.as_slice-then-is_open_at.ensures in
+          let with_it = w.in_ok-part.ensures
+          ∙ ap (λ (atoms : List Atom). filter (apart_from n) atoms ++ (record { index = n; word = word; is = true }) ∷ []) w.as_slice-then-is_open_at-2.ensures in
+          let pushed = w.in_ok-push.ensures.items ∙ ap (λ (atoms : List Atom). parts ++ atoms ∷ []) without in
+          subst (λ (left : List Atom). Splitting whole state old (n + 1) left w.push.new.self.items) (sym with_it)
+          (subst (λ (ps : List (List Atom)). Splitting whole state old (n + 1) (filter (apart_from n) part ++ (record { index = n; word = word; is = true }) ∷ []) ps) (sym pushed)
+          (goes_on whole state old n part parts c.loop-index.invariant low word refl)))
+      | else-is_open_at w ↦ rw (w.parts-is, w.part-is) (
+          let closed : is_open_at part n ≡ false =
+          ap (λ (atoms : List Atom). is_open_at atoms n) (sym c.as_slice.ensures) ∙ sym c.is_open_at.ensures ∙ w.if-is_open_at.false in
+          passes whole state old n part parts c.loop-index.invariant low (not-false (list_any (is_fixing n) part) closed))
+    ]
 
-pub returns-in_default : goal.returns-in_default
-returns-in_default c =
-    alone c.args.part.now c.args.state.now c.args.parts.now.items
-    (none_found (is_open_at c.args.part.now) (length c.args.state.now) (sym c.first_open.ensures.first ∙ c.in_default.is)) c.requires.inside
+pub returns : goal.returns
+returns c =
+    ends c.args.part c.args.state.now c.args.parts.now.items c.loop-index.index c.loop-index.part c.loop-index.parts.items
+    (omega (arith, c.loop-index-test.false, c.loop-index.auto.index-end)) c.loop-index.invariant
