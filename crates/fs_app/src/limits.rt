@@ -1,6 +1,7 @@
 //! What the system lets a run use: how much files may grow, and how large its stack is.
 use fs_io::write_text;
 use fs_kinds::Fault;
+use std::alloc::{AllocError, Global};
 use std::fmt::Display;
 use std::fs::{File, Metadata, metadata};
 use std::io::{Read, Write};
@@ -74,15 +75,15 @@ pub(crate) fn write_within<W: Write>(
 }
 
 /// The lines of the text that fit into so many bytes, from the first on.
-fn lines_within(text: &str, room: usize) -> &str {
-    let mut end = 0;
+fn lines_within(alloc: Global, text: &str, room: usize) -> Result<String, AllocError> {
+    let mut kept = String::new(alloc);
     for line in text.split_inclusive('\n') {
-        if line.len() > room - end {
+        if kept.len().saturating_add(line.len()) > room {
             break;
         }
-        end += line.len();
+        kept.push_str(line)?;
     }
-    &text[..end]
+    Ok(kept)
 }
 
 /// Prints on standard error the lines for which there is room. Where that fails the status alone tells.
@@ -92,6 +93,8 @@ pub(crate) fn tell<R: Files + Eprint + AllocGlobal>(rt: &R, said: &impl Display)
         return;
     };
     if let Ok(text) = format!(in rt.alloc(); "{said}") {
-        let _ = rt.eprint(lines_within(text.as_str(), room));
+        if let Ok(kept) = lines_within(rt.alloc(), text.as_str(), room) {
+            let _ = rt.eprint(kept.as_str());
+        }
     }
 }

@@ -1,6 +1,7 @@
 //! A run of the program: from the words of its command line to what it prints and its exit status.
 
 ghost use Rattle.std.specs.Prelude.{◌≡◌, ◌≤◌, IfOk, IfErr, map, string_bytes};
+ghost use Rattle.std.specs.Option.{option_copied};
 ghost use Rattle.fs_io.specs.declared.status.Status.TheVariants.{Success};
 ghost use Rattle.fs_place.specs.Place.{IsFencedText, IsFirstPlaceFault};
 ghost use Rattle.fs_order.specs.Order.{IsOrderAnswer, IsFirstOrderFault};
@@ -261,6 +262,16 @@ fn answer_place<'a, R: Files + Input + AllocGlobal>(
     placed(rt.alloc(), place, papers)
 }
 
+/// The prices that were read, where some were to be.
+fn offered<'p>(place: &Place<'_>, papers: &'p Papers<'_>) -> Option<&'p [u8]>
+    ensures { option_copied result ≡ offered place.now papers.now }
+{
+    match place.prices {
+        Some(_) => Some(&papers.prices.bytes),
+        None => None,
+    }
+}
+
 /// The test that was read, with the fences, and with the prices where some were to be read.
 fn placed(alloc: Global, place: &Place<'_>, papers: &Papers<'_>) -> Result<Output, Fault>
     ensures text { IfOk result (λ output. IsFencedText papers.now.test.bytes.items (offered place.now papers.now)
@@ -269,8 +280,12 @@ fn placed(alloc: Global, place: &Place<'_>, papers: &Papers<'_>) -> Result<Outpu
     ensures fault { IfErr result (IsFirstPlaceFault papers.now.test.bytes.items (offered place.now papers.now)
         (map string_bytes papers.now.fences.now)) }
 {
-    let prices = place.prices.map(|_| papers.prices.bytes.as_slice());
-    run_place(alloc, &papers.test.bytes, prices, papers.fences)
+    run_place(
+        alloc,
+        &papers.test.bytes,
+        offered(place, papers),
+        papers.fences,
+    )
 }
 
 fn answer_order<'a, R: Files + Input + AllocGlobal>(
