@@ -9,8 +9,8 @@ use Rattle.fs_audit.proofs.findings.is_kept.Goals as goal
 
 pub returns-then-cost-clause-yes : goal.returns-then-cost-clause-yes
 returns-then-cost-clause-yes c =
-    let prices = (arc_value c.args.question.now).prices in
-    let behind : c.behind-question.inside.prices ≡ prices = ap (λ (q : Question). q.prices) (c.behind-question.view_is ∙ c.deref.ensures) in
+    let prices = c.args.question.now.prices in
+    let behind : c.question.inside.prices ≡ prices = ap (λ (q : Question). q.prices) c.question.view_is in
     let each : costs_everywhere prices c.args.own.now ≡ true =
     ap (λ t. costs_everywhere t c.args.own.now) (sym behind) ∙ sym c.costs_everywhere.ensures ∙ c.if-costs_everywhere.true in
     let same : cost prices c.args.first.now.placement ≡ cost prices c.args.own.now =
