@@ -11,8 +11,8 @@ invariant_of-self c =
   c.keep_all.ensures q.test
       (subst (λ ws. AreWitnesses q.test (map arc_value ws)) (sym c.as_slice.ensures)
       (told-witnesses c.args.self.now q c.args.reply.now c.in-Seen.bound c.in-Seen.count c.in-Seen.witnesses c.self.view_is c.in-Seen.is c.requires))
-      c.self.invariant.1.0,
-  c.self.invariant.1.1,
+      c.self.invariant.1,
+  c.self.invariant.2,
 )
 
 pub invariant_of-self-2 : goal.invariant_of-self-2
@@ -22,6 +22,6 @@ invariant_of-self-2 c =
   c.keep_all.ensures q.test
       (subst (λ ws. AreWitnesses q.test (map arc_value ws)) (sym c.as_slice.ensures)
       (told-witnesses c.args.self.now q c.args.reply.now c.in-Seen.bound c.in-Seen.count c.in-Seen.witnesses c.self.view_is c.in-Seen.is c.requires))
-      c.self.invariant.1.0,
-  c.self.invariant.1.1,
+      c.self.invariant.1,
+  c.self.invariant.2,
 )
