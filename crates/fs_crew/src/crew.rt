@@ -19,9 +19,7 @@ use fs_evidence::{Question, Witness};
 use fs_hands::{Hand, hands};
 use fs_kinds::Fault;
 use fs_pool::{Asked, Desk, Pass, finish};
-use fs_search::{
-    Problem, Solved, Unwatched, conclude, problem_of, search_alone, solve_problem,
-};
+use fs_search::{Problem, Solved, Unwatched, conclude, problem_of, search_alone, solve_problem};
 use std::alloc::{AllocError, Global};
 use std::marker::Brand;
 use std::sync::{Arc, Wait};
