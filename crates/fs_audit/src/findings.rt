@@ -29,7 +29,7 @@ use fs_kinds::{Entry, Fault, Kind as FenceKind, Placement, Prices, Slot, read_pr
 use fs_list::List;
 use fs_litmus::{Code, Test, read_lines, read_test, slots};
 use fs_said::{Kind, forbids};
-use fs_search::{Answer, Problem, Unwatched, solve_problem};
+use fs_search::{Answer, Problem, Unwatched, problem_of, solve_problem};
 use fs_test::judge_test;
 use fs_unfenced::{is_fence, memory_kind};
 use std::alloc::{AllocError, Global};
@@ -224,20 +224,20 @@ fn costs_everywhere(prices: &Prices, placement: &Placement) -> bool
 // Is no fence of the placement for nothing, does it cost as much as the cheapest, and forbid the outcome as they do?
 fn is_kept(
     alloc: Global,
-    question: &Question,
+    question: &Arc<Question>,
     problem: &Problem,
     own: &Placement,
     first: &Forbidden,
     cost: u64,
 ) -> Result<bool, Fault>
-    requires same { problem.now ≡ question.now.test }
-    requires slots { slots_of own.now ≡ slots question.now.test }
-    requires offered { IsTrue (are_offered question.now.prices own.now) }
-    requires first { IsCheapest question.now.test question.now.prices first.now.placement }
-    requires cost { cost ≡ fences_cost question.now.prices first.now.placement }
-    ensures yes { IfOk result (λ is. is ≡ true → IsKept question.now.test question.now.prices own.now) }
-    ensures no { IfOk result (λ is. is ≡ false → IsKept question.now.test question.now.prices own.now → ⊥) }
-    ensures err { IfErr result (λ f. f ≢ Fault.Memory → IsCandidateFault question.now.test f) }
+    requires same { problem.now ≡ (arc_value question.now).test }
+    requires slots { slots_of own.now ≡ slots (arc_value question.now).test }
+    requires offered { IsTrue (are_offered (arc_value question.now).prices own.now) }
+    requires first { IsCheapest (arc_value question.now).test (arc_value question.now).prices first.now.placement }
+    requires cost { cost ≡ fences_cost (arc_value question.now).prices first.now.placement }
+    ensures yes { IfOk result (λ is. is ≡ true → IsKept (arc_value question.now).test (arc_value question.now).prices own.now) }
+    ensures no { IfOk result (λ is. is ≡ false → IsKept (arc_value question.now).test (arc_value question.now).prices own.now → ⊥) }
+    ensures err { IfErr result (λ f. f ≢ Fault.Memory → IsCandidateFault (arc_value question.now).test f) }
 {
     let prices = &question.prices;
     if costs_everywhere(prices, own) && prices.cost(own) == cost {
@@ -250,19 +250,19 @@ fn is_kept(
 // The FENCEs as they are written, where they are kept; else the first of the cheapest placements.
 fn kept_or_first(
     alloc: Global,
-    question: &Question,
+    question: &Arc<Question>,
     problem: &Problem,
     own: &Placement,
     first: &Forbidden,
     cost: u64,
 ) -> Result<Placement, Fault>
-    requires same { problem.now ≡ question.now.test }
-    requires slots { slots_of own.now ≡ slots question.now.test }
-    requires offered { IsTrue (are_offered question.now.prices own.now) }
-    requires first { IsCheapest question.now.test question.now.prices first.now.placement }
-    requires cost { cost ≡ fences_cost question.now.prices first.now.placement }
-    ensures ok { IfOk result (λ p. IsAdvised question.now.test question.now.prices own.now (Some p)) }
-    ensures err { IfErr result (λ f. f ≢ Fault.Memory → IsCandidateFault question.now.test f) }
+    requires same { problem.now ≡ (arc_value question.now).test }
+    requires slots { slots_of own.now ≡ slots (arc_value question.now).test }
+    requires offered { IsTrue (are_offered (arc_value question.now).prices own.now) }
+    requires first { IsCheapest (arc_value question.now).test (arc_value question.now).prices first.now.placement }
+    requires cost { cost ≡ fences_cost (arc_value question.now).prices first.now.placement }
+    ensures ok { IfOk result (λ p. IsAdvised (arc_value question.now).test (arc_value question.now).prices own.now (Some p)) }
+    ensures err { IfErr result (λ f. f ≢ Fault.Memory → IsCandidateFault (arc_value question.now).test f) }
 {
     let is_kept = is_kept(alloc, question, problem, own, first, cost)?;
     if is_kept {
@@ -290,7 +290,7 @@ fn best(
     ensures err { IfErr result (λ f. f ≢ Fault.Memory
         → IsUnanswered (arc_value question.now).test (arc_value question.now).prices limit f) }
 {
-    let problem = Problem::shared(alloc, Arc::try_clone(&question.test)?)?;
+    let problem = problem_of(alloc, question)?;
     let asked = Arc::try_clone(question)?;
     let shared = Arc::try_clone(&problem)?;
     let solved = solve_problem(alloc, asked, shared, limit, &mut Unwatched)?;

@@ -19,7 +19,7 @@ use fs_evidence::{Question, Witness};
 use fs_hands::{Hand, hands};
 use fs_kinds::Fault;
 use fs_pool::{Asked, Desk, Pass, finish};
-use fs_search::{Problem, Solved, Unwatched, conclude, search_alone};
+use fs_search::{Problem, Solved, Unwatched, conclude, problem_of, search_alone, solve_problem};
 use std::alloc::{AllocError, Global};
 use std::marker::Brand;
 use std::sync::{Arc, Wait};
@@ -177,27 +177,6 @@ fn opened(alloc: Global, question: &Arc<Question>, limit: usize) -> Result<Board
     Board::new(alloc, question, limit)
 }
 
-/// The answer by one worker, from a board anew.
-fn searched_anew(
-    alloc: Global,
-    question: &Arc<Question>,
-    problem: Arc<Problem>,
-    limit: usize,
-) -> Result<Solved, Fault>
-    requires test { IsBounded (arc_value question.now).test }
-    requires prices { IsPriceTable (arc_value question.now).prices }
-    requires same { (arc_value question.now).test ≡ arc_value problem }
-    requires clean { HasNoRunFault (arc_value problem) }
-    requires most { limit ≤ 1000000 }
-    ensures ok { IfOk result (λ s. IsAnswer (arc_value question.now).test (arc_value question.now).prices s.answer) }
-    ensures rests { IfOk result (Rests (arc_value question.now) limit) }
-    ensures err { IfErr result (λ f. f ≢ Fault.Memory → IsSolveFault (arc_value question.now) limit f) }
-{
-    let board = opened(alloc, question, limit)?;
-    let solved = conclude(alloc, problem, board, &mut Unwatched)?;
-    Ok(solved)
-}
-
 /// One worker searches the board alone. Where the others are to join now the witnesses that it has met come back; none where the board is
 /// finished, or has no room left. The faults are those of verdicts, and F19.
 fn begin<G: Gate>(
@@ -247,8 +226,7 @@ pub fn solve<R: Threads + Wait + Sync, G: Gate + Sync>(
     if workers == 1 {
         return fs_search::solve(alloc, question, limit, &mut Alone { gate });
     }
-    let test = Arc::try_clone(&question.test)?;
-    let problem = Problem::shared(alloc, test)?;
+    let problem = problem_of(alloc, &question)?;
     let mut board = opened(alloc, &question, limit)?;
     let Some(met) = begin(alloc, &problem, &mut board, gate)? else {
         let solved = conclude(alloc, problem, board, &mut Unwatched)?;
@@ -259,6 +237,6 @@ pub fn solve<R: Threads + Wait + Sync, G: Gate + Sync>(
     if let Some(solved) = found {
         return Ok(solved);
     }
-    let solved = searched_anew(alloc, &question, problem, limit)?;
+    let solved = solve_problem(alloc, question, problem, limit, &mut Unwatched)?;
     Ok(solved)
 }

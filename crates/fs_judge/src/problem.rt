@@ -83,7 +83,8 @@ impl Problem {
         ensures err { IfErr result (λ f. f ≢ Memory → IsCandidateFault (arc_value test) f) }
     {
         let basis = Basis::new(alloc, &test)?;
-        Problem::over(alloc, test, basis)
+        let problem = Problem::over(alloc, test, basis)?;
+        Ok(problem)
     }
 
     /// The same of a test whose runs are found. The fault is F15 where some location may get 11 stores or more, and there are too many

@@ -15,8 +15,8 @@ ghost use Rattle.fs_board.specs.Asking.{Tells};
 ghost use Rattle.fs_scout.specs.Tries.{IsPostable, IsTry, IsLast};
 
 use crate::floor_and_filled::{
-    forbidden_or_stored, is_filled_new, is_floor_allowed, is_floor_new, judge_floor, look_at_filled,
-    stored_over_filled,
+    forbidden_or_stored, is_filled_new, is_floor_allowed, is_floor_new, judge_floor,
+    look_at_filled, stored_over_filled,
 };
 use crate::taken::{Child, Taken, push_children};
 use crate::watch::Watch;

@@ -166,6 +166,19 @@ pub fn conclude<W: Watch>(
     }
 }
 
+/// The problem of the question's test, to be shared. The faults are those of `Problem::new`.
+pub fn problem_of(alloc: Global, question: &Arc<Question>) -> Result<Arc<Problem>, Fault>
+    requires bounded { IsBounded (arc_value question.now).test }
+    requires starts { All IsStart (arc_value question.now).test.starts }
+    ensures same { IfOk result (λ problem. (arc_value question.now).test ≡ arc_value problem) }
+    ensures clean { OnOk result (HasNoRunFault (arc_value question.now).test) }
+    ensures err { IfErr result (λ f. f ≢ Fault.Memory → IsCandidateFault (arc_value question.now).test f) }
+{
+    let test = Arc::try_clone(&question.test)?;
+    let problem = Problem::shared(alloc, test)?;
+    Ok(problem)
+}
+
 /// The answer to a question: the cheapest placement that forbids the outcome, of several the first, or a witness that none does. No node
 /// of the search has a number above the limit. F16 comes only where fences are needed, `rw,rw` in every slot is enough, and the tree of
 /// all placements has more nodes below its root than the limit. F13 to F15 come where the candidates can't be listed; or F19.
@@ -192,12 +205,12 @@ pub fn solve<W: Watch>(
     ensures rests { IfOk result (Rests (arc_value question) limit) }
     ensures err { IfErr result (λ f. f ≢ Fault.Memory → IsSolveFault (arc_value question) limit f) }
 {
-    let test = Arc::try_clone(&question.test)?;
-    let problem = Problem::shared(alloc, test)?;
-    solve_problem(alloc, question, problem, limit, watch)
+    let problem = problem_of(alloc, &question)?;
+    let solved = solve_problem(alloc, question, problem, limit, watch)?;
+    Ok(solved)
 }
 
-/// The same where the problem of the question's test is made, and so its runs can be listed.
+/// The same where the problem of the question's test is made already, so its runs can be listed.
 pub fn solve_problem<W: Watch>(
     alloc: Global,
     question: Arc<Question>,
@@ -209,7 +222,6 @@ pub fn solve_problem<W: Watch>(
     requires same { (arc_value question).test ≡ arc_value problem }
     requires clean { HasNoRunFault (arc_value problem) }
     requires prices { IsPriceTable (arc_value question).prices }
-    requires some { 1 ≤ limit }
     requires limit { limit ≤ 1000000 }
     ensures ok { IfOk result (λ s. IsAnswer (arc_value question).test (arc_value question).prices s.answer) }
     ensures rests { IfOk result (Rests (arc_value question) limit) }

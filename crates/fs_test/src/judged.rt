@@ -50,7 +50,7 @@ pub fn judge_test(alloc: Global, test: &Arc<Test>) -> Result<Said, Fault>
     ensures err { IfErr result (λ f. f ≢ Memory → IsFaultOf (arc_value test.now) f) }
 {
     let basis = Basis::new(alloc, test)?;
-    match vacuous(alloc, &basis)? {
+    match vacuous(alloc, test, &basis)? {
         Vacuity::Vacuous(said) => Ok(said),
         Vacuity::Serious => judge_serious(alloc, test, basis, true),
         Vacuity::Open => judge_serious(alloc, test, basis, false),

@@ -41,7 +41,7 @@ fn note_of(alloc: Global, test: Test) -> Result<Option<String>, Fault>
 {
     let test = shared(alloc, test)?;
     let basis = Basis::new(alloc, &test)?;
-    match vacuous(alloc, &basis)? {
+    match vacuous(alloc, &test, &basis)? {
         Vacuity::Vacuous(said) => Ok(Some(note(alloc, &said)?)),
         Vacuity::Serious => Ok(None),
         Vacuity::Open => Ok(None),

@@ -1,16 +1,19 @@
 //! What is said of a test that is vacuous.
 
-ghost use Rattle.std.specs.Prelude.{IfOk, IsOkUnless};
+ghost use Rattle.std.specs.Prelude.{◌≡◌, IfOk, IsOkUnless};
+ghost use Rattle.std.specs.Arc.{arc_value};
 ghost use Rattle.fs_kinds.specs.declared.fault.Fault.TheVariants.{Memory};
 ghost use Rattle.fs_thin_air.specs.ThinAir.{CanBeListed};
 ghost use Rattle.fs_test.specs.inner.Vacuities.{IsVacuity};
 
 use crate::never::vacuous_text;
 use fs_kinds::Fault;
+use fs_model::Test;
 use fs_refute::Basis;
 use fs_said::{Kind, Said};
 use fs_vacuous::is_vacuous;
 use std::alloc::Global;
+use std::sync::Arc;
 
 /// Whether a test is vacuous, as far as that is known.
 #[derive(Drop)]
@@ -23,12 +26,15 @@ pub(crate) enum Vacuity {
     Open,
 }
 
-// Whether the test is vacuous, and where it is what is said of it. The error is F19. The cost is that of `is_vacuous` of fs_vacuous.
-pub(crate) fn vacuous(alloc: Global, basis: &Basis) -> Result<Vacuity, Fault>
-    requires { CanBeListed basis.now }
-    ensures ok { IfOk result (IsVacuity basis.now) }
+// Whether the test with these runs is vacuous, and where it is what is said of it. The error is F19. The cost is that of `is_vacuous` of
+// fs_vacuous.
+pub(crate) fn vacuous(alloc: Global, test: &Arc<Test>, basis: &Basis) -> Result<Vacuity, Fault>
+    requires same { basis.now ≡ arc_value test.now }
+    requires listable { CanBeListed (arc_value test.now) }
+    ensures ok { IfOk result (IsVacuity (arc_value test.now)) }
     ensures err { IsOkUnless result Memory }
 {
+    let _ = test;
     match is_vacuous(alloc, basis)? {
         Some(true) => Ok(Vacuity::Vacuous(Said {
             kind: Kind::Vacuous,

@@ -1,19 +1,13 @@
-use Rattle.std.proofs.Common.{◌≡◌, ◌≢◌, ◌∙◌, ap, inl, sym, subst}
-use Rattle.std.specs.Arc.{arc_value}
+use Rattle.std.proofs.Common.{◌≢◌, inl, subst}
 use Rattle.fs_kinds.specs.declared.fault.Fault.TheVariants.{Memory}
-use Rattle.fs_model.specs.declared.test.Test.{Test}
-use Rattle.fs_answer.specs.CandidateFaults.{IsCandidateFault}
-use Rattle.fs_history.specs.Sizes.{HasNoRunFault, IsUnanswered}
+use Rattle.fs_history.specs.Sizes.{IsUnanswered}
 use Rattle.fs_evidence.specs.Evidence.{Question}
 use Rattle.fs_place.proofs.Faults.{IfErr-handed}
 use Rattle.fs_audit.proofs.findings.best.Goals as goal
 
 pub returns-in_err-problem-clause-err : goal.returns-in_err-problem-clause-err
 returns-in_err-problem-clause-err c =
-    let fault = c.in_err-problem.field-0.0 in
-    let same = c.in_ok-try_clone.ensures ∙ ap (λ (q : Question). q.test) (c.behind-question.view_is ∙ c.deref.ensures) in
-    IfErr-handed c.from_residual-in_err-problem.result _ _ c.from_residual-in_err-problem.ensures.1
-    (λ other. inl (subst (λ (t : Test). IsCandidateFault t fault) same (c.in_err-problem.ensures.err other)))
+    IfErr-handed c.from_residual.result _ _ c.from_residual.ensures.1 (λ other. inl (c.in_err-problem.ensures.err other))
 
 pub returns-in_err-solved-clause-err : goal.returns-in_err-solved-clause-err
 returns-in_err-solved-clause-err c =

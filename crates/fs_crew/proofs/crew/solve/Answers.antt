@@ -5,18 +5,29 @@ use Rattle.fs_model.specs.declared.test.Test.{Test}
 use Rattle.fs_history.specs.Sizes.{HasNoRunFault}
 use Rattle.fs_evidence.specs.Evidence.{Question}
 use Rattle.fs_board.specs.Growth.{AreWitnesses}
-use Rattle.fs_search.proofs.Ends.{handed, solve-handed}
+use Rattle.fs_search.proofs.Ends.{handed}
 use Rattle.fs_crew.proofs.Faults.{same-fault}
 use Rattle.fs_crew.proofs.crew.solve.Goals as goal
 
-pub search_together-requires-clause-clean : goal.search_together-requires-clause-clean
-search_together-requires-clause-clean g c κs within = subst HasNoRunFault (sym c.in_ok-problem.ensures.value) c.in_ok-problem.ensures.clean
+pub returns-in_err-problem-clause-err : goal.returns-in_err-problem-clause-err
+returns-in_err-problem-clause-err g c =
+    handed c.from_residual.result _ _ c.from_residual.ensures.1 (λ other. inl (c.in_err-problem.ensures.err other))
 
-pub searched_anew-requires-clause-clean : goal.searched_anew-requires-clause-clean
-searched_anew-requires-clause-clean g c = subst HasNoRunFault (sym c.in_ok-problem.ensures.value) c.in_ok-problem.ensures.clean
+pub search_together-requires-clause-met : goal.search_together-requires-clause-met
+search_together-requires-clause-met g c κs within =
+    let same = c.in_ok-met.ensures.goes.question ∙ c.in_ok-board.ensures.asked.question in
+    subst (λ (t : Test). AreWitnesses t (map arc_value c.in-Some.met.items))
+    (sym c.in_ok-problem.ensures.same ∙ sym (ap (λ (q : Question). q.test) same))
+    (subst (λ found. IfSome found (λ met. AreWitnesses c.in_ok-problem.problem.value (map arc_value met.items))) c.in-Some.is c.in_ok-met.ensures.met)
+
+pub search_together-requires-clause-clean : goal.search_together-requires-clause-clean
+search_together-requires-clause-clean g c κs within = subst HasNoRunFault c.in_ok-problem.ensures.same c.in_ok-problem.ensures.clean
+
+pub solve_problem-requires-clause-clean : goal.solve_problem-requires-clause-clean
+solve_problem-requires-clause-clean g c = subst HasNoRunFault c.in_ok-problem.ensures.same c.in_ok-problem.ensures.clean
 
 pub conclude-requires-clause-clean : goal.conclude-requires-clause-clean
-conclude-requires-clause-clean g c = subst HasNoRunFault (sym c.in_ok-problem.ensures.value) c.in_ok-problem.ensures.clean
+conclude-requires-clause-clean g c = subst HasNoRunFault c.in_ok-problem.ensures.same c.in_ok-problem.ensures.clean
 
 pub returns-in_err-met-clause-err : goal.returns-in_err-met-clause-err
 returns-in_err-met-clause-err g c =

@@ -1,17 +1,28 @@
-use Rattle.std.proofs.Common.{Some, refl, ap, ◌∙◌}
+use Rattle.std.proofs.Common.{◌≡◌, ℕ, List, Some, refl, string_bytes, subst, ap, ◌∙◌}
+use Rattle.std.specs.Arc.{arc_value}
+use Rattle.fs_model.specs.declared.test.Test.{Test}
+use Rattle.fs_model.specs.declared.step.Step.{Step}
+use Rattle.fs_answer.specs.Trees.{AreItsRuns}
+use Rattle.fs_vacuous.specs.Vacuous.{IsVacuous, HasManyRuns}
 use Rattle.fs_vacuous.proofs.Forbidden.{vacuous_forbids}
+use Rattle.fs_said.specs.Words.{never_in_outcome, never_words}
 use Rattle.fs_test.proofs.vacuous.vacuous.Goals as goal
 
 pub returns-in-Some-true-clause-ok : goal.returns-in-Some-true-clause-ok
 returns-in-Some-true-clause-ok c =
+    let t = arc_value c.args.test.now in
+    let text = string_bytes c.in_ok-vacuous_text-in-Some-true.field-0 in
+    let same = c.requires.same in
     let found = c.in-Some-true.is ∙ ap (λ b. Some b) c.in-Some-true.field-0-test in
-    let vacuous = c.in_ok-is_vacuous.ensures.yes found in
-    let said = c.in_ok-vacuous_text-in-Some-true.ensures in
+    let vacuous : IsVacuous t = subst IsVacuous same (c.in_ok-is_vacuous.ensures.yes found) in
+    let said : (runs : ℕ → List (List Step)) × AreItsRuns t runs × (text ≡ never_words t (never_in_outcome t runs)) =
+    subst (λ (u : Test). (runs : ℕ → List (List Step)) × AreItsRuns u runs
+    × (text ≡ never_words u (never_in_outcome u runs))) same c.in_ok-vacuous_text-in-Some-true.ensures in
     record {
       kind = refl;
       why = record {
         vacuous = vacuous;
-        forbidden = vacuous_forbids c.args.basis.now c.requires vacuous;
+        forbidden = vacuous_forbids t c.requires.listable vacuous;
         runs = said.0;
         all = said.1;
         shown = said.2;
@@ -21,4 +32,8 @@ returns-in-Some-true-clause-ok c =
 
 pub returns-in-Some-false-clause-ok : goal.returns-in-Some-false-clause-ok
 returns-in-Some-false-clause-ok c =
-    c.in_ok-is_vacuous.ensures.no (c.in-Some-false.is ∙ ap (λ b. Some b) c.in-Some-false.field-0-test)
+    let found = c.in-Some-false.is ∙ ap (λ b. Some b) c.in-Some-false.field-0-test in
+    subst (λ (t : Test). IsVacuous t → ⊥) c.requires.same (c.in_ok-is_vacuous.ensures.no found)
+
+pub returns-clause-ok : goal.returns-clause-ok
+returns-clause-ok c = subst HasManyRuns c.requires.same (c.in_ok-is_vacuous.ensures.open c.in-None.is)

@@ -9,7 +9,7 @@ use Rattle.fs_scout.proofs.scout.Scout.judged.Goals as goal
 
 pub judge_floor-requires-clause-known : goal.judge_floor-requires-clause-known
 judge_floor-requires-clause-known c =
-    subst (λ (t : Test). AreWitnesses t c.self.inside.store) (sym c.self.invariant.0) c.self.invariant.1.0
+    subst (λ (t : Test). AreWitnesses t c.self.inside.store) (sym c.self.invariant.0) c.self.invariant.1
 
 pub returns-in_err-found-clause-err : goal.returns-in_err-found-clause-err
 returns-in_err-found-clause-err c =
@@ -20,9 +20,9 @@ returns-in_err-found-clause-err c =
 pub invariant_of-self-in_err-new : goal.invariant_of-self-in_err-new
 invariant_of-self-in_err-new c =
     known-still c.judge_floor.new.judge c.self.inside.judge (arc_value c.self.inside.question).test c.judge_floor.new.store c.self.inside.planned
-    c.in_ok-found.ensures.judge c.self.invariant.0 c.in_ok-found.ensures.known c.self.invariant.1.1
+    c.in_ok-found.ensures.judge c.self.invariant.0 c.in_ok-found.ensures.known c.self.invariant.2
 
 pub invariant_of-self-2 : goal.invariant_of-self-2
 invariant_of-self-2 c =
     known-still c.judge_floor.new.judge c.self.inside.judge (arc_value c.self.inside.question).test c.judge_floor.new.store c.self.inside.planned
-    c.in_ok-found.ensures.judge c.self.invariant.0 c.in_ok-found.ensures.known c.self.invariant.1.1
+    c.in_ok-found.ensures.judge c.self.invariant.0 c.in_ok-found.ensures.known c.self.invariant.2

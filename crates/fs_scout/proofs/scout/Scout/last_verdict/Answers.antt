@@ -38,7 +38,7 @@ returns-in-Allowed-clause-last c =
     )
 
 pub invariant_of-self-in_err-new-in-Forbids : goal.invariant_of-self-in_err-new-in-Forbids
-invariant_of-self-in_err-new-in-Forbids c = (c.in_ok-verdict.ensures.value ∙ c.self.invariant.0, c.self.invariant.1)
+invariant_of-self-in_err-new-in-Forbids c = (c.in_ok-verdict.ensures.value ∙ c.self.invariant.0, c.self.invariant.1, c.self.invariant.2)
 
 pub invariant_of-self-2 : goal.invariant_of-self-2
-invariant_of-self-2 c = (c.in_ok-verdict.ensures.value ∙ c.self.invariant.0, c.self.invariant.1)
+invariant_of-self-2 c = (c.in_ok-verdict.ensures.value ∙ c.self.invariant.0, c.self.invariant.1, c.self.invariant.2)

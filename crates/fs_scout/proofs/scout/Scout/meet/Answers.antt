@@ -9,6 +9,6 @@ invariant_of-self c = (
   c.self.invariant.0,
   c.keep_all.ensures (arc_value c.self.inside.question).test
       (subst (λ (q : Question). AreWitnesses q.test (map arc_value c.args.witnesses.now)) (sym c.self.view_is) c.requires)
-      c.self.invariant.1.0,
-  c.self.invariant.1.1,
+      c.self.invariant.1,
+  c.self.invariant.2,
 )
