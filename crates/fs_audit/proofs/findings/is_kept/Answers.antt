@@ -5,11 +5,15 @@ use Rattle.fs_kinds.specs.declared.fault.Fault.TheVariants.{Memory}
 use Rattle.fs_kinds.specs.PriceTable.{cost}
 use Rattle.fs_model.specs.declared.test.Test.{Test}
 use Rattle.fs_model.specs.Allows.{Allows}
+use Rattle.fs_model.specs.Slots.{slots}
 use Rattle.fs_answer.specs.CandidateFaults.{IsCandidateFault}
 use Rattle.fs_evidence.specs.Evidence.{Question}
 use Rattle.fs_audit.specs.Audit.{costs_everywhere}
 use Rattle.fs_audit.proofs.Chosen.{is-kept}
 use Rattle.fs_audit.proofs.findings.is_kept.Goals as goal
+
+pub forbids-requires : goal.forbids-requires
+forbids-requires c = c.requires.slots ∙ ap slots (sym c.requires.same)
 
 pub returns-then-cost-clause-yes : goal.returns-then-cost-clause-yes
 returns-then-cost-clause-yes c =
