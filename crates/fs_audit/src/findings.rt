@@ -29,7 +29,7 @@ use fs_kinds::{Entry, Fault, Kind as FenceKind, Placement, Prices, Slot, read_pr
 use fs_list::List;
 use fs_litmus::{Code, Test, read_lines, read_test, slots};
 use fs_said::{Kind, forbids};
-use fs_search::{Answer, Problem, Unwatched, problem_of, solve_problem};
+use fs_search::{Answer, Unwatched, solve};
 use fs_test::judge_test;
 use fs_unfenced::{is_fence, memory_kind};
 use std::alloc::{AllocError, Global};
@@ -225,12 +225,12 @@ fn costs_everywhere(prices: &Prices, placement: &Placement) -> bool
 fn is_kept(
     alloc: Global,
     question: &Arc<Question>,
-    problem: &Problem,
     own: &Placement,
     first: &Forbidden,
     cost: u64,
 ) -> Result<bool, Fault>
-    requires same { problem.now ≡ (arc_value question.now).test }
+    requires bounded { IsBounded (arc_value question.now).test }
+    requires starts { All IsStart (arc_value question.now).test.starts }
     requires slots { slots_of own.now ≡ slots (arc_value question.now).test }
     requires offered { IsTrue (are_offered (arc_value question.now).prices own.now) }
     requires first { IsCheapest (arc_value question.now).test (arc_value question.now).prices first.now.placement }
@@ -241,7 +241,7 @@ fn is_kept(
 {
     let prices = &question.prices;
     if costs_everywhere(prices, own) && prices.cost(own) == cost {
-        forbids(alloc, problem, own)
+        forbids(alloc, question, own)
     } else {
         Ok(false)
     }
@@ -251,12 +251,12 @@ fn is_kept(
 fn kept_or_first(
     alloc: Global,
     question: &Arc<Question>,
-    problem: &Problem,
     own: &Placement,
     first: &Forbidden,
     cost: u64,
 ) -> Result<Placement, Fault>
-    requires same { problem.now ≡ (arc_value question.now).test }
+    requires bounded { IsBounded (arc_value question.now).test }
+    requires starts { All IsStart (arc_value question.now).test.starts }
     requires slots { slots_of own.now ≡ slots (arc_value question.now).test }
     requires offered { IsTrue (are_offered (arc_value question.now).prices own.now) }
     requires first { IsCheapest (arc_value question.now).test (arc_value question.now).prices first.now.placement }
@@ -264,7 +264,7 @@ fn kept_or_first(
     ensures ok { IfOk result (λ p. IsAdvised (arc_value question.now).test (arc_value question.now).prices own.now (Some p)) }
     ensures err { IfErr result (λ f. f ≢ Fault.Memory → IsCandidateFault (arc_value question.now).test f) }
 {
-    let is_kept = is_kept(alloc, question, problem, own, first, cost)?;
+    let is_kept = is_kept(alloc, question, own, first, cost)?;
     if is_kept {
         own.copy()
     } else {
@@ -290,13 +290,11 @@ fn best(
     ensures err { IfErr result (λ f. f ≢ Fault.Memory
         → IsUnanswered (arc_value question.now).test (arc_value question.now).prices limit f) }
 {
-    let problem = problem_of(alloc, question)?;
     let asked = Arc::try_clone(question)?;
-    let shared = Arc::try_clone(&problem)?;
-    let solved = solve_problem(alloc, asked, shared, limit, &mut Unwatched)?;
+    let solved = solve(alloc, asked, limit, &mut Unwatched)?;
     match &solved.answer {
         Answer::Fenced { forbidden, cost } => {
-            let best = kept_or_first(alloc, question, &problem, own, forbidden, *cost)?;
+            let best = kept_or_first(alloc, question, own, forbidden, *cost)?;
             Ok(Some(best))
         }
         Answer::None { .. } => Ok(None),

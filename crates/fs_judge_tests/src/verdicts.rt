@@ -1,9 +1,9 @@
 //! What is said of placements, and the candidates in their order.
-use crate::questions::{problem_of, verdict_on};
+use crate::questions::verdict_on;
 use fs_evidence::Cycles;
-use fs_examples::{ADD2, CO_RR, LBD, LRSC, MP, MPA, SB, SBF};
+use fs_examples::{ADD2, CO_RR, LBD, LRSC, MP, MPA, PRICES, SB, SBF, question_of};
 use fs_hart::{Step, Trace};
-use fs_judge::Verdict;
+use fs_judge::{Problem, Verdict};
 use fs_kinds::Fault;
 use fs_litmus::read_test;
 use fs_showing::Showing;
@@ -14,7 +14,8 @@ use std::test::Fail;
 
 /// What the verdict on the placement that the words name says.
 fn said_of(alloc: Global, text: &str, words: &str) -> Result<String, Fault> {
-    let problem = problem_of(alloc, text)?;
+    let question = question_of(alloc, text, PRICES)?;
+    let problem = Problem::new(alloc, question)?;
     let said = match verdict_on(alloc, &problem, words)? {
         Verdict::Allowed(_) => String::from_str(alloc, "allowed")?,
         Verdict::Forbids(forbidden) => match forbidden.cycles {

@@ -11,5 +11,5 @@ mod sweep;
 pub use answer::{Answer, Solved};
 pub use fs_judge::Problem;
 pub use fs_scout::{Child, Scout, TRIES, Taken, Unwatched, Watch, Way};
-pub use solving::{conclude, problem_of, solve, solve_problem};
+pub use solving::{conclude, solve};
 pub use sweep::{search, search_alone};

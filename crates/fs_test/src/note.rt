@@ -14,7 +14,6 @@ use crate::vacuous::{Vacuity, vacuous};
 use fs_kinds::Fault;
 use fs_litmus::read_test;
 use fs_model::Test;
-use fs_refute::Basis;
 use fs_said::Said;
 use std::alloc::{AllocError, Global};
 
@@ -40,8 +39,7 @@ fn note_of(alloc: Global, test: Test) -> Result<Option<String>, Fault>
     ensures err { IfErr result (λ f. f ≢ Memory → IsRunFault test f) }
 {
     let test = shared(alloc, test)?;
-    let basis = Basis::new(alloc, &test)?;
-    match vacuous(alloc, &test, &basis)? {
+    match vacuous(alloc, &test)? {
         Vacuity::Vacuous(said) => Ok(Some(note(alloc, &said)?)),
         Vacuity::Serious => Ok(None),
         Vacuity::Open => Ok(None),

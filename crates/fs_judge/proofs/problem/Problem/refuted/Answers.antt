@@ -1,4 +1,5 @@
-use Rattle.std.proofs.Common.{map, subst}
+use Rattle.std.proofs.Common.{◌≡◌, map, subst}
+use Rattle.fs_evidence.specs.Evidence.{Question}
 use Rattle.fs_evidence.specs.Inferences.{inference_of}
 use Rattle.fs_thin_air.specs.ThinAir.{CanBeListed}
 use Rattle.fs_region.proofs.Covering.{forbids}
@@ -6,8 +7,8 @@ use Rattle.fs_judge.proofs.problem.Problem.refuted.Goals as goal
 
 pub returns-clause-ok : goal.returns-clause-ok
 returns-clause-ok c =
-    let t = c.args.self.now in
+    let t = c.args.self.now.test in
     let p = c.args.placement.now in
-    let listable = subst CanBeListed c.self.view_is c.self.invariant.listable in
+    let listable : CanBeListed t = subst (λ (q : Question). CanBeListed q.test) c.self.view_is c.self.invariant.listable in
     c.forbidden.ensures.ok t (record { forbid = c.requires; judged = listable.no_fault })
     (forbids t listable p (map inference_of c.args.inferences) c.requires)
