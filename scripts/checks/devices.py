@@ -200,9 +200,9 @@ def check_errors(checks):
         path = f"{checks.folder}/said"
         with open(path, "wb") as file:
             found = checks.run(missing, stderr=file, preexec_fn=before(size=size, is_ignored=is_ignored))
-        said = decoded(read(path))
-        is_right = found.status == 2 and (line.startswith(said) if size < len(line) else line == said)
-        checks.check(f"standard error takes {size} bytes, ignored: {is_ignored}", is_right, (found, said))
+        wanted = "".join(it for it in line.splitlines(keepends=True) if line.index(it) + len(it) <= size)
+        is_right = found.status == 2 and decoded(read(path)) == wanted
+        checks.check(f"standard error takes {size} bytes, ignored: {is_ignored}", is_right, (found, wanted))
 
 
 # --- Certificates ----------------------------------------------------------------------------------------------------
