@@ -5,17 +5,17 @@ Prints for each command line how many requests were refused. The command lines a
 scripts/transcripts/refused.table.
 
 Where several threads search, a thread that lacks memory leaves with its node, and the others or the end of the run
-finish it: so a run may answer all the same. (In no run here do others join the first one; crates/fs_crew_tests has
+finish it: so a run may answer all the same. (In no run here do others join the first one; crates/fs_board_tests has
 such.) A run leaves no part of a certificate: if it has left one, `check` says yes to it, and where it was asked for
 one and has answered, it has left one.
 
-Then come the calls of the program `refusals`. Where the gate hasn't built that, or a source is newer, it is built now;
+Then come the calls of the program `fs_tests_out_of_memory`. Where the gate hasn't built that, or a source is newer, it is built now;
 with --quick they are left out then. A run of one part of it makes that part's calls, and makes a call again that
 answers F19. So each run must print what it prints with ample memory, but for two lines, `F19` and `again`, where a
 call was refused; or, where no call but the making ready of its arguments was refused, the beginning of that, whole
 lines of it, and `stopped by fault F19 Memory`, with status 3. A run may also print the same: a call that asks for room
 ahead, and is refused it, asks again for less. What the parts print with ample memory, one after the other, must be
-what crates/refusals/stdout has."""
+what crates/fs_tests_out_of_memory/stdout has."""
 import glob
 import os
 import re
@@ -25,8 +25,8 @@ import tempfile
 from running import EXAMPLES, TOP, Said, compiled, decoded, program, ran, read, rvfence, side_by_side
 
 TABLE = f"{TOP}/scripts/transcripts/refused.table"
-CRATE = f"{TOP}/crates/refusals"
-CALLS = f"{CRATE}/out/refusals"
+CRATE = f"{TOP}/crates/fs_tests_out_of_memory"
+CALLS = f"{CRATE}/out/fs_tests_out_of_memory"
 PARTS = ["readings", "verdicts", "boards", "desks", "rings", "certificates"]
 REFUSED = Said("", "fault F19 Memory\n", 3)
 TRIED_AGAIN, STOPPED = ["F19", "again"], ["stopped by fault F19 Memory"]
@@ -97,7 +97,7 @@ def are_built():
     return os.access(CALLS, os.X_OK) and max(map(os.path.getmtime, sources)) <= os.path.getmtime(CALLS)
 
 
-# --- The calls of `refusals` -----------------------------------------------------------------------------------------
+# --- The calls of `fs_tests_out_of_memory` -----------------------------------------------------------------------------------------
 
 def ran_part(library, part, **settings):
     """The status and the lines of a run of the part."""

@@ -8,7 +8,7 @@ Then it is asked ROUNDS times with each number of workers, alone and with `--cer
 bytes on both outputs and end with the same status; and beside an answer stands a certificate, to which `check` says
 yes, with that answer. A question has one certificate, whatever the number of workers: in none of them does judging
 take so long that others join the first one, and then nothing depends on the turns of the threads. (That they answer the
-same where they join, crates/fs_crew_tests looks at.) Beside a fault there is none.
+same where they join, crates/fs_board_tests looks at.) Beside a fault there is none.
 
 A run that doesn't end is ended after a while and fails, and after some of these no more are made."""
 import collections

@@ -1,26 +1,26 @@
 -- What a command answers, of the files that it has read. What a file gives when it is read no definition says.
 use Rattle.std.specs.Prelude.{◌≡◌, ℕ, Bool, true, false, List, Option, IfSome, map, option_map, string_bytes, if◌then◌else◌}
-use Rattle.fs_io.specs.declared.status.Output.{Output}
-use Rattle.fs_io.specs.declared.status.Status.{Status}
-use Rattle.fs_io.specs.declared.status.Status.TheVariants.{Success}
-use Rattle.fs_place.specs.Place.{IsFencedText}
-use Rattle.fs_order.specs.Order.{IsOrderAnswer}
+use Rattle.fs_app_io.specs.declared.status.Output.{Output}
+use Rattle.fs_app_io.specs.declared.status.Status.{Status}
+use Rattle.fs_app_io.specs.declared.status.Status.TheVariants.{Success}
+use Rattle.fs_app_place_order.specs.Place.{IsFencedText}
+use Rattle.fs_app_place_order.specs.Order.{IsOrderAnswer}
 use Rattle.fs_report.specs.Objects.{AreOneAnswer}
-use Rattle.fs_solve.specs.Solve.{IsSolved}
-use Rattle.fs_audit.specs.Audit.{IsAudited, IsMended, IsFirstAuditFault, IsFirstMendedFault}
+use Rattle.fs_app_solve.specs.Solve.{IsSolved}
+use Rattle.fs_app_audit.specs.Audit.{IsAudited, IsMended, IsFirstAuditFault, IsFirstMendedFault}
 use Rattle.fs_kinds.specs.declared.fault.Fault.{Fault}
-use Rattle.fs_verify.specs.Check.{IsChecked, AreOneVerdict}
-use Rattle.fs_said.specs.declared.said.Line.{Line}
-use Rattle.fs_said.specs.Status.{report_status}
-use Rattle.fs_test.specs.Report.{report_text, json_text}
-use Rattle.fs_command.specs.declared.command.Task.{Task}
-use Rattle.fs_command.specs.declared.command.Task.TheVariants as task
-use Rattle.fs_command.specs.declared.command.Test.{Test}
-use Rattle.fs_command.specs.declared.command.Place.{Place}
-use Rattle.fs_command.specs.declared.command.Order.{Order}
-use Rattle.fs_command.specs.declared.command.Solve.{Solve}
-use Rattle.fs_command.specs.declared.command.Audit.{Audit}
-use Rattle.fs_command.specs.declared.command.Check.{Check}
+use Rattle.fs_app_check.specs.Check.{IsChecked, AreOneVerdict}
+use Rattle.fs_app_test.specs.declared.said.Line.{Line}
+use Rattle.fs_app_test.specs.Status.{report_status}
+use Rattle.fs_app_test.specs.Report.{report_text, json_text}
+use Rattle.fs_app_command_line.specs.declared.command.Task.{Task}
+use Rattle.fs_app_command_line.specs.declared.command.Task.TheVariants as task
+use Rattle.fs_app_command_line.specs.declared.command.Test.{Test}
+use Rattle.fs_app_command_line.specs.declared.command.Place.{Place}
+use Rattle.fs_app_command_line.specs.declared.command.Order.{Order}
+use Rattle.fs_app_command_line.specs.declared.command.Solve.{Solve}
+use Rattle.fs_app_command_line.specs.declared.command.Audit.{Audit}
+use Rattle.fs_app_command_line.specs.declared.command.Check.{Check}
 use Rattle.fs_app.specs.declared.papers.Papers.{Papers}
 
 -- the bytes of the prices that were read, where `place` is to read some

@@ -1,7 +1,7 @@
 //! Why a run ends without an answer.
-use fs_io::Status;
+use fs_app_io::Status;
+use fs_app_states_log::LogError;
 use fs_kinds::Fault;
-use fs_log::LogError;
 use thiserror::Error;
 
 /// Why a run ends without an answer. It reads as the lines that standard error gets, their ends included.

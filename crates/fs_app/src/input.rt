@@ -1,5 +1,5 @@
 //! The files that a run reads.
-use fs_io::{Unread, read_bytes};
+use fs_app_io::{Unread, read_bytes};
 use std::fs::File;
 use std::rt::Files;
 

@@ -1,9 +1,9 @@
 //! What `test` says of files, one after the other or side by side.
 use crate::input::read_input;
 use crate::papers::message_of_file;
-use fs_io::Unread;
+use fs_app_io::Unread;
+use fs_app_test::{Line, test_file};
 use fs_kinds::Fault;
-use fs_test::{Line, test_file};
 use std::alloc::{AllocError, Global};
 use std::rt::Files;
 use std::thread;

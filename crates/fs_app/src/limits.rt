@@ -1,5 +1,5 @@
 //! What the system lets a run use: how much files may grow, and how large its stack is.
-use fs_io::write_text;
+use fs_app_io::write_text;
 use fs_kinds::Fault;
 use std::alloc::{AllocError, Global};
 use std::fmt::Display;

@@ -3,9 +3,9 @@
 ghost use Rattle.std.specs.Prelude.{◌≡◌, IfOk, OnOk};
 
 use crate::input::{INPUT_LIMIT, read_file, read_input};
-use fs_io::Unread;
+use fs_app_error_messages::{explain, explain_fences, explain_json, explain_test, explain_unread};
+use fs_app_io::Unread;
 use fs_kinds::Fault;
-use fs_point::{explain, explain_fences, explain_json, explain_test, explain_unread};
 use std::alloc::{AllocError, Global};
 use std::rt::Files;
 

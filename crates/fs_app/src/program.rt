@@ -2,12 +2,12 @@
 
 ghost use Rattle.std.specs.Prelude.{◌≡◌, ◌≤◌, IfOk, IfErr, map, string_bytes};
 ghost use Rattle.std.specs.Option.{option_copied};
-ghost use Rattle.fs_io.specs.declared.status.Status.TheVariants.{Success};
-ghost use Rattle.fs_place.specs.Place.{IsFencedText, IsFirstPlaceFault};
-ghost use Rattle.fs_order.specs.Order.{IsOrderAnswer, IsFirstOrderFault};
+ghost use Rattle.fs_app_io.specs.declared.status.Status.TheVariants.{Success};
+ghost use Rattle.fs_app_place_order.specs.Place.{IsFencedText, IsFirstPlaceFault};
+ghost use Rattle.fs_app_place_order.specs.Order.{IsOrderAnswer, IsFirstOrderFault};
 ghost use Rattle.fs_report.specs.Objects.{AreOneAnswer};
-ghost use Rattle.fs_solve.specs.Solve.{IsSolved, IsCertified, IsFirstSolveFault};
-ghost use Rattle.fs_verify.specs.Check.{IsChecked, AreOneVerdict, IsFirstCheckFault};
+ghost use Rattle.fs_app_solve.specs.Solve.{IsSolved, IsCertified, IsFirstSolveFault};
+ghost use Rattle.fs_app_check.specs.Check.{IsChecked, AreOneVerdict, IsFirstCheckFault};
 ghost use Rattle.fs_app.specs.Answers.{offered, in_form, IsAuditFault, IsAuditText, Answers, AnswersTest, AnswersPlace, AnswersOrder, AnswersSolve, AnswersAudit, AnswersCheck};
 
 use crate::failure::Failure;
@@ -19,21 +19,20 @@ use crate::progress::Progress;
 use crate::states::{answer_log, answer_states};
 use crate::whole::write_whole;
 use clap::error::ErrorKind;
-use fs_audit::{run_audit, run_mended};
-use fs_command::{
+use fs_app_audit::{run_audit, run_mended};
+use fs_app_check::{Checked, run_check};
+use fs_app_command_line::{
     Audit, Check, MOST_NODES, MOST_WORKERS, Order, Place, Request, Solve, Task, Test,
     completion_script, read_request,
 };
-use fs_io::{Output, Status};
-use fs_kinds::Fault;
-use fs_order::run_order;
-use fs_place::run_place;
-use fs_point::shown_name;
-use fs_solve::{
+use fs_app_error_messages::shown_name;
+use fs_app_io::{Output, Status};
+use fs_app_place_order::{run_order, run_place};
+use fs_app_solve::{
     Answered, Certified, run_certified, run_certified_alone, run_solve, run_solve_alone,
 };
-use fs_test::{test_objects, test_report, vacuous_note};
-use fs_verify::{Checked, run_check};
+use fs_app_test::{test_objects, test_report, vacuous_note};
+use fs_kinds::Fault;
 use std::alloc::Global;
 use std::process::ExitCode;
 use std::rt::{Clock, Env, Files};

@@ -2,12 +2,12 @@
 use crate::failure::Failure;
 use crate::papers::Papers;
 use crate::program::{Voice, failure_of, report};
-use fs_command::States;
-use fs_io::{Output, Status};
+use fs_app_command_line::States;
+use fs_app_error_messages::explain_test;
+use fs_app_io::{Output, Status};
+use fs_app_states::{Shown, run_states};
+use fs_app_states_log::{Compared, Log, LogError, MOST_BYTES, compare, left_over, read_log};
 use fs_kinds::Fault;
-use fs_log::{Compared, Log, LogError, MOST_BYTES, compare, left_over, read_log};
-use fs_point::explain_test;
-use fs_shown::{Shown, run_states};
 use std::alloc::Global;
 use std::rt::Files;
 

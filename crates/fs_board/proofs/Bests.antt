@@ -5,10 +5,10 @@ use Rattle.std.proofs.lemmas.Bool.Decides.{nat_tests}
 use Rattle.fs_kinds.specs.declared.placement.Entry.{Entry}
 use Rattle.fs_kinds.specs.Placement.{precedes}
 use Rattle.fs_kinds.specs.PriceTable.{PriceTable, cost}
-use Rattle.fs_answer.specs.Parts.{Part, floor}
-use Rattle.fs_answer.specs.Pruning.{is_pruned}
-use Rattle.fs_history.specs.Board.{better_of}
-use Rattle.fs_parts.specs.Bests.{is_best}
+use Rattle.fs_cert_evidence.specs.Parts.{Part, floor}
+use Rattle.fs_cert_evidence.specs.Pruning.{is_pruned}
+use Rattle.fs_cert_evidence.specs.Board.{better_of}
+use Rattle.fs_cert_evidence.specs.Bests.{is_best}
 
 no_better : (m n : ℕ) (b : Bool) → (nat_lt m n || (m == n) && not b) ≡ not (nat_lt n m || (n == m) && b)
 no_better m n true = grind (arith, nat_tests)

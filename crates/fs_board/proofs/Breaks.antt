@@ -7,9 +7,9 @@ use Rattle.fs_kinds.specs.declared.placement.Entry.{Entry}
 use Rattle.fs_kinds.specs.declared.slot.Slot.{Slot}
 use Rattle.fs_kinds.specs.Kind.{all_kinds}
 use Rattle.fs_kinds.specs.PriceTable.{PriceTable, is_offered, kind_cost, entry_cost, weight_of}
-use Rattle.fs_answer.specs.Pruning.{breaks, breaking_ways, is_empty, lesser, least}
-use Rattle.fs_evidence.specs.declared.evidence.Pairs.{Pairs}
-use Rattle.fs_parts.specs.Breaks.{fits, is_break, break_cost, lesser_of, least_of}
+use Rattle.fs_cert_evidence.specs.Pruning.{breaks, breaking_ways, is_empty, lesser, least}
+use Rattle.fs_cert_evidence.specs.declared.evidence.Pairs.{Pairs}
+use Rattle.fs_cert_evidence.specs.Breaks.{fits, is_break, break_cost, lesser_of, least_of}
 use Rattle.fs_board.specs.inner.Breaks.{everywhere}
 
 module _ (prices : PriceTable) (pairs : Pairs) (slot : Slot) where

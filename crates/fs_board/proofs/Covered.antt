@@ -15,17 +15,17 @@ use Rattle.fs_model.specs.declared.test.Test.{Test}
 use Rattle.fs_model.specs.Slots.{slots}
 use Rattle.fs_model.specs.Execution.{Execution, IsExecution}
 use Rattle.fs_model.specs.Allows.{Shows}
-use Rattle.fs_answer.specs.Parts.{Part, floor, filled_with}
-use Rattle.fs_answer.specs.Pruning.{is_pruned}
-use Rattle.fs_answer.specs.Shown.{ShowsAs, IsShownBy}
-use Rattle.fs_answer.specs.Widths.{Width, width, is_within_width}
-use Rattle.fs_bound.specs.Bounds.{slots_in_part}
-use Rattle.fs_bound.proofs.Bounded.{rising-filled}
-use Rattle.fs_laws.proofs.ExactWidths.{exact}
-use Rattle.fs_laws.proofs.Weakening.{shows-weaker}
-use Rattle.fs_evidence.specs.Evidence.{Shown, IsWitnessFor, witness_in, widths_of}
+use Rattle.fs_cert_evidence.specs.Parts.{Part, floor, filled_with}
+use Rattle.fs_cert_evidence.specs.Pruning.{is_pruned}
+use Rattle.fs_cert_evidence.specs.Shown.{ShowsAs, IsShownBy}
+use Rattle.fs_cert_evidence.specs.Widths.{Width, width, is_within_width}
+use Rattle.fs_board_laws.specs.Bounds.{slots_in_part}
+use Rattle.fs_board_laws.proofs.Bounded.{rising-filled}
+use Rattle.fs_model_laws.proofs.ExactWidths.{exact}
+use Rattle.fs_model_laws.proofs.Weakening.{shows-weaker}
+use Rattle.fs_cert_evidence.specs.Evidence.{Shown, IsWitnessFor, witness_in, widths_of}
 use Rattle.fs_board.specs.Growth.{AreWitnesses}
-use Rattle.fs_parts.specs.Breaks.{is_kept}
+use Rattle.fs_cert_evidence.specs.Breaks.{is_kept}
 use Rattle.fs_board.specs.inner.Breaks.{widths_in, is_bounded}
 use Rattle.fs_board.proofs.Pruned.{same_pruned}
 

@@ -7,16 +7,16 @@ use Rattle.fs_kinds.specs.declared.kind.Kind.{Kind}
 use Rattle.fs_kinds.specs.declared.placement.Entry.{Entry}
 use Rattle.fs_kinds.specs.declared.slot.Slot.{Slot}
 use Rattle.fs_kinds.specs.PriceTable.{PriceTable, entry_cost}
-use Rattle.fs_answer.specs.Parts.{Part, Decision, options}
-use Rattle.fs_answer.specs.Pruning.{breaks, breaking_ways, breaking_at, is_empty, is_breakable, least, least_break, is_no_better, is_pruned}
-use Rattle.fs_answer.specs.Widths.{Width}
-use Rattle.fs_bound.specs.Bounds.{slots_in_part}
-use Rattle.fs_evidence.specs.Evidence.{Shown, pairs_at, widths_of}
-use Rattle.fs_tree.proofs.Places.{count-map}
-use Rattle.fs_parts.specs.Breaks.{lesser_of}
+use Rattle.fs_cert_evidence.specs.Parts.{Part, Decision, options}
+use Rattle.fs_cert_evidence.specs.Pruning.{breaks, breaking_ways, breaking_at, is_empty, is_breakable, least, least_break, is_no_better, is_pruned}
+use Rattle.fs_cert_evidence.specs.Widths.{Width}
+use Rattle.fs_board_laws.specs.Bounds.{slots_in_part}
+use Rattle.fs_cert_evidence.specs.Evidence.{Shown, pairs_at, widths_of}
+use Rattle.fs_board_laws.proofs.Places.{count-map}
+use Rattle.fs_cert_evidence.specs.Breaks.{lesser_of}
 use Rattle.fs_board.specs.inner.Breaks.{widths_in, everywhere, least_in, breaks_at, is_breakable_at, is_bounded}
-use Rattle.fs_parts.proofs.LeastCosts.{least_append}
-use Rattle.fs_parts.proofs.Bounding.{same_bound, same_apart}
+use Rattle.fs_cert_evidence.proofs.LeastCosts.{least_append}
+use Rattle.fs_cert_evidence.proofs.Bounding.{same_bound, same_apart}
 
 -- ---- what loops over witnesses need
 

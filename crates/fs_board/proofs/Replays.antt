@@ -2,9 +2,9 @@
 use Rattle.std.proofs.Common.{◌≡◌, ℕ, ◌+◌, ◌≤◌, List, [], ◌∷◌, ◌++◌, length, refl, sym, ap, subst}
 use Rattle.fs_kinds.specs.PriceTable.{PriceTable}
 use Rattle.fs_model.specs.declared.test.Test.{Test}
-use Rattle.fs_answer.specs.Parts.{Part}
-use Rattle.fs_history.specs.Board.{Board, Status, Event, Reply, opening, with_status}
-use Rattle.fs_history.specs.Histories.{LogEntry, Steps, Lead}
+use Rattle.fs_cert_evidence.specs.Parts.{Part}
+use Rattle.fs_cert_evidence.specs.Board.{Board, Status, Event, Reply, opening, with_status}
+use Rattle.fs_cert_evidence.specs.Histories.{LogEntry, Steps, Lead}
 use Rattle.fs_board.specs.View.{Search, entry_of, Answers, IsReplay}
 use Rattle.fs_board.proofs.Counts.{length_set}
 

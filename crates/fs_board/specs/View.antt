@@ -1,14 +1,14 @@
 -- Events, replies and the board as contracts see them: what is behind an `Arc` is its value.
 use Rattle.std.specs.Prelude.{◌≡◌, ℕ, ◌+◌, ◌≤◌, option_map, List, [], ◌∷◌, ◌++◌, map, length}
-use Rattle.fs_history.specs.Board.{Board, Status, Open, Held, Split, Costly, Witnessed, Bounded, Posted, Event, Take, Claim, Adopt, SplitAt, CutCost, CutWitness, CutBound, Post, Peek, Reply, Given, Idle, Done, Gone, Children, NotYours, Decided, Full, Closed, Cheaper, NotCovered, Other, Seen}
-use Rattle.fs_history.specs.Histories.{LogEntry, Steps, IsHistory}
+use Rattle.fs_cert_evidence.specs.Board.{Board, Status, Open, Held, Split, Costly, Witnessed, Bounded, Posted, Event, Take, Claim, Adopt, SplitAt, CutCost, CutWitness, CutBound, Post, Peek, Reply, Given, Idle, Done, Gone, Children, NotYours, Decided, Full, Closed, Cheaper, NotCovered, Other, Seen}
+use Rattle.fs_cert_evidence.specs.Histories.{LogEntry, Steps, IsHistory}
 use Rattle.fs_board.specs.declared.node.Status.{Status as CodeStatus}
 use Rattle.fs_board.specs.declared.node.Status.TheVariants as status
 use Rattle.fs_board.specs.declared.event.Event.{Event as CodeEvent}
 use Rattle.fs_board.specs.declared.event.Event.TheVariants as event
 use Rattle.fs_board.specs.declared.event.Reply.{Reply as CodeReply}
 use Rattle.fs_board.specs.declared.event.Reply.TheVariants as reply
-use Rattle.fs_evidence.specs.Evidence.{Question, placement_in, witness_in}
+use Rattle.fs_cert_evidence.specs.Evidence.{Question, placement_in, witness_in}
 use Rattle.fs_board.specs.Growth.{Tree, board_of, IsBacked}
 
 abbrev pub status_of : CodeStatus → Status

@@ -2,15 +2,16 @@
 
 ghost use Rattle.std.specs.Prelude.{◌≡◌, ℕ, ◌≤◌, IfSome, map};
 ghost use Rattle.std.specs.List.{list_any, list_all};
-ghost use Rattle.fs_answer.specs.Parts.{floor};
-ghost use Rattle.fs_answer.specs.Pruning.{is_breakable};
+ghost use Rattle.fs_cert_evidence.specs.Parts.{floor};
+ghost use Rattle.fs_cert_evidence.specs.Pruning.{is_breakable};
 ghost use Rattle.fs_kinds.specs.PriceTable.{cost};
-ghost use Rattle.fs_parts.specs.Breaks.{is_kept, is_break, breaks_one, break_apart, bound_of};
+ghost use Rattle.fs_cert_evidence.specs.Breaks.{is_kept, is_break, breaks_one, break_apart, bound_of};
 ghost use Rattle.fs_board.specs.inner.Breaks.{everywhere, least_at, least_in, is_breakable_at, widths_in};
 
-use fs_evidence::{Pairs, Witness};
+use fs_cert_evidence::{
+    Decision, OPTIONS, Pairs, Witness, cost, is_break, is_kept, least_of, lesser,
+};
 use fs_kinds::{Entry, Kind, Prices};
-use fs_parts::{Decision, OPTIONS, cost, is_break, is_kept, least_of, lesser};
 use std::sync::Arc;
 
 /// Is one of the kinds offered, and does it order a pair that isn't kept?

@@ -4,9 +4,8 @@ ghost use Rattle.std.specs.Prelude.{◌≡◌};
 ghost use Rattle.fs_board.specs.View.{event_of, reply_of, entry_of};
 
 use crate::part::Part;
-use fs_evidence::{Forbidden, Witness};
-use fs_kinds::Slot;
-use fs_list::List;
+use fs_cert_evidence::{Forbidden, Witness};
+use fs_kinds::{List, Slot};
 use std::marker::Model;
 use std::sync::Arc;
 
@@ -73,7 +72,7 @@ pub struct LogEntry {
 }
 
 impl Model for LogEntry {
-    ghost use Rattle.fs_history.specs.Histories.{LogEntry as EntryValue};
+    ghost use Rattle.fs_cert_evidence.specs.Histories.{LogEntry as EntryValue};
     ghost use Rattle.fs_board.specs.View.{event_of, reply_of, entry_of};
 
     ghost Value = { EntryValue };

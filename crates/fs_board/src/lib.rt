@@ -10,6 +10,6 @@ mod tree;
 
 pub use board::Board;
 pub use event::{Event, LogEntry, Reply};
-pub use fs_parts::Decision;
+pub use fs_cert_evidence::Decision;
 pub use node::{Node, Status};
 pub use part::Part;

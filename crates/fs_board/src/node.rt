@@ -3,14 +3,14 @@
 ghost use Rattle.std.specs.Prelude.{◌≡◌, ◌≤◌, if◌then◌else◌, IfOk, map, filter};
 ghost use Rattle.std.specs.Arc.{arc_value};
 ghost use Rattle.fs_kinds.specs.PriceTable.{is_offered};
-ghost use Rattle.fs_answer.specs.Parts.{decide};
+ghost use Rattle.fs_cert_evidence.specs.Parts.{decide};
 ghost use Rattle.fs_board.specs.Growth.{open_node};
-ghost use Rattle.fs_history.specs.Board.{is_open, is_held, is_held_by};
+ghost use Rattle.fs_cert_evidence.specs.Board.{is_open, is_held, is_held_by};
 ghost use Rattle.fs_board.specs.View.{status_of};
 
 use crate::part::Part;
+use fs_cert_evidence::is_offered;
 use fs_kinds::{Kind, Prices, Slot};
-use fs_parts::is_offered;
 use std::alloc::{AllocError, Global};
 use std::marker::Model;
 use std::sync::Arc;
@@ -65,7 +65,7 @@ pub struct Node {
 
 impl Model for Node {
     ghost use Rattle.std.specs.Arc.{arc_value};
-    ghost use Rattle.fs_history.specs.Board.{Node as NodeValue};
+    ghost use Rattle.fs_cert_evidence.specs.Board.{Node as NodeValue};
     ghost use Rattle.fs_board.specs.View.{status_of};
 
     ghost Value = { NodeValue };

@@ -2,14 +2,14 @@
 
 ghost use Rattle.std.specs.Prelude.{◌≡◌, ◌<◌, ◌≤◌, ◌^◌, ◌+◌, ◌==◌, ◌++◌, ◌∷◌, [], length, map, true, false, not, Some, None, IfSome, IfNone, IfOk, OnOk, OnErr, All, option_map, slice_get, if◌then◌else◌};
 ghost use Rattle.std.specs.Arc.{arc_value};
-ghost use Rattle.fs_history.specs.Board.{Node as NodeValue, Open, Split, Witnessed, Bounded, Posted, is_open, is_held, is_held_by, has_node, part_at};
+ghost use Rattle.fs_cert_evidence.specs.Board.{Node as NodeValue, Open, Split, Witnessed, Bounded, Posted, is_open, is_held, is_held_by, has_node, part_at};
 ghost use Rattle.fs_board.specs.Counts.{count_of};
 ghost use Rattle.fs_board.specs.Growth.{board_of, marked, grown, with_bound, with_more};
 ghost use Rattle.fs_board.specs.View.{status_of};
 
 use crate::node::{Node, Status, bit};
 use crate::part::Part;
-use fs_evidence::{Forbidden, Witness};
+use fs_cert_evidence::{Forbidden, Witness};
 use fs_kinds::Slot;
 use std::alloc::{AllocError, Global};
 use std::marker::Model;

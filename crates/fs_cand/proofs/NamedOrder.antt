@@ -13,7 +13,7 @@ use Rattle.fs_model.specs.Operations.{PreExecution, steps_of, operation, operati
 use Rattle.fs_model.specs.Witness.{name_of}
 use Rattle.fs_model.specs.Reasons.{HaveNames}
 use Rattle.fs_model.proofs.Ranges.{past_last}
-use Rattle.fs_answer.specs.WitnessFile.{in_range}
+use Rattle.fs_cert_evidence.specs.WitnessFile.{in_range}
 use Rattle.fs_model.specs.Witness.{step_name}
 use Rattle.fs_cand.specs.inner.NamedOrder.{name_in, is_same_name, number_of, numbers_of}
 

@@ -15,7 +15,7 @@ use Rattle.fs_model.specs.Operations.{steps_of}
 use Rattle.fs_model.specs.Execution.{pre_execution, code_of, registers_of}
 use Rattle.fs_model.specs.Witness.{Witness, name_of}
 use Rattle.fs_model.specs.Reasons.{AreRuns}
-use Rattle.fs_answer.specs.WitnessFile.{in_range}
+use Rattle.fs_cert_evidence.specs.WitnessFile.{in_range}
 use Rattle.fs_model.proofs.HartOperations.{in_list}
 use Rattle.fs_cand.proofs.Distinct.{one_named, named}
 use Rattle.fs_cand.proofs.Distinct as distinct

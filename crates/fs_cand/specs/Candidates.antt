@@ -6,7 +6,7 @@ use Rattle.fs_hart.specs.declared.trace.Trace.{Trace}
 use Rattle.fs_hart.specs.Steps.{steps_in}
 use Rattle.fs_deps.specs.declared.deps.Masks.{Masks}
 use Rattle.fs_deps.specs.Masks.{IsDepsOf}
-use Rattle.fs_answer.specs.Candidates as defined
+use Rattle.fs_cert_evidence.specs.Candidates as defined
 use Rattle.fs_cand.specs.declared.candidate.Candidate.{Candidate}
 
 -- the candidate of the definitions: its steps, sources and coherence orders

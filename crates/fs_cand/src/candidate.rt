@@ -6,8 +6,8 @@ ghost use Rattle.fs_kinds.specs.declared.fault.Fault.TheVariants.{Memory};
 ghost use Rattle.fs_model.specs.Test.{IsBounded};
 ghost use Rattle.fs_model.specs.Execution.{initial_words};
 ghost use Rattle.fs_model.specs.Numbers.{is_same};
-ghost use Rattle.fs_answer.specs.Judged.{fr};
-ghost use Rattle.fs_answer.specs.Candidates.{co};
+ghost use Rattle.fs_cert_evidence.specs.Judged.{fr};
+ghost use Rattle.fs_cert_evidence.specs.Candidates.{co};
 ghost use Rattle.fs_cand.specs.Candidates.{IsMade, AreShort, candidate_of, rf};
 
 use crate::lists::{Dependencies, Sources, StoreOrder, Traces};

@@ -6,8 +6,7 @@ ghost use Rattle.fs_cand.specs.Candidates.{AreShort, AreDepsOf};
 
 use fs_deps::Deps;
 use fs_hart::Trace;
-use fs_kinds::Fault;
-use fs_list::List;
+use fs_kinds::{Fault, List};
 use std::alloc::Global;
 use std::marker::Model;
 

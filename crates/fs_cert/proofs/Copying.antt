@@ -12,13 +12,13 @@ use Rattle.fs_model.specs.declared.step.Choice.{Choice}
 use Rattle.fs_model.specs.declared.step.Choice.TheVariants.{Word, Success, Failure}
 use Rattle.fs_model.specs.contracts.step.ChoicePartialEq.TheImpl as choice_test
 use Rattle.fs_model.specs.Witness.{Witness}
-use Rattle.fs_answer.specs.declared.witness.WitnessFile.{WitnessFile}
-use Rattle.fs_answer.specs.CertificateFile.{IsChoiceOfWord, most_number}
-use Rattle.fs_answer.specs.WitnessFile.{in_range, KeepsWitness}
-use Rattle.fs_answer.specs.WitnessFile.{IsInRange}
-use Rattle.fs_certificate.specs.Kept.{AreInRangeNames}
-use Rattle.fs_bound.proofs.Ranked.{order}
-use Rattle.fs_tree.proofs.Places.{at-more}
+use Rattle.fs_cert_evidence.specs.declared.witness.WitnessFile.{WitnessFile}
+use Rattle.fs_cert_evidence.specs.CertificateFile.{IsChoiceOfWord, most_number}
+use Rattle.fs_cert_evidence.specs.WitnessFile.{in_range, KeepsWitness}
+use Rattle.fs_cert_evidence.specs.WitnessFile.{IsInRange}
+use Rattle.fs_cert_json.specs.Kept.{AreInRangeNames}
+use Rattle.fs_board_laws.proofs.Ranked.{order}
+use Rattle.fs_board_laws.proofs.Places.{at-more}
 use Rattle.fs_cert.specs.inner.Copies.{IsCopiedChoice, AreCopiedChoices, IsCopiedName, IsCopiedWitness, AreCopiedWitnesses, StandsAt, AreNumbered, IsNumbering}
 use Rattle.fs_cert.proofs.Zips.{zip_push}
 

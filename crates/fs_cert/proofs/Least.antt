@@ -3,7 +3,7 @@ use Rattle.std.proofs.Common.{◌≡◌, ℕ, suc, ◌<◌, ◌≤◌, List, [],
 use Rattle.std.specs.Prelude.{All}
 use Rattle.std.proofs.Math.Seq.{drop-cons}
 use Rattle.std.proofs.lemmas.List.Elements.{All-append, All-drop, All-from_get_or, All-take}
-use Rattle.fs_answer.specs.Certificate.{Link}
+use Rattle.fs_cert_evidence.specs.Certificate.{Link}
 use Rattle.fs_cert.specs.Cycles.{BeginsAtLeast, IsNotAfter}
 use Rattle.fs_cert.specs.inner.Copies.{turned}
 

@@ -14,22 +14,22 @@ use Rattle.fs_model.specs.Slots.{slots}
 use Rattle.fs_model.specs.Allows.{IsPlacement, RefutesAll, is_better}
 use Rattle.fs_model.specs.Execution.{Execution}
 use Rattle.fs_model.specs.Witness.{Witness, IsOfWitness}
-use Rattle.fs_answer.specs.declared.witness.WitnessFile.{WitnessFile}
-use Rattle.fs_answer.specs.Parts.{undecided, floor}
-use Rattle.fs_answer.specs.Pruning.{is_pruned}
-use Rattle.fs_answer.specs.Certificate as said
-use Rattle.fs_answer.specs.Certificate.{Certificate, First, Second, Fourth, NoneForbids, Cycles, Listed, Inferred, Item, fence_words}
-use Rattle.fs_answer.specs.CertificateFile.{is_sayable, numbers_in, most_number}
-use Rattle.fs_answer.specs.Valid.{Covers}
-use Rattle.fs_certificate.specs.declared.certificate.Certificate.{Certificate as Kept}
-use Rattle.fs_certificate.specs.declared.certificate.Item.{Item as CodeItem}
-use Rattle.fs_certificate.specs.declared.certificate.CertifiedCycles.TheVariants.{Inferred as KeptInferences}
-use Rattle.fs_certificate.specs.Kept.{KeepsCycles, answer_of, version_of, item_of}
-use Rattle.fs_answer.specs.WitnessFile.{KeepsWitness}
-use Rattle.fs_bound.proofs.Floors.{cost-alone}
-use Rattle.fs_bound.proofs.Ranked.{better-irreflexive}
-use Rattle.fs_evidence.specs.Evidence.{Question, Refuted, ShowsForbidden}
-use Rattle.fs_history.specs.Sizes.{HasNoRunFault}
+use Rattle.fs_cert_evidence.specs.declared.witness.WitnessFile.{WitnessFile}
+use Rattle.fs_cert_evidence.specs.Parts.{undecided, floor}
+use Rattle.fs_cert_evidence.specs.Pruning.{is_pruned}
+use Rattle.fs_cert_evidence.specs.Certificate as said
+use Rattle.fs_cert_evidence.specs.Certificate.{Certificate, First, Second, Fourth, NoneForbids, Cycles, Listed, Inferred, Item, fence_words}
+use Rattle.fs_cert_evidence.specs.CertificateFile.{is_sayable, numbers_in, most_number}
+use Rattle.fs_cert_evidence.specs.Valid.{Covers}
+use Rattle.fs_cert_json.specs.declared.certificate.Certificate.{Certificate as Kept}
+use Rattle.fs_cert_json.specs.declared.certificate.Item.{Item as CodeItem}
+use Rattle.fs_cert_json.specs.declared.certificate.CertifiedCycles.TheVariants.{Inferred as KeptInferences}
+use Rattle.fs_cert_json.specs.Kept.{KeepsCycles, answer_of, version_of, item_of}
+use Rattle.fs_cert_evidence.specs.WitnessFile.{KeepsWitness}
+use Rattle.fs_board_laws.proofs.Floors.{cost-alone}
+use Rattle.fs_board_laws.proofs.Ranked.{better-irreflexive}
+use Rattle.fs_cert_evidence.specs.Evidence.{Question, Refuted, ShowsForbidden}
+use Rattle.fs_cert_evidence.specs.Sizes.{HasNoRunFault}
 use Rattle.fs_cert.specs.Certified.{Certifies, CertifiesNone}
 use Rattle.fs_cert.specs.Cycles.{version_for}
 use Rattle.fs_cert.specs.inner.Copies.{AreCopiedWitnesses}

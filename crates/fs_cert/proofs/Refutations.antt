@@ -6,19 +6,19 @@ use Rattle.std.proofs.lemmas.Bool.{and_parts, ltb-true, leb-true, false≢true}
 use Rattle.std.proofs.lemmas.List.Elements.{All-nil, All-cons, All-head}
 use Rattle.fs_kinds.specs.declared.placement.Entry.{Entry}
 use Rattle.fs_model.specs.declared.test.Test.{Test}
-use Rattle.fs_answer.specs.CandidateFaults.{HasNoCyclesFault}
-use Rattle.fs_answer.specs.Certificate.{Cycles, Listed, Inferred, Link, Inference, ByChoice, BySource, ByOrder, ByCases, Filter, Cycle, Stale, Reversed, Parted, listed_in}
-use Rattle.fs_answer.specs.CertificateFile.{AreSayable, IsSayableCycle, IsSayableInference}
-use Rattle.fs_answer.specs.Cycles.{IsCycle, most_links}
-use Rattle.fs_answer.specs.Regions.{Region}
-use Rattle.fs_answer.specs.Trees.{must_be_cycle, follows, left_after, refutes, roots, cycle_in}
-use Rattle.fs_answer.specs.Valid.{Forbid}
-use Rattle.fs_answer.specs.WitnessFile.{IsInRange}
-use Rattle.fs_certificate.specs.declared.certificate.CertifiedCycles.{CertifiedCycles}
-use Rattle.fs_certificate.specs.declared.certificate.CertifiedCycles.TheVariants.{Listed as KeptList, Inferred as KeptInferences}
-use Rattle.fs_certificate.specs.Kept.{AreInRangeLinks, KeepsCycles}
-use Rattle.fs_evidence.specs.Inferences.{inference_of}
-use Rattle.fs_evidence.specs.declared.inference.Inference.{Inference as CodeInference}
+use Rattle.fs_cert_evidence.specs.CandidateFaults.{HasNoCyclesFault}
+use Rattle.fs_cert_evidence.specs.Certificate.{Cycles, Listed, Inferred, Link, Inference, ByChoice, BySource, ByOrder, ByCases, Filter, Cycle, Stale, Reversed, Parted, listed_in}
+use Rattle.fs_cert_evidence.specs.CertificateFile.{AreSayable, IsSayableCycle, IsSayableInference}
+use Rattle.fs_cert_evidence.specs.Cycles.{IsCycle, most_links}
+use Rattle.fs_cert_evidence.specs.Regions.{Region}
+use Rattle.fs_cert_evidence.specs.Trees.{must_be_cycle, follows, left_after, refutes, roots, cycle_in}
+use Rattle.fs_cert_evidence.specs.Valid.{Forbid}
+use Rattle.fs_cert_evidence.specs.WitnessFile.{IsInRange}
+use Rattle.fs_cert_json.specs.declared.certificate.CertifiedCycles.{CertifiedCycles}
+use Rattle.fs_cert_json.specs.declared.certificate.CertifiedCycles.TheVariants.{Listed as KeptList, Inferred as KeptInferences}
+use Rattle.fs_cert_json.specs.Kept.{AreInRangeLinks, KeepsCycles}
+use Rattle.fs_cert_evidence.specs.Inferences.{inference_of}
+use Rattle.fs_cert_evidence.specs.declared.inference.Inference.{Inference as CodeInference}
 use Rattle.fs_cert.specs.Cycles.{BeginsAtLeast, version_for}
 use Rattle.fs_cert.specs.inner.Copies.{AreCopiedCycles, IsCopiedInference, IsSameLink}
 use Rattle.fs_cert.proofs.Copying.{zip_all, zip_same, zip_weaker}

@@ -4,13 +4,13 @@ use Rattle.std.specs.Prelude.{filter, count_by}
 use Rattle.fs_kinds.specs.declared.kind.Kind.{Kind}
 use Rattle.fs_kinds.specs.Kind.{all_kinds}
 use Rattle.fs_kinds.specs.PriceTable.{PriceTable, is_offered}
-use Rattle.fs_answer.specs.Parts.{options}
-use Rattle.fs_answer.specs.Certificate.{Bounded}
-use Rattle.fs_answer.specs.CertificateFile.{most_number}
-use Rattle.fs_certificate.specs.Kept.{item_of}
-use Rattle.fs_certificate.specs.declared.certificate.Item.{Item as CodeItem}
-use Rattle.fs_history.specs.Board as board
-use Rattle.fs_tree.proofs.Places.{count_one, count-cons}
+use Rattle.fs_cert_evidence.specs.Parts.{options}
+use Rattle.fs_cert_evidence.specs.Certificate.{Bounded}
+use Rattle.fs_cert_evidence.specs.CertificateFile.{most_number}
+use Rattle.fs_cert_json.specs.Kept.{item_of}
+use Rattle.fs_cert_json.specs.declared.certificate.Item.{Item as CodeItem}
+use Rattle.fs_cert_evidence.specs.Board as board
+use Rattle.fs_board_laws.proofs.Places.{count_one, count-cons}
 use Rattle.fs_cert.specs.inner.Items.{AreSmall, AreBelow, AreSayable, HasNumbers, IsSayable}
 
 take_small : (ns : List ℕ) (n : ℕ) → AreSmall ns → AreSmall (take n ns)

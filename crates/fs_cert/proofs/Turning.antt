@@ -11,13 +11,13 @@ use Rattle.fs_kinds.specs.declared.placement.Entry.{Entry}
 use Rattle.fs_model.specs.declared.test.Test.{Test}
 use Rattle.fs_model.specs.Operations.{PreExecution}
 use Rattle.fs_model.specs.Witness.{name_of}
-use Rattle.fs_answer.specs.Candidates.{Candidate, runs_of}
-use Rattle.fs_answer.specs.Certificate.{Link}
-use Rattle.fs_answer.specs.Judged.{Cause, is_edge}
-use Rattle.fs_answer.specs.Cycles.{IsCycle, are_edges, around, most_links}
-use Rattle.fs_certificate.specs.declared.certificate.CertificateLink.{CertificateLink}
-use Rattle.fs_answer.specs.WitnessFile.{IsInRange}
-use Rattle.fs_certificate.specs.Kept.{KeepsLink, KeepsCycle, AreInRangeLinks}
+use Rattle.fs_cert_evidence.specs.Candidates.{Candidate, runs_of}
+use Rattle.fs_cert_evidence.specs.Certificate.{Link}
+use Rattle.fs_cert_evidence.specs.Judged.{Cause, is_edge}
+use Rattle.fs_cert_evidence.specs.Cycles.{IsCycle, are_edges, around, most_links}
+use Rattle.fs_cert_json.specs.declared.certificate.CertificateLink.{CertificateLink}
+use Rattle.fs_cert_evidence.specs.WitnessFile.{IsInRange}
+use Rattle.fs_cert_json.specs.Kept.{KeepsLink, KeepsCycle, AreInRangeLinks}
 use Rattle.fs_cert.specs.Cycles.{BeginsAtLeast}
 use Rattle.fs_cert.specs.inner.Copies.{IsCopiedLink, IsCopiedCycle, turned}
 use Rattle.fs_cert.proofs.Copying.{zip_all, zip_weaker}

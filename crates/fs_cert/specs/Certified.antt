@@ -4,13 +4,13 @@ use Rattle.fs_kinds.specs.declared.placement.Entry.{Entry}
 use Rattle.fs_kinds.specs.PriceTable.{PriceTable}
 use Rattle.fs_model.specs.declared.test.Test.{Test}
 use Rattle.fs_model.specs.Witness.{Witness}
-use Rattle.fs_answer.specs.CandidateFaults.{HasNoCyclesFault}
-use Rattle.fs_answer.specs.Certificate as said
-use Rattle.fs_answer.specs.CertificateFile.{CanBeSaid}
-use Rattle.fs_answer.specs.Valid.{IsValid}
-use Rattle.fs_answer.specs.declared.witness.WitnessFile.{WitnessFile}
-use Rattle.fs_certificate.specs.declared.certificate.Certificate.{Certificate}
-use Rattle.fs_certificate.specs.Kept.{AreInRange, KeepsCertificate}
+use Rattle.fs_cert_evidence.specs.CandidateFaults.{HasNoCyclesFault}
+use Rattle.fs_cert_evidence.specs.Certificate as said
+use Rattle.fs_cert_evidence.specs.CertificateFile.{CanBeSaid}
+use Rattle.fs_cert_evidence.specs.Valid.{IsValid}
+use Rattle.fs_cert_evidence.specs.declared.witness.WitnessFile.{WitnessFile}
+use Rattle.fs_cert_json.specs.declared.certificate.Certificate.{Certificate}
+use Rattle.fs_cert_json.specs.Kept.{AreInRange, KeepsCertificate}
 use Rattle.fs_cert.specs.Cycles.{BeginsAtLeast, version_for}
 
 -- It is a certificate of the version that goes with its cycles, which is valid with this placement as its answer, or with none; no fault is

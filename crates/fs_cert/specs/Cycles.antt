@@ -1,7 +1,7 @@
 -- In which version a certificate is written, and where its cycles begin.
 use Rattle.std.specs.Prelude.{◌≡◌, ◌⊎◌, ◌≤◌, ◌<◌, List, [], ◌∷◌, All}
 use Rattle.fs_kinds.specs.declared.reason.OperationName.{OperationName as Name}
-use Rattle.fs_answer.specs.Certificate.{Link, Cycles, Listed, Inferred, Version, Second, Fourth}
+use Rattle.fs_cert_evidence.specs.Certificate.{Link, Cycles, Listed, Inferred, Version, Second, Fourth}
 
 -- the second where cycles are listed, the fourth where there are inferences
 abbrev pub version_for : Cycles → Version

@@ -3,13 +3,12 @@
 ghost use Rattle.std.specs.Prelude.{◌≡◌, ◌≤◌, ◌++◌, IfOk, OnOk, IsTrue, map, string_bytes};
 ghost use Rattle.fs_kinds.specs.PriceTable.{are_offered, cost};
 ghost use Rattle.fs_kinds.specs.Slot.{fence_word};
-ghost use Rattle.fs_answer.specs.Certificate.{Fenced, fence_words, words_at};
-ghost use Rattle.fs_answer.specs.CertificateFile.{most_number};
-ghost use Rattle.fs_certificate.specs.Kept.{answer_of};
+ghost use Rattle.fs_cert_evidence.specs.Certificate.{Fenced, fence_words, words_at};
+ghost use Rattle.fs_cert_evidence.specs.CertificateFile.{most_number};
+ghost use Rattle.fs_cert_json.specs.Kept.{answer_of};
 
-use fs_certificate::CertifiedAnswer;
-use fs_kinds::{Entry, Kind, Placement, Prices, Slot};
-use fs_list::List;
+use fs_cert_json::CertifiedAnswer;
+use fs_kinds::{Entry, Kind, List, Placement, Prices, Slot};
 use std::alloc::{AllocError, Global};
 
 /// The word of a fence, as `P0:3=w,w`.

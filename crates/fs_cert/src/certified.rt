@@ -8,9 +8,9 @@ ghost use Rattle.fs_model.specs.Test.{IsBounded};
 ghost use Rattle.fs_model.specs.Slots.{slots};
 ghost use Rattle.fs_model.specs.Allows.{RefutesAll};
 ghost use Rattle.fs_model.specs.Execution.{Execution};
-ghost use Rattle.fs_evidence.specs.Evidence.{IsWitnessFor, ShowsForbidden};
-ghost use Rattle.fs_history.specs.Board.{is_finished};
-ghost use Rattle.fs_history.specs.Sizes.{HasNoRunFault};
+ghost use Rattle.fs_cert_evidence.specs.Evidence.{IsWitnessFor, ShowsForbidden};
+ghost use Rattle.fs_cert_evidence.specs.Board.{is_finished};
+ghost use Rattle.fs_cert_evidence.specs.Sizes.{HasNoRunFault};
 ghost use Rattle.fs_cert.specs.Certified.{Certifies, CertifiesNone, HasEachOnce};
 ghost use Rattle.fs_cert.specs.inner.Fenced.{IsFenced};
 
@@ -19,12 +19,10 @@ use crate::copied::witness_of;
 use crate::cycles::{cycles_of, version_of};
 use crate::numbered::number_all;
 use crate::preorder::tree_of;
-use fs_answer::WitnessFile;
 use fs_board::Board;
-use fs_certificate::{Certificate, CertifiedAnswer, CertifiedCycles, Item, Version};
-use fs_evidence::{Forbidden, Question, Witness};
-use fs_kinds::Fault;
-use fs_list::List;
+use fs_cert_evidence::{Forbidden, Question, Witness, WitnessFile};
+use fs_cert_json::{Certificate, CertifiedAnswer, CertifiedCycles, Item, Version};
+use fs_kinds::{Fault, List};
 use fs_model::slots;
 use std::alloc::{AllocError, Global};
 

@@ -4,10 +4,8 @@ ghost use Rattle.std.specs.Prelude.{IfOk};
 ghost use Rattle.std.specs.List.{AllZip};
 ghost use Rattle.fs_cert.specs.inner.Copies.{IsCopiedChoice, AreCopiedChoices, IsCopiedName, IsCopiedWitness};
 
-use fs_answer::{ChoiceLists, Choices, Names, WitnessFile};
-use fs_evidence::Witness;
-use fs_kinds::OperationName;
-use fs_list::List;
+use fs_cert_evidence::{ChoiceLists, Choices, Names, Witness, WitnessFile};
+use fs_kinds::{List, OperationName};
 use fs_model::Choice;
 use std::alloc::{AllocError, Global};
 

@@ -2,17 +2,17 @@
 
 ghost use Rattle.std.specs.Prelude.{◌≡◌, ◌≤◌, ◌++◌, IfOk, List, length, false, true};
 ghost use Rattle.std.specs.List.{AllZip};
-ghost use Rattle.fs_answer.specs.Certificate.{Link as LinkValue};
-ghost use Rattle.fs_evidence.specs.Inferences.{cycles_of};
-ghost use Rattle.fs_certificate.specs.Kept.{version_of};
+ghost use Rattle.fs_cert_evidence.specs.Certificate.{Link as LinkValue};
+ghost use Rattle.fs_cert_evidence.specs.Inferences.{cycles_of};
+ghost use Rattle.fs_cert_json.specs.Kept.{version_of};
 ghost use Rattle.fs_cert.specs.Cycles.{BeginsAtLeast, IsNotAfter, version_for};
 ghost use Rattle.fs_cert.specs.inner.Copies.{AreCopiedCycles, IsCopiedLink, IsCopiedCycle, turned};
 
 use crate::copied::name_of;
 use crate::inferences::inferences_of;
-use fs_certificate::{CertificateLink, CertifiedCycles, Version};
-use fs_evidence::{Cycles, Link};
-use fs_list::List;
+use fs_cert_evidence::{Cycles, Link};
+use fs_cert_json::{CertificateLink, CertifiedCycles, Version};
+use fs_kinds::List;
 use std::alloc::{AllocError, Global};
 
 /// The link, whose operation is there.

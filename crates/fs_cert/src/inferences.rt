@@ -2,12 +2,11 @@
 
 ghost use Rattle.std.specs.Prelude.{IfOk, map};
 ghost use Rattle.std.specs.List.{AllZip};
-ghost use Rattle.fs_evidence.specs.Inferences.{inference_of};
+ghost use Rattle.fs_cert_evidence.specs.Inferences.{inference_of};
 ghost use Rattle.fs_cert.specs.inner.Copies.{IsCopiedInference, IsNamed, IsSameLink};
 
-use fs_evidence::{Inference, Link};
-use fs_kinds::OperationName;
-use fs_list::List;
+use fs_cert_evidence::{Inference, Link};
+use fs_kinds::{List, OperationName};
 use std::alloc::{AllocError, Global};
 
 /// The operation's name, as it is.

@@ -3,16 +3,15 @@
 ghost use Rattle.std.specs.Prelude.{◌≡◌, ◌≤◌, IfOk, List, false, length, take, drop, position};
 ghost use Rattle.fs_kinds.specs.Slot.{is_same_slot};
 ghost use Rattle.fs_kinds.specs.declared.slot.Slot.{Slot as SlotValue};
-ghost use Rattle.fs_answer.specs.CertificateFile.{most_number};
-ghost use Rattle.fs_certificate.specs.Kept.{item_of};
-ghost use Rattle.fs_history.specs.Board.{is_open, is_held};
+ghost use Rattle.fs_cert_evidence.specs.CertificateFile.{most_number};
+ghost use Rattle.fs_cert_json.specs.Kept.{item_of};
+ghost use Rattle.fs_cert_evidence.specs.Board.{is_open, is_held};
 ghost use Rattle.fs_board.specs.View.{status_of};
 ghost use Rattle.fs_cert.specs.inner.Items.{number_in, item_at, AreSmall, HasNumbers, IsSayable};
 
 use fs_board::Status;
-use fs_certificate::Item;
-use fs_kinds::Slot;
-use fs_list::List;
+use fs_cert_json::Item;
+use fs_kinds::{List, Slot};
 use std::alloc::{AllocError, Global};
 
 /// Where the slot stands among these.

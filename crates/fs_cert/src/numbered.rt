@@ -2,15 +2,13 @@
 
 ghost use Rattle.std.specs.Prelude.{◌≡◌, ◌++◌, IfOk, OnOk, IfSome, IfNone, IsTrue, List, Some, map, slice_get};
 ghost use Rattle.fs_model.specs.Witness.{Witness as Defined};
-ghost use Rattle.fs_evidence.specs.Evidence.{witness_in};
+ghost use Rattle.fs_cert_evidence.specs.Evidence.{witness_in};
 ghost use Rattle.fs_cert.specs.Certified.{AreDistinct};
 ghost use Rattle.fs_cert.specs.inner.Copies.{AreCopiedWitnesses, HasNoCopy, IsCopiedWitness, StandsAt, IsNumbering};
 
 use crate::copied::witness_of;
-use fs_answer::{ChoiceLists, WitnessFile};
-use fs_evidence::Witness;
-use fs_kinds::OperationName;
-use fs_list::List;
+use fs_cert_evidence::{ChoiceLists, Witness, WitnessFile};
+use fs_kinds::{List, OperationName};
 use std::alloc::{AllocError, Global};
 use std::sync::Arc;
 

@@ -2,7 +2,7 @@
 
 ghost use Rattle.std.specs.Prelude.{◌≡◌, ◌+◌, ◌<◌, ◌^◌, [], ◌∷◌, ◌++◌, IfOk, OnOk, IfSome, IfNone};
 ghost use Rattle.std.specs.List.{range_with_len};
-ghost use Rattle.fs_answer.specs.CertificateFile.{most_number};
+ghost use Rattle.fs_cert_evidence.specs.CertificateFile.{most_number};
 ghost use Rattle.fs_board.specs.View.{status_of};
 ghost use Rattle.fs_cert.specs.inner.Items.{below, AreBelow};
 

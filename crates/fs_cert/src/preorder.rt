@@ -3,18 +3,17 @@
 ghost use Rattle.std.specs.Prelude.{◌≡◌, ◌<◌, ◌≤◌, IfOk, length, map, true, count_by, is_some, Some, slice_get};
 ghost use Rattle.fs_kinds.specs.PriceTable.{is_offered};
 ghost use Rattle.fs_model.specs.Slots.{slots};
-ghost use Rattle.fs_answer.specs.Parts.{options};
-ghost use Rattle.fs_certificate.specs.Kept.{item_of};
-ghost use Rattle.fs_history.specs.Board.{Node, is_finished};
+ghost use Rattle.fs_cert_evidence.specs.Parts.{options};
+ghost use Rattle.fs_cert_json.specs.Kept.{item_of};
+ghost use Rattle.fs_cert_evidence.specs.Board.{Node, is_finished};
 ghost use Rattle.fs_board.specs.View.{status_of};
 ghost use Rattle.fs_cert.specs.inner.Items.{AreSmall, AreSayable, IsTreeOf};
 
 use crate::items::item_at;
 use crate::pending::Pending;
 use fs_board::{Board, Status};
-use fs_certificate::Item;
-use fs_kinds::{Kind, Prices, Slot};
-use fs_list::List;
+use fs_cert_json::Item;
+use fs_kinds::{Kind, List, Prices, Slot};
 use std::alloc::{AllocError, Global};
 
 /// How many of the kinds are offered.

@@ -11,7 +11,7 @@ use Rattle.fs_model.specs.Tests.{follows_closely}
 use Rattle.fs_model.specs.Execution.{IsAtomic}
 use Rattle.fs_model.specs.Reasons.{IsLeast, is_earlier, IsLeastPair, is_wrong_load, is_against_rule, is_against_atomicity, LoadsRightly, KeepsRules}
 use Rattle.fs_model.proofs.ProgramOrder.{po_of_harts}
-use Rattle.fs_axioms.proofs.Axioms.{returning_all, atomic_by_pairs}
+use Rattle.fs_model_axioms.proofs.Axioms.{returning_all, atomic_by_pairs}
 use Rattle.fs_check.specs.inner.Breaking.{rule_broken_by, rule_broken_after, atomicity_broken_by}
 
 -- ---- the first number that passes

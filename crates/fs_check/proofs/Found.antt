@@ -26,11 +26,11 @@ use Rattle.fs_hart.specs.Steps.{steps_in}
 use Rattle.fs_cand.specs.Candidates.{runs_of, IsMade}
 use Rattle.fs_check.specs.declared.order.OrderVerdict.TheVariants.{No}
 use Rattle.fs_check.specs.declared.ordered.OrderedCandidate.{OrderedCandidate}
-use Rattle.fs_answer.specs.declared.witness.WitnessFile.{WitnessFile}
+use Rattle.fs_cert_evidence.specs.declared.witness.WitnessFile.{WitnessFile}
 use Rattle.fs_cand.specs.inner.NamedOrder.{name_in, numbers_of}
 use Rattle.fs_check.specs.Ordered.{IsOrdered, runs_in}
 use Rattle.fs_check.specs.Verdicts.{IsWholeFile, IsFoundOrder, IsArranged, IsJudgement, IsLoadReason, IsRuleReason, IsAtomicReason}
-use Rattle.fs_answer.specs.WitnessFile.{KeepsWitness, in_range}
+use Rattle.fs_cert_evidence.specs.WitnessFile.{KeepsWitness, in_range}
 use Rattle.fs_model.proofs.HartOperations.{has_name}
 use Rattle.fs_hart.proofs.Few.{few_operations}
 use Rattle.fs_check.proofs.FirstStops.{all_whole}

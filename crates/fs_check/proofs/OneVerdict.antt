@@ -24,7 +24,7 @@ use Rattle.fs_model.specs.Reasons.{IsYes, IsReason, IsOrder, AreRuns, IsFirstSto
 use Rattle.fs_model.proofs.Runs.{run_once}
 use Rattle.fs_model.proofs.Stops.{whole_never_stops}
 use Rattle.fs_model.proofs.OneStop.{stops_once}
-use Rattle.fs_axioms.proofs.Axioms.{all_returning, pairs_atomic}
+use Rattle.fs_model_axioms.proofs.Axioms.{all_returning, pairs_atomic}
 use Rattle.fs_check.specs.declared.order.OrderVerdict.{OrderVerdict}
 use Rattle.fs_check.specs.declared.order.OrderVerdict.TheVariants.{Yes, No}
 use Rattle.fs_check.specs.Verdicts.{IsVerdict, KeepsAtomicity}

@@ -9,7 +9,7 @@ use Rattle.fs_model.specs.Operations.{PreExecution, accesses, operations, initia
 use Rattle.fs_model.specs.Source.{gmo, source_in}
 use Rattle.fs_model.specs.Reasons.{is_against_rule}
 use Rattle.fs_cand.specs.Candidates.{rf}
-use Rattle.fs_axioms.proofs.Sources.{source_of}
+use Rattle.fs_model_axioms.proofs.Sources.{source_of}
 use Rattle.fs_check.specs.declared.ordered.OrderedCandidate.{OrderedCandidate}
 use Rattle.fs_check.specs.inner.Breaking.{is_before}
 use Rattle.fs_check.specs.Ordered.{IsOrdered, runs_in}

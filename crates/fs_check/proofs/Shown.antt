@@ -8,9 +8,9 @@ use Rattle.fs_model.specs.Test.{GoesForward}
 use Rattle.fs_model.specs.Execution.{Execution}
 use Rattle.fs_model.specs.Reasons.{IsReason}
 use Rattle.fs_model.specs.Witness.{Witness}
-use Rattle.fs_answer.specs.declared.witness.WitnessFile.{WitnessFile}
-use Rattle.fs_answer.specs.Shown.{ShowsAs, IsShownBy}
-use Rattle.fs_answer.specs.WitnessFile.{KeepsWitness}
+use Rattle.fs_cert_evidence.specs.declared.witness.WitnessFile.{WitnessFile}
+use Rattle.fs_cert_evidence.specs.Shown.{ShowsAs, IsShownBy}
+use Rattle.fs_cert_evidence.specs.WitnessFile.{KeepsWitness}
 use Rattle.fs_check.specs.declared.order.OrderVerdict.TheVariants.{No}
 use Rattle.fs_check.specs.declared.ordered.OrderedCandidate.{OrderedCandidate}
 use Rattle.fs_check.specs.Verdicts.{IsFoundBy, IsJudgement}

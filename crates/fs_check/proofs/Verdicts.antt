@@ -19,15 +19,15 @@ use Rattle.fs_hart.specs.Runs.{registers_after}
 use Rattle.fs_cand.specs.declared.candidate.Candidate.{Candidate}
 use Rattle.fs_hart.specs.Steps.{steps_in}
 use Rattle.fs_cand.specs.Candidates.{AreShort}
-use Rattle.fs_axioms.specs.Final.{AreFinal}
+use Rattle.fs_model_axioms.specs.Final.{AreFinal}
 use Rattle.fs_check.specs.declared.order.OrderVerdict.{OrderVerdict}
 use Rattle.fs_check.specs.declared.order.OrderVerdict.TheVariants.{Yes, No}
 use Rattle.fs_check.specs.declared.ordered.OrderedCandidate.{OrderedCandidate}
-use Rattle.fs_answer.specs.declared.witness.WitnessFile.{WitnessFile}
-use Rattle.fs_answer.specs.Shown.{ShowsAs}
+use Rattle.fs_cert_evidence.specs.declared.witness.WitnessFile.{WitnessFile}
+use Rattle.fs_cert_evidence.specs.Shown.{ShowsAs}
 use Rattle.fs_check.specs.Ordered.{execution_in}
 use Rattle.fs_check.specs.Verdicts.{IsVerdict, IsWholeFile, IsFoundBy, IsFoundOrder, IsJudgement, KeepsAtomicity}
-use Rattle.fs_answer.specs.WitnessFile.{KeepsWitness}
+use Rattle.fs_cert_evidence.specs.WitnessFile.{KeepsWitness}
 use Rattle.fs_check.specs.declared.runs.Runs.{Runs}
 use Rattle.fs_check.specs.declared.runs.Runs.TheVariants.{Whole, Stopped}
 use Rattle.fs_check.specs.inner.WitnessRuns.{AreWholeRuns, AreRunsOf}

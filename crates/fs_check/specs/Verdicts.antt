@@ -16,7 +16,7 @@ use Rattle.fs_cand.specs.Candidates.{runs_of}
 use Rattle.fs_check.specs.declared.order.OrderVerdict.{OrderVerdict}
 use Rattle.fs_check.specs.declared.order.OrderVerdict.TheVariants.{Yes, No}
 use Rattle.fs_check.specs.declared.ordered.OrderedCandidate.{OrderedCandidate}
-use Rattle.fs_answer.specs.declared.witness.WitnessFile.{WitnessFile}
+use Rattle.fs_cert_evidence.specs.declared.witness.WitnessFile.{WitnessFile}
 use Rattle.fs_check.specs.Ordered.{runs_in, execution_in}
 use Rattle.fs_check.specs.inner.WitnessRuns.{AreWholeRuns}
 

@@ -11,21 +11,21 @@ ghost use Rattle.fs_model.specs.Execution.{initial_words};
 ghost use Rattle.fs_model.specs.Reasons.{LoadsRightly, KeepsRules};
 ghost use Rattle.fs_model.specs.Witness.{Witness, name_of};
 ghost use Rattle.fs_cand.specs.Candidates.{IsMade, AreShort};
-ghost use Rattle.fs_axioms.specs.Final.{AreFinal};
+ghost use Rattle.fs_model_axioms.specs.Final.{AreFinal};
 ghost use Rattle.fs_check.specs.Ordered.{IsOrdered, execution_in, runs_in};
 ghost use Rattle.fs_check.specs.Verdicts.{IsVerdict, IsWholeFile, IsFoundBy, HasNoOrder, IsFoundOrder, IsArranged, IsJudgement, IsLoadReason, IsRuleReason, IsAtomicReason, KeepsAtomicity};
-ghost use Rattle.fs_answer.specs.Shown.{ShowsAs, IsShownBy};
-ghost use Rattle.fs_answer.specs.WitnessFile.{IsWitnessFile, IsWitnessFault, KeepsWitness};
+ghost use Rattle.fs_cert_evidence.specs.Shown.{ShowsAs, IsShownBy};
+ghost use Rattle.fs_cert_evidence.specs.WitnessFile.{IsWitnessFile, IsWitnessFault, KeepsWitness};
 
 use crate::names::{name, names, numbers};
 use crate::ordered::OrderedCandidate;
 use crate::runs::{Runs, make_runs};
-use fs_answer::{WitnessFile, read_witness};
-use fs_axioms::{Ordered, count_accesses, has_outcome, lists_each_once};
 use fs_cand::{Candidate, Sources, StoreOrder, Traces};
+use fs_cert_evidence::{WitnessFile, read_witness};
 use fs_hart::Operations;
 use fs_kinds::{Fault, OperationName, Placement, Reason};
 use fs_model::Test;
+use fs_model_axioms::{Ordered, count_accesses, has_outcome, lists_each_once};
 use std::alloc::{AllocError, Global};
 
 /// What is said of a witness.

@@ -9,10 +9,10 @@ ghost use Rattle.fs_model.specs.Reasons.{is_wrong_load, is_against_rule, is_agai
 ghost use Rattle.fs_check.specs.inner.Breaking.{is_before, rule_broken_by, rule_broken_after, atomicity_broken_by};
 ghost use Rattle.fs_check.specs.Ordered.{IsOrdered, runs_in};
 
-use fs_axioms::Ordered;
 use fs_cand::Candidate;
 use fs_kinds::Placement;
 use fs_model::Test;
+use fs_model_axioms::Ordered;
 use fs_ppo::{fence_rule, rule};
 
 /// A candidate with an order of its operations, which gives it its sources.

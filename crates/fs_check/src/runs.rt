@@ -5,8 +5,8 @@ ghost use Rattle.fs_kinds.specs.declared.fault.Fault.TheVariants.{Memory};
 ghost use Rattle.fs_model.specs.Test.{IsBounded, IsStart};
 ghost use Rattle.fs_check.specs.inner.WitnessRuns.{reason_of, AreRunsOf};
 
-use fs_answer::Choices;
 use fs_cand::Traces;
+use fs_cert_evidence::Choices;
 use fs_hart::{Run, Trace, trace_of};
 use fs_kinds::{Fault, Reason};
 use fs_model::Test;

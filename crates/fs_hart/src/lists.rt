@@ -1,6 +1,6 @@
 //! Lists of steps and of operations: contracts see each as a list.
 
-use fs_list::List;
+use fs_kinds::List;
 use fs_model::{Operation, Step};
 
 /// The steps of a run, in program order.

@@ -1,6 +1,6 @@
 -- How many tokens an instruction has at most.
 use Rattle.std.proofs.Common.{ℕ, ◌+◌, ◌*◌, ◌≤◌, ◌<◌, List, Option, length, arith, lit≤, Bool}
-use Rattle.fs_tokens.specs.Tokens.{Tok}
+use Rattle.fs_litmus_tokens.specs.Tokens.{Tok}
 use Rattle.fs_instr.specs.Operands.{Filled}
 use Rattle.fs_instr.specs.Instructions.{parts_of}
 use Rattle.fs_instr.specs.Reading.{is_alone, is_empty}

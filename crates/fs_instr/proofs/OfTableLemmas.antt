@@ -4,8 +4,8 @@ use Rattle.std.specs.Prelude.{IfOk, neg_ℤ}
 use Rattle.std.specs.Str.Parse.{digits_value}
 use Rattle.std.proofs.lemmas.Bool.Decides.{nat_tests}
 use Rattle.std.specs.Str.{bytes_eq}
-use Rattle.fs_tokens.specs.Tokens.{Tok}
-use Rattle.fs_tokens.specs.Numbers.{number_of, numeral}
+use Rattle.fs_litmus_tokens.specs.Tokens.{Tok}
+use Rattle.fs_litmus_tokens.specs.Numbers.{number_of, numeral}
 use Rattle.fs_instr.specs.Rows.{look_up}
 use Rattle.std.specs.Option.{option_or}
 use Rattle.fs_instr.specs.Registers.{register_of, low_x, middle_x, high_x, first_names, arguments, last_names}

@@ -1,7 +1,7 @@
 -- The tokens of an instruction are words and marks.
 use Rattle.std.proofs.Common.{◌≡◌, ℕ, List, Option, Bool, true, refl}
-use Rattle.fs_tokens.specs.Tokens.{Tok}
-use Rattle.fs_tokens.specs.Few.{are_plain}
+use Rattle.fs_litmus_tokens.specs.Tokens.{Tok}
+use Rattle.fs_litmus_tokens.specs.Few.{are_plain}
 use Rattle.fs_instr.specs.Operands.{Filled}
 use Rattle.fs_instr.specs.Spelled.{IsNumber, plus, minus, IsPart, rd, first, second, x0, sign, imm, below, constant, no_offset, zero_offset, label, before, after, AreParts, none, next, Spells, spells, IsUnsupported, unsupported}
 use Rattle.fs_instr.specs.declared.instr.Instr.{Instr}

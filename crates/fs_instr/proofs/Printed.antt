@@ -8,10 +8,10 @@ use Rattle.std.specs.Str.Parse.{AllDigits, digits_value}
 use Rattle.std.specs.Char.{digit_value}
 use Rattle.std.proofs.lemmas.Fmt.{decimal_is_IsNumeral}
 use Rattle.std.proofs.lemmas.Bool.Decides.{nat_tests}
-use Rattle.fs_tokens.specs.Numbers.{number_of, numeral}
+use Rattle.fs_litmus_tokens.specs.Numbers.{number_of, numeral}
 use Rattle.fs_instr.specs.Registers.{register_of, low_x, middle_x, high_x, first_names, arguments, last_names}
 use Rattle.fs_instr.specs.Writing.{register_text}
-use Rattle.fs_tokens.proofs.Numerals.{numeral_to}
+use Rattle.fs_litmus_tokens.proofs.Numerals.{numeral_to}
 
 no_hex_two : (p q : Bool) (cs : List ℕ) → (q ≡ true → ⊥) → (p && (q && true)) ≡ false
 no_hex_two false q cs h = refl

@@ -2,10 +2,10 @@
 use Rattle.std.proofs.Common.{◌≡◌, ℕ, ◌<◌, ◌^◌, List, [], ◌∷◌, ◌++◌, Option, Some, None, Bool, true, false, refl, sym, ap, ◌∙◌, subst, append_assoc, append-nil, arith, ℤ, pos, negsuc, suc}
 use Rattle.std.proofs.lemmas.List.{map-append}
 use Rattle.std.specs.Fmt.{decimal}
-use Rattle.fs_tokens.specs.Bytes.{begins}
-use Rattle.fs_tokens.specs.Tokens.{Tok, Word, Lined, AreTokens, none, skip, token, word, without_lines}
-use Rattle.fs_tokens.specs.declared.word.Class.{Class}
-use Rattle.fs_tokens.specs.declared.token.Mark.TheVariants as mark
+use Rattle.fs_litmus_tokens.specs.Bytes.{begins}
+use Rattle.fs_litmus_tokens.specs.Tokens.{Tok, Word, Lined, AreTokens, none, skip, token, word, without_lines}
+use Rattle.fs_litmus_tokens.specs.declared.word.Class.{Class}
+use Rattle.fs_litmus_tokens.specs.declared.token.Mark.TheVariants as mark
 use Rattle.fs_instr.specs.Rows.{look_up}
 use Rattle.std.specs.Option.{option_or}
 use Rattle.fs_instr.specs.Names.{op_of, name_text, register_names, immediate_names, branch_names, single_names, plain_names, acquiring_names, releasing_names, both_names, both_apart_names}

@@ -8,8 +8,8 @@ use Rattle.std.specs.List.{prefix_len}
 use Rattle.std.specs.Str.{bytes_eq}
 use Rattle.std.specs.Str.Parse.{AllDigits}
 use Rattle.std.specs.Char.{digit_value}
-use Rattle.fs_tokens.specs.Bytes.{is_letter, is_blank}
-use Rattle.fs_tokens.specs.Tokens.{Front, Take, piece, word, Lined, AreTokens, token}
+use Rattle.fs_litmus_tokens.specs.Bytes.{is_letter, is_blank}
+use Rattle.fs_litmus_tokens.specs.Tokens.{Front, Take, piece, word, Lined, AreTokens, token}
 use Rattle.std.specs.Fmt.{decimal}
 use Rattle.std.proofs.lemmas.Fmt.{decimal_is_IsNumeral}
 use Rattle.fs_instr.specs.Rows.{look_up}

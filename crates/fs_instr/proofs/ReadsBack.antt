@@ -1,8 +1,8 @@
 -- Printed tokens spell the instruction, shape by shape.
 use Rattle.std.proofs.Common.{◌≡◌, ℕ, suc, ◌<◌, List, [], ◌∷◌, ◌++◌, Some, ℤ, pos, negsuc, true, false, refl, leb, ltb, arith, Bool, ◌||◌, ◌&&◌, ◌^◌, eqb, eqb-true, subst}
 use Rattle.std.proofs.lemmas.Bool.Decides.{nat_tests}
-use Rattle.fs_tokens.specs.Tokens.{Tok}
-use Rattle.fs_tokens.specs.Words.{is_name, class_of, keyword_of, is_number, is_digits}
+use Rattle.fs_litmus_tokens.specs.Tokens.{Tok}
+use Rattle.fs_litmus_tokens.specs.Words.{is_name, class_of, keyword_of, is_number, is_digits}
 use Rattle.fs_instr.specs.Operands.{Filled, immediate_of, below_of}
 use Rattle.fs_instr.specs.Spelled.{plus, minus, IsPart, rd, first, second, sign, imm, below, constant, label, x0, before, after, no_offset, none, next, spells}
 use Rattle.fs_instr.specs.PrintedTokens.{ReadsBack, number_tokens}

@@ -1,13 +1,13 @@
 -- What is read is spelled, and what is spelled is read.
 use Rattle.std.proofs.Common.{◌≡◌, ℕ, ◌≤◌, ◌^◌, List, [], ◌∷◌, Option, Some, None, option_map, option_and_then, Bool, true, false, cond, refl, sym, ap, ◌∙◌, subst, eqb, eqb-true, eq-eqb, leb, arith, Ok, Err}
 use Rattle.std.proofs.lemmas.Bool.Decides.{nat_tests}
-use Rattle.fs_tokens.specs.Words.{is_name}
-use Rattle.fs_tokens.specs.Tokens.{Tok, Word, Sign, Strange}
-use Rattle.fs_tokens.specs.declared.word.Class.{Class}
-use Rattle.fs_tokens.specs.declared.token.Mark.{Mark}
-use Rattle.fs_tokens.specs.declared.token.Mark.TheVariants as mark
+use Rattle.fs_litmus_tokens.specs.Words.{is_name}
+use Rattle.fs_litmus_tokens.specs.Tokens.{Tok, Word, Sign, Strange}
+use Rattle.fs_litmus_tokens.specs.declared.word.Class.{Class}
+use Rattle.fs_litmus_tokens.specs.declared.token.Mark.{Mark}
+use Rattle.fs_litmus_tokens.specs.declared.token.Mark.TheVariants as mark
 use Rattle.fs_instr.specs.Registers.{register_of}
-use Rattle.fs_tokens.specs.Numbers.{number_of}
+use Rattle.fs_litmus_tokens.specs.Numbers.{number_of}
 use Rattle.fs_instr.specs.FenceLetters.{letters_of}
 use Rattle.fs_instr.specs.Operands.{Filled, blank, take_word, take_name, mark_number, is_mark, take_sign, take_register, take_letters, take_unsigned, take_number, signed, immediate_of, below_of, read_part, read_parts}
 use Rattle.fs_instr.specs.Spelled.{IsNumber, plus, minus, IsPart, rd, first, second, x0, sign, imm, below, constant, no_offset, zero_offset, label, before, after, AreParts, none, next, Spells, spells, IsUnsupported, unsupported, IsUnknown, unknown, Answers}

@@ -1,10 +1,10 @@
 -- From the first tokens of a text to the text.
 use Rattle.std.proofs.Common.{◌≡◌, ℕ, ◌<◌, List, [], ◌∷◌, Option, Bool, true, false, Result, Ok, Err, refl, sym, ap, ◌∙◌, subst, length, take, map, min, arith, ◌⊎◌, inl, inr}
 use Rattle.std.proofs.lemmas.List.{take_all, length-take, take-map, take_min}
-use Rattle.fs_tokens.specs.Tokens.{Tok, Lined, AreTokens, view, kind_of, without_lines}
-use Rattle.fs_tokens.specs.declared.token.Token.{Token}
-use Rattle.fs_tokens.specs.Few.{AreFirst, IsFew, are_plain}
-use Rattle.fs_tokens.specs.declared.few.Few.{Few}
+use Rattle.fs_litmus_tokens.specs.Tokens.{Tok, Lined, AreTokens, view, kind_of, without_lines}
+use Rattle.fs_litmus_tokens.specs.declared.token.Token.{Token}
+use Rattle.fs_litmus_tokens.specs.Few.{AreFirst, IsFew, are_plain}
+use Rattle.fs_litmus_tokens.specs.declared.few.Few.{Few}
 use Rattle.fs_instr.specs.Operands.{toks}
 use Rattle.fs_instr.specs.Reading.{Outcome}
 use Rattle.fs_instr.specs.Spelled.{Spells, IsUnsupported, IsUnknown, unknown, Answers}

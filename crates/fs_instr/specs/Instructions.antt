@@ -1,6 +1,6 @@
 -- The instruction table: what each row's operands are, and what instruction they make.
 use Rattle.std.specs.Prelude.{ℕ, List, [], ◌∷◌, Option, Some, None, pos}
-use Rattle.fs_tokens.specs.declared.token.Mark.TheVariants.{Comma, OpenParen, CloseParen}
+use Rattle.fs_litmus_tokens.specs.declared.token.Mark.TheVariants.{Comma, OpenParen, CloseParen}
 pub use Rattle.fs_instr.specs.Roles.{nop, roles, roles_of, dest_of, sources_of, address_of, data_of, carries_of, is_memory, is_conditional}
 use Rattle.fs_instr.specs.Operands.{all_letters}
 use Rattle.fs_instr.specs.declared.names.Op.{Op}

@@ -1,13 +1,13 @@
 -- What the tokens after a name say: operands, part by part.
 use Rattle.std.specs.Prelude.{ℕ, ◌-◌, ◌^◌, List, [], ◌∷◌, Option, Some, None, option_map, option_and_then, Bool, true, false, ◌==◌, ◌&&◌, ◌||◌, not, ◌%◌, is_some, nat_lt, nat_le, ℤ, pos, neg_ℤ, map, if◌then◌else◌}
 use denote.Ref.{Bor}
-use Rattle.fs_tokens.specs.Words.{is_name}
-use Rattle.fs_tokens.specs.Tokens.{Tok, Word, Sign, kind_of}
-use Rattle.fs_tokens.specs.declared.token.Token.{Token}
-use Rattle.fs_tokens.specs.declared.token.Mark.{Mark}
-use Rattle.fs_tokens.specs.declared.token.Mark.TheVariants as mark
+use Rattle.fs_litmus_tokens.specs.Words.{is_name}
+use Rattle.fs_litmus_tokens.specs.Tokens.{Tok, Word, Sign, kind_of}
+use Rattle.fs_litmus_tokens.specs.declared.token.Token.{Token}
+use Rattle.fs_litmus_tokens.specs.declared.token.Mark.{Mark}
+use Rattle.fs_litmus_tokens.specs.declared.token.Mark.TheVariants as mark
 use Rattle.fs_instr.specs.Registers.{register_of}
-use Rattle.fs_tokens.specs.Numbers.{number_of}
+use Rattle.fs_litmus_tokens.specs.Numbers.{number_of}
 use Rattle.fs_instr.specs.FenceLetters.{letters_of}
 use Rattle.fs_instr.specs.declared.letters.Letters.{Letters}
 use Rattle.fs_instr.specs.declared.operands.Operands.{Operands}

@@ -1,9 +1,9 @@
 -- The tokens of the printed form.
 use Rattle.std.specs.Prelude.{◌≡◌, false, ℕ, suc, List, [], ◌∷◌, ◌++◌, Option, map, Bool, Some, None, ℤ, pos, negsuc, codes}
 use Rattle.std.specs.Fmt.{decimal}
-use Rattle.fs_tokens.specs.Bytes.{is_letter}
-use Rattle.fs_tokens.specs.Tokens.{Tok, Sign, Lined, AreTokens, word}
-use Rattle.fs_tokens.specs.declared.token.Mark.TheVariants.{Minus}
+use Rattle.fs_litmus_tokens.specs.Bytes.{is_letter}
+use Rattle.fs_litmus_tokens.specs.Tokens.{Tok, Sign, Lined, AreTokens, word}
+use Rattle.fs_litmus_tokens.specs.declared.token.Mark.TheVariants.{Minus}
 use Rattle.fs_instr.specs.Names.{name_text}
 use Rattle.fs_instr.specs.FenceLetters.{letters_text}
 use Rattle.fs_instr.specs.Instructions.{parts_of, op_of_instr, operands_of, targeted}

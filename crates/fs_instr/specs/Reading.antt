@@ -1,6 +1,6 @@
 -- Instructions from tokens.
 use Rattle.std.specs.Prelude.{ℕ, List, [], ◌∷◌, Option, Some, None, option_map, Bool, true, false, not, ◌&&◌, Result, Ok, Err, if◌then◌else◌}
-use Rattle.fs_tokens.specs.Tokens.{Tok, Word}
+use Rattle.fs_litmus_tokens.specs.Tokens.{Tok, Word}
 use Rattle.fs_instr.specs.Names.{op_of}
 use Rattle.fs_instr.specs.Operands.{Filled, blank, read_parts}
 use Rattle.fs_instr.specs.Instructions.{parts_of, instr_of}

@@ -1,13 +1,13 @@
 -- Which tokens spell which instruction, with which label.
 use Rattle.std.specs.Prelude.{◌≡◌, ℕ, ◌≤◌, List, [], ◌∷◌, Option, Some, None, Bool, true, false, Ok, Err, ℤ}
-use Rattle.fs_tokens.specs.Words.{is_name}
-use Rattle.fs_tokens.specs.Tokens.{Tok, Word, Sign}
-use Rattle.fs_tokens.specs.declared.word.Class.{Class}
-use Rattle.fs_tokens.specs.declared.token.Mark.{Mark}
-use Rattle.fs_tokens.specs.declared.token.Mark.TheVariants.{OpenParen, Minus}
+use Rattle.fs_litmus_tokens.specs.Words.{is_name}
+use Rattle.fs_litmus_tokens.specs.Tokens.{Tok, Word, Sign}
+use Rattle.fs_litmus_tokens.specs.declared.word.Class.{Class}
+use Rattle.fs_litmus_tokens.specs.declared.token.Mark.{Mark}
+use Rattle.fs_litmus_tokens.specs.declared.token.Mark.TheVariants.{OpenParen, Minus}
 use Rattle.fs_instr.specs.Names.{op_of}
 use Rattle.fs_instr.specs.Registers.{register_of}
-use Rattle.fs_tokens.specs.Numbers.{number_of}
+use Rattle.fs_litmus_tokens.specs.Numbers.{number_of}
 use Rattle.fs_instr.specs.FenceLetters.{letters_of}
 use Rattle.fs_instr.specs.Operands.{Filled, blank, immediate_of, below_of, constant_of}
 use Rattle.fs_instr.specs.Instructions.{parts_of, instr_of}

@@ -1,7 +1,7 @@
 -- Which text spells which instruction.
 use Rattle.std.specs.Prelude.{◌≡◌, ℕ, List, Option, option_map, Result, Ok, Err, true}
-use Rattle.fs_tokens.specs.Tokens.{Tok, Lined, AreTokens, without_lines}
-use Rattle.fs_tokens.specs.Few.{are_plain}
+use Rattle.fs_litmus_tokens.specs.Tokens.{Tok, Lined, AreTokens, without_lines}
+use Rattle.fs_litmus_tokens.specs.Few.{are_plain}
 use Rattle.fs_kinds.specs.declared.fault.Fault.{Fault}
 use Rattle.fs_kinds.specs.declared.fault.Fault.TheVariants.{Syntax, UnknownInstr, BadAnnotation}
 use Rattle.fs_instr.specs.Reading.{Outcome}

@@ -1,8 +1,8 @@
 -- The printed form of instructions.
 use Rattle.std.specs.Prelude.{ℕ, List, [], ◌∷◌, ◌++◌, codes}
 use Rattle.std.specs.Fmt.{decimal, signed_decimal}
-use Rattle.fs_tokens.specs.declared.token.Mark.{Mark}
-use Rattle.fs_tokens.specs.declared.token.Mark.TheVariants.{Comma, OpenParen, CloseParen}
+use Rattle.fs_litmus_tokens.specs.declared.token.Mark.{Mark}
+use Rattle.fs_litmus_tokens.specs.declared.token.Mark.TheVariants.{Comma, OpenParen, CloseParen}
 use Rattle.fs_instr.specs.Names.{name_text}
 use Rattle.fs_instr.specs.FenceLetters.{letters_text}
 use Rattle.fs_instr.specs.Instructions.{parts_of, op_of_instr, operands_of}

@@ -10,7 +10,7 @@ use crate::operands::OperandPart::{
 };
 use crate::operands::Operands;
 use crate::reg::Reg;
-use fs_tokens::Mark::{CloseParen, Comma, OpenParen};
+use fs_litmus_tokens::Mark::{CloseParen, Comma, OpenParen};
 
 /// An instruction of the table (RV32I and the A extension of the unprivileged manual, 20191213). Registers hold words of
 /// 32 bits, sums wrap, and all sources are read before the destination is written.

@@ -7,7 +7,7 @@ ghost use Rattle.fs_instr.specs.Operands.{filled, toks, take_word, take_name, is
 
 use crate::letters::Letters;
 use crate::reg::Reg;
-use fs_tokens::{Kind, Mark, Token, number_of};
+use fs_litmus_tokens::{Kind, Mark, Token, number_of};
 
 /// A part of the operands, in the order of the text.
 #[derive(Clone, Copy)]

@@ -10,7 +10,7 @@ ghost use Rattle.fs_instr.specs.declared.instr.Instr.{Instr};
 use crate::instr::{Instr, build, parts};
 use crate::names::{Ann, Op};
 use crate::operands::read_parts;
-use fs_tokens::{Kind, Token};
+use fs_litmus_tokens::{Kind, Token};
 
 /// An instruction as read; a branch or a jump has the target 0 still, and the label that it names.
 #[derive(Clone, Copy, Debug)]

@@ -8,7 +8,7 @@ ghost use Rattle.fs_instr.specs.declared.instr.Instr.{Instr};
 
 use crate::reading::{Parsed, Refused, read_tokens};
 use fs_kinds::Fault;
-use fs_tokens::first_tokens;
+use fs_litmus_tokens::first_tokens;
 
 fn fault_of(refused: Refused) -> Fault
     ensures { result ≡ fault_of refused }

@@ -7,7 +7,7 @@ ghost use Rattle.fs_instr.specs.PrintedTokens.{ReadsBack, HasPrintedTokens, Text
 
 use crate::instr::{Instr, parts};
 use crate::operands::{OperandPart, Operands};
-use fs_tokens::Mark;
+use fs_litmus_tokens::Mark;
 use std::alloc::AllocError;
 
 fn write_part(part: OperandPart, operands: &Operands, line: &mut String) -> Result<(), AllocError>

@@ -9,9 +9,9 @@ use Rattle.fs_model.specs.Numbers.{numbers_below}
 use Rattle.fs_model.specs.Operations.{PreExecution, operations, is_load}
 use Rattle.fs_model.specs.Source.{gmo, source_in}
 use Rattle.fs_model.specs.Shows.{is_store_to}
-use Rattle.fs_axioms.specs.Among.{at, stores_at}
-use Rattle.fs_axioms.specs.Ordered.{source_at}
-use Rattle.fs_axioms.proofs.Sources.{source_of}
+use Rattle.fs_model_axioms.specs.Among.{at, stores_at}
+use Rattle.fs_model_axioms.specs.Ordered.{source_at}
+use Rattle.fs_model_axioms.proofs.Sources.{source_of}
 
 -- one item more of a mapped range
 pub one_more : {X : Type 0} (f : ℕ → X) (items pushed : List X) (x : X) (n : ℕ)

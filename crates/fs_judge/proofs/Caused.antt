@@ -5,8 +5,8 @@ use Rattle.std.proofs.lemmas.List.Folds.{list_any-append}
 use Rattle.fs_kinds.specs.declared.placement.Entry.{Entry}
 use Rattle.fs_model.specs.Operations.{PreExecution}
 use Rattle.fs_model.specs.Preserved.{all_rules, ppo}
-use Rattle.fs_answer.specs.Candidates.{Candidate, rf, co}
-use Rattle.fs_answer.specs.Judged.{Preserved, ReadsFrom, Coherence, FromReads, all_causes, is_edge, is_judged, rfe, fr}
+use Rattle.fs_cert_evidence.specs.Candidates.{Candidate, rf, co}
+use Rattle.fs_cert_evidence.specs.Judged.{Preserved, ReadsFrom, Coherence, FromReads, all_causes, is_edge, is_judged, rfe, fr}
 
 any-map : {X Y : Type 0} (f : Y → Bool) (g : X → Y) (xs : List X) → list_any f (map g xs) ≡ list_any (λ z. f (g z)) xs
 any-map f g [] = refl

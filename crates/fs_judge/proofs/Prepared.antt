@@ -4,8 +4,8 @@ use Rattle.std.specs.Prelude.{slice_get}
 use Rattle.std.specs.List.{AllZip, Contains}
 use Rattle.std.proofs.lemmas.Option.{slice_get_within}
 use Rattle.fs_model.specs.declared.test.Test.{Test}
-use Rattle.fs_answer.specs.Candidates.{Candidate, IsShowing}
-use Rattle.fs_answer.specs.Listings.{IsListing}
+use Rattle.fs_cert_evidence.specs.Candidates.{Candidate, IsShowing}
+use Rattle.fs_cert_evidence.specs.Listings.{IsListing}
 
 same_Some : {X : Type 0} (x y : X) → Some x ≡ Some y → x ≡ y
 same_Some x y e = cc

@@ -4,7 +4,7 @@ use Rattle.fs_kinds.specs.declared.placement.Entry.{Entry}
 use Rattle.fs_model.specs.declared.test.Test.{Test}
 use Rattle.fs_model.specs.Execution.{Execution}
 use Rattle.fs_model.specs.Allows.{Shows, Allows}
-use Rattle.fs_evidence.specs.Evidence.{Shown, IsWitnessFor, ShowsForbidden}
+use Rattle.fs_cert_evidence.specs.Evidence.{Shown, IsWitnessFor, ShowsForbidden}
 use Rattle.fs_judge.specs.declared.verdict.Verdict.{Verdict}
 use Rattle.fs_judge.specs.declared.verdict.Verdict.TheVariants.{Allowed, Forbids}
 

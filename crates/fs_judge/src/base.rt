@@ -4,16 +4,15 @@ ghost use Rattle.std.specs.Prelude.{◌≡◌, ◌≤◌, ℕ, List, true, lengt
 ghost use Rattle.fs_kinds.specs.declared.fault.Fault.TheVariants.{Memory};
 ghost use Rattle.fs_model.specs.declared.test.Test.{Test};
 ghost use Rattle.fs_model.specs.Execution.{initial_words};
-ghost use Rattle.fs_answer.specs.Candidates.{Candidate as Defined, IsRaw, runs_of};
-ghost use Rattle.fs_answer.specs.Judged.{is_judged};
+ghost use Rattle.fs_cert_evidence.specs.Candidates.{Candidate as Defined, IsRaw, runs_of};
+ghost use Rattle.fs_cert_evidence.specs.Judged.{is_judged};
 ghost use Rattle.fs_cand.specs.Candidates.{candidate_of, IsMade};
 ghost use Rattle.fs_relation.specs.Edges.{has_edge};
 ghost use Rattle.fs_judge.specs.inner.Bases.{IsBase};
 
 use fs_cand::Candidate;
-use fs_edges::{Sides, base_rows, fence_rows, sides_of};
-use fs_kinds::{Fault, Placement};
-use fs_list::List;
+use fs_cand_witness::{Sides, base_rows, fence_rows, sides_of};
+use fs_kinds::{Fault, List, Placement};
 use fs_relation::Rows;
 use std::alloc::Global;
 

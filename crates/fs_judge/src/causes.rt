@@ -1,13 +1,13 @@
 //! Why an edge of the judged relation is one.
 
 ghost use Rattle.std.specs.Prelude.{◌≡◌, true};
-ghost use Rattle.fs_answer.specs.Judged.{is_edge, is_judged};
+ghost use Rattle.fs_cert_evidence.specs.Judged.{is_edge, is_judged};
 ghost use Rattle.fs_cand.specs.Candidates.{candidate_of};
-ghost use Rattle.fs_evidence.specs.Evidence.{cause_of};
+ghost use Rattle.fs_cert_evidence.specs.Evidence.{cause_of};
 ghost use Rattle.fs_ppo.specs.Rules.{OfRuns};
 
 use fs_cand::Candidate;
-use fs_evidence::Cause;
+use fs_cert_evidence::Cause;
 use fs_kinds::Placement;
 use fs_ppo::is_edge;
 

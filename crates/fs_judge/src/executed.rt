@@ -6,18 +6,17 @@ ghost use Rattle.fs_kinds.specs.declared.fault.Fault.TheVariants.{Memory};
 ghost use Rattle.fs_model.specs.Test.{IsBounded, address_of};
 ghost use Rattle.fs_model.specs.Numbers.{numbers_below};
 ghost use Rattle.fs_model.specs.Execution.{initial_words};
-ghost use Rattle.fs_axioms.specs.Among.{at, stores_at};
-ghost use Rattle.fs_axioms.specs.Ordered.{source_at};
+ghost use Rattle.fs_model_axioms.specs.Among.{at, stores_at};
+ghost use Rattle.fs_model_axioms.specs.Ordered.{source_at};
 ghost use Rattle.fs_cand.specs.Candidates.{candidate_of, IsMade};
 ghost use Rattle.fs_check.specs.Ordered.{IsOrdered, execution_in};
-ghost use Rattle.fs_decide.specs.Decide.{candidate_of as candidate_in};
+ghost use Rattle.fs_cand_verdict_laws.specs.Decide.{candidate_of as candidate_in};
 
-use fs_axioms::source_at;
 use fs_cand::{Candidate, StoreOrder, Stores};
 use fs_check::OrderedCandidate;
-use fs_kinds::Fault;
-use fs_list::List;
+use fs_kinds::{Fault, List};
 use fs_model::{Location, Operation, Test};
+use fs_model_axioms::source_at;
 use std::alloc::{AllocError, Global};
 
 // Is it the number of a store to the address?

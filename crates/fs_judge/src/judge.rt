@@ -6,7 +6,7 @@ ghost use Rattle.fs_kinds.specs.declared.fault.Fault.TheVariants.{Memory};
 ghost use Rattle.fs_kinds.specs.Placement.{slots_of};
 ghost use Rattle.fs_model.specs.Slots.{slots};
 ghost use Rattle.fs_model.specs.Test.{IsBounded};
-ghost use Rattle.fs_answer.specs.CandidateFaults.{IsCandidateFault};
+ghost use Rattle.fs_cert_evidence.specs.CandidateFaults.{IsCandidateFault};
 ghost use Rattle.fs_judge.specs.Verdicts.{IsShownWith, IsVerdict};
 ghost use Rattle.fs_judge.specs.inner.Bases.{IsKnown};
 
@@ -14,7 +14,7 @@ use crate::known::Known;
 use crate::problem::Problem;
 use crate::sought::Sought;
 use crate::verdict::Verdict;
-use fs_evidence::{Question, Witness};
+use fs_cert_evidence::{Question, Witness};
 use fs_kinds::{Fault, Placement, Slot};
 use fs_model::Test;
 use std::alloc::Global;
@@ -35,7 +35,7 @@ impl Model for Judge {
     ghost use Rattle.std.specs.Arc.{arc_value};
     ghost use Rattle.std.specs.Coded.{codes};
     ghost use Rattle.fs_model.specs.contracts.outcome.Outcome as outcome;
-    ghost use Rattle.fs_evidence.specs.Evidence.{Question as Asked};
+    ghost use Rattle.fs_cert_evidence.specs.Evidence.{Question as Asked};
     ghost use Rattle.fs_judge.specs.inner.Bases.{IsKnown};
 
     ghost Value = { Asked };

@@ -4,7 +4,7 @@ ghost use Rattle.std.specs.Prelude.{◌≡◌, ◌≤◌, length, IfOk, IsOkUnle
 ghost use Rattle.fs_kinds.specs.declared.fault.Fault.TheVariants.{Memory};
 ghost use Rattle.fs_model.specs.Test.{IsBounded};
 ghost use Rattle.fs_model.specs.Execution.{initial_words};
-ghost use Rattle.fs_answer.specs.Candidates.{IsShowing};
+ghost use Rattle.fs_cert_evidence.specs.Candidates.{IsShowing};
 ghost use Rattle.fs_cand.specs.Candidates.{candidate_of, IsMade};
 ghost use Rattle.fs_judge.specs.inner.Bases.{IsBase};
 ghost use Rattle.fs_judge.specs.inner.Findings.{IsFinding};
@@ -12,12 +12,11 @@ ghost use Rattle.fs_judge.specs.inner.Findings.{IsFinding};
 use crate::base::Base;
 use crate::links::links_of;
 use fs_cand::Candidate;
-use fs_evidence::{Link, Witness};
-use fs_kinds::{Fault, Placement, Slot};
-use fs_list::List;
+use fs_cand_witness::{Hints, widest_witness};
+use fs_cert_evidence::{Link, Witness};
+use fs_kinds::{Fault, List, Placement, Slot};
 use fs_model::Test;
 use fs_relation::{Judged, judge};
-use fs_witness::{Hints, widest_witness};
 use std::alloc::Global;
 
 /// What is found of a candidate with placed fences.

@@ -6,19 +6,19 @@ ghost use Rattle.fs_kinds.specs.declared.placement.Entry.{Entry};
 ghost use Rattle.fs_model.specs.Test.{IsBounded};
 ghost use Rattle.fs_model.specs.Allows.{Shows};
 ghost use Rattle.fs_check.specs.Ordered.{IsOrdered, execution_in};
-ghost use Rattle.fs_thin_air.specs.ThinAir.{CanBeListed};
+ghost use Rattle.fs_values.specs.ThinAir.{CanBeListed};
 ghost use Rattle.fs_judge.specs.Verdicts.{IsShownWith};
 ghost use Rattle.fs_judge.specs.inner.Bases.{IsKnown};
 
 use crate::base::Base;
 use crate::executed::candidate_of;
 use fs_cand::Candidate;
+use fs_cand_witness::{Hints, widest_witness};
+use fs_cert_evidence::Witness;
 use fs_check::OrderedCandidate;
-use fs_evidence::Witness;
 use fs_kinds::{Fault, Placement, Slot};
 use fs_model::Test;
 use fs_relation::has_order;
-use fs_witness::{Hints, widest_witness};
 use std::alloc::Global;
 
 /// A candidate that shows the outcome, and what is kept of it for judging it with any placement.

@@ -6,9 +6,9 @@ ghost use Rattle.fs_model.specs.declared.test.Test.{Test};
 ghost use Rattle.fs_model.specs.Execution.{initial_words};
 ghost use Rattle.fs_model.specs.Operations.{accesses};
 ghost use Rattle.fs_model.specs.Witness.{name_of};
-ghost use Rattle.fs_answer.specs.Candidates.{IsRaw, runs_of};
-ghost use Rattle.fs_answer.specs.Judged.{is_judged};
-ghost use Rattle.fs_answer.specs.Cycles.{IsCycle};
+ghost use Rattle.fs_cert_evidence.specs.Candidates.{IsRaw, runs_of};
+ghost use Rattle.fs_cert_evidence.specs.Judged.{is_judged};
+ghost use Rattle.fs_cert_evidence.specs.Cycles.{IsCycle};
 ghost use Rattle.fs_cand.specs.Candidates.{candidate_of, IsMade};
 ghost use Rattle.fs_ppo.specs.Rules.{OfRuns};
 ghost use Rattle.fs_relation.specs.Edges.{has_edge};
@@ -17,10 +17,9 @@ ghost use Rattle.fs_judge.specs.inner.Links.{IsLink, followers};
 
 use crate::causes::cause;
 use fs_cand::Candidate;
-use fs_edges::operation_name;
-use fs_evidence::Link;
-use fs_kinds::{Fault, OperationName, Placement};
-use fs_list::List;
+use fs_cand_witness::operation_name;
+use fs_cert_evidence::Link;
+use fs_kinds::{Fault, List, OperationName, Placement};
 use fs_relation::Rows;
 use std::alloc::Global;
 

@@ -4,21 +4,20 @@ ghost use Rattle.std.specs.Prelude.{◌≡◌, ◌≢◌, ◌<◌, Some, All, le
 ghost use Rattle.std.specs.Arc.{arc_value};
 ghost use Rattle.fs_kinds.specs.declared.fault.Fault.TheVariants.{Memory};
 ghost use Rattle.fs_model.specs.Test.{IsBounded, IsStart};
-ghost use Rattle.fs_answer.specs.CandidateFaults.{HasNoCandidateFault, IsCandidateFault};
-ghost use Rattle.fs_answer.specs.Candidates.{Candidate as Defined};
-ghost use Rattle.fs_answer.specs.Listings.{IsListing};
-ghost use Rattle.fs_thin_air.specs.ThinAir.{CanBeListed};
+ghost use Rattle.fs_cert_evidence.specs.CandidateFaults.{HasNoCandidateFault, IsCandidateFault};
+ghost use Rattle.fs_cert_evidence.specs.Candidates.{Candidate as Defined};
+ghost use Rattle.fs_cert_evidence.specs.Listings.{IsListing};
+ghost use Rattle.fs_values.specs.ThinAir.{CanBeListed};
 ghost use Rattle.fs_judge.specs.Verdicts.{IsVerdict};
 ghost use Rattle.fs_judge.specs.inner.Findings.{IsFinding, IsSurvey};
 
 use crate::base::Base;
 use crate::judging::{Finding, judged};
 use crate::verdict::{Verdict, forbidden};
-use fs_evidence::{Cycles, Link, Witness};
-use fs_kinds::{Fault, Placement, Slot};
-use fs_list::List;
+use fs_cand_listing::{Showing, showing_of};
+use fs_cert_evidence::{Cycles, Link, Witness};
+use fs_kinds::{Fault, List, Placement, Slot};
 use fs_model::Test;
-use fs_showing::{Showing, showing_of};
 use std::alloc::Global;
 use std::sync::Arc;
 

@@ -8,8 +8,8 @@ ghost use Rattle.fs_kinds.specs.Placement.{slots_of};
 ghost use Rattle.fs_model.specs.Slots.{slots};
 ghost use Rattle.fs_model.specs.Test.{IsBounded, IsStart};
 ghost use Rattle.fs_model.specs.TooMany.{IsRunFault};
-ghost use Rattle.fs_answer.specs.CandidateFaults.{IsCandidateFault};
-ghost use Rattle.fs_thin_air.specs.ThinAir.{CanBeListed};
+ghost use Rattle.fs_cert_evidence.specs.CandidateFaults.{IsCandidateFault};
+ghost use Rattle.fs_values.specs.ThinAir.{CanBeListed};
 ghost use Rattle.fs_judge.specs.Verdicts.{IsVerdict};
 ghost use Rattle.fs_judge.specs.inner.Findings.{IsSought};
 
@@ -17,13 +17,12 @@ use crate::known::Known;
 use crate::listed::verdict_by_list;
 use crate::sought::{Sought, checked};
 use crate::verdict::{Verdict, forbidden};
-use fs_evidence::{Cycles, Inference, Question};
-use fs_hunt::Hunter;
-use fs_kinds::{Fault, Placement, Slot};
-use fs_list::List;
+use fs_cand_listing::check_number;
+use fs_cert_evidence::{Cycles, Inference, Question};
+use fs_judge_hunt::Hunter;
+use fs_kinds::{Fault, List, Placement, Slot};
 use fs_model::Test;
-use fs_refute::Basis;
-use fs_showing::check_number;
+use fs_region_refutation::Basis;
 use std::alloc::Global;
 use std::marker::Model;
 use std::sync::Arc;
@@ -44,7 +43,7 @@ impl Model for Problem {
     ghost use Rattle.std.specs.Arc.{arc_value};
     ghost use Rattle.std.specs.Coded.{codes};
     ghost use Rattle.fs_model.specs.contracts.outcome.Outcome as outcome;
-    ghost use Rattle.fs_evidence.specs.Evidence.{Question as Asked};
+    ghost use Rattle.fs_cert_evidence.specs.Evidence.{Question as Asked};
     ghost use Rattle.fs_judge.specs.inner.Bases.{IsReady};
 
     ghost Value = { Asked };

@@ -3,19 +3,17 @@
 ghost use Rattle.std.specs.Prelude.{◌≡◌, All, map, IfOk, IsOkUnless};
 ghost use Rattle.fs_kinds.specs.declared.fault.Fault.TheVariants.{Memory};
 ghost use Rattle.fs_model.specs.Test.{IsStart};
-ghost use Rattle.fs_answer.specs.WitnessFile.{KeepsWitness, in_range};
-ghost use Rattle.fs_thin_air.specs.ThinAir.{CanBeListed};
+ghost use Rattle.fs_cert_evidence.specs.WitnessFile.{KeepsWitness, in_range};
+ghost use Rattle.fs_values.specs.ThinAir.{CanBeListed};
 ghost use Rattle.fs_judge.specs.inner.Findings.{IsSought};
 
 use crate::known::Known;
-use fs_answer::{Names, WitnessFile};
+use fs_cert_evidence::{Inference, Names, WitnessFile};
 use fs_check::shown_by;
-use fs_evidence::Inference;
-use fs_hunt::{Execution, Found};
-use fs_kinds::{Fault, OperationName, Placement};
-use fs_list::List;
+use fs_judge_hunt::{Execution, Found};
+use fs_kinds::{Fault, List, OperationName, Placement};
 use fs_model::Test;
-use fs_refute::{Basis, reason_against};
+use fs_region_refutation::{Basis, reason_against};
 use std::alloc::{AllocError, Global};
 
 /// What was found for a placement.

@@ -4,11 +4,11 @@ ghost use Rattle.std.specs.Prelude.{IfOk, IsOkUnless};
 ghost use Rattle.fs_kinds.specs.declared.fault.Fault.TheVariants.{Memory};
 ghost use Rattle.fs_model.specs.declared.test.Test.{Test};
 ghost use Rattle.fs_model.specs.Allows.{Allows};
-ghost use Rattle.fs_evidence.specs.Evidence.{ShowsForbidden};
-ghost use Rattle.fs_evidence.specs.Inferences.{cycles_of};
+ghost use Rattle.fs_cert_evidence.specs.Evidence.{ShowsForbidden};
+ghost use Rattle.fs_cert_evidence.specs.Inferences.{cycles_of};
 ghost use Rattle.fs_judge.specs.Verdicts.{IsVerdict};
 
-use fs_evidence::{Cycles, Forbidden, Witness};
+use fs_cert_evidence::{Cycles, Forbidden, Witness};
 use fs_kinds::{Fault, Placement};
 
 /// Whether a placement forbids the outcome.

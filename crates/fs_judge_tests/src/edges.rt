@@ -2,15 +2,15 @@
 ghost use Rattle.std.specs.Prelude.{◌≤◌, length};
 
 use fs_cand::Candidate;
-use fs_edges::{base_rows, fence_rows, sides_of};
-use fs_examples::{
+use fs_cand_listing::Showing;
+use fs_cand_witness::{base_rows, fence_rows, sides_of};
+use fs_kinds::{Fault, Placement};
+use fs_litmus::read_test;
+use fs_model_brute_force::Executed;
+use fs_tests_shared::{
     ADD2, CO_RR, LB, LBD, LRSC, LRSCF, MP, MP11, MPA, MPB, SB, SBF, SBX, SBXA, TWO_WRITES,
     placements_of,
 };
-use fs_kinds::{Fault, Placement};
-use fs_litmus::read_test;
-use fs_plain::Executed;
-use fs_showing::Showing;
 use fs_values::Values;
 use std::alloc::{AllocError, Global};
 use std::sync::Arc;

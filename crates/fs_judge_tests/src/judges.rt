@@ -3,10 +3,10 @@ ghost use Rattle.std.specs.Prelude.{◌≡◌};
 ghost use Rattle.fs_model.specs.Test.{IsBounded};
 
 use crate::questions::verdict_on;
-use fs_examples::{PRICES, placement_of, question_of};
 use fs_judge::{Judge, Problem, Verdict};
 use fs_kinds::Fault;
 use fs_model::Choice;
+use fs_tests_shared::{PRICES, placement_of, question_of};
 use std::alloc::{AllocError, Global};
 use std::sync::Arc;
 use std::test::Fail;

@@ -4,10 +4,10 @@ ghost use Rattle.fs_kinds.specs.declared.placement.Entry.{Entry};
 ghost use Rattle.fs_model.specs.Test.{IsBounded};
 ghost use Rattle.fs_judge.specs.Verdicts.{IsVerdict};
 
-use fs_evidence::Cycles;
-use fs_examples::placement_of;
+use fs_cert_evidence::Cycles;
 use fs_judge::{Problem, Verdict};
 use fs_kinds::Fault;
+use fs_tests_shared::placement_of;
 use std::alloc::Global;
 
 /// The verdict on the placement that the words name.

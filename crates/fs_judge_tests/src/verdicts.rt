@@ -1,12 +1,12 @@
 //! What is said of placements, and the candidates in their order.
 use crate::questions::verdict_on;
-use fs_evidence::Cycles;
-use fs_examples::{ADD2, CO_RR, LBD, LRSC, MP, MPA, PRICES, SB, SBF, question_of};
+use fs_cand_listing::Showing;
+use fs_cert_evidence::Cycles;
 use fs_hart::{Step, Trace};
 use fs_judge::{Problem, Verdict};
 use fs_kinds::Fault;
 use fs_litmus::read_test;
-use fs_showing::Showing;
+use fs_tests_shared::{ADD2, CO_RR, LBD, LRSC, MP, MPA, PRICES, SB, SBF, question_of};
 use fs_values::Values;
 use std::alloc::{AllocError, Global};
 use std::sync::Arc;

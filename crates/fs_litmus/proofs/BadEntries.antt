@@ -6,7 +6,7 @@ use Rattle.std.proofs.lemmas.Bool.Decides.{nat_tests}
 use Rattle.std.proofs.lemmas.List.{map-append}
 use Rattle.std.proofs.lemmas.List.Folds.{list_any-append}
 use Rattle.std.proofs.Math.Bool.{or-false}
-use Rattle.fs_form.specs.Init.{Entry}
+use Rattle.fs_litmus_syntax.specs.Init.{Entry}
 use Rattle.fs_litmus.specs.declared.settings.Holder.{Holder}
 use Rattle.fs_litmus.specs.declared.settings.Holder.TheVariants as holder
 use Rattle.fs_litmus.specs.declared.settings.Setting.{Setting}

@@ -1,6 +1,6 @@
 -- Bodies: a text has one at most, and none of its own where none begins in a later line.
 use Rattle.std.proofs.Common.{◌≡◌, ℕ, ◌+◌, List, false, Some, refl, subst}
-use Rattle.fs_tokens.specs.Bytes.{begins}
+use Rattle.fs_litmus_tokens.specs.Bytes.{begins}
 use Rattle.fs_litmus.specs.Title.{after_line, unindented, IsBody, here, later}
 
 pub body_once : {bs a b : List ℕ} {l m n : ℕ} → IsBody bs l a m → IsBody bs l b n → (a ≡ b) × (m ≡ n)

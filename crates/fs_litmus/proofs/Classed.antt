@@ -5,13 +5,13 @@ use Rattle.std.specs.Char.{is_ascii_alphabetic, is_ascii_alphanumeric}
 use Rattle.std.specs.List.{prefix_len, list_all}
 use Rattle.std.specs.Str.{bytes_eq}
 use Rattle.std.proofs.lemmas.Slice.Eq.{bytes_eq-Decides}
-use Rattle.fs_tokens.specs.declared.word.Class.{Class}
-use Rattle.fs_tokens.specs.declared.word.Class.TheVariants as class
-use Rattle.fs_tokens.specs.declared.token.Mark.{Mark}
-use Rattle.fs_tokens.specs.Bytes.{is_letter, is_blank, begins, tail, comment_end}
-use Rattle.fs_tokens.specs.Words as words
-use Rattle.fs_tokens.specs.Words.{keyword_of, classed, plain_class, class_or, class_of, is_number, begins_name, has_dot}
-use Rattle.fs_tokens.specs.Tokens.{Tok, Word, Lined, Front, Skip, Take, Unclosed, after_comment, single, mark_of, piece, AreTokens, none as no_tokens, skip, token, unclosed}
+use Rattle.fs_litmus_tokens.specs.declared.word.Class.{Class}
+use Rattle.fs_litmus_tokens.specs.declared.word.Class.TheVariants as class
+use Rattle.fs_litmus_tokens.specs.declared.token.Mark.{Mark}
+use Rattle.fs_litmus_tokens.specs.Bytes.{is_letter, is_blank, begins, tail, comment_end}
+use Rattle.fs_litmus_tokens.specs.Words as words
+use Rattle.fs_litmus_tokens.specs.Words.{keyword_of, classed, plain_class, class_or, class_of, is_number, begins_name, has_dot}
+use Rattle.fs_litmus_tokens.specs.Tokens.{Tok, Word, Lined, Front, Skip, Take, Unclosed, after_comment, single, mark_of, piece, AreTokens, none as no_tokens, skip, token, unclosed}
 use Rattle.fs_model.specs.Test.{is_name}
 use Rattle.fs_litmus.proofs.Bools.{both, neither, both_true}
 

@@ -1,11 +1,11 @@
 -- The faults of codes have the numbers 3 to 6.
 use Rattle.std.proofs.Common.{ℕ, ◌≤◌, List, arith}
-use Rattle.fs_tokens.specs.Tokens.{Lined}
+use Rattle.fs_litmus_tokens.specs.Tokens.{Lined}
 use Rattle.fs_kinds.specs.FaultLine.{number}
 use Rattle.fs_kinds.specs.declared.fault.Fault.{Fault}
-use Rattle.fs_code.specs.Cells.{Item, IsCellFault, syntax, unknown, annotation, AreFaulty, here, later}
-use Rattle.fs_code.specs.Labels.{IsTwice, again, later as later_twice, IsStray, missing, behind, IsLabelFault, twice, stray}
-use Rattle.fs_code.specs.Codes.{IsHartFault, of_cell, of_label, IsFault, fault}
+use Rattle.fs_litmus_syntax.specs.Cells.{Item, IsCellFault, syntax, unknown, annotation, AreFaulty, here, later}
+use Rattle.fs_litmus_syntax.specs.Labels.{IsTwice, again, later as later_twice, IsStray, missing, behind, IsLabelFault, twice, stray}
+use Rattle.fs_litmus_syntax.specs.Codes.{IsHartFault, of_cell, of_label, IsFault, fault}
 
 cell_low : {ts : List Lined} {f : Fault} → IsCellFault ts f → number f ≤ 6
 cell_low (syntax a m) = omega arith

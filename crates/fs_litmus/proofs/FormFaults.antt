@@ -9,13 +9,13 @@ use Rattle.fs_kinds.specs.declared.fault.Fault.{Fault}
 use Rattle.fs_kinds.specs.declared.fault.Fault.TheVariants.{BadCondition, TooBig}
 use Rattle.fs_kinds.specs.declared.fault.Limit.{Limit}
 use Rattle.fs_kinds.specs.declared.fault.Limit.TheVariants.{Harts, Instructions, Accesses, Locations, Depth}
-use Rattle.fs_form.specs.Form.{Form}
-use Rattle.fs_form.specs.Body.{flatten}
-use Rattle.fs_condition.specs.Grammar.{Syntax}
-use Rattle.fs_condition.specs.Meaning.{atoms_of, depth_of}
+use Rattle.fs_litmus_syntax.specs.Form.{Form}
+use Rattle.fs_litmus_syntax.specs.Body.{flatten}
+use Rattle.fs_litmus_syntax.specs.Grammar.{Syntax}
+use Rattle.fs_litmus_syntax.specs.Meaning.{atoms_of, depth_of}
 use Rattle.fs_instr.specs.Instructions.{is_memory}
 use Rattle.fs_instr.specs.declared.instr.Instr.{Instr}
-use Rattle.fs_code.specs.Codes.{AreCodes, IsFault}
+use Rattle.fs_litmus_syntax.specs.Codes.{AreCodes, IsFault}
 use Rattle.fs_kinds.specs.FaultOrder.{limit_rank, IsNoLater, IsFirst}
 use Rattle.fs_litmus.specs.Locations.{Names}
 use Rattle.fs_litmus.specs.Settings.{entry_bindings, settings_after, are_there}

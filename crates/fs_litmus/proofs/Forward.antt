@@ -1,12 +1,12 @@
 -- The code that a hart's cells mean goes forward.
 use Rattle.std.proofs.Common.{◌≡◌, ℕ, zero, suc, ◌+◌, ◌<◌, ◌≤◌, List, [], ◌∷◌, ◌++◌, length, Option, Some, None, refl, sym, ap, subst, arith}
 use Rattle.std.specs.Prelude.{option_and_then, slice_get}
-use Rattle.fs_tokens.specs.Tokens.{Tok, Lined}
+use Rattle.fs_litmus_tokens.specs.Tokens.{Tok, Lined}
 use Rattle.fs_instr.specs.Spelled.{Spells}
 use Rattle.fs_instr.specs.Instructions.{targeted}
 use Rattle.fs_instr.specs.declared.instr.Instr.{Instr}
-use Rattle.fs_code.specs.Cells.{Item, Label, Instruction, AreLabels, none as no_labels, label as one_label, IsCell, labels as only_labels, instruction as with_instruction, AreCells, empty, next}
-use Rattle.fs_code.specs.Labels.{StandsAt, here, past_label, past_instruction, AreResolved, none, label, plain, branch, instruction_count}
+use Rattle.fs_litmus_syntax.specs.Cells.{Item, Label, Instruction, AreLabels, none as no_labels, label as one_label, IsCell, labels as only_labels, instruction as with_instruction, AreCells, empty, next}
+use Rattle.fs_litmus_syntax.specs.Labels.{StandsAt, here, past_label, past_instruction, AreResolved, none, label, plain, branch, instruction_count}
 use Rattle.fs_instr.specs.Instructions.{target_of}
 use Rattle.fs_model.specs.Test.{GoesForward}
 use Rattle.fs_litmus.proofs.Jumps.{spelled_no_jump, targeted_jump}

@@ -4,15 +4,15 @@ use Rattle.std.proofs.Common.{◌≡◌, inl, inr, ℕ, ◌≤◌, List, Bool, t
 use Rattle.fs_kinds.specs.FaultLine.{number}
 use Rattle.fs_kinds.specs.declared.fault.Fault.{Fault}
 use Rattle.fs_kinds.specs.declared.fault.Fault.TheVariants.{BadUtf8, NotRiscv, Syntax}
-use Rattle.fs_tokens.specs.Tokens.{Lined, AreTokens}
-use Rattle.fs_tokens.specs.Sections.{BeginsText, StopsText}
-use Rattle.fs_tokens.proofs.Reading.{tokens_only}
-use Rattle.fs_form.specs.Form.{Form}
-use Rattle.fs_condition.specs.Grammar as grammar
-use Rattle.fs_condition.specs.Grammar.{IsCondition}
-use Rattle.fs_code.specs.Cells.{Item, IsCellFault, syntax, unknown, annotation, AreFaulty, here as first_cell, later as later_cell}
-use Rattle.fs_code.specs.Labels.{IsTwice, again, later as later_twice, IsStray, missing, behind, IsLabelFault, twice, stray}
-use Rattle.fs_code.specs.Codes.{IsHartFault, of_cell, of_label, IsFault, fault}
+use Rattle.fs_litmus_tokens.specs.Tokens.{Lined, AreTokens}
+use Rattle.fs_litmus_tokens.specs.Sections.{BeginsText, StopsText}
+use Rattle.fs_litmus_tokens.proofs.Reading.{tokens_only}
+use Rattle.fs_litmus_syntax.specs.Form.{Form}
+use Rattle.fs_litmus_syntax.specs.Grammar as grammar
+use Rattle.fs_litmus_syntax.specs.Grammar.{IsCondition}
+use Rattle.fs_litmus_syntax.specs.Cells.{Item, IsCellFault, syntax, unknown, annotation, AreFaulty, here as first_cell, later as later_cell}
+use Rattle.fs_litmus_syntax.specs.Labels.{IsTwice, again, later as later_twice, IsStray, missing, behind, IsLabelFault, twice, stray}
+use Rattle.fs_litmus_syntax.specs.Codes.{IsHartFault, of_cell, of_label, IsFault, fault}
 use Rattle.fs_kinds.specs.FaultOrder.{IsNoLater, IsFirst}
 use Rattle.fs_litmus.specs.Title.{after_line, last_line, HasTitle, IsBody}
 use Rattle.fs_litmus.specs.Reads.{HasTokens, HasForm}

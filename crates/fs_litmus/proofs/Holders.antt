@@ -3,8 +3,8 @@ use Rattle.std.proofs.Common.{◌≡◌, ℕ, ◌+◌, ◌<◌, List, [], ◌∷
 use Rattle.std.specs.Prelude.{option_and_then}
 use Rattle.std.proofs.lemmas.List.{map-append, at_drop_more, take_more, take-append-drop}
 use Rattle.fs_kinds.specs.declared.fault.Fault.TheVariants.{BadInit}
-use Rattle.fs_form.specs.declared.init.Entry.{Entry}
-use Rattle.fs_form.specs.Init.{entries_of, entry_of}
+use Rattle.fs_litmus_syntax.specs.declared.init.Entry.{Entry}
+use Rattle.fs_litmus_syntax.specs.Init.{entries_of, entry_of}
 use Rattle.fs_kinds.specs.FaultOrder.{IsFirst}
 use Rattle.fs_litmus.specs.declared.settings.Setting.{Setting}
 use Rattle.fs_litmus.specs.Locations.{Names}

@@ -3,16 +3,16 @@ use Rattle.std.proofs.Common.{◌≡◌, ℕ, ◌+◌, ◌≤◌, ◌<◌, List,
 use Rattle.std.specs.Prelude.{option_map, All, sum_by, count_by, slice_get}
 use Rattle.std.proofs.lemmas.List.{length-map}
 use Rattle.std.proofs.lemmas.List.FromFn.{length-map-range_with_len}
-use Rattle.fs_tokens.specs.Tokens.{Lined}
-use Rattle.fs_form.specs.Form.{Form}
-use Rattle.fs_form.specs.Body.{flatten}
-use Rattle.fs_condition.specs.Grammar.{Syntax}
-use Rattle.fs_condition.specs.Meaning as meaning
-use Rattle.fs_condition.specs.Meaning.{depth_of, grouped_depth}
+use Rattle.fs_litmus_tokens.specs.Tokens.{Lined}
+use Rattle.fs_litmus_syntax.specs.Form.{Form}
+use Rattle.fs_litmus_syntax.specs.Body.{flatten}
+use Rattle.fs_litmus_syntax.specs.Grammar.{Syntax}
+use Rattle.fs_litmus_syntax.specs.Meaning as meaning
+use Rattle.fs_litmus_syntax.specs.Meaning.{depth_of, grouped_depth}
 use Rattle.fs_instr.specs.Instructions.{is_memory}
 use Rattle.fs_instr.specs.declared.instr.Instr.{Instr}
-use Rattle.fs_code.specs.Codes.{AreCodes}
-use Rattle.fs_code.specs.declared.hart.HartCode.{HartCode}
+use Rattle.fs_litmus_syntax.specs.Codes.{AreCodes}
+use Rattle.fs_litmus_syntax.specs.declared.hart.HartCode.{HartCode}
 use Rattle.fs_model.specs.Condition.{Condition, Always, Never, Deny, Both, Either, condition_of, nesting, SpeaksOf}
 use Rattle.fs_model.specs.Test.{GoesForward, IsBounded}
 use Rattle.fs_model.specs.declared.test.Location.{Location}

@@ -1,6 +1,6 @@
 -- An instruction that is spelled without a label doesn't jump.
 use Rattle.std.proofs.Common.{◌≡◌, ℕ, List, [], ◌∷◌, Option, Some, None, Bool, true, false, refl}
-use Rattle.fs_tokens.specs.Tokens.{Tok}
+use Rattle.fs_litmus_tokens.specs.Tokens.{Tok}
 use Rattle.fs_instr.specs.Operands.{Filled, blank}
 use Rattle.fs_instr.specs.Instructions.{parts_of, instr_of, targeted}
 use Rattle.fs_instr.specs.Reading.{is_alone, is_empty, operands_in}

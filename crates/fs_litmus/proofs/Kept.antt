@@ -4,9 +4,9 @@ use Rattle.std.specs.Prelude.{All}
 use Rattle.std.specs.List.{Any, list_all}
 use Rattle.std.proofs.lemmas.List.{take_more, map-append}
 use Rattle.fs_instr.specs.declared.instr.Instr.{Instr}
-use Rattle.fs_code.specs.declared.hart.HartCode.{HartCode}
-use Rattle.fs_code.specs.declared.hart.HartCode.TheVariants.{Short, Long}
-use Rattle.fs_code.specs.Codes.{AreKept, IsKept}
+use Rattle.fs_litmus_syntax.specs.declared.hart.HartCode.{HartCode}
+use Rattle.fs_litmus_syntax.specs.declared.hart.HartCode.TheVariants.{Short, Long}
+use Rattle.fs_litmus_syntax.specs.Codes.{AreKept, IsKept}
 use Rattle.fs_litmus.specs.inner.Kept.{instrs_of, is_short}
 
 both : (a b : Bool) → (a && b) ≡ true → (a ≡ true) × (b ≡ true)

@@ -7,15 +7,15 @@ use Rattle.std.proofs.lemmas.Slice.Eq.{bytes_eq-Decides}
 use Rattle.std.proofs.lemmas.List.Folds.{list_any_at}
 use Rattle.std.proofs.lemmas.List.Elements.{All-append}
 use Rattle.std.proofs.lemmas.List.Quantifiers.{all_pairs_push}
-use Rattle.fs_tokens.specs.Tokens.{Lined}
-use Rattle.fs_tokens.specs.Values.{Target, Register, Location, Value, Number, Address, IsTarget, register, location, bracketed, IsValue, number, minus, address}
-use Rattle.fs_form.specs.Init.{Entry, IsBare, bare, IsEntry, untyped, typed, IsEntries, none, entry, IsEntryEnd, brace, semicolon, IsInit, block}
-use Rattle.fs_form.specs.Header.{IsColumns, last, more}
-use Rattle.fs_form.specs.Body.{Cell, IsCell, nothing, plain, IsRow, one, cells, IsSkipped, closed, skipped, IsQuantifier, exists, not_exists, forall, IsEnding, bare as unnamed, after_locations, Body, IsBody, ending, row}
-use Rattle.fs_form.specs.declared.rows.Quantifier.{Quantifier}
-use Rattle.fs_form.specs.Form.{Form, IsForm, form}
-use Rattle.fs_condition.specs.Grammar.{Syntax, IsUnit, atom, truth, falsity, tilde, denial, group, IsConjunction, unit, both, IsDisjunction, conjunction, either, IsCondition}
-use Rattle.fs_condition.specs.Meaning.{atoms_of}
+use Rattle.fs_litmus_tokens.specs.Tokens.{Lined}
+use Rattle.fs_litmus_tokens.specs.Values.{Target, Register, Location, Value, Number, Address, IsTarget, register, location, bracketed, IsValue, number, minus, address}
+use Rattle.fs_litmus_syntax.specs.Init.{Entry, IsBare, bare, IsEntry, untyped, typed, IsEntries, none, entry, IsEntryEnd, brace, semicolon, IsInit, block}
+use Rattle.fs_litmus_syntax.specs.Header.{IsColumns, last, more}
+use Rattle.fs_litmus_syntax.specs.Body.{Cell, IsCell, nothing, plain, IsRow, one, cells, IsSkipped, closed, skipped, IsQuantifier, exists, not_exists, forall, IsEnding, bare as unnamed, after_locations, Body, IsBody, ending, row}
+use Rattle.fs_litmus_syntax.specs.declared.rows.Quantifier.{Quantifier}
+use Rattle.fs_litmus_syntax.specs.Form.{Form, IsForm, form}
+use Rattle.fs_litmus_syntax.specs.Grammar.{Syntax, IsUnit, atom, truth, falsity, tilde, denial, group, IsConjunction, unit, both, IsDisjunction, conjunction, either, IsCondition}
+use Rattle.fs_litmus_syntax.specs.Meaning.{atoms_of}
 use Rattle.fs_model.specs.Test.{is_name}
 use Rattle.fs_litmus.specs.Locations.{Names, Binding, with_name, with_target, with_value, declared}
 use Rattle.fs_litmus.specs.Settings.{entry_bindings}

@@ -1,7 +1,7 @@
 -- First lines that are no title.
 use Rattle.std.proofs.Common.{◌≡◌, ℕ, List, [], ◌∷◌, ◌++◌, length, drop, true, false, refl, sym, ap, ◌∙◌, subst, append-nil, arith, codes, IsUtf8, Result, Ok, Err, MatchResult, is_ok}
 use Rattle.std.specs.List.{list_all}
-use Rattle.fs_tokens.specs.Bytes.{is_blank}
+use Rattle.fs_litmus_tokens.specs.Bytes.{is_blank}
 use Rattle.fs_litmus.specs.Title.{line_of, begins_with_blank, IsTrimmed, HasTitle}
 use Rattle.fs_litmus.proofs.Bools.{both, both_true}
 

@@ -2,15 +2,15 @@
 use Rattle.std.proofs.Common.{ℕ, ◌<◌, ◌≤◌, List, length, get_or, arith}
 use Rattle.std.specs.Prelude.{All}
 use Rattle.std.proofs.lemmas.List.Elements.{All-cons, All-nil}
-use Rattle.fs_tokens.specs.Tokens.{Lined}
+use Rattle.fs_litmus_tokens.specs.Tokens.{Lined}
 use Rattle.fs_instr.specs.Instructions.{targeted}
 use Rattle.fs_instr.specs.OfTable.{IsOfTable}
 use Rattle.fs_instr.specs.declared.instr.Instr.{Instr}
 use Rattle.fs_instr.specs.declared.instr.Instr.TheVariants as instr
 use Rattle.fs_instr.proofs.OfTableLemmas.{spelled_of_table}
-use Rattle.fs_code.specs.Cells.{Item}
-use Rattle.fs_code.specs.Labels.{AreResolved, none, label, plain, branch, instruction_count}
-use Rattle.fs_code.specs.Codes.{IsHart, AreCodes}
+use Rattle.fs_litmus_syntax.specs.Cells.{Item}
+use Rattle.fs_litmus_syntax.specs.Labels.{AreResolved, none, label, plain, branch, instruction_count}
+use Rattle.fs_litmus_syntax.specs.Codes.{IsHart, AreCodes}
 use Rattle.fs_litmus.proofs.Forward.{AreSpelled, nothing, past, spelled, cells_spelled, stands_within, resolved_length}
 use Rattle.fs_litmus.proofs.Interpreting.{get_or_there}
 

@@ -1,27 +1,27 @@
 -- What stands before and after the tokens of a text, and what its tokens mean, is one thing only.
 use Rattle.std.proofs.Common.{◌≡◌, ◌≢◌, ℕ, suc, ◌+◌, ◌-◌, ◌<◌, List, [], ◌∷◌, ◌++◌, Bool, true, false, Option, Some, Result, Ok, Err, refl, sym, ap, ◌∙◌, subst, append_assoc, append-nil, arith}
 use Rattle.std.specs.List.{list_all}
-use Rattle.fs_tokens.specs.Bytes.{is_blank}
-use Rattle.fs_tokens.specs.Tokens.{Lined, AreTokens}
-use Rattle.fs_tokens.specs.Sections.{Stops, Scanned, scan}
-use Rattle.fs_tokens.proofs.Reading.{tokens_only}
-use Rattle.fs_form.specs.Init as init
-use Rattle.fs_form.specs.Init.{Entry, IsInit}
-use Rattle.fs_form.specs.Header as header
-use Rattle.fs_form.specs.declared.header.Position.TheVariants.{BeforeWord}
-use Rattle.fs_form.specs.Header.{IsColumns, last, more, IsHeader}
-use Rattle.fs_form.specs.Body.{Body, IsBody}
-use Rattle.fs_form.specs.Rows as rows
-use Rattle.fs_form.specs.Rows.{Flat}
-use Rattle.fs_form.specs.Form.{Form, IsForm, form}
-use Rattle.fs_form.proofs.InitReading.{scanned_init}
-use Rattle.fs_form.proofs.HeaderResidual.{scanned_header}
-use Rattle.fs_form.proofs.RowsResidual.{Left, scanned_left}
-use Rattle.fs_form.proofs.RowsReading.{flat_of, rows_again, takes_body}
-use Rattle.fs_condition.specs.Grammar.{Syntax, IsCondition}
-use Rattle.fs_condition.specs.Machine as machine
-use Rattle.fs_condition.proofs.Residual.{tree}
-use Rattle.fs_condition.proofs.Reading.{Scan, Meets, answers}
+use Rattle.fs_litmus_tokens.specs.Bytes.{is_blank}
+use Rattle.fs_litmus_tokens.specs.Tokens.{Lined, AreTokens}
+use Rattle.fs_litmus_tokens.specs.Sections.{Stops, Scanned, scan}
+use Rattle.fs_litmus_tokens.proofs.Reading.{tokens_only}
+use Rattle.fs_litmus_syntax.specs.Init as init
+use Rattle.fs_litmus_syntax.specs.Init.{Entry, IsInit}
+use Rattle.fs_litmus_syntax.specs.Header as header
+use Rattle.fs_litmus_syntax.specs.declared.header.Position.TheVariants.{BeforeWord}
+use Rattle.fs_litmus_syntax.specs.Header.{IsColumns, last, more, IsHeader}
+use Rattle.fs_litmus_syntax.specs.Body.{Body, IsBody}
+use Rattle.fs_litmus_syntax.specs.Rows as rows
+use Rattle.fs_litmus_syntax.specs.Rows.{Flat}
+use Rattle.fs_litmus_syntax.specs.Form.{Form, IsForm, form}
+use Rattle.fs_litmus_syntax.proofs.InitReading.{scanned_init}
+use Rattle.fs_litmus_syntax.proofs.HeaderResidual.{scanned_header}
+use Rattle.fs_litmus_syntax.proofs.RowsResidual.{Left, scanned_left}
+use Rattle.fs_litmus_syntax.proofs.RowsReading.{flat_of, rows_again, takes_body}
+use Rattle.fs_litmus_syntax.specs.Grammar.{Syntax, IsCondition}
+use Rattle.fs_litmus_syntax.specs.Machine as machine
+use Rattle.fs_litmus_syntax.proofs.Residual.{tree}
+use Rattle.fs_litmus_syntax.proofs.ConditionReading.{Scan, Meets, answers}
 use Rattle.fs_litmus.specs.Title as title
 use Rattle.fs_litmus.specs.Title.{line_of, after_line, unindented, ends_in_blank, begins_with_blank, IsTrimmed, HasTitle, here, later}
 use Rattle.fs_litmus.specs.Reads.{HasTokens, HasForm}

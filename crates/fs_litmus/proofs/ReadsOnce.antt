@@ -1,11 +1,11 @@
 -- Bytes read as one test only.
 use Rattle.std.proofs.Common.{◌≡◌, ℕ, List, [], ◌∷◌, Result, Ok, Err, IfOk, refl, sym, ap, ◌∙◌, subst, map}
-use Rattle.fs_form.specs.Form.{Form}
-use Rattle.fs_form.specs.Body.{flatten}
-use Rattle.fs_condition.specs.Grammar.{Syntax}
-use Rattle.fs_condition.specs.Meaning as meaning
+use Rattle.fs_litmus_syntax.specs.Form.{Form}
+use Rattle.fs_litmus_syntax.specs.Body.{flatten}
+use Rattle.fs_litmus_syntax.specs.Grammar.{Syntax}
+use Rattle.fs_litmus_syntax.specs.Meaning as meaning
 use Rattle.fs_kinds.specs.declared.fault.Fault.{Fault}
-use Rattle.fs_code.proofs.HartLemmas.{codes_only}
+use Rattle.fs_litmus_syntax.proofs.HartLemmas.{codes_only}
 use Rattle.fs_model.specs.Condition.{condition_of}
 use Rattle.fs_model.specs.Test.{IsSame}
 use Rattle.fs_model.specs.declared.test.Location.{Location}

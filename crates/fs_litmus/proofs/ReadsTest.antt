@@ -4,12 +4,12 @@ use Rattle.std.specs.Prelude.{All, AllPairs, IsTrue}
 use Rattle.std.proofs.lemmas.List.{length-map, get_or-map}
 use Rattle.std.proofs.lemmas.List.Elements.{All-nil}
 use Rattle.std.proofs.lemmas.List.FromFn.{length-map-range_with_len}
-use Rattle.fs_tokens.specs.Tokens.{Lined}
-use Rattle.fs_form.specs.Body.{flatten}
-use Rattle.fs_form.specs.Form.{Form, IsForm, form}
-use Rattle.fs_condition.specs.Grammar.{Syntax}
-use Rattle.fs_condition.specs.Meaning as meaning
-use Rattle.fs_condition.specs.Meaning.{atoms_of, grouped_depth}
+use Rattle.fs_litmus_tokens.specs.Tokens.{Lined}
+use Rattle.fs_litmus_syntax.specs.Body.{flatten}
+use Rattle.fs_litmus_syntax.specs.Form.{Form, IsForm, form}
+use Rattle.fs_litmus_syntax.specs.Grammar.{Syntax}
+use Rattle.fs_litmus_syntax.specs.Meaning as meaning
+use Rattle.fs_litmus_syntax.specs.Meaning.{atoms_of, grouped_depth}
 use Rattle.fs_kinds.specs.declared.fault.Fault.{Fault}
 use Rattle.fs_model.specs.Condition.{condition_of, SpeaksOf}
 use Rattle.fs_model.specs.Test.{IsBounded, IsStart, IsTest, is_name}

@@ -1,11 +1,11 @@
 -- The lines of tokens rise, and so do those of entries.
 use Rattle.std.proofs.Common.{ℕ, ◌+◌, ◌≤◌, List, [], ◌∷◌, Bool, true, false, ◌&&◌, ◌==◌, cond, Option, Some, None, subst, arith}
-use Rattle.fs_tokens.specs.declared.token.Mark.{Mark}
-use Rattle.fs_tokens.specs.Bytes.{is_letter, is_blank, comment_end, begins, tail}
-use Rattle.fs_tokens.specs.Tokens.{Lined, Front, Skip, Take, Unclosed, after_comment, single, mark_of, piece, AreTokens, none as no_tokens, skip, token, unclosed}
-use Rattle.fs_tokens.specs.Values.{Target, Value, IsTarget, register, location, bracketed, IsValue, number, minus, address}
-use Rattle.fs_form.specs.Init.{Entry, IsBare, bare, IsEntry, untyped, typed, IsEntries, none, entry, IsEntryEnd, brace, semicolon, IsInit, block}
-use Rattle.fs_form.specs.Form.{Form, IsForm, form}
+use Rattle.fs_litmus_tokens.specs.declared.token.Mark.{Mark}
+use Rattle.fs_litmus_tokens.specs.Bytes.{is_letter, is_blank, comment_end, begins, tail}
+use Rattle.fs_litmus_tokens.specs.Tokens.{Lined, Front, Skip, Take, Unclosed, after_comment, single, mark_of, piece, AreTokens, none as no_tokens, skip, token, unclosed}
+use Rattle.fs_litmus_tokens.specs.Values.{Target, Value, IsTarget, register, location, bracketed, IsValue, number, minus, address}
+use Rattle.fs_litmus_syntax.specs.Init.{Entry, IsBare, bare, IsEntry, untyped, typed, IsEntries, none, entry, IsEntryEnd, brace, semicolon, IsInit, block}
+use Rattle.fs_litmus_syntax.specs.Form.{Form, IsForm, form}
 use Rattle.fs_litmus.specs.Rising.{Rising, token_lines, entry_lines}
 
 pub lower : (low n : ℕ) (ns : List ℕ) → low ≤ n → Rising n ns → Rising low ns

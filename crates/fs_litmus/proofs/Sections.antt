@@ -3,18 +3,18 @@ use Rattle.std.proofs.Common.{◌≡◌, ◌≢◌, ℕ, ◌≤◌, List, [], �
 use Rattle.fs_kinds.specs.FaultLine.{number}
 use Rattle.fs_kinds.specs.declared.fault.Fault.{Fault}
 use Rattle.fs_kinds.specs.declared.fault.Fault.TheVariants as fault
-use Rattle.fs_tokens.specs.Tokens.{Lined, Word, AreTokens, views}
-use Rattle.fs_tokens.specs.Sections.{Takes, BeginsText}
-use Rattle.fs_tokens.specs.declared.token.Token.{Token}
-use Rattle.fs_tokens.specs.declared.word.Class.TheVariants as class
-use Rattle.fs_tokens.specs.declared.values.Stop.{Stop}
-use Rattle.fs_tokens.specs.declared.values.Stop.TheVariants.{Memory, At}
-use Rattle.fs_tokens.proofs.Sequences.{stops_first, stops_later}
-use Rattle.fs_form.specs.Form.{Form, IsForm}
-use Rattle.fs_form.specs.Reading.{Refuses}
-use Rattle.fs_condition.specs.Grammar.{Syntax, IsCondition, True, conjunction, unit, truth}
-use Rattle.fs_condition.specs.Answer.{Means, StopsAt}
-use Rattle.fs_condition.specs.declared.condition.Condition as conditions
+use Rattle.fs_litmus_tokens.specs.Tokens.{Lined, Word, AreTokens, views}
+use Rattle.fs_litmus_tokens.specs.Sections.{Takes, BeginsText}
+use Rattle.fs_litmus_tokens.specs.declared.token.Token.{Token}
+use Rattle.fs_litmus_tokens.specs.declared.word.Class.TheVariants as class
+use Rattle.fs_litmus_tokens.specs.declared.values.Stop.{Stop}
+use Rattle.fs_litmus_tokens.specs.declared.values.Stop.TheVariants.{Memory, At}
+use Rattle.fs_litmus_tokens.proofs.Sequences.{stops_first, stops_later}
+use Rattle.fs_litmus_syntax.specs.Form.{Form, IsForm}
+use Rattle.fs_litmus_syntax.specs.Reading.{Refuses}
+use Rattle.fs_litmus_syntax.specs.Grammar.{Syntax, IsCondition, True, conjunction, unit, truth}
+use Rattle.fs_litmus_syntax.specs.Answer.{Means, StopsAt}
+use Rattle.fs_litmus_syntax.specs.declared.condition.Condition as conditions
 use Rattle.fs_model.specs.declared.test.Test.{Test}
 use Rattle.fs_kinds.specs.FaultOrder.{IsFirst}
 use Rattle.fs_litmus.specs.Title.{after_line, last_line, HasTitle, IsBody}

@@ -7,11 +7,11 @@ use Rattle.std.proofs.lemmas.List.Elements.{All-map}
 use Rattle.std.proofs.lemmas.List.Quantifiers.{position-Some}
 use Rattle.std.proofs.lemmas.List.FromFn.{length-map-range_with_len}
 use Rattle.std.specs.Str.{bytes_eq}
-use Rattle.fs_tokens.specs.Numbers.{number_of, numeral}
-use Rattle.fs_tokens.specs.Values.{Target, Register, Location, Value, Number, Address}
+use Rattle.fs_litmus_tokens.specs.Numbers.{number_of, numeral}
+use Rattle.fs_litmus_tokens.specs.Values.{Target, Register, Location, Value, Number, Address}
 use Rattle.fs_instr.specs.Registers.{register_of}
 use Rattle.fs_instr.proofs.OfTableLemmas.{register_below}
-use Rattle.fs_condition.specs.Meaning as meaning
+use Rattle.fs_litmus_syntax.specs.Meaning as meaning
 use Rattle.fs_model.specs.Condition.{Condition, Always, Never, Deny, Both, Either, SpeaksOf}
 use Rattle.fs_model.specs.Test.{IsStart}
 use Rattle.fs_litmus.specs.Locations.{Names, Binding, number_of_location}

@@ -1,6 +1,6 @@
 -- Where a text stops: at one place, and nowhere if it is whole.
 use Rattle.std.proofs.Common.{◌≡◌, ◌⊎◌, inl, inr, List, [], ◌∷◌, ◌++◌, refl, sym, ap, ◌∙◌, subst, append_assoc, append-nil}
-use Rattle.fs_tokens.specs.Sections.{BeginsText, IsDeadText, StopsText}
+use Rattle.fs_litmus_tokens.specs.Sections.{BeginsText, IsDeadText, StopsText}
 
 -- one front is longer than the other, by t and more
 abbrev Longer : {T : Type 0} → List T → List T → List T → List T → Type 0

@@ -2,13 +2,13 @@
 use Rattle.std.proofs.Common.{◌≡◌, ℕ, List, [], ◌∷◌, ◌++◌, Option, Some, None, Bool, true, false, ◌&&◌, cond, refl, sym, ap, ◌∙◌, nat_le}
 use Rattle.std.specs.Prelude.{option_map, is_some}
 use Rattle.std.proofs.Math.Bool.{and_assoc}
-use Rattle.fs_condition.specs.Grammar.{Syntax, Atom, True, False, Deny, Group, Both, Either}
-use Rattle.fs_condition.specs.Meaning as meaning
-use Rattle.fs_condition.specs.Meaning.{atoms_of, depth_of}
-use Rattle.fs_condition.specs.Answer.{Means}
-use Rattle.fs_condition.specs.Views.{tree_of}
-use Rattle.fs_condition.specs.declared.condition.Condition as conditions
-use Rattle.fs_condition.specs.declared.condition.Tree.{Tree}
+use Rattle.fs_litmus_syntax.specs.Grammar.{Syntax, Atom, True, False, Deny, Group, Both, Either}
+use Rattle.fs_litmus_syntax.specs.Meaning as meaning
+use Rattle.fs_litmus_syntax.specs.Meaning.{atoms_of, depth_of}
+use Rattle.fs_litmus_syntax.specs.Answer.{Means}
+use Rattle.fs_litmus_syntax.specs.Views.{tree_of}
+use Rattle.fs_litmus_syntax.specs.declared.condition.Condition as conditions
+use Rattle.fs_litmus_syntax.specs.declared.condition.Tree.{Tree}
 use Rattle.fs_model.specs.Condition as ours
 use Rattle.fs_model.specs.Condition.{Condition}
 use Rattle.fs_litmus.specs.Locations.{Names, Binding}

@@ -5,7 +5,7 @@ use Rattle.std.specs.List.{prefix_len, list_all, list_any, last_or}
 use Rattle.std.specs.Str.{IsUtf8}
 use Rattle.std.proofs.lemmas.List.{take-append-drop}
 use Rattle.std.proofs.lemmas.List.Folds.{list_any-append}
-use Rattle.fs_tokens.specs.Bytes.{is_blank}
+use Rattle.fs_litmus_tokens.specs.Bytes.{is_blank}
 use Rattle.fs_model.specs.Test.{is_title, is_visible}
 use Rattle.fs_litmus.specs.Title.{is_within_line, line_of, ends_in_blank, begins_with_blank, IsTrimmed, HasTitle}
 use Rattle.fs_litmus.proofs.Utf8Pieces.{utf8_before, utf8_tail}

@@ -2,7 +2,7 @@
 use Rattle.std.proofs.Common.{◌≡◌, ℕ, suc, ◌+◌, List, [], ◌∷◌, ◌++◌, Bool, true, false, cond, refl, sym, ap, ◌∙◌, subst, append_assoc, append-nil, take, drop, arith}
 use Rattle.std.specs.List.{prefix_len, list_all}
 use Rattle.std.proofs.lemmas.List.{take-append-drop}
-use Rattle.fs_tokens.specs.Bytes.{is_blank}
+use Rattle.fs_litmus_tokens.specs.Bytes.{is_blank}
 use Rattle.fs_litmus.specs.Title.{unindented, ends_in_blank, begins_with_blank, IsTrimmed}
 
 -- the text is what is left of the line, with blanks before and after it

@@ -1,6 +1,6 @@
 -- A condition in terms of a test's harts, registers and locations.
 use Rattle.std.specs.Prelude.{ℕ, Option, Some, option_map, option_and_then}
-use Rattle.fs_condition.specs.Meaning as written
+use Rattle.fs_litmus_syntax.specs.Meaning as written
 use Rattle.fs_model.specs.Condition.{Condition, Always, Never, RegisterIs, LocationIs, Deny, Both, Either}
 use Rattle.fs_litmus.specs.Locations.{Names, Binding}
 use Rattle.fs_litmus.specs.Settings.{setting_of}

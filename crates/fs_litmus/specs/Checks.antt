@@ -5,10 +5,10 @@ use Rattle.fs_kinds.specs.declared.fault.Fault.{Fault}
 use Rattle.fs_kinds.specs.declared.fault.Fault.TheVariants.{BadInit, BadCondition, TooBig}
 use Rattle.fs_kinds.specs.declared.fault.Limit.TheVariants.{Instructions, Accesses}
 use Rattle.fs_kinds.specs.Limits.{most_instructions, most_accesses}
-use Rattle.fs_form.specs.Init.{Entry}
-use Rattle.fs_form.specs.Form.{Form}
-use Rattle.fs_condition.specs.Grammar.{Syntax}
-use Rattle.fs_condition.specs.Meaning.{atoms_of}
+use Rattle.fs_litmus_syntax.specs.Init.{Entry}
+use Rattle.fs_litmus_syntax.specs.Form.{Form}
+use Rattle.fs_litmus_syntax.specs.Grammar.{Syntax}
+use Rattle.fs_litmus_syntax.specs.Meaning.{atoms_of}
 use Rattle.fs_instr.specs.Instructions.{is_memory}
 use Rattle.fs_instr.specs.declared.instr.Instr.{Instr}
 use Rattle.fs_litmus.specs.Locations.{Names}

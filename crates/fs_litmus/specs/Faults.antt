@@ -7,17 +7,17 @@ use Rattle.fs_kinds.specs.declared.fault.Fault.TheVariants.{BadUtf8, NotRiscv, S
 use Rattle.fs_kinds.specs.declared.fault.Limit.{Limit}
 use Rattle.fs_kinds.specs.declared.fault.Limit.TheVariants.{Harts, Instructions, Accesses, Locations, Depth}
 use Rattle.fs_kinds.specs.Limits.{most_harts, most_instructions, most_accesses, most_locations, most_depth}
-use Rattle.fs_tokens.specs.Tokens.{Lined}
-use Rattle.fs_tokens.specs.Sections.{Then, BeginsText, StopsText}
-use Rattle.fs_form.specs.Init.{Entry}
-use Rattle.fs_form.specs.Form.{Form, IsForm}
-use Rattle.fs_form.specs.Body.{flatten}
-use Rattle.fs_condition.specs.Grammar as grammar
-use Rattle.fs_condition.specs.Grammar.{IsCondition}
-use Rattle.fs_condition.specs.Meaning.{atoms_of, depth_of}
+use Rattle.fs_litmus_tokens.specs.Tokens.{Lined}
+use Rattle.fs_litmus_tokens.specs.Sections.{Then, BeginsText, StopsText}
+use Rattle.fs_litmus_syntax.specs.Init.{Entry}
+use Rattle.fs_litmus_syntax.specs.Form.{Form, IsForm}
+use Rattle.fs_litmus_syntax.specs.Body.{flatten}
+use Rattle.fs_litmus_syntax.specs.Grammar as grammar
+use Rattle.fs_litmus_syntax.specs.Grammar.{IsCondition}
+use Rattle.fs_litmus_syntax.specs.Meaning.{atoms_of, depth_of}
 use Rattle.fs_instr.specs.Instructions.{is_memory}
 use Rattle.fs_instr.specs.declared.instr.Instr.{Instr}
-use Rattle.fs_code.specs.Codes.{AreCodes, IsFault}
+use Rattle.fs_litmus_syntax.specs.Codes.{AreCodes, IsFault}
 use Rattle.fs_kinds.specs.FaultOrder.{IsFirst}
 use Rattle.fs_litmus.specs.Title.{after_line, last_line, HasTitle, IsBody}
 use Rattle.fs_litmus.specs.Locations.{Names}

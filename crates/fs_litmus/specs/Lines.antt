@@ -1,9 +1,9 @@
 -- The lines in which the instructions of a test file stand.
 use Rattle.std.specs.Prelude.{ℕ, List}
-use Rattle.fs_form.specs.Form.{Form}
-use Rattle.fs_form.specs.Body.{flatten}
-use Rattle.fs_condition.specs.Grammar.{Syntax}
-use Rattle.fs_code.specs.Lines.{AreLines}
+use Rattle.fs_litmus_syntax.specs.Form.{Form}
+use Rattle.fs_litmus_syntax.specs.Body.{flatten}
+use Rattle.fs_litmus_syntax.specs.Grammar.{Syntax}
+use Rattle.fs_litmus_syntax.specs.Lines.{AreLines}
 use Rattle.fs_litmus.specs.Reads.{HasForm}
 
 -- the bytes have a form, and these are the lines of its instructions, hart by hart

@@ -4,7 +4,7 @@ use Rattle.std.specs.Prelude.{ℕ, List, [], ◌∷◌, ◌++◌, Option, map, p
 use Rattle.std.specs.List.{list_any}
 use Rattle.std.specs.Str.{bytes_eq}
 use Rattle.std.specs.Borrow.{Bor}
-use Rattle.fs_tokens.specs.Values.{Target, Register, Location, Value, Number, Address}
+use Rattle.fs_litmus_tokens.specs.Values.{Target, Register, Location, Value, Number, Address}
 
 abbrev pub Names : Type 0
 Names = List (List ℕ)

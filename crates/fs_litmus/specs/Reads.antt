@@ -2,15 +2,15 @@
 use Rattle.std.specs.Prelude.{◌≡◌, ℕ, ◌≤◌, List, [], Bool, Some, true, length, sum_by, count_by, All}
 use Rattle.std.specs.Str.{IsUtf8}
 use Rattle.fs_kinds.specs.Limits.{most_harts, most_instructions, most_accesses, most_locations, most_depth}
-use Rattle.fs_tokens.specs.Tokens.{Lined, AreTokens}
-use Rattle.fs_form.specs.Form.{Form, IsForm}
-use Rattle.fs_form.specs.Body.{flatten}
-use Rattle.fs_form.specs.declared.rows.Quantifier as written
-use Rattle.fs_form.specs.declared.rows.Quantifier.TheVariants as asked
-use Rattle.fs_condition.specs.Grammar.{Syntax, IsCondition}
-use Rattle.fs_condition.specs.Meaning as meaning
-use Rattle.fs_condition.specs.Meaning.{atoms_of, depth_of}
-use Rattle.fs_code.specs.Codes.{AreCodes}
+use Rattle.fs_litmus_tokens.specs.Tokens.{Lined, AreTokens}
+use Rattle.fs_litmus_syntax.specs.Form.{Form, IsForm}
+use Rattle.fs_litmus_syntax.specs.Body.{flatten}
+use Rattle.fs_litmus_syntax.specs.declared.rows.Quantifier as written
+use Rattle.fs_litmus_syntax.specs.declared.rows.Quantifier.TheVariants as asked
+use Rattle.fs_litmus_syntax.specs.Grammar.{Syntax, IsCondition}
+use Rattle.fs_litmus_syntax.specs.Meaning as meaning
+use Rattle.fs_litmus_syntax.specs.Meaning.{atoms_of, depth_of}
+use Rattle.fs_litmus_syntax.specs.Codes.{AreCodes}
 use Rattle.fs_model.specs.Condition.{condition_of}
 use Rattle.fs_instr.specs.Instructions.{is_memory}
 use Rattle.fs_model.specs.declared.outcome.Outcome.{Outcome}

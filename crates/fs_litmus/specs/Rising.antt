@@ -1,7 +1,7 @@
 -- Numbers in rising order.
 use Rattle.std.specs.Prelude.{ℕ, ◌≤◌, List, [], ◌∷◌, map}
-use Rattle.fs_tokens.specs.Tokens.{Lined}
-use Rattle.fs_form.specs.Init.{Entry}
+use Rattle.fs_litmus_tokens.specs.Tokens.{Lined}
+use Rattle.fs_litmus_syntax.specs.Init.{Entry}
 
 -- each number is at least the one before it, and the first at least this one
 abbrev pub Rising : ℕ → List ℕ → Type 0

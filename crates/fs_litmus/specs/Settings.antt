@@ -1,9 +1,9 @@
 -- Registers and locations that have a value, and the words that are written for them (herd7's format of litmus tests).
 use Rattle.std.specs.Prelude.{ℕ, ◌-◌, ◌%◌, ◌^◌, ◌<◌, List, [], ◌∷◌, Option, Some, None, Bool, true, false, ◌==◌, ◌&&◌, ◌||◌, ◌++◌, nat_lt, nat_le, is_some, option_map, option_and_then, map, if◌then◌else◌}
 use Rattle.std.specs.List.{list_any}
-use Rattle.fs_form.specs.Init.{Entry}
-use Rattle.fs_tokens.specs.Numbers.{number_of}
-use Rattle.fs_tokens.specs.Values.{Target, Register, Location, Value, Number, Address}
+use Rattle.fs_litmus_syntax.specs.Init.{Entry}
+use Rattle.fs_litmus_tokens.specs.Numbers.{number_of}
+use Rattle.fs_litmus_tokens.specs.Values.{Target, Register, Location, Value, Number, Address}
 use Rattle.fs_instr.specs.Registers.{register_of}
 use Rattle.fs_model.specs.Test.{address_of}
 use Rattle.fs_litmus.specs.Locations.{Names, Binding, number_of_location}

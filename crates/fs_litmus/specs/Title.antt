@@ -2,7 +2,7 @@
 -- the test's name, and lines of doc text up to the block of initial values.
 use Rattle.std.specs.Prelude.{◌≡◌, ◌≢◌, ℕ, ◌+◌, ◌-◌, length, count_by, List, [], ◌∷◌, ◌++◌, Bool, true, false, Option, Some, None, ◌==◌, codes, drop, take, not, if◌then◌else◌}
 use Rattle.std.specs.List.{prefix_len, list_all}
-use Rattle.fs_tokens.specs.Bytes.{is_blank, begins}
+use Rattle.fs_litmus_tokens.specs.Bytes.{is_blank, begins}
 
 abbrev pub is_within_line : ℕ → Bool
 is_within_line b = not (b == 10)

@@ -2,15 +2,15 @@
 
 ghost use Rattle.std.specs.Prelude.{◌≡◌, ◌≤◌, ◌<◌, length, option_map, IfOk, IfSome, Some};
 ghost use Rattle.fs_kinds.specs.Limits.{most_harts, most_locations};
-ghost use Rattle.fs_condition.specs.Views.{tree_of};
+ghost use Rattle.fs_litmus_syntax.specs.Views.{tree_of};
 ghost use Rattle.fs_model.specs.Condition.{condition_of, SpeaksOf};
 ghost use Rattle.fs_litmus.specs.Settings.{setting_of, IsThere};
 ghost use Rattle.fs_litmus.specs.Atoms.{atom_at, condition_in};
 
 use crate::names::Names;
 use crate::settings::{Holder, setting_of};
-use fs_condition::Tree;
 use fs_instr::Reg;
+use fs_litmus_syntax::Tree;
 use fs_model::Outcome;
 use std::alloc::{AllocError, Global};
 

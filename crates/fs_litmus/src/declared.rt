@@ -1,14 +1,13 @@
 //! The locations that a test declares.
 
 ghost use Rattle.std.specs.Prelude.{◌≡◌, ◌++◌, [], map, IfOk, OnOk};
-ghost use Rattle.fs_form.specs.Init.{entries_of};
-ghost use Rattle.fs_condition.specs.Views.{atom_of};
+ghost use Rattle.fs_litmus_syntax.specs.Init.{entries_of};
+ghost use Rattle.fs_litmus_syntax.specs.Views.{atom_of};
 ghost use Rattle.fs_litmus.specs.Locations.{declared};
 ghost use Rattle.fs_litmus.specs.Settings.{entry_bindings};
 
 use crate::names::Names;
-use fs_condition::Atom;
-use fs_form::Entry;
+use fs_litmus_syntax::{Atom, Entry};
 use std::alloc::{AllocError, Global};
 
 fn declare_entries<'a>(names: &mut Names<'a>, entries: &[Entry<'a>]) -> Result<(), AllocError>

@@ -2,7 +2,7 @@
 
 ghost use Rattle.std.specs.Prelude.{◌≡◌, ◌≢◌, ◌++◌, ◌∷◌, IfOk, IfErr, IfSome, IsTrue, not, option_and_then, Some, [], List};
 ghost use Rattle.std.specs.List.{list_any};
-ghost use Rattle.fs_form.specs.Init.{entries_of};
+ghost use Rattle.fs_litmus_syntax.specs.Init.{entries_of};
 ghost use Rattle.fs_kinds.specs.FaultOrder.{IsFirst};
 ghost use Rattle.fs_litmus.specs.Checks.{IsEntryFault};
 ghost use Rattle.fs_litmus.specs.Rising.{Rising, entry_lines};
@@ -10,8 +10,8 @@ ghost use Rattle.fs_litmus.specs.Settings.{entry_bindings, settings_after, is_x0
 
 use crate::names::Names;
 use crate::settings::{Holder, Setting, setting_of};
-use fs_form::Entry;
 use fs_kinds::Fault;
+use fs_litmus_syntax::Entry;
 use indexmap::IndexSet;
 use std::alloc::{AllocError, Global};
 

@@ -5,13 +5,13 @@ ghost use Rattle.std.specs.List.{Any, list_all};
 ghost use Rattle.std.specs.Option.{IfNone};
 ghost use Rattle.fs_kinds.specs.Limits.{most_instructions, most_accesses};
 ghost use Rattle.fs_instr.specs.declared.instr.Instr.{Instr};
-ghost use Rattle.fs_code.specs.Codes.{AreKept};
+ghost use Rattle.fs_litmus_syntax.specs.Codes.{AreKept};
 ghost use Rattle.fs_instr.specs.Instructions.{is_memory};
 ghost use Rattle.fs_litmus.specs.inner.Kept.{instrs_of, is_short};
 
-use fs_code::HartCode;
 use fs_instr::Instr;
 use fs_kinds::MOST_ACCESSES;
+use fs_litmus_syntax::HartCode;
 use fs_model::Code;
 use std::alloc::{AllocError, Global};
 

@@ -6,9 +6,8 @@ ghost use Rattle.fs_litmus.specs.Lines.{StandIn};
 
 use crate::reader::{read_sections, stopped};
 use crate::title::{Body, last_line, skip_title};
-use fs_kinds::Fault;
-use fs_list::List;
-use fs_tokens::tokens;
+use fs_kinds::{Fault, List};
+use fs_litmus_tokens::tokens;
 use std::alloc::Global;
 
 /// The lines in which the instructions of each hart stand, of a file that `read_test` reads: of each the line of its mnemonic, the first
@@ -29,5 +28,5 @@ pub fn read_lines(alloc: Global, bytes: &[u8]) -> Result<Vec<List<usize>>, Fault
     if !closed {
         return Err(Fault::Syntax { line: last });
     }
-    Ok(fs_code::read_lines(alloc, form.columns, &form.cells)?)
+    Ok(fs_litmus_syntax::read_lines(alloc, form.columns, &form.cells)?)
 }

@@ -2,18 +2,18 @@
 
 ghost use Rattle.std.specs.Prelude.{◌≡◌, ◌≢◌, ◌≤◌, ◌<◌, List, [], Some, true, All, length, map, sum_by, count_by, IfOk, IfErr};
 ghost use Rattle.fs_kinds.specs.Limits.{most_harts, most_instructions, most_accesses, most_locations, most_depth};
-ghost use Rattle.fs_form.specs.Body.{cells_of, flatten};
-ghost use Rattle.fs_form.specs.Form.{form_of};
+ghost use Rattle.fs_litmus_syntax.specs.Body.{cells_of, flatten};
+ghost use Rattle.fs_litmus_syntax.specs.Form.{form_of};
 ghost use Rattle.fs_instr.specs.Instructions.{is_memory};
 ghost use Rattle.fs_instr.specs.declared.instr.Instr.{Instr};
-ghost use Rattle.fs_code.specs.Codes.{AreCodes, AreKept, IsFault};
+ghost use Rattle.fs_litmus_syntax.specs.Codes.{AreCodes, AreKept, IsFault};
 ghost use Rattle.fs_kinds.specs.FaultOrder.{IsFirst};
 ghost use Rattle.fs_model.specs.Condition.{condition_of, SpeaksOf};
 ghost use Rattle.fs_model.specs.Test.{IsBounded};
-ghost use Rattle.fs_condition.specs.Answer.{Means};
-ghost use Rattle.fs_condition.specs.Grammar.{Syntax};
-ghost use Rattle.fs_condition.specs.Meaning.{atoms_of, depth_of};
-ghost use Rattle.fs_condition.specs.Views.{atom_of};
+ghost use Rattle.fs_litmus_syntax.specs.Answer.{Means};
+ghost use Rattle.fs_litmus_syntax.specs.Grammar.{Syntax};
+ghost use Rattle.fs_litmus_syntax.specs.Meaning.{atoms_of, depth_of};
+ghost use Rattle.fs_litmus_syntax.specs.Views.{atom_of};
 ghost use Rattle.fs_litmus.specs.Settings.{are_there, settings_after, entry_bindings};
 ghost use Rattle.fs_litmus.specs.Starts.{starts_of, AreLocations};
 ghost use Rattle.fs_litmus.specs.Reads.{names_in, IsOutcome, MeanTest, IsWithinLimits, quantifier_of};
@@ -28,20 +28,18 @@ use crate::limits::{has_few_accesses, short_codes};
 use crate::names::Names;
 use crate::settings::{Setting, setting_of};
 use crate::starts::{locations_of, starts_of};
-use fs_code::{HartCode, read_codes};
-use fs_condition::{Atom, Condition};
-use fs_form::Form;
 use fs_kinds::{Fault, Limit, MOST_HARTS, MOST_LOCATIONS};
+use fs_litmus_syntax::{Atom, Condition, Form, HartCode, read_codes};
 use fs_model::{Code, Codes, Name, Outcome, Quantifier, Test};
 use std::alloc::{AllocError, Global};
 
-fn quantifier_of(asked: fs_form::Quantifier) -> Quantifier
+fn quantifier_of(asked: fs_litmus_syntax::Quantifier) -> Quantifier
     ensures { result ≡ quantifier_of asked }
 {
     match asked {
-        fs_form::Quantifier::Exists => Quantifier::Exists,
-        fs_form::Quantifier::NotExists => Quantifier::NotExists,
-        fs_form::Quantifier::Forall => Quantifier::Forall,
+        fs_litmus_syntax::Quantifier::Exists => Quantifier::Exists,
+        fs_litmus_syntax::Quantifier::NotExists => Quantifier::NotExists,
+        fs_litmus_syntax::Quantifier::Forall => Quantifier::Forall,
     }
 }
 

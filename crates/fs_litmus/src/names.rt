@@ -2,10 +2,10 @@
 
 ghost use Rattle.std.specs.Prelude.{◌≡◌, ◌<◌, [], OnOk, IfSome, Some, slice_get, length};
 ghost use Rattle.std.specs.Borrow.{Bor};
-ghost use Rattle.fs_tokens.specs.Values.{target_of, value_of};
+ghost use Rattle.fs_litmus_tokens.specs.Values.{target_of, value_of};
 ghost use Rattle.fs_litmus.specs.Locations.{with_name, with_target, with_value, number_of_location, texts};
 
-use fs_tokens::{Target, Value};
+use fs_litmus_tokens::{Target, Value};
 use indexmap::IndexSet;
 use std::alloc::{AllocError, Global};
 use std::marker::Model;

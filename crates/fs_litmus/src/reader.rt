@@ -1,11 +1,11 @@
 //! Reads a test file.
 
 ghost use Rattle.std.specs.Prelude.{◌≡◌, ◌≢◌, IfOk, IfErr};
-ghost use Rattle.fs_form.specs.Body.{cells_of, flatten};
-ghost use Rattle.fs_form.specs.Form.{form_of};
+ghost use Rattle.fs_litmus_syntax.specs.Body.{cells_of, flatten};
+ghost use Rattle.fs_litmus_syntax.specs.Form.{form_of};
 ghost use Rattle.fs_model.specs.Test.{IsTest, IsSame};
 ghost use Rattle.fs_model.specs.declared.test.Test as tests;
-ghost use Rattle.fs_tokens.specs.Tokens.{views};
+ghost use Rattle.fs_litmus_tokens.specs.Tokens.{views};
 ghost use Rattle.fs_kinds.specs.declared.fault.Fault as faults;
 ghost use Rattle.fs_litmus.specs.Faults.{HasFault, IsTestFault};
 ghost use Rattle.fs_litmus.specs.inner.Sections.{AreSections, IsTextStop, fault_of};
@@ -13,11 +13,10 @@ ghost use Rattle.fs_litmus.specs.Reads.{Reads};
 
 use crate::meaning::interpret;
 use crate::title::{Body, last_line, read_title, skip_title};
-use fs_condition::{Condition, read_condition};
-use fs_form::{Form, read_form};
 use fs_kinds::Fault;
+use fs_litmus_syntax::{Condition, Form, read_condition, read_form};
+use fs_litmus_tokens::{Stop, Token, tokens};
 use fs_model::Test;
-use fs_tokens::{Stop, Token, tokens};
 use std::alloc::Global;
 
 // The fault where the tokens stop being of the form: in the line of the first that can't stand there, or in the last line.

@@ -1,13 +1,13 @@
 //! Registers and locations that have a value, and the words that are written for them.
 
 ghost use Rattle.std.specs.Prelude.{◌≡◌, ℕ, IfSome, length};
-ghost use Rattle.fs_tokens.specs.Values.{target_of, value_of};
+ghost use Rattle.fs_litmus_tokens.specs.Values.{target_of, value_of};
 ghost use Rattle.fs_litmus.specs.Settings.{signed, word_of, register_holder, holder_of, setting_of, IsThere};
 
 use crate::names::Names;
 use fs_instr::Reg;
+use fs_litmus_tokens::{Target, Value, number_of};
 use fs_model::Location;
-use fs_tokens::{Target, Value, number_of};
 
 /// What holds a word: a register of a hart, or a location by its number.
 #[derive(Clone, Copy, Debug, PartialEq, Eq, Hash)]

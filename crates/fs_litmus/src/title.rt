@@ -2,7 +2,7 @@
 
 ghost use Rattle.std.specs.Prelude.{◌≡◌, ℕ, List, ◌+◌, ◌<◌, ◌≤◌, ◌^◌, ◌++◌, length, Some, IfSome, IsNone, option_map};
 ghost use Rattle.std.specs.List.{prefix_len, list_all};
-ghost use Rattle.fs_tokens.specs.Bytes.{is_blank, begins};
+ghost use Rattle.fs_litmus_tokens.specs.Bytes.{is_blank, begins};
 ghost use Rattle.fs_litmus.specs.Title.{last_line, is_within_line, line_of, after_line, unindented, ends_in_blank, begins_with_blank, IsTrimmed, HasTitle, IsBody};
 
 /// The block of initial values and all that comes after it, and the number of the line that it begins in.

@@ -5,15 +5,15 @@ ghost use Rattle.fs_model.specs.Test.{IsBounded};
 
 use fs_cand::{Candidate, Sources, StoreOrder};
 use fs_deps::Deps;
-use fs_examples::{
-    ADD2, ANNOTATED, CO_RR, Digits, FENCED, FORWARDED, LB, LBC, LBD, LRSC, LRSCF, MANY, MP, MP11,
-    MPA, MPB, POINTER, SB, SBF, SBX, SBXA, TWO_WRITES, picked, placements_of, runs_of,
-};
 use fs_hart::{Operation, Trace, operations};
 use fs_kinds::{Fault, Placement};
 use fs_litmus::{Test, read_test};
-use fs_plain::{Executed, address_depends, control_depends, data_depends};
+use fs_model_brute_force::{Executed, address_depends, control_depends, data_depends};
 use fs_ppo::{fence_rule, rule};
+use fs_tests_shared::{
+    ADD2, ANNOTATED, CO_RR, Digits, FENCED, FORWARDED, LB, LBC, LBD, LRSC, LRSCF, MANY, MP, MP11,
+    MPA, MPB, POINTER, SB, SBF, SBX, SBXA, TWO_WRITES, picked, placements_of, runs_of,
+};
 use std::alloc::{AllocError, Global};
 use std::test::Fail;
 

@@ -1,5 +1,5 @@
 //! Readers and writers that fail in mid-stream.
-use fs_io::{Unread, read_bytes, write_text};
+use fs_app_io::{Unread, read_bytes, write_text};
 use fs_kinds::Fault;
 use std::alloc::Global;
 use std::io;

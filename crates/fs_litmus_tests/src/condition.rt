@@ -1,7 +1,7 @@
 //! Conditions, and which trees and atoms they have.
 
-use fs_condition::{Atom, Condition, Tree, read_condition};
-use fs_tokens::{Stop, Target, Value, tokens};
+use fs_litmus_syntax::{Atom, Condition, Tree, read_condition};
+use fs_litmus_tokens::{Stop, Target, Value, tokens};
 use std::alloc::{AllocError, Global};
 use std::test::Fail;
 

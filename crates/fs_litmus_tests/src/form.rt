@@ -1,8 +1,8 @@
 //! Texts whose meaning, or whose first bad line, is told by the format.
 
 use crate::condition::{target_parts, value_parts};
-use fs_form::{Form, Quantifier, read_form};
-use fs_tokens::{Stop, tokens};
+use fs_litmus_syntax::{Form, Quantifier, read_form};
+use fs_litmus_tokens::{Stop, tokens};
 use std::alloc::{AllocError, Global};
 use std::test::Fail;
 

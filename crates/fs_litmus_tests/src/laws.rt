@@ -5,11 +5,11 @@ ghost use Rattle.fs_model.specs.declared.test.Test.{Test};
 ghost use Rattle.fs_model.specs.Allows.{Allows};
 ghost use Rattle.fs_model.specs.Execution.{Execution, IsExecution};
 ghost use Rattle.fs_model.specs.Values.{IsGrounded};
-ghost use Rattle.fs_thin_air.specs.ThinAir.{CanBeListed};
-ghost use Rattle.fs_decide.specs.Decide.{HasAcyclic};
+ghost use Rattle.fs_values.specs.ThinAir.{CanBeListed};
+ghost use Rattle.fs_cand_verdict_laws.specs.Decide.{HasAcyclic};
 
-use fs_decide::cycles_decide;
-use fs_thin_air::nothing_out_of_thin_air;
+use fs_cand_verdict_laws::cycles_decide;
+use fs_values::nothing_out_of_thin_air;
 
 /// In a test whose runs can be listed an outcome is forbidden where no showing candidate is acyclic, and no value of an execution is
 /// out of thin air.

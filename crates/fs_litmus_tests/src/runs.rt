@@ -2,10 +2,10 @@
 ghost use Rattle.std.specs.List.Sorted.{IsStrictlyIncreasing};
 
 use fs_deps::Deps;
-use fs_examples::{FORWARDED, LBC, LRSC, LRSCY, MPA, MPB, POINTER, runs_of, told};
 use fs_hart::{Choice, Run, Trace, trace_of};
 use fs_kinds::Fault;
 use fs_litmus::read_test;
+use fs_tests_shared::{FORWARDED, LBC, LRSC, LRSCY, MPA, MPB, POINTER, runs_of, told};
 use std::alloc::{AllocError, Global};
 use std::test::Fail;
 

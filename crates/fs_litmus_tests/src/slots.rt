@@ -1,10 +1,10 @@
 //! Which slots a test has, and where they are in the fenced test, read back from its printed form.
 ghost use Rattle.fs_model.specs.Test.{IsBounded, IsTest};
 
-use fs_examples::{MP, MPB, placement_of, told};
 use fs_kinds::{Fault, Placement, Slot};
 use fs_litmus::{Test, read_test, slots};
-use fs_round_trip::fence;
+use fs_litmus_round_trip::fence;
+use fs_tests_shared::{MP, MPB, placement_of, told};
 use std::alloc::{AllocError, Global};
 use std::test::Fail;
 

@@ -1,9 +1,9 @@
 //! Value sets and the runs over them, the faults that are met while they are found, and what tests allow over them.
 
-use fs_examples::{ADD2, CO_RR, LBD, LRSC, MP, MPA, MPB, POINTER, SB, told};
 use fs_kinds::Fault;
 use fs_litmus::{read_fences, read_test};
-use fs_plain::allows_over;
+use fs_model_brute_force::allows_over;
+use fs_tests_shared::{ADD2, CO_RR, LBD, LRSC, MP, MPA, MPB, POINTER, SB, told};
 use fs_values::{Values, all_runs};
 use std::alloc::{AllocError, Global};
 use std::test::Fail;

@@ -4,7 +4,7 @@ ghost use Rattle.std.specs.Prelude.{◌≡◌, string_bytes};
 
 use crate::test::Location;
 use fs_instr::Instr;
-use fs_list::List;
+use fs_kinds::List;
 use std::marker::Model;
 
 /// A name. Contracts see its bytes.

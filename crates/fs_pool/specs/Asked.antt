@@ -2,7 +2,7 @@
 use Rattle.std.specs.Prelude.{◌≡◌, ℕ, []}
 use Rattle.fs_model.specs.declared.outcome.Outcome.TheVariants as outcome
 use Rattle.fs_model.specs.declared.test.Quantifier.TheVariants as quantifier
-use Rattle.fs_evidence.specs.Evidence.{Question}
+use Rattle.fs_cert_evidence.specs.Evidence.{Question}
 use Rattle.fs_board.specs.View.{Search}
 
 -- the board is asked this, and no node's number may pass the limit

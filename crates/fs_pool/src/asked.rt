@@ -6,7 +6,7 @@ use std::marker::Brand;
 /// on them is generic in one such type, and a program picks it by `Brand`.
 pub trait Asked {
     ghost use Rattle.std.specs.Prelude.{ℕ};
-    ghost use Rattle.fs_evidence.specs.Evidence.{Question};
+    ghost use Rattle.fs_cert_evidence.specs.Evidence.{Question};
 
     ghost question: { Question };
 

@@ -1,8 +1,8 @@
 //! The end of a desk: its board, where its log and the receipts of all passes agree.
 
 ghost use Rattle.std.specs.Prelude.{◌≡◌, ◌≢◌, ◌<◌, IfOk, IfErr, IsTrue, All, AllPairs, drop, length, sum_by};
-ghost use Rattle.fs_history.specs.Histories.{IsHistory};
-ghost use Rattle.fs_history.specs.Receipts.{IsAgreed, IsLogged};
+ghost use Rattle.fs_cert_evidence.specs.Histories.{IsHistory};
+ghost use Rattle.fs_cert_evidence.specs.Receipts.{IsAgreed, IsLogged};
 ghost use Rattle.fs_pool.specs.Asked.{IsAsked};
 ghost use Rattle.fs_pool.specs.Ends.{AreGiven, AreLogged, AllLogged, IsUnfinished};
 

@@ -2,12 +2,11 @@
 
 ghost use Rattle.std.specs.Prelude.{◌≡◌, IsTrue, map};
 ghost use Rattle.std.specs.Arc.{arc_value};
-ghost use Rattle.fs_evidence.specs.Evidence.{witness_in, placement_in};
+ghost use Rattle.fs_cert_evidence.specs.Evidence.{witness_in, placement_in};
 ghost use Rattle.fs_board.specs.View.{event_of, reply_of};
 
-use fs_answer::ChoiceLists;
 use fs_board::{Decision, Event, Reply};
-use fs_evidence::{Forbidden, Witness};
+use fs_cert_evidence::{ChoiceLists, Forbidden, Witness};
 use fs_kinds::{Entry, OperationName};
 use std::sync::Arc;
 

@@ -2,14 +2,14 @@
 
 ghost use Rattle.std.specs.Prelude.{◌≡◌};
 ghost use Rattle.fs_model.specs.Operations.{same_hart};
-ghost use Rattle.fs_answer.specs.Judged.{rfe, is_edge};
+ghost use Rattle.fs_cert_evidence.specs.Judged.{rfe, is_edge};
 ghost use Rattle.fs_cand.specs.Candidates.{candidate_of};
-ghost use Rattle.fs_evidence.specs.Evidence.{cause_of};
+ghost use Rattle.fs_cert_evidence.specs.Evidence.{cause_of};
 ghost use Rattle.fs_ppo.specs.Rules.{OfRuns};
 
 use crate::rules::{fence_rule, rule};
 use fs_cand::Candidate;
-use fs_evidence::Cause;
+use fs_cert_evidence::Cause;
 use fs_kinds::Placement;
 use fs_model::Operation;
 

@@ -2,8 +2,8 @@
 use Rattle.std.specs.Prelude.{ℕ, ◌≤◌, List, take}
 use Rattle.fs_relation.specs.Edges.{has_edge}
 use Rattle.fs_relation.specs.Orders.{IsOrderBelow, IsCycleBelow}
-use Rattle.fs_relation.specs.declared.verdict.Judged.{Judged}
-use Rattle.fs_relation.specs.declared.verdict.Judged.TheVariants.{Order, Cycle}
+use Rattle.fs_relation.specs.declared.cycles.Judged.{Judged}
+use Rattle.fs_relation.specs.declared.cycles.Judged.TheVariants.{Order, Cycle}
 
 -- the first n numbers are an order, or the first `len` are a cycle
 abbrev pub IsJudged : List ℕ → ℕ → Judged → Type 0

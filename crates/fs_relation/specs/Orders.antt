@@ -2,7 +2,7 @@
 use Rattle.std.specs.Prelude.{◌≡◌, ℕ, ◌<◌, ◌≤◌, Bool, true, All, List, length}
 use Rattle.std.specs.List.{list_all}
 use Rattle.fs_model.specs.Numbers.{has_number, stands_before}
-use Rattle.fs_answer.specs.Cycles.{around}
+use Rattle.fs_cert_evidence.specs.Cycles.{around}
 
 -- each number below n once, and each edge goes forward
 pub record IsOrderBelow (edge : ℕ → ℕ → Bool) (n : ℕ) (numbers : List ℕ) : Type 0 where

@@ -1,8 +1,8 @@
 //! Relations on the numbers below 64 as rows of bits, and the orders that extend them.
 #![tactic(auto)]
 
+mod cycles;
 mod rows;
-mod verdict;
 
+pub use cycles::{Judged, has_order, judge};
 pub use rows::Rows;
-pub use verdict::{Judged, has_order, judge};

@@ -7,7 +7,7 @@ use Rattle.fs_kinds.specs.declared.reason.OperationName.{OperationName as Name}
 use Rattle.fs_model.specs.declared.step.Choice.{Choice}
 use Rattle.fs_model.specs.declared.step.Choice.TheVariants.{Word, Success, Failure}
 use Rattle.fs_model.specs.Witness.{Witness}
-use Rattle.fs_answer.specs.Texts.{items_of, choice_value, witness_value}
+use Rattle.fs_cert_evidence.specs.Texts.{items_of, choice_value, witness_value}
 use Rattle.fs_report.specs.inner.Written.{choices_value, name_value}
 
 choices_whole : (choices : List Choice) → items_have_float (items_of (map choice_value choices)) ≡ false

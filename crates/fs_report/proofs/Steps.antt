@@ -5,9 +5,9 @@ use Rattle.std.proofs.lemmas.List.Concat.{flat_map-append}
 use Rattle.serde_json.specs.Data.{Data, array, Items, no_items, item}
 use Rattle.serde_json.specs.View.{view, items_view}
 use Rattle.serde_json.specs.declared.value.Value.{Value}
-use Rattle.fs_answer.specs.Texts.{items_of}
-use Rattle.fs_answer.specs.WitnessFile.{EachItem}
-use Rattle.fs_answer.proofs.Items.{each_more}
+use Rattle.fs_cert_evidence.specs.Texts.{items_of}
+use Rattle.fs_cert_evidence.specs.WitnessFile.{EachItem}
+use Rattle.fs_cert_evidence.proofs.Items.{each_more}
 use Rattle.fs_report.specs.inner.Written.{SaysAs, SaysArray}
 
 -- one item more in a text

@@ -8,7 +8,7 @@ use Rattle.fs_kinds.specs.declared.kind.Kind.{Kind}
 use Rattle.fs_kinds.specs.declared.placement.Entry.{Entry}
 use Rattle.fs_kinds.specs.declared.slot.Slot.{Slot}
 use Rattle.fs_model.specs.Witness.{Witness}
-use Rattle.fs_answer.specs.Texts.{array_of, items_of}
+use Rattle.fs_cert_evidence.specs.Texts.{array_of, items_of}
 use Rattle.fs_report.specs.Objects.{fence_values, fenced_value, none_value}
 use Rattle.fs_report.proofs.Depths.{no_float}
 

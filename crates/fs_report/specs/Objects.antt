@@ -8,7 +8,7 @@ use Rattle.fs_kinds.specs.declared.placement.Entry.{Entry}
 use Rattle.fs_kinds.specs.declared.slot.Slot.{Slot}
 use Rattle.fs_kinds.specs.Kind.{word}
 use Rattle.fs_model.specs.Witness.{Witness}
-use Rattle.fs_answer.specs.Texts.{array_of, fenced_lines, line, members_of, none_lines, number, witness_value}
+use Rattle.fs_cert_evidence.specs.Texts.{array_of, fenced_lines, line, members_of, none_lines, number, witness_value}
 
 -- a fence before this instruction of its hart
 abbrev pub fence_value : Slot → Kind → Data

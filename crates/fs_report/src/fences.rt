@@ -2,7 +2,7 @@
 
 ghost use Rattle.std.specs.Prelude.{◌≡◌, ◌++◌, IfOk, OnOk, string_bytes};
 ghost use Rattle.std.specs.List.{flat_map};
-ghost use Rattle.fs_answer.specs.Texts.{fence_line, fenced_lines};
+ghost use Rattle.fs_cert_evidence.specs.Texts.{fence_line, fenced_lines};
 
 use fs_kinds::{Entry, Placement};
 use std::alloc::{AllocError, Global};

@@ -4,14 +4,13 @@ ghost use Rattle.std.specs.Prelude.{◌≡◌, ◌++◌, IfOk, OnOk, false, map,
 ghost use Rattle.std.specs.List.{flat_map};
 ghost use Rattle.serde_json.specs.View.{view};
 ghost use Rattle.serde_json.specs.Written.{has_float};
-ghost use Rattle.fs_answer.specs.Texts.{array_of};
+ghost use Rattle.fs_cert_evidence.specs.Texts.{array_of};
 ghost use Rattle.fs_report.specs.Given.{given};
 ghost use Rattle.fs_report.specs.Objects.{fence_value, fence_values, fenced_value, none_value, json_line};
 
 use crate::witness::witness_value;
-use fs_answer::ChoiceLists;
-use fs_kinds::{Entry, Kind, OperationName, Placement, Slot};
-use fs_list::List;
+use fs_cert_evidence::ChoiceLists;
+use fs_kinds::{Entry, Kind, List, OperationName, Placement, Slot};
 use serde_json::{Value, json};
 use std::alloc::{AllocError, Global};
 

@@ -2,14 +2,13 @@
 
 ghost use Rattle.std.specs.Prelude.{◌≡◌, IfOk, OnOk, length, string_bytes};
 ghost use Rattle.serde_json.specs.View.{view};
-ghost use Rattle.fs_answer.specs.Texts.{witness_value, witness_text, none_lines};
-ghost use Rattle.fs_answer.specs.WitnessFile.{IsWitnessFile, IsWitnessValue};
+ghost use Rattle.fs_cert_evidence.specs.Texts.{witness_value, witness_text, none_lines};
+ghost use Rattle.fs_cert_evidence.specs.WitnessFile.{IsWitnessFile, IsWitnessValue};
 ghost use Rattle.fs_report.specs.inner.Written.{SaysChoice, SaysChoices, SaysLists, SaysName, SaysNames};
 ghost use Rattle.fs_report.specs.Given.{given};
 
-use fs_answer::{ChoiceLists, Choices};
-use fs_kinds::OperationName;
-use fs_list::List;
+use fs_cert_evidence::{ChoiceLists, Choices};
+use fs_kinds::{List, OperationName};
 use fs_model::Choice;
 use serde_json::{Value, json};
 use std::alloc::{AllocError, Global};

@@ -9,9 +9,9 @@ use Rattle.fs_model.specs.Test.{IsBounded}
 use Rattle.fs_model.specs.Values.{IsValueAfter, rounds}
 use Rattle.fs_model.specs.TooMany.{IsHartFault, IsRunFault}
 use Rattle.fs_hart.specs.Listing.{IsOffered}
-use Rattle.fs_thin_air.specs.ThinAir.{BeginsWithWords, CanBeListed, IsAlwaysGrounded}
-use Rattle.fs_thin_air.proofs.Faults.{never_astray}
-use Rattle.fs_thin_air.proofs.Grounded.{always_grounded}
+use Rattle.fs_values.specs.ThinAir.{BeginsWithWords, CanBeListed, IsAlwaysGrounded}
+use Rattle.fs_values.proofs.Faults.{never_astray}
+use Rattle.fs_values.proofs.Grounded.{always_grounded}
 use Rattle.fs_values.specs.Sets.{AreSets, AreValues}
 use Rattle.fs_values.specs.Rounds.{IsInNext, AddsNothing, HasNoFault, IsFirstHartFault}
 use Rattle.fs_values.proofs.Sets.{joined, hart_fault, turned, next_same, ended, ended_faults}

@@ -1,3 +1,5 @@
+pub mod ThinAir
+pub mod Readings
 pub mod Sets
 pub mod Rounds
 pub mod AllRuns

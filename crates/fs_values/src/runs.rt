@@ -6,15 +6,14 @@ ghost use Rattle.fs_kinds.specs.declared.fault.Fault.TheVariants.{Memory};
 ghost use Rattle.fs_model.specs.Test.{IsBounded, IsStart};
 ghost use Rattle.fs_model.specs.TooMany.{IsRunFault};
 ghost use Rattle.fs_hart.specs.Listing.{IsOffered};
-ghost use Rattle.fs_thin_air.specs.ThinAir.{CanBeListed};
+ghost use Rattle.fs_values.specs.ThinAir.{CanBeListed};
 ghost use Rattle.fs_values.specs.Rounds.{HasNoFault};
 ghost use Rattle.fs_values.specs.AllRuns.{AreListed, HaveFinal, runs_in};
 ghost use Rattle.fs_model.specs.Values.{HasAllRuns};
 
 use crate::values::Values;
 use fs_hart::{Trace, Words, traces_over};
-use fs_kinds::Fault;
-use fs_list::List;
+use fs_kinds::{Fault, List};
 use fs_model::Test;
 use std::alloc::Global;
 

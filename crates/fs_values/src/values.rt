@@ -9,7 +9,7 @@ ghost use Rattle.fs_model.specs.Test.{IsBounded, IsStart};
 ghost use Rattle.fs_model.specs.TooMany.{IsRunFault};
 ghost use Rattle.fs_model.specs.Values.{IsValueAfter};
 ghost use Rattle.fs_hart.specs.Listing.{IsOffered};
-ghost use Rattle.fs_thin_air.specs.ThinAir.{BeginsWithWords, CanBeListed, IsAlwaysGrounded};
+ghost use Rattle.fs_values.specs.ThinAir.{BeginsWithWords, CanBeListed, IsAlwaysGrounded};
 ghost use Rattle.fs_values.specs.Sets.{AreSets, AreValues};
 ghost use Rattle.fs_values.specs.Rounds.{IsInNext, HasNoFault, IsFirstHartFault};
 

@@ -3,12 +3,12 @@ use Rattle.std.specs.Prelude.{ℕ, Bool, false, ◌&&◌, Option, None, Some, Li
 use Rattle.std.specs.declared.sync.Arc.{Arc}
 use Rattle.fs_kinds.specs.declared.placement.Entry.{Entry}
 use Rattle.fs_kinds.specs.PriceTable.{PriceTable, entry_cost, cost}
-use Rattle.fs_answer.specs.Widths.{Width}
-use Rattle.fs_answer.specs.Parts.{Part, Decision, floor}
-use Rattle.fs_answer.specs.Pruning.{breaking_at, is_breakable, least, is_no_better}
-use Rattle.fs_evidence.specs.declared.evidence.Pairs.{Pairs}
-use Rattle.fs_evidence.specs.Evidence.{Shown, keeps}
-use Rattle.fs_parts.specs.Breaks.{lesser_of, break_apart, bound_of}
+use Rattle.fs_cert_evidence.specs.Widths.{Width}
+use Rattle.fs_cert_evidence.specs.Parts.{Part, Decision, floor}
+use Rattle.fs_cert_evidence.specs.Pruning.{breaking_at, is_breakable, least, is_no_better}
+use Rattle.fs_cert_evidence.specs.declared.evidence.Pairs.{Pairs}
+use Rattle.fs_cert_evidence.specs.Evidence.{Shown, keeps}
+use Rattle.fs_cert_evidence.specs.Breaks.{lesser_of, break_apart, bound_of}
 
 module _ {A : Type 0} where
   abbrev pub widths_in : Arc Shown A → List Pairs

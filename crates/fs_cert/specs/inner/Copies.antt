@@ -4,18 +4,18 @@ use Rattle.std.specs.List.{AllZip}
 use Rattle.fs_kinds.specs.declared.reason.OperationName.{OperationName as Name}
 use Rattle.fs_model.specs.declared.step.Choice.{Choice}
 use Rattle.fs_model.specs.Witness.{Witness}
-use Rattle.fs_answer.specs.declared.witness.WitnessFile.{WitnessFile}
-use Rattle.fs_answer.specs.Certificate as said
-use Rattle.fs_answer.specs.Certificate.{Cycles, Inference, Link}
-use Rattle.fs_answer.specs.CertificateFile.{IsChoiceOfWord, IsSayableCycle, IsSayableInference, most_number}
-use Rattle.fs_answer.specs.Trees.{cycle_in}
-use Rattle.fs_answer.specs.WitnessFile.{in_range, IsInRange}
-use Rattle.fs_certificate.specs.declared.certificate.CertificateLink.{CertificateLink}
-use Rattle.fs_certificate.specs.declared.certificate.CertifiedCycles.{CertifiedCycles}
-use Rattle.fs_certificate.specs.declared.certificate.CertifiedCycles.TheVariants.{Listed, Inferred}
-use Rattle.fs_certificate.specs.Kept.{KeepsLink}
-use Rattle.fs_evidence.specs.Inferences.{inference_of}
-use Rattle.fs_evidence.specs.declared.inference.Inference.{Inference as CodeInference}
+use Rattle.fs_cert_evidence.specs.declared.witness.WitnessFile.{WitnessFile}
+use Rattle.fs_cert_evidence.specs.Certificate as said
+use Rattle.fs_cert_evidence.specs.Certificate.{Cycles, Inference, Link}
+use Rattle.fs_cert_evidence.specs.CertificateFile.{IsChoiceOfWord, IsSayableCycle, IsSayableInference, most_number}
+use Rattle.fs_cert_evidence.specs.Trees.{cycle_in}
+use Rattle.fs_cert_evidence.specs.WitnessFile.{in_range, IsInRange}
+use Rattle.fs_cert_json.specs.declared.certificate.CertificateLink.{CertificateLink}
+use Rattle.fs_cert_json.specs.declared.certificate.CertifiedCycles.{CertifiedCycles}
+use Rattle.fs_cert_json.specs.declared.certificate.CertifiedCycles.TheVariants.{Listed, Inferred}
+use Rattle.fs_cert_json.specs.Kept.{KeepsLink}
+use Rattle.fs_cert_evidence.specs.Inferences.{inference_of}
+use Rattle.fs_cert_evidence.specs.declared.inference.Inference.{Inference as CodeInference}
 use Rattle.fs_cert.specs.Cycles.{BeginsAtLeast}
 
 abbrev pub IsCopiedLink : CertificateLink → Link → Type 0

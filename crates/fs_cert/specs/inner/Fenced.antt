@@ -1,14 +1,14 @@
 -- A certificate of fences, as it is put together.
 use Rattle.std.specs.Prelude.{◌≡◌, ◌≤◌, List}
 use Rattle.fs_kinds.specs.PriceTable.{cost}
-use Rattle.fs_answer.specs.declared.witness.WitnessFile.{WitnessFile}
-use Rattle.fs_answer.specs.Certificate as said
-use Rattle.fs_answer.specs.Certificate.{fence_words}
-use Rattle.fs_answer.specs.CertificateFile.{most_number}
-use Rattle.fs_certificate.specs.declared.certificate.Certificate.{Certificate}
-use Rattle.fs_certificate.specs.declared.certificate.Item.{Item}
-use Rattle.fs_certificate.specs.Kept.{answer_of, version_of}
-use Rattle.fs_evidence.specs.Evidence.{Question, Refuted}
+use Rattle.fs_cert_evidence.specs.declared.witness.WitnessFile.{WitnessFile}
+use Rattle.fs_cert_evidence.specs.Certificate as said
+use Rattle.fs_cert_evidence.specs.Certificate.{fence_words}
+use Rattle.fs_cert_evidence.specs.CertificateFile.{most_number}
+use Rattle.fs_cert_json.specs.declared.certificate.Certificate.{Certificate}
+use Rattle.fs_cert_json.specs.declared.certificate.Item.{Item}
+use Rattle.fs_cert_json.specs.Kept.{answer_of, version_of}
+use Rattle.fs_cert_evidence.specs.Evidence.{Question, Refuted}
 use Rattle.fs_cert.specs.Cycles.{version_for}
 use Rattle.fs_cert.specs.inner.Copies.{AreCopiedCycles}
 

@@ -4,12 +4,12 @@ use Rattle.std.specs.List.{AllByRecursion, range_with_len}
 use Rattle.fs_kinds.specs.declared.placement.Entry.{Entry}
 use Rattle.fs_kinds.specs.declared.slot.Slot.{Slot}
 use Rattle.fs_kinds.specs.Slot.{is_same_slot}
-use Rattle.fs_answer.specs.Parts.{undecided}
-use Rattle.fs_answer.specs.Certificate as said
-use Rattle.fs_answer.specs.Certificate.{Certificate, First, Second, Item}
-use Rattle.fs_answer.specs.CertificateFile.{is_sayable, numbers_in, most_number}
-use Rattle.fs_answer.specs.Valid.{Covers}
-use Rattle.fs_history.specs.Board.{Status, Open, Held, Split, Costly, Witnessed, Bounded, Posted}
+use Rattle.fs_cert_evidence.specs.Parts.{undecided}
+use Rattle.fs_cert_evidence.specs.Certificate as said
+use Rattle.fs_cert_evidence.specs.Certificate.{Certificate, First, Second, Item}
+use Rattle.fs_cert_evidence.specs.CertificateFile.{is_sayable, numbers_in, most_number}
+use Rattle.fs_cert_evidence.specs.Valid.{Covers}
+use Rattle.fs_cert_evidence.specs.Board.{Status, Open, Held, Split, Costly, Witnessed, Bounded, Posted}
 use Rattle.fs_board.specs.View.{Search}
 use Rattle.fs_cert.specs.inner.Copies.{AreNumbered}
 

@@ -3,12 +3,12 @@ use Rattle.std.specs.Prelude.{List, map}
 use Rattle.fs_kinds.specs.declared.placement.Entry.{Entry}
 use Rattle.fs_model.specs.declared.test.Test.{Test}
 use Rattle.fs_model.specs.Allows.{Allows}
-use Rattle.fs_answer.specs.Candidates.{Candidate}
-use Rattle.fs_answer.specs.Certificate.{Listed}
-use Rattle.fs_answer.specs.Cycles.{IsCycle}
-use Rattle.fs_answer.specs.Trees.{IsRefuted}
-use Rattle.fs_evidence.specs.Evidence.{ShowsForbidden}
-use Rattle.fs_evidence.specs.Inferences.{inference_of}
+use Rattle.fs_cert_evidence.specs.Candidates.{Candidate}
+use Rattle.fs_cert_evidence.specs.Certificate.{Listed}
+use Rattle.fs_cert_evidence.specs.Cycles.{IsCycle}
+use Rattle.fs_cert_evidence.specs.Trees.{IsRefuted}
+use Rattle.fs_cert_evidence.specs.Evidence.{ShowsForbidden}
+use Rattle.fs_cert_evidence.specs.Inferences.{inference_of}
 use Rattle.fs_judge.specs.Verdicts.{IsShownWith}
 use Rattle.fs_judge.specs.declared.judging.Finding.{Finding}
 use Rattle.fs_judge.specs.declared.judging.Finding.TheVariants.{Ordered, Cyclic}

@@ -2,14 +2,14 @@
 use Rattle.std.specs.Prelude.{◌≡◌, ℕ, List}
 use Rattle.fs_kinds.specs.declared.fault.Fault as faults
 use Rattle.fs_kinds.specs.declared.fault.Fault.TheVariants as fault
-use Rattle.fs_tokens.specs.Tokens.{Lined, views}
-use Rattle.fs_tokens.specs.Sections.{StopsText}
-use Rattle.fs_tokens.specs.declared.values.Stop.{Stop}
-use Rattle.fs_tokens.specs.declared.values.Stop.TheVariants.{Memory, At}
-use Rattle.fs_form.specs.Form.{Form, IsForm}
-use Rattle.fs_condition.specs.Grammar.{Syntax, IsCondition}
-use Rattle.fs_condition.specs.Answer.{Means}
-use Rattle.fs_condition.specs.declared.condition.Condition as conditions
+use Rattle.fs_litmus_tokens.specs.Tokens.{Lined, views}
+use Rattle.fs_litmus_tokens.specs.Sections.{StopsText}
+use Rattle.fs_litmus_tokens.specs.declared.values.Stop.{Stop}
+use Rattle.fs_litmus_tokens.specs.declared.values.Stop.TheVariants.{Memory, At}
+use Rattle.fs_litmus_syntax.specs.Form.{Form, IsForm}
+use Rattle.fs_litmus_syntax.specs.Grammar.{Syntax, IsCondition}
+use Rattle.fs_litmus_syntax.specs.Answer.{Means}
+use Rattle.fs_litmus_syntax.specs.declared.condition.Condition as conditions
 use Rattle.fs_litmus.specs.Faults.{IsText, line_at}
 
 -- The tokens are sections and a condition that this one stands for, all of them, and nothing else.

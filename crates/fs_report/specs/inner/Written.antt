@@ -4,8 +4,8 @@ use Rattle.serde_json.specs.Data.{Data, string}
 use Rattle.fs_kinds.specs.declared.reason.OperationName.{OperationName as Name}
 use Rattle.fs_kinds.specs.ReasonText.{operation_name}
 use Rattle.fs_model.specs.declared.step.Choice.{Choice}
-use Rattle.fs_answer.specs.Texts.{choice_value, array_of}
-use Rattle.fs_answer.specs.WitnessFile.{IsArrayOf, IsChoice, IsName}
+use Rattle.fs_cert_evidence.specs.Texts.{choice_value, array_of}
+use Rattle.fs_cert_evidence.specs.WitnessFile.{IsArrayOf, IsChoice, IsName}
 
 -- the value is what is written for x, and says x
 abbrev pub SaysAs : {A : Type 0} → (A → Data) → (Data → A → Type 0) → Data → A → Type 0

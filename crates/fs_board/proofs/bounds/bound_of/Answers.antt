@@ -1,10 +1,10 @@
 use Rattle.std.proofs.Common.{◌≡◌, ◌+◌, ◌<◌, None, Some, get_or, length, ◌∙◌, ap, ap₂, sym, arith}
 use Rattle.fs_kinds.specs.PriceTable.{cost}
-use Rattle.fs_answer.specs.Parts.{floor}
-use Rattle.fs_answer.specs.Pruning.{sum_of}
-use Rattle.fs_evidence.specs.Evidence.{Shown}
+use Rattle.fs_cert_evidence.specs.Parts.{floor}
+use Rattle.fs_cert_evidence.specs.Pruning.{sum_of}
+use Rattle.fs_cert_evidence.specs.Evidence.{Shown}
 use Rattle.fs_board.specs.inner.Breaks.{least_in, widths_in}
-use Rattle.fs_parts.proofs.Bounding.{bound_more, bound_none}
+use Rattle.fs_cert_evidence.proofs.Bounding.{bound_more, bound_none}
 use Rattle.fs_board.proofs.bounds.bound_of.Goals as goal
 
 pub returns-in_default : goal.returns-in_default

@@ -1,7 +1,7 @@
 use Rattle.std.proofs.Common.{◌≡◌, ◌+◌, ◌*◌, ◌≤◌, Some, take, map, length}
 use Rattle.fs_kinds.specs.PriceTable.{cost}
-use Rattle.fs_answer.specs.Parts.{floor}
-use Rattle.fs_parts.specs.Breaks.{bound_of}
+use Rattle.fs_cert_evidence.specs.Parts.{floor}
+use Rattle.fs_cert_evidence.specs.Breaks.{bound_of}
 use Rattle.fs_board.specs.inner.Breaks.{least_in, widths_in}
 use Rattle.fs_board.proofs.bounds.bound_of.Given as goal
 

@@ -1,8 +1,8 @@
 use Rattle.std.proofs.Common.{◌≡◌, None, Some, ◌∷◌, map, ◌∙◌, ap, sym}
 use Rattle.fs_kinds.specs.Kind.{all_kinds}
 use Rattle.fs_kinds.specs.PriceTable.{weight_of}
-use Rattle.fs_answer.specs.Parts.{Decision}
-use Rattle.fs_parts.specs.Breaks.{break_cost, least_of}
+use Rattle.fs_cert_evidence.specs.Parts.{Decision}
+use Rattle.fs_cert_evidence.specs.Breaks.{break_cost, least_of}
 use Rattle.fs_board.proofs.Breaks.{least_break_at}
 use Rattle.fs_board.proofs.bounds.least_at.Goals as goal
 

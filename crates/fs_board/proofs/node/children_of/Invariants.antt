@@ -1,7 +1,7 @@
 use Rattle.std.proofs.Common.{◌≡◌, take, map}
 use Rattle.std.specs.Prelude.{filter}
 use Rattle.fs_kinds.specs.PriceTable.{is_offered}
-use Rattle.fs_answer.specs.Parts.{decide}
+use Rattle.fs_cert_evidence.specs.Parts.{decide}
 use Rattle.fs_board.specs.Growth.{open_node}
 use Rattle.fs_board.proofs.node.children_of.Given as goal
 

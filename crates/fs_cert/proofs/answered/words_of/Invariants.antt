@@ -1,5 +1,5 @@
 use Rattle.std.proofs.Common.{◌≡◌, map, string_bytes, take}
-use Rattle.fs_answer.specs.Certificate.{fence_words}
+use Rattle.fs_cert_evidence.specs.Certificate.{fence_words}
 use Rattle.fs_cert.proofs.answered.words_of.Given as goal
 
 -- the words of those so far

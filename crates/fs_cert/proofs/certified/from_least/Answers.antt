@@ -1,9 +1,9 @@
 use Rattle.std.proofs.Common.{◌≡◌, ◌++◌, ◌∷◌, [], Some, map, refl, sym, ap, subst, ◌∙◌}
 use Rattle.std.proofs.lemmas.Result.{IfOk-weaker}
-use Rattle.fs_answer.specs.Parts.{undecided}
-use Rattle.fs_answer.specs.Valid.{Covers}
-use Rattle.fs_certificate.specs.Kept.{item_of}
-use Rattle.fs_certificate.specs.declared.certificate.Item.TheVariants as item
+use Rattle.fs_cert_evidence.specs.Parts.{undecided}
+use Rattle.fs_cert_evidence.specs.Valid.{Covers}
+use Rattle.fs_cert_json.specs.Kept.{item_of}
+use Rattle.fs_cert_json.specs.declared.certificate.Item.TheVariants as item
 use Rattle.fs_cert.specs.Certified.{Certifies}
 use Rattle.fs_cert.specs.inner.Copies.{AreCopiedWitnesses}
 use Rattle.fs_cert.specs.inner.Fenced.{IsFenced}

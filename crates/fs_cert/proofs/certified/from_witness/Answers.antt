@@ -1,5 +1,5 @@
 use Rattle.std.proofs.Common.{◌≡◌, ◌++◌, ◌∷◌, [], refl, sym, ap, subst, ◌∙◌}
-use Rattle.fs_certificate.specs.declared.certificate.CertifiedCycles.TheVariants.{Inferred}
+use Rattle.fs_cert_json.specs.declared.certificate.CertifiedCycles.TheVariants.{Inferred}
 use Rattle.fs_cert.specs.inner.Copies.{AreCopiedWitnesses}
 use Rattle.fs_cert.proofs.Made.{none_certifies}
 use Rattle.fs_cert.proofs.certified.from_witness.Goals as goal

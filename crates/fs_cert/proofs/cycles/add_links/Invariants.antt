@@ -1,6 +1,6 @@
 use Rattle.std.proofs.Common.{List, ◌++◌, take}
 use Rattle.std.specs.List.{AllZip}
-use Rattle.fs_answer.specs.Certificate.{Link as LinkValue}
+use Rattle.fs_cert_evidence.specs.Certificate.{Link as LinkValue}
 use Rattle.fs_cert.specs.inner.Copies.{IsCopiedLink}
 use Rattle.fs_cert.proofs.cycles.add_links.Given as goal
 

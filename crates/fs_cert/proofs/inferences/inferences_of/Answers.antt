@@ -1,6 +1,6 @@
 use Rattle.std.proofs.Common.{map, subst, sym, arith}
 use Rattle.std.specs.List.{AllZip}
-use Rattle.fs_evidence.specs.Inferences.{inference_of}
+use Rattle.fs_cert_evidence.specs.Inferences.{inference_of}
 use Rattle.fs_cert.specs.inner.Copies.{IsCopiedInference}
 use Rattle.fs_cert.proofs.Zips.{zip_made, zip_next, zip_whole}
 use Rattle.fs_cert.proofs.inferences.inferences_of.Goals as goal

@@ -1,5 +1,5 @@
 use Rattle.std.proofs.Common.{◌≡◌, sym, subst, IfOk}
-use Rattle.fs_certificate.specs.Kept.{item_of}
+use Rattle.fs_cert_json.specs.Kept.{item_of}
 use Rattle.fs_board.specs.View.{status_of}
 use Rattle.fs_board.specs.declared.node.Status.{Status}
 use Rattle.fs_cert.specs.inner.Items.{item_at}

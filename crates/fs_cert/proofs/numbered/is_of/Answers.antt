@@ -1,5 +1,5 @@
 use Rattle.std.proofs.Common.{◌∙◌, ap, sym, map, Some}
-use Rattle.fs_evidence.specs.Evidence.{Shown}
+use Rattle.fs_cert_evidence.specs.Evidence.{Shown}
 use Rattle.fs_cert.proofs.Copying.{copy_is, same_lists, names_all}
 use Rattle.fs_cert.proofs.numbered.is_of.Goals as goal
 

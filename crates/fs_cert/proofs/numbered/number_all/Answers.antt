@@ -1,5 +1,5 @@
 use Rattle.std.proofs.Common.{map, take, ap, sym, subst, arith}
-use Rattle.fs_evidence.specs.Evidence.{Shown, witness_in}
+use Rattle.fs_cert_evidence.specs.Evidence.{Shown, witness_in}
 use Rattle.fs_cert.specs.inner.Copies.{IsNumbering}
 use Rattle.fs_cert.proofs.Copying.{numbering_next, mapped_next}
 use Rattle.fs_cert.proofs.numbered.number_all.Goals as goal

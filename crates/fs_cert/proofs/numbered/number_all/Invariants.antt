@@ -1,5 +1,5 @@
 use Rattle.std.proofs.Common.{map, take}
-use Rattle.fs_evidence.specs.Evidence.{witness_in}
+use Rattle.fs_cert_evidence.specs.Evidence.{witness_in}
 use Rattle.fs_cert.specs.Certified.{AreDistinct}
 use Rattle.fs_cert.specs.inner.Copies.{IsNumbering}
 use Rattle.fs_cert.proofs.numbered.number_all.Given as goal

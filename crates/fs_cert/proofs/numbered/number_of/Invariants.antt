@@ -1,6 +1,6 @@
 use Rattle.std.proofs.Common.{◌≡◌, ◌<◌, ℕ, Some}
 use Rattle.std.specs.Prelude.{slice_get}
-use Rattle.fs_answer.specs.declared.witness.WitnessFile.{WitnessFile}
+use Rattle.fs_cert_evidence.specs.declared.witness.WitnessFile.{WitnessFile}
 use Rattle.fs_cert.specs.inner.Copies.{IsCopiedWitness}
 use Rattle.fs_cert.proofs.numbered.number_of.Given as goal
 

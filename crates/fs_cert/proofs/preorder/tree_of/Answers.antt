@@ -2,9 +2,9 @@ use Rattle.std.proofs.Common.{◌≡◌, ◌+◌, ◌<◌, ◌∷◌, ◌++◌, 
 use Rattle.std.specs.List.{AllByRecursion}
 use Rattle.std.proofs.lemmas.List.{map-append}
 use Rattle.fs_kinds.specs.PriceTable.{PriceTable}
-use Rattle.fs_answer.specs.Parts.{options}
-use Rattle.fs_certificate.specs.Kept.{item_of}
-use Rattle.fs_evidence.specs.Evidence.{Question}
+use Rattle.fs_cert_evidence.specs.Parts.{options}
+use Rattle.fs_cert_json.specs.Kept.{item_of}
+use Rattle.fs_cert_evidence.specs.Evidence.{Question}
 use Rattle.fs_board.specs.View.{status_of}
 use Rattle.fs_cert.specs.inner.Items.{item_at, below, HasNumbers, AreSayable, IsTreeOf}
 use Rattle.fs_cert.proofs.Sayable.{below_most, sayable_more}

@@ -1,6 +1,6 @@
 use Rattle.std.proofs.Common.{◌+◌, ◌<◌, map, length}
 use Rattle.std.specs.List.{AllByRecursion}
-use Rattle.fs_certificate.specs.Kept.{item_of}
+use Rattle.fs_cert_json.specs.Kept.{item_of}
 use Rattle.fs_cert.specs.inner.Items.{AreSayable}
 use Rattle.fs_cert.proofs.Walk.{LeadsTo}
 use Rattle.fs_cert.proofs.Weights.{weight}

@@ -1,6 +1,6 @@
 use Rattle.std.proofs.Common.{length, sym, ap, subst}
-use Rattle.fs_answer.specs.WitnessFile.{IsWitnessFile}
-use Rattle.fs_answer.proofs.Handed.{bad-handed}
+use Rattle.fs_cert_evidence.specs.WitnessFile.{IsWitnessFile}
+use Rattle.fs_cert_evidence.proofs.Handed.{bad-handed}
 use Rattle.fs_check.proofs.Verdicts.{whole_of, stopped_of}
 use Rattle.fs_check.proofs.order.check_order.Goals as goal
 

@@ -1,5 +1,5 @@
 use Rattle.std.proofs.Common.{option_map, sym, ◌∙◌, subst}
-use Rattle.fs_axioms.specs.Final.{AreFinal}
+use Rattle.fs_model_axioms.specs.Final.{AreFinal}
 use Rattle.fs_check.specs.Verdicts.{IsWholeFile, IsFoundOrder}
 use Rattle.fs_check.proofs.Found.{few_made, found_moved}
 use Rattle.fs_check.proofs.Verdicts.{short, final, unordered}

@@ -1,11 +1,11 @@
 use Rattle.std.proofs.Common.{◌≡◌, ◌∙◌, sym, arith, Bool}
 use Rattle.std.proofs.lemmas.Bool.{false≢true}
 use Rattle.std.proofs.lemmas.List.Folds.{list_any_more}
-use Rattle.fs_answer.specs.Judged.{is_edge}
+use Rattle.fs_cert_evidence.specs.Judged.{is_edge}
 use Rattle.fs_cand.specs.Candidates.{candidate_of, runs_of}
-use Rattle.fs_evidence.specs.Evidence.{cause_of}
-use Rattle.fs_evidence.specs.declared.evidence.Cause.{Cause}
-use Rattle.fs_evidence.specs.declared.evidence.Cause.TheVariants.{Rule1}
+use Rattle.fs_cert_evidence.specs.Evidence.{cause_of}
+use Rattle.fs_cert_evidence.specs.declared.evidence.Cause.{Cause}
+use Rattle.fs_cert_evidence.specs.declared.evidence.Cause.TheVariants.{Rule1}
 use Rattle.fs_judge.proofs.Caused.{judged_by_causes}
 use Rattle.fs_judge.proofs.causes.cause.Goals as goal
 

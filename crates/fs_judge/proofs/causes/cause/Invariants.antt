@@ -1,8 +1,8 @@
 use Rattle.std.proofs.Common.{◌≡◌, false, take}
 use Rattle.std.specs.List.{list_any}
-use Rattle.fs_answer.specs.Judged.{is_edge}
+use Rattle.fs_cert_evidence.specs.Judged.{is_edge}
 use Rattle.fs_cand.specs.Candidates.{candidate_of}
-use Rattle.fs_evidence.specs.Evidence.{cause_of}
+use Rattle.fs_cert_evidence.specs.Evidence.{cause_of}
 use Rattle.fs_ppo.specs.Rules.{OfRuns}
 use Rattle.fs_judge.proofs.causes.cause.Given as goal
 

@@ -1,6 +1,6 @@
 use Rattle.std.proofs.Common.{filter}
 use Rattle.fs_model.specs.Test.{address_of}
-use Rattle.fs_axioms.specs.Among.{stores_at}
+use Rattle.fs_model_axioms.specs.Among.{stores_at}
 use Rattle.fs_judge.proofs.ByOrder.{one_more}
 use Rattle.fs_judge.proofs.executed.store_order.Goals as goal
 

@@ -1,7 +1,7 @@
 use Rattle.std.proofs.Common.{◌≡◌, map, filter}
 use Rattle.std.specs.List.{range_with_len}
 use Rattle.fs_model.specs.Test.{address_of}
-use Rattle.fs_axioms.specs.Among.{stores_at}
+use Rattle.fs_model_axioms.specs.Among.{stores_at}
 use Rattle.fs_judge.proofs.executed.store_order.Given as goal
 
 -- the stores to each location so far

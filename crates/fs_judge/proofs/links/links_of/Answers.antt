@@ -1,10 +1,10 @@
 use Rattle.std.proofs.Common.{◌≡◌, ℕ, List, ◌<◌, ◌≤◌, true, length, sym, ◌∙◌, subst, arith}
 use Rattle.std.specs.Prelude.{slice_index}
 use Rattle.fs_model.specs.Execution.{initial_words}
-use Rattle.fs_answer.specs.Candidates.{runs_of}
-use Rattle.fs_answer.specs.Judged.{is_judged}
-use Rattle.fs_answer.specs.Certificate.{Link}
-use Rattle.fs_answer.specs.Cycles.{IsCycle}
+use Rattle.fs_cert_evidence.specs.Candidates.{runs_of}
+use Rattle.fs_cert_evidence.specs.Judged.{is_judged}
+use Rattle.fs_cert_evidence.specs.Certificate.{Link}
+use Rattle.fs_cert_evidence.specs.Cycles.{IsCycle}
 use Rattle.fs_cand.specs.Candidates.{candidate_of}
 use Rattle.fs_judge.specs.inner.Links.{IsLink, followers}
 use Rattle.fs_judge.proofs.Linked.{longer, more, low_at, edge_at, cycle_of, judged_edges}

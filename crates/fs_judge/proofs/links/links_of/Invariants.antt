@@ -2,9 +2,9 @@ use Rattle.std.proofs.Common.{◌≡◌, ℕ, Some, length}
 use Rattle.std.specs.Prelude.{slice_get, slice_index}
 use Rattle.fs_model.specs.declared.test.Test.{Test}
 use Rattle.fs_model.specs.Execution.{initial_words}
-use Rattle.fs_answer.specs.Candidates.{IsRaw, runs_of}
-use Rattle.fs_answer.specs.Certificate.{Link}
-use Rattle.fs_answer.specs.Judged.{is_judged}
+use Rattle.fs_cert_evidence.specs.Candidates.{IsRaw, runs_of}
+use Rattle.fs_cert_evidence.specs.Certificate.{Link}
+use Rattle.fs_cert_evidence.specs.Judged.{is_judged}
 use Rattle.fs_cand.specs.Candidates.{candidate_of, IsMade}
 use Rattle.fs_relation.specs.Edges.{has_edge}
 use Rattle.fs_judge.specs.inner.Links.{IsLink, followers}

@@ -1,11 +1,11 @@
 use Rattle.std.proofs.Common.{◌≡◌, ℕ, Some, List, length, sym, ◌∙◌, subst, arith}
 use Rattle.std.specs.Prelude.{slice_get}
 use Rattle.fs_model.specs.Allows.{Allows}
-use Rattle.fs_answer.specs.Candidates.{Candidate}
-use Rattle.fs_answer.specs.Certificate.{Link, Listed}
-use Rattle.fs_answer.specs.Cycles.{IsCycle, HasCycles}
-use Rattle.fs_decide.proofs.Deciding.{cycles_forbid_all}
-use Rattle.fs_evidence.specs.Evidence.{ShowsForbidden}
+use Rattle.fs_cert_evidence.specs.Candidates.{Candidate}
+use Rattle.fs_cert_evidence.specs.Certificate.{Link, Listed}
+use Rattle.fs_cert_evidence.specs.Cycles.{IsCycle, HasCycles}
+use Rattle.fs_cand_verdict_laws.proofs.Deciding.{cycles_forbid_all}
+use Rattle.fs_cert_evidence.specs.Evidence.{ShowsForbidden}
 use Rattle.fs_judge.specs.inner.Findings.{IsFinding}
 use Rattle.fs_judge.proofs.Linked.{longer, more}
 use Rattle.fs_judge.proofs.Prepared.{item_at, zipped}

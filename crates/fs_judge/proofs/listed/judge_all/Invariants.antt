@@ -1,8 +1,8 @@
 use Rattle.std.proofs.Common.{◌≡◌, ℕ, Some, List, length}
 use Rattle.std.specs.Prelude.{slice_get}
-use Rattle.fs_answer.specs.Candidates.{Candidate}
-use Rattle.fs_answer.specs.Certificate.{Link}
-use Rattle.fs_answer.specs.Cycles.{IsCycle}
+use Rattle.fs_cert_evidence.specs.Candidates.{Candidate}
+use Rattle.fs_cert_evidence.specs.Certificate.{Link}
+use Rattle.fs_cert_evidence.specs.Cycles.{IsCycle}
 use Rattle.fs_judge.proofs.listed.judge_all.Given as goal
 
 -- a cycle for each candidate so far

@@ -1,8 +1,8 @@
 use Rattle.std.proofs.Common.{◌≡◌, ◌≢◌, ◌∙◌, ap, subst}
 use Rattle.fs_kinds.specs.declared.fault.Fault.TheVariants.{Memory}
 use Rattle.fs_model.specs.declared.test.Test.{Test}
-use Rattle.fs_answer.specs.CandidateFaults.{IsCandidateFault}
-use Rattle.fs_showing.proofs.Faults.{handed}
+use Rattle.fs_cert_evidence.specs.CandidateFaults.{IsCandidateFault}
+use Rattle.fs_cand_listing.proofs.Faults.{handed}
 use Rattle.fs_judge.specs.inner.Findings.{IsSurvey}
 use Rattle.fs_judge.proofs.listed.verdict_by_list.Goals as goal
 

@@ -1,8 +1,8 @@
 use Rattle.std.proofs.Common.{◌≡◌, ◌∙◌, None, map, sym, subst}
-use Rattle.fs_answer.specs.Refusals.{first_wrong}
-use Rattle.fs_answer.specs.Trees.{roots}
-use Rattle.fs_evidence.specs.Inferences.{inference_of}
-use Rattle.fs_refute.proofs.Walked.{none_to}
+use Rattle.fs_cert_evidence.specs.Refusals.{first_wrong}
+use Rattle.fs_cert_evidence.specs.Trees.{roots}
+use Rattle.fs_cert_evidence.specs.Inferences.{inference_of}
+use Rattle.fs_region_refutation.proofs.Walked.{none_to}
 use Rattle.fs_judge.proofs.sought.refuted.Goals as goal
 
 pub returns-in-None-clause-ok : goal.returns-in-None-clause-ok

@@ -1,6 +1,6 @@
 use Rattle.std.proofs.Common.{Option, IfSome, subst}
 use Rattle.fs_model.specs.Witness.{Witness}
-use Rattle.fs_answer.specs.Shown.{ShowsAs}
+use Rattle.fs_cert_evidence.specs.Shown.{ShowsAs}
 use Rattle.fs_check.specs.declared.ordered.OrderedCandidate.{OrderedCandidate}
 use Rattle.fs_check.specs.Ordered.{execution_in}
 use Rattle.fs_judge.proofs.sought.shown.Goals as goal

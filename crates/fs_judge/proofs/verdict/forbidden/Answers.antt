@@ -1,7 +1,7 @@
 use Rattle.std.proofs.Common.{List, sym, subst}
 use Rattle.fs_kinds.specs.declared.placement.Entry.{Entry}
-use Rattle.fs_evidence.specs.Evidence.{ShowsForbidden}
-use Rattle.fs_evidence.specs.Inferences.{cycles_of}
+use Rattle.fs_cert_evidence.specs.Evidence.{ShowsForbidden}
+use Rattle.fs_cert_evidence.specs.Inferences.{cycles_of}
 use Rattle.fs_judge.proofs.verdict.forbidden.Goals as goal
 
 pub returns-clause-ok : goal.returns-clause-ok

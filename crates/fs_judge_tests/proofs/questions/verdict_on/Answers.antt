@@ -1,7 +1,7 @@
 use Rattle.std.proofs.Common.{◌≡◌, ap, ◌∙◌}
 use Rattle.std.proofs.lemmas.Result.{IfOk-weaker}
 use Rattle.fs_model.specs.Slots.{slots}
-use Rattle.fs_evidence.specs.Evidence.{Question}
+use Rattle.fs_cert_evidence.specs.Evidence.{Question}
 use Rattle.fs_judge_tests.proofs.questions.verdict_on.Goals as goal
 
 pub verdict-requires : goal.verdict-requires

@@ -1,5 +1,5 @@
 use Rattle.std.proofs.Common.{◌≡◌, drop, map}
-use Rattle.fs_condition.specs.Views.{atom_of}
+use Rattle.fs_litmus_syntax.specs.Views.{atom_of}
 use Rattle.fs_litmus.specs.Locations.{declared}
 use Rattle.fs_litmus.proofs.declared.declare_atoms.Given as goal
 

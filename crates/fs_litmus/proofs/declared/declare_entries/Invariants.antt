@@ -1,5 +1,5 @@
 use Rattle.std.proofs.Common.{◌≡◌, drop}
-use Rattle.fs_form.specs.Init.{entries_of}
+use Rattle.fs_litmus_syntax.specs.Init.{entries_of}
 use Rattle.fs_litmus.specs.Locations.{declared}
 use Rattle.fs_litmus.specs.Settings.{entry_bindings}
 use Rattle.fs_litmus.proofs.declared.declare_entries.Given as goal

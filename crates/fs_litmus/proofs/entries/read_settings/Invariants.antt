@@ -1,5 +1,5 @@
 use Rattle.std.proofs.Common.{◌≡◌, [], take, Some}
-use Rattle.fs_form.specs.Init.{entries_of}
+use Rattle.fs_litmus_syntax.specs.Init.{entries_of}
 use Rattle.fs_litmus.specs.Settings.{entry_bindings, settings_after, holders}
 use Rattle.fs_litmus.proofs.entries.read_settings.Given as goal
 

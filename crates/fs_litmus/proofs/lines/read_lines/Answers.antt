@@ -1,8 +1,8 @@
 use Rattle.std.proofs.Common.{sym, subst, refl, ap, ◌∙◌}
-use Rattle.fs_tokens.specs.Tokens.{views}
-use Rattle.fs_form.specs.Body.{cells_of}
-use Rattle.fs_form.specs.Form.{form_of}
-use Rattle.fs_code.specs.Lines.{AreLines}
+use Rattle.fs_litmus_tokens.specs.Tokens.{views}
+use Rattle.fs_litmus_syntax.specs.Body.{cells_of}
+use Rattle.fs_litmus_syntax.specs.Form.{form_of}
+use Rattle.fs_litmus_syntax.specs.Lines.{AreLines}
 use Rattle.fs_litmus.specs.Faults.{no_block}
 use Rattle.fs_litmus.specs.Reads.{HasTokens}
 use Rattle.fs_litmus.specs.Title.{last_line}

@@ -1,5 +1,5 @@
 use Rattle.std.proofs.Common.{◌≡◌, drop, map}
-use Rattle.fs_condition.specs.Views.{atom_of}
+use Rattle.fs_litmus_syntax.specs.Views.{atom_of}
 use Rattle.fs_litmus.specs.Settings.{are_there}
 use Rattle.fs_litmus.proofs.meaning.atoms_are_there.Given as goal
 

@@ -1,5 +1,5 @@
 use Rattle.fs_litmus.proofs.FormFaults.{handed, first_code, first_binding}
-use Rattle.fs_form.specs.Form.{form_of}
+use Rattle.fs_litmus_syntax.specs.Form.{form_of}
 use Rattle.fs_litmus.proofs.meaning.interpret.Goals as goal
 
 pub returns-in_err-kept-clause-first : goal.returns-in_err-kept-clause-first

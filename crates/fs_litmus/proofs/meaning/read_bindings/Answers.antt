@@ -1,8 +1,8 @@
 use Rattle.std.proofs.Common.{◌≡◌, ◌≢◌, ◌∙◌, sym, ap, subst, map, [], Some}
 use Rattle.fs_kinds.specs.declared.fault.Fault.TheVariants.{Memory}
-use Rattle.fs_form.specs.Form.{form_of}
-use Rattle.fs_form.specs.Init.{entries_of}
-use Rattle.fs_condition.specs.Views.{atom_of}
+use Rattle.fs_litmus_syntax.specs.Form.{form_of}
+use Rattle.fs_litmus_syntax.specs.Init.{entries_of}
+use Rattle.fs_litmus_syntax.specs.Views.{atom_of}
 use Rattle.fs_kinds.specs.FaultOrder.{IsFirst}
 use Rattle.fs_litmus.specs.Settings.{are_there, entry_bindings, settings_after}
 use Rattle.fs_litmus.specs.Checks.{IsEntryFault}

@@ -4,9 +4,9 @@ use Rattle.fs_instr.specs.Instructions.{is_memory}
 use Rattle.fs_kinds.specs.FaultOrder.{IsFirst}
 use Rattle.fs_litmus.specs.Faults.{IsFormFault}
 use Rattle.fs_litmus.proofs.FormFaults.{handed, first_harts, first_code_limit, first_locations, first_depth, none_passed, no_form_fault}
-use Rattle.fs_form.specs.Form.{form_of}
-use Rattle.fs_condition.specs.Grammar.{Syntax}
-use Rattle.fs_condition.specs.Answer.{Means}
+use Rattle.fs_litmus_syntax.specs.Form.{form_of}
+use Rattle.fs_litmus_syntax.specs.Grammar.{Syntax}
+use Rattle.fs_litmus_syntax.specs.Answer.{Means}
 use Rattle.fs_model.specs.Condition.{SpeaksOf}
 use Rattle.fs_litmus.proofs.Interpreting.{IsMade, means, limits, bounded}
 use Rattle.fs_litmus.proofs.meaning.within_limits.Goals as goal

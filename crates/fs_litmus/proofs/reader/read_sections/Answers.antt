@@ -1,4 +1,4 @@
-use Rattle.fs_tokens.specs.Tokens.{views}
+use Rattle.fs_litmus_tokens.specs.Tokens.{views}
 use Rattle.std.proofs.lemmas.Result.{err_from_is_err_and}
 use Rattle.fs_litmus.proofs.Sections.{form_stops, condition_stops}
 use Rattle.fs_litmus.proofs.reader.read_sections.Goals as goal

@@ -1,7 +1,7 @@
 use Rattle.std.proofs.Common.{rules, arith, refl, sym, ap, ◌∙◌, subst}
-use Rattle.fs_tokens.specs.Tokens.{AreTokens, views}
+use Rattle.fs_litmus_tokens.specs.Tokens.{AreTokens, views}
 use Rattle.fs_kinds.specs.declared.fault.Fault.TheVariants.{Syntax}
-use Rattle.fs_form.specs.Form.{form_of}
+use Rattle.fs_litmus_syntax.specs.Form.{form_of}
 use Rattle.fs_kinds.specs.FaultOrder.{IsFirst}
 use Rattle.fs_litmus.specs.Faults.{HasFault, no_block}
 use Rattle.fs_litmus.specs.Reads.{HasTokens}

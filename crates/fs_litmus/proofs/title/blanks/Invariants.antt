@@ -1,6 +1,6 @@
 use Rattle.std.proofs.Common.{◌≡◌, ◌+◌, drop}
 use Rattle.std.specs.List.{prefix_len}
-use Rattle.fs_tokens.specs.Bytes.{is_blank}
+use Rattle.fs_litmus_tokens.specs.Bytes.{is_blank}
 use Rattle.fs_litmus.proofs.title.blanks.Given as goal
 
 abbrev pub invariant-loop-i : goal.invariant-loop-i

@@ -1,5 +1,5 @@
 use Rattle.std.proofs.Common.{◌≡◌, sym, subst, ◌∙◌, arith, true, false}
-use Rattle.fs_tokens.specs.Bytes.{begins}
+use Rattle.fs_litmus_tokens.specs.Bytes.{begins}
 use Rattle.fs_litmus.specs.Title.{IsBody, here, later}
 use Rattle.fs_litmus.proofs.Bodies.{below}
 use Rattle.fs_litmus.proofs.title.find_body.Goals as goal

@@ -1,5 +1,5 @@
 use Rattle.std.proofs.Common.{sym, ◌∙◌, true≢false}
-use Rattle.fs_evidence.specs.Evidence.{witness_in}
+use Rattle.fs_cert_evidence.specs.Evidence.{witness_in}
 use Rattle.fs_pool.proofs.Comparing.{map_at}
 use Rattle.fs_pool.proofs.same.are_same_witnesses.Goals as goal
 

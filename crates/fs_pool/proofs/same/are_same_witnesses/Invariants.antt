@@ -1,5 +1,5 @@
 use Rattle.std.proofs.Common.{◌≡◌, map, take}
-use Rattle.fs_evidence.specs.Evidence.{witness_in}
+use Rattle.fs_cert_evidence.specs.Evidence.{witness_in}
 use Rattle.fs_pool.proofs.same.are_same_witnesses.Given as goal
 
 abbrev pub invariant-loop-i : goal.invariant-loop-i

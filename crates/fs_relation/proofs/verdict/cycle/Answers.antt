@@ -4,7 +4,7 @@ use Rattle.std.proofs.lemmas.Nat.Bits.{shr_and_one, bit_at-lt}
 use Rattle.fs_relation.specs.Edges.{has_edge}
 use Rattle.fs_relation.proofs.Listed.{cycle_below}
 use Rattle.fs_relation.proofs.Words.{edge}
-use Rattle.fs_relation.proofs.verdict.cycle.Goals as goal
+use Rattle.fs_relation.proofs.cycles.cycle.Goals as goal
 
 -- the test of a bit
 tested : (row x : ℕ) → bit_and (row / 2 ^ x) 1 ≢ 0 → bit_at row x ≡ 1

@@ -1,7 +1,7 @@
 use Rattle.std.proofs.Common.{◌≡◌, ℕ, ◌-◌, ◌<◌, ◌≤◌, true}
 use Rattle.std.specs.Prelude.{slice_index}
 use Rattle.fs_relation.specs.Edges.{has_edge}
-use Rattle.fs_relation.proofs.verdict.cycle.Given as goal
+use Rattle.fs_relation.proofs.cycles.cycle.Given as goal
 
 -- an edge leads back to a number that is not past `start`
 abbrev pub invariant-loop-start : goal.invariant-loop-start

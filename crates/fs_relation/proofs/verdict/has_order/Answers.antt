@@ -2,7 +2,7 @@ use Rattle.std.proofs.Common.{arith, refl, ◌≡◌, ◌≢◌, ◌+◌, ◌-�
 use Rattle.std.specs.Int.{trailing_zeros, w64}
 use Rattle.fs_relation.proofs.Words.{put, put_alone, put_fits, lowest, lowest_common, lowest_taken, lowest_common_taken}
 use Rattle.fs_relation.proofs.Walk.{start, fewer, fits, same, trail, trail_small, short, long, pushed, popped, top_taken, idle, finished, linked, closed}
-use Rattle.fs_relation.proofs.verdict.has_order.Goals as goal
+use Rattle.fs_relation.proofs.cycles.has_order.Goals as goal
 
 pub loop-unvisited-init : goal.loop-unvisited-init
 loop-unvisited-init c = record {

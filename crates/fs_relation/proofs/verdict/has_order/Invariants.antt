@@ -2,7 +2,7 @@ use Rattle.std.proofs.Common.{◌≡◌, ◌+◌, ◌-◌, ◌<◌, ◌≤◌}
 use Rattle.std.specs.Prelude.{slice_index}
 use Rattle.fs_relation.proofs.Words.{count_below}
 use Rattle.fs_relation.proofs.Walk.{IsWalked}
-use Rattle.fs_relation.proofs.verdict.has_order.Given as goal
+use Rattle.fs_relation.proofs.cycles.has_order.Given as goal
 
 abbrev pub invariant-loop-unvisited : goal.invariant-loop-unvisited
 invariant-loop-unvisited l = IsWalked l.rows l.path l.n 0 l.unvisited 0

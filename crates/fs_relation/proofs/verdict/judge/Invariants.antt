@@ -1,7 +1,7 @@
 use Rattle.std.proofs.Common.{◌≡◌, ◌+◌, ◌-◌, ◌<◌, ◌≤◌}
 use Rattle.std.specs.Prelude.{slice_index}
 use Rattle.fs_relation.proofs.Walk.{IsWalk}
-use Rattle.fs_relation.proofs.verdict.judge.Given as goal
+use Rattle.fs_relation.proofs.cycles.judge.Given as goal
 
 abbrev pub invariant-loop-unvisited : goal.invariant-loop-unvisited
 invariant-loop-unvisited l = IsWalk l.rows l.order l.path l.n l.left 0 l.unvisited 0

@@ -1,5 +1,5 @@
 use Rattle.std.proofs.Common.{◌≡◌, ◌++◌, flat_map, take, string_bytes}
-use Rattle.fs_answer.specs.Texts.{fence_line}
+use Rattle.fs_cert_evidence.specs.Texts.{fence_line}
 use Rattle.fs_report.proofs.fences.write_fences.Given as goal
 
 -- the lines of the entries so far

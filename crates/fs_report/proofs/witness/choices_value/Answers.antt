@@ -1,8 +1,8 @@
 use Rattle.std.proofs.Common.{subst, arith}
 use Rattle.std.proofs.lemmas.List.{take_all}
 use Rattle.serde_json.specs.View.{view, items_view}
-use Rattle.fs_answer.specs.Texts.{choice_value}
-use Rattle.fs_answer.specs.WitnessFile.{EachItem, IsChoice}
+use Rattle.fs_cert_evidence.specs.Texts.{choice_value}
+use Rattle.fs_cert_evidence.specs.WitnessFile.{EachItem, IsChoice}
 use Rattle.fs_report.specs.inner.Written.{SaysChoice}
 use Rattle.fs_report.proofs.Steps.{each_next, says_array}
 use Rattle.fs_report.proofs.witness.choices_value.Goals as goal

@@ -1,7 +1,7 @@
 use Rattle.std.proofs.Common.{subst, ◌∙◌, arith}
 use Rattle.std.proofs.lemmas.List.{take_all}
 use Rattle.serde_json.specs.View.{view, items_view}
-use Rattle.fs_answer.specs.WitnessFile.{EachItem, IsArrayOf, IsChoice}
+use Rattle.fs_cert_evidence.specs.WitnessFile.{EachItem, IsArrayOf, IsChoice}
 use Rattle.fs_report.specs.inner.Written.{SaysChoices, choices_value}
 use Rattle.fs_report.proofs.Steps.{each_next, says_array}
 use Rattle.fs_report.proofs.witness.lists_value.Goals as goal

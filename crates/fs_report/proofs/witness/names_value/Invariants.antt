@@ -1,6 +1,6 @@
 use Rattle.std.proofs.Common.{take}
 use Rattle.serde_json.specs.View.{items_view}
-use Rattle.fs_answer.specs.WitnessFile.{EachItem}
+use Rattle.fs_cert_evidence.specs.WitnessFile.{EachItem}
 use Rattle.fs_report.specs.inner.Written.{SaysName}
 use Rattle.fs_report.proofs.witness.names_value.Given as goal
 

@@ -1,12 +1,12 @@
 use Rattle.std.proofs.Common.{◌≡◌, true, false, None, map, sym, ◌∙◌, ap, ap₂, subst, length}
 use Rattle.std.specs.Arc.{arc_value}
 use Rattle.std.specs.List.{list_all}
-use Rattle.fs_answer.specs.Parts.{Part}
-use Rattle.fs_history.specs.Board.{CutBound, NotCovered, Cheaper, Bounded}
-use Rattle.fs_evidence.specs.Evidence.{Shown, witness_in}
+use Rattle.fs_cert_evidence.specs.Parts.{Part}
+use Rattle.fs_cert_evidence.specs.Board.{CutBound, NotCovered, Cheaper, Bounded}
+use Rattle.fs_cert_evidence.specs.Evidence.{Shown, witness_in}
 use Rattle.fs_board.specs.Growth.{AreWitnesses, board_of}
 use Rattle.fs_board.specs.View.{Search}
-use Rattle.fs_parts.specs.Breaks.{is_kept}
+use Rattle.fs_cert_evidence.specs.Breaks.{is_kept}
 use Rattle.fs_board.specs.inner.Breaks.{is_bounded, widths_in}
 use Rattle.fs_board.proofs.Backed.{plain_witnesses}
 use Rattle.fs_board.proofs.Cuts.{Holds, MayClose, all_uncovered, all_cheaper, may_bound}

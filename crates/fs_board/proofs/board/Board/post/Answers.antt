@@ -2,10 +2,10 @@ use Rattle.std.proofs.Common.{◌≡◌, ◌++◌, ◌∷◌, [], Some, sym, ◌
 use Rattle.std.specs.Prelude.{if◌then◌else◌}
 use Rattle.std.proofs.lemmas.Option.{slice_get_within}
 use Rattle.fs_model.specs.Allows.{Allows}
-use Rattle.fs_answer.specs.Parts.{Part, floor}
-use Rattle.fs_history.specs.Board.{Board, Posted, Post, Closed, is_held_by, part_at, better_of, with_status}
-use Rattle.fs_evidence.specs.Evidence.{Refuted, ShowsForbidden}
-use Rattle.fs_parts.specs.Bests.{is_best}
+use Rattle.fs_cert_evidence.specs.Parts.{Part, floor}
+use Rattle.fs_cert_evidence.specs.Board.{Board, Posted, Post, Closed, is_held_by, part_at, better_of, with_status}
+use Rattle.fs_cert_evidence.specs.Evidence.{Refuted, ShowsForbidden}
+use Rattle.fs_cert_evidence.specs.Bests.{is_best}
 use Rattle.fs_board.specs.Growth.{Tree, board_of, marked, with_bound}
 use Rattle.fs_board.specs.View.{Search, IsReplay, Answers, entry_of}
 use Rattle.fs_board.proofs.Backed.{best_kept, backed_bound}

@@ -1,8 +1,8 @@
 use Rattle.std.proofs.Common.{◌≡◌, ◌+◌, ◌≤◌, ◌++◌, ◌∷◌, [], length, map, List, Some, true, false, sym, ◌∙◌, ap, subst, refl}
 use Rattle.std.specs.Prelude.{slice_set, All}
 use Rattle.std.proofs.lemmas.Option.{slice_get_within}
-use Rattle.fs_answer.specs.Parts.{Part, is_undecided, decide, options, child_parts}
-use Rattle.fs_history.specs.Board.{Board, Node, Status, Open, Split, Event, Reply, SplitAt, Children, Full, is_held_by, part_at, is_full, with_open, with_status}
+use Rattle.fs_cert_evidence.specs.Parts.{Part, is_undecided, decide, options, child_parts}
+use Rattle.fs_cert_evidence.specs.Board.{Board, Node, Status, Open, Split, Event, Reply, SplitAt, Children, Full, is_held_by, part_at, is_full, with_open, with_status}
 use Rattle.fs_kinds.specs.PriceTable.{PriceTable}
 use Rattle.fs_board.specs.Growth.{Tree, open_node, board_of, marked, grown}
 use Rattle.fs_board.specs.View.{Search, entry_of}

@@ -1,5 +1,5 @@
 use Rattle.std.proofs.Common.{map, ◌∙◌, ap, sym}
-use Rattle.fs_evidence.specs.Evidence.{Shown}
+use Rattle.fs_cert_evidence.specs.Evidence.{Shown}
 use Rattle.fs_board.specs.View.{Search}
 use Rattle.fs_board.proofs.Backed.{plain_witnesses}
 use Rattle.fs_board.proofs.board.Board.witnesses.Goals as goal

@@ -1,9 +1,9 @@
 use Rattle.std.proofs.Common.{◌≡◌, ◌≢◌, ◌∙◌, ◌++◌, ◌∷◌, [], All, List, IfErr, sym, subst}
 use Rattle.std.proofs.lemmas.List.Elements.{All-push}
 use Rattle.fs_kinds.specs.declared.fault.Fault.TheVariants.{Memory}
-use Rattle.fs_answer.specs.CandidateFaults.{IsCandidateFault}
-use Rattle.fs_evidence.specs.Evidence.{Question}
-use Rattle.fs_showing.proofs.Faults.{handed}
+use Rattle.fs_cert_evidence.specs.CandidateFaults.{IsCandidateFault}
+use Rattle.fs_cert_evidence.specs.Evidence.{Question}
+use Rattle.fs_cand_listing.proofs.Faults.{handed}
 use Rattle.fs_judge.specs.declared.known.Known.{Known}
 use Rattle.fs_judge.specs.inner.Bases.{IsKnown}
 use Rattle.fs_judge.specs.inner.Findings.{IsSought}

@@ -1,8 +1,8 @@
 use Rattle.std.proofs.Common.{◌≡◌, ◌≢◌, ◌∙◌, ap, IfErr, subst}
 use Rattle.fs_kinds.specs.declared.fault.Fault.TheVariants.{Memory}
 use Rattle.fs_model.specs.declared.test.Test.{Test}
-use Rattle.fs_answer.specs.CandidateFaults.{IsCandidateFault}
-use Rattle.fs_evidence.specs.Evidence.{Question}
+use Rattle.fs_cert_evidence.specs.CandidateFaults.{IsCandidateFault}
+use Rattle.fs_cert_evidence.specs.Evidence.{Question}
 use Rattle.fs_judge.proofs.problem.Problem.by_list.Goals as goal
 
 pub returns-clause-err : goal.returns-clause-err

@@ -1,10 +1,10 @@
 use Rattle.std.proofs.Common.{◌≡◌, ◌≢◌, ◌∙◌, ap, subst}
 use Rattle.fs_kinds.specs.declared.fault.Fault.TheVariants.{Memory}
 use Rattle.fs_model.specs.declared.test.Test.{Test}
-use Rattle.fs_answer.specs.CandidateFaults.{IsCandidateFault}
-use Rattle.fs_evidence.specs.Evidence.{Question}
-use Rattle.fs_thin_air.specs.ThinAir.{CanBeListed}
-use Rattle.fs_showing.proofs.Faults.{handed}
+use Rattle.fs_cert_evidence.specs.CandidateFaults.{IsCandidateFault}
+use Rattle.fs_cert_evidence.specs.Evidence.{Question}
+use Rattle.fs_values.specs.ThinAir.{CanBeListed}
+use Rattle.fs_cand_listing.proofs.Faults.{handed}
 use Rattle.fs_judge.proofs.problem.Problem.new.Goals as goal
 
 pub returns-in_err-basis-clause-err : goal.returns-in_err-basis-clause-err

@@ -1,8 +1,8 @@
 use Rattle.std.proofs.Common.{◌≡◌, map, subst}
-use Rattle.fs_evidence.specs.Evidence.{Question}
-use Rattle.fs_evidence.specs.Inferences.{inference_of}
-use Rattle.fs_thin_air.specs.ThinAir.{CanBeListed}
-use Rattle.fs_region.proofs.Covering.{forbids}
+use Rattle.fs_cert_evidence.specs.Evidence.{Question}
+use Rattle.fs_cert_evidence.specs.Inferences.{inference_of}
+use Rattle.fs_values.specs.ThinAir.{CanBeListed}
+use Rattle.fs_region_laws.proofs.Covering.{forbids}
 use Rattle.fs_judge.proofs.problem.Problem.refuted.Goals as goal
 
 pub returns-clause-ok : goal.returns-clause-ok

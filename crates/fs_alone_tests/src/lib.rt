@@ -1,5 +1,0 @@
-//! Tests of runs by themselves, on litmus tests as text.
-#![tactic(auto)]
-
-#[cfg(test)]
-mod runs;

@@ -1,3 +1,0 @@
-pub mod Handed
-pub mod Items
-pub mod Once

@@ -1,0 +1,6 @@
+pub mod Unfenced
+pub mod Standing
+pub mod Advice
+pub mod Report
+pub mod Audit
+pub mod inner

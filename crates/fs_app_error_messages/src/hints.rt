@@ -1,0 +1,240 @@
+//! What is said of the token that breaks the form of a test file: what was expected, or what this profile leaves out.
+//! These words promise nothing.
+
+use crate::words::{operand_words, unknown_words};
+use fs_instr::Op;
+use fs_litmus_syntax::{read_body, read_condition, read_header, read_init};
+use fs_litmus_tokens::{Kind, Mark, Stop, Token};
+use std::alloc::{AllocError, Global};
+
+/// The tokens of a file, and the number of one of them, or how many they are.
+#[derive(Clone, Copy)]
+pub(crate) struct Spot<'b, 'a> {
+    pub tokens: &'b [Token<'a>],
+    pub number: usize,
+}
+
+/// Where the form of a file breaks.
+#[derive(Clone, Copy)]
+enum Section {
+    Init,
+    Header,
+    Rows,
+    Condition,
+    Cell,
+}
+
+impl<'b, 'a> Spot<'b, 'a> {
+    /// The token so many behind the one that is meant.
+    pub(crate) fn ahead(self, count: usize) -> Option<Kind<'a>> {
+        let number = self.number.checked_add(count)?;
+        Some(self.tokens.get(number)?.kind)
+    }
+
+    /// The token so many before the one that is meant.
+    pub(crate) fn back(self, count: usize) -> Option<Kind<'a>> {
+        let number = self.number.checked_sub(count)?;
+        Some(self.tokens.get(number)?.kind)
+    }
+
+    /// The same tokens, and one that is so many further.
+    pub(crate) fn moved(self, count: usize) -> Spot<'b, 'a> {
+        Spot {
+            tokens: self.tokens,
+            number: self.number.saturating_add(count),
+        }
+    }
+}
+
+/// Is it this mark?
+pub(crate) fn is_mark(kind: Option<Kind<'_>>, mark: Mark) -> bool {
+    match kind {
+        Some(Kind::Sign(found)) => found == mark,
+        _ => false,
+    }
+}
+
+fn is_word(kind: Option<Kind<'_>>) -> bool {
+    matches!(kind, Some(Kind::Word(_, _)))
+}
+
+fn is_this_word(kind: Kind<'_>, word: &str) -> bool {
+    match kind {
+        Kind::Word(_, found) => found == word,
+        _ => false,
+    }
+}
+
+// In the initial values.
+fn init_words(spot: Spot<'_, '_>) -> &'static str {
+    let Some(found) = spot.ahead(0) else {
+        return "the file ends before the `}` of the initial values";
+    };
+    if is_mark(spot.back(1), Mark::Equals) {
+        return value_words(found);
+    }
+    match found {
+        Kind::Sign(Mark::Semicolon | Mark::CloseBrace) =>
+            "expected `=` and a value: write `data=0;` for `data;`",
+        Kind::Sign(Mark::OpenBracket) => "arrays are left out: write a location for each element",
+        Kind::Sign(Mark::Comma) => "expected `;`: entries end with it",
+        Kind::Strange =>
+            "this character is no token; types are `int`, `int32_t` and `uint32_t`, without `*`",
+        Kind::Word(_, _) => second_word(spot),
+        _ => "expected an entry and `;`, as `x=1;` or `0:x6=x;`",
+    }
+}
+
+// The first token of a value.
+fn value_words(found: Kind<'_>) -> &'static str {
+    match found {
+        Kind::Sign(Mark::OpenBrace) => "arrays are left out: write a location for each element",
+        _ => "expected a number, or the name of a location for its address",
+    }
+}
+
+// A word behind a word.
+fn second_word(spot: Spot<'_, '_>) -> &'static str {
+    if !is_word(spot.back(1)) {
+        return "expected an entry and `;`, as `x=1;` or `0:x6=x;`";
+    }
+    if is_mark(spot.back(2), Mark::Equals) || is_mark(spot.back(2), Mark::Minus) {
+        return "expected `;`: entries end with it";
+    }
+    "expected `=` and a value; types are `int`, `int32_t` and `uint32_t`: write `x=0;` for `uint64_t x;`"
+}
+
+// In the rows.
+fn rows_words(spot: Spot<'_, '_>) -> &'static str {
+    let Some(found) = spot.ahead(0) else {
+        return end_words(spot.tokens);
+    };
+    match found {
+        Kind::Sign(Mark::Semicolon) => "the row has too few cells: one for each hart, split by `|`",
+        Kind::Sign(Mark::Bar) => "the row has too many cells: one for each hart, ended by `;`",
+        Kind::Strange =>
+            "this character is no token: relocations as `%lo(x)`, and strings, are left out",
+        _ => "expected `exists`, `~exists` or `forall`, or `locations [..]` before it",
+    }
+}
+
+// The file ends in its rows.
+fn end_words(tokens: &[Token<'_>]) -> &'static str {
+    for token in tokens {
+        if is_this_word(token.kind, "filter") {
+            return "`filter` is left out: write its condition into the other one, with `/\\`";
+        }
+    }
+    "the file ends before its condition: is the last row ended by `;`, and is there an `exists`?"
+}
+
+// In the condition.
+fn condition_words(spot: Spot<'_, '_>) -> &'static str {
+    let Some(found) = spot.ahead(0) else {
+        return "the file ends within its condition";
+    };
+    match found {
+        Kind::Sign(Mark::Colon) => "a register is compared with a value, not with another register",
+        Kind::Sign(Mark::Equals) =>
+            "neither `==` nor `=>` is read: one `=` in each atom, and `~A \\/ B` for an implication",
+        Kind::Strange =>
+            "of comparisons only `=` is read, and of connectives `/\\`, `\\/`, `~` and `not`",
+        Kind::Sign(Mark::Semicolon) => "nothing may stand behind the condition",
+        Kind::Word(_, _) =>
+            "expected `/\\`, `\\/`, or the end of the condition or of its parentheses",
+        _ => "expected an atom as `0:x5=1` or `x=1`",
+    }
+}
+
+/// The token behind the labels at the front of a cell that begins with this one.
+fn behind_labels<'b, 'a>(cell: Spot<'b, 'a>) -> Spot<'b, 'a> {
+    let mut spot = cell;
+    for _label in 0..cell.tokens.len() {
+        if !is_word(spot.ahead(0)) || !is_mark(spot.ahead(1), Mark::Colon) {
+            return spot;
+        }
+        spot = spot.moved(2);
+    }
+    spot
+}
+
+// In a cell, whose first token is meant.
+fn cell_words(cell: Spot<'_, '_>) -> &'static str {
+    let spot = behind_labels(cell);
+    let Some(Kind::Word(_, word)) = spot.ahead(0) else {
+        return "expected an instruction";
+    };
+    let Some(op) = Op::of(word) else {
+        return unknown_words(word);
+    };
+    if is_load_or_store(op) && is_mark(spot.ahead(3), Mark::OpenParen) {
+        return "the offset must be written, also where it is 0: `lw x5,0(x6)`";
+    }
+    operand_words(op)
+}
+
+fn is_load_or_store(op: Op) -> bool {
+    matches!(op, Op::Lw | Op::Sw)
+}
+
+// Where the form breaks; it may be met as a whole.
+fn section_of(alloc: Global, tokens: &[Token<'_>]) -> Result<Section, AllocError> {
+    let rest = match read_init(alloc, tokens) {
+        Ok((_, rest)) => rest,
+        Err(stop) => return broken(stop, Section::Init),
+    };
+    let (columns, rest) = match read_header(alloc, rest) {
+        Ok(read) => read,
+        Err(stop) => return broken(stop, Section::Header),
+    };
+    let rest = match read_body(alloc, rest, columns) {
+        Ok((_, rest)) => rest,
+        Err(stop) => return broken(stop, Section::Rows),
+    };
+    match read_condition(alloc, rest) {
+        Ok(_) => Ok(Section::Cell),
+        Err(stop) => broken(stop, Section::Condition),
+    }
+}
+
+fn broken(stop: Stop<'_, '_>, section: Section) -> Result<Section, AllocError> {
+    match stop {
+        Stop::Memory => Err(AllocError),
+        Stop::At(_) => Ok(section),
+    }
+}
+
+/// What is said of a token that breaks the form of the text, or of a cell.
+pub(crate) fn syntax_words(
+    alloc: Global,
+    spot: Spot<'_, '_>,
+    closed: bool,
+) -> Result<&'static str, AllocError> {
+    let section = section_of(alloc, spot.tokens)?;
+    if !closed && spot.number >= spot.tokens.len() {
+        return Ok("a comment is open at the end: it begins with `(*` and ends with `*)`");
+    }
+    Ok(match section {
+        Section::Init => init_words(spot),
+        Section::Header => "expected the header, a column for each hart, as `P0 | P1 ;`",
+        Section::Rows => rows_words(spot),
+        Section::Condition => condition_words(spot),
+        Section::Cell => cell_words(spot),
+    })
+}
+
+/// What is said of a branch's mnemonic, or of a label that stands twice.
+pub(crate) fn label_words(spot: Spot<'_, '_>) -> &'static str {
+    if is_mark(spot.ahead(1), Mark::Colon) {
+        return "this label stands twice in its hart";
+    }
+    "its label must stand behind it in the same hart: loops are left out, so write their turns one by one"
+}
+
+/// What is said of a mnemonic that isn't of the profile.
+pub(crate) fn mnemonic_words(spot: Spot<'_, '_>) -> &'static str {
+    match spot.ahead(0) {
+        Some(Kind::Word(_, word)) => unknown_words(word),
+        _ => "no mnemonic of this profile",
+    }
+}

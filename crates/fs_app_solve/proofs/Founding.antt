@@ -1,0 +1,188 @@
+-- From an answer that was found to what is printed of it, and to its certificate.
+use Rattle.std.proofs.Common.{◌≡◌, ℕ, Option, None, Some, MatchOption, List, Result, false, IfOk, Ok, Err, IfErr, refl, sym, subst, ◌∙◌, inl, inr}
+use Rattle.std.specs.Prelude.{IsOkUnless}
+use Rattle.fs_kinds.specs.declared.fault.Fault.{Fault}
+use Rattle.fs_kinds.specs.declared.fault.Fault.TheVariants.{Memory}
+use Rattle.fs_kinds.specs.declared.placement.Entry.{Entry}
+use Rattle.fs_kinds.specs.Placement.{all_with}
+use Rattle.fs_kinds.specs.PriceTable.{PriceTable}
+use Rattle.fs_model.specs.declared.test.Test.{Test}
+use Rattle.fs_model.specs.Test.{IsBounded}
+use Rattle.fs_model.specs.Slots.{slots}
+use Rattle.fs_model.specs.Allows.{RefutesAll}
+use Rattle.fs_model.specs.Execution.{Execution}
+use Rattle.fs_model.specs.Witness.{Witness}
+use Rattle.fs_cert_evidence.specs.Certificate as said
+use Rattle.fs_cert_evidence.specs.CertificateFile.{CanBeSaid, IsCertificateFile}
+use Rattle.fs_cert_evidence.specs.Texts.{certificate_text}
+use Rattle.serde_json.specs.Written.{has_float}
+use Rattle.fs_report.specs.Objects.{AreOneAnswer, SayOneAnswer, json_line}
+use Rattle.fs_report.proofs.Values.{fenced_whole, none_whole}
+use Rattle.fs_cert_json.specs.declared.certificate.Certificate.{Certificate}
+use Rattle.fs_cert_json.specs.Kept.{AreInRange, KeepsCertificate}
+use Rattle.fs_app_io.specs.declared.status.Status.{Status}
+use Rattle.fs_cert_evidence.specs.Sizes.{HasNoRunFault}
+use Rattle.fs_cert_evidence.specs.Evidence.{Question, Refuted, Shown, IsWitnessFor, ShowsForbidden, placement_in}
+use Rattle.fs_pool_workers.specs.Answers.{Answer, Solved, IsAnswer, IsAtLimit, IsBoardOf, Rests, placement_of}
+use Rattle.fs_pool_workers.specs.Forms as answer
+use Rattle.fs_cert.specs.Certified.{Certifies, CertifiesNone}
+use Rattle.fs_app_solve.specs.Solve.{IsCertified, IsWitnessed, IsFirstSolveFault, IsSolved, PrintsAnswer, PrintsPlaced, of_memory}
+use Rattle.fs_app_solve.specs.inner.Found.{IsAskedBy, IsFound, IsFoundFor}
+use Rattle.fs_app_solve.specs.inner.Made.{CertifiesAnswer, HasWitness, PrintsWitness, SaysAnswer, lines_of, value_of}
+
+-- what was answered to a copy of the question
+pub found-for : (q asked given : Question) (limit : ℕ) (s : Solved) → asked ≡ q → given ≡ asked → IsBounded q.test
+    → HasNoRunFault given.test → IsAnswer given.test given.prices s.answer → Rests given limit s → IsFoundFor q limit asked s
+found-for q asked given limit s same copied bounded listed is rests =
+    subst (λ (x : Question). IsFoundFor q limit x s) copied (record {
+      question = copied ∙ same;
+      bounded = subst (λ (x : Question). IsBounded x.test) (sym (copied ∙ same)) bounded;
+      listed = listed;
+      answer = is;
+      rests = rests;
+    })
+
+-- what was answered to a copy of the question that the bytes ask
+pub found-asked : (test prices : List ℕ) (asked given : Question) (limit : ℕ) (s : Solved) → IsAskedBy test prices asked → given ≡ asked
+    → HasNoRunFault given.test → IsAnswer given.test given.prices s.answer → Rests given limit s → IsFound test prices limit asked s
+found-asked test prices asked given limit s by copied listed is rests = record {
+  the_test = asked.test;
+  table = asked.prices;
+  reads = by.reads;
+  priced = by.priced;
+  found = found-for asked asked given limit s refl copied by.is_test.bounded listed is rests;
+}
+
+-- what is printed with this placement is the answer in print
+printed : (t : Test) (prices : PriceTable) (placed : Option (List Entry)) (text : List ℕ) (status : Status)
+    → PrintsPlaced t prices placed text status → PrintsAnswer t prices text status
+printed t prices (Some p) text status is = inl (record { placement = p; cheapest = is.0; shown = is.1; ends = is.2 })
+printed t prices None text status is = inr is
+
+abbrev pub Prints : Answer → List ℕ → Status → Type 0
+Prints a text status = (t : Test) (prices : PriceTable) → IsAnswer t prices a → PrintsPlaced t prices (placement_of a) text status
+
+say-one : (a : Answer) → SayOneAnswer (lines_of a) (value_of a)
+say-one (answer.Fenced f n) = inl (n, placement_in f, refl, refl)
+say-one (answer.None w) = inr (w.witness, refl, refl)
+
+-- what is printed of an answer in lines and as JSON
+pub one-answer : (a : Answer) (lines object : List ℕ) → lines ≡ lines_of a → object ≡ json_line (value_of a) → AreOneAnswer lines object
+one-answer a lines object shown printed =
+    (value_of a, subst (λ text. SayOneAnswer text (value_of a)) (sym shown) (say-one a), printed)
+
+-- no object of an answer has a float
+pub whole-value : (a : Answer) → has_float (value_of a) ≡ false
+whole-value (answer.Fenced f n) = fenced_whole n (placement_in f)
+whole-value (answer.None w) = none_whole w.witness
+
+witnessed : (a : Answer) (witnesses : List Witness) (text : List ℕ) → HasWitness a witnesses → PrintsWitness a text → IsWitnessed (placement_of a) witnesses text
+witnessed (answer.Fenced f n) witnesses text has prints = tt
+witnessed (answer.None w) witnesses text has prints = (w.witness, has, prints)
+
+module _ (test prices : List ℕ) (limit : ℕ) (asked : Question) (s : Solved) (text : List ℕ) (status : Status) where
+  pub is-solved : IsFound test prices limit asked s → Prints s.answer text status → IsSolved test prices text status
+  is-solved is prints = let found = is.found in record {
+    the_test = is.the_test;
+    table = is.table;
+    reads = is.reads;
+    priced = is.priced;
+    listed = subst (λ (x : Question). HasNoRunFault x.test) found.question found.listed;
+    answer = subst (λ (x : Question). PrintsAnswer x.test x.prices text status) found.question
+        (printed asked.test asked.prices (placement_of s.answer) text status (prints asked.test asked.prices found.answer));
+  }
+
+  pub is-certified : (other : Question) (bytes : List ℕ) → other ≡ asked → IsFound test prices limit asked s → Prints s.answer text status
+      → PrintsWitness s.answer text → SaysAnswer other.test other.prices s.answer bytes → IsCertified test prices text status bytes
+  is-certified other bytes same is prints witness says =
+      let found = is.found in
+      let there = subst (λ (x : Question). SaysAnswer x.test x.prices s.answer bytes) (same ∙ found.question) says in record {
+        the_test = is.the_test;
+        table = is.table;
+        reads = is.reads;
+        priced = is.priced;
+        listed = subst (λ (x : Question). HasNoRunFault x.test) found.question found.listed;
+        placed = placement_of s.answer;
+        answer = subst (λ (x : Question). PrintsPlaced x.test x.prices (placement_of s.answer) text status) found.question
+            (prints asked.test asked.prices found.answer);
+        certified = there.certified;
+        witnessed = witnessed s.answer there.certified.certificate.witnesses text there.witnesses witness;
+      }
+
+pub found-there : (test prices : List ℕ) (limit : ℕ) (asked other : Question) (s : Solved) → other ≡ asked → IsFound test prices limit asked s
+    → (q : Question) × (n : ℕ) × IsFoundFor q n other s
+found-there test prices limit asked other s same is = (
+  record { test = is.the_test; prices = is.table },
+  limit,
+  subst (λ (x : Question). IsFoundFor (record { test = is.the_test; prices = is.table }) limit x s) (sym same) is.found,
+)
+
+-- want of memory is the first fault at any place
+pub first-memory : {T : Type 0} (test prices : List ℕ) (limit : ℕ) (r : Result T Fault) → IsOkUnless r Memory
+    → IfErr r (IsFirstSolveFault test prices limit)
+first-memory test prices limit (Ok x) is = tt
+first-memory test prices limit (Err f) is = subst (IsFirstSolveFault test prices limit) (sym is) of_memory
+
+-- ---- certificates
+
+pub witness-certifies : (t : Test) (prices : PriceTable) (a : Answer) (w : Shown) (made : Certificate) → a ≡ answer.None w → IsAnswer t prices a
+    → HasNoRunFault t
+    → ((t : Test) (prices : PriceTable) (e : Execution) → HasNoRunFault t → IsWitnessFor t w e → RefutesAll t e → CertifiesNone t prices w.witness made)
+    → CertifiesAnswer t prices a made
+witness-certifies t prices a w made is holds listed certified =
+    let shown = subst (IsAnswer t prices) is holds in
+    subst (λ (x : Answer). CertifiesAnswer t prices x made) (sym is) (certified t prices shown.0 listed shown.1 shown.2)
+
+pub fenced-certifies : (t : Test) (prices : PriceTable) (a : Answer) (f : _) (n : ℕ) (p : List Entry) (r : Result Certificate Fault)
+    → a ≡ answer.Fenced f n → p ≡ placement_in f → IfOk r (Certifies t prices (Some p)) → IfOk r (CertifiesAnswer t prices a)
+fenced-certifies t prices a f n p r is placed certified =
+    subst (λ (x : Answer). IfOk r (CertifiesAnswer t prices x)) (sym is) (subst (λ (q : List Entry). IfOk r (Certifies t prices (Some q))) placed certified)
+
+-- an answer that is a placement has what shows that it forbids the outcome
+pub fenced-cycles : (t : Test) (prices : PriceTable) (a : Answer) (f : _) (n : ℕ) (x : Refuted) → a ≡ answer.Fenced f n → x ≡ f.value → IsAnswer t prices a
+    → ShowsForbidden t x
+fenced-cycles t prices a f n x is same holds =
+    subst (ShowsForbidden t) (sym same) (subst (IsAnswer t prices) is holds).2
+
+pub board-there : (asked : Question) (limit : ℕ) (s : Solved) (b : _) → Some b ≡ s.board → Rests asked limit s → IsBoardOf asked limit s.answer b
+board-there asked limit s b is h = subst (λ o. MatchOption o (IsAtLimit asked limit s.answer) (IsBoardOf asked limit s.answer)) (sym is) h
+
+-- an answer that is a placement and has no board is no fence at all
+pub least-there : (asked : Question) (limit : ℕ) (s : Solved) (p : List Entry) → None ≡ s.board → placement_of s.answer ≡ Some p → Rests asked limit s
+    → p ≡ all_with None (slots asked.test)
+least-there asked limit s p is placed h =
+    let there : IsAtLimit asked limit s.answer = subst (λ o. MatchOption o (IsAtLimit asked limit s.answer) (IsBoardOf asked limit s.answer)) (sym is) h in
+    elim there.ends [
+      | inl none ↦ let e : Some p ≡ None = sym placed ∙ none in absurd (cc)
+      | inr least ↦ let e : Some p ≡ Some (all_with None (slots asked.test)) = sym placed ∙ least in cc
+    ]
+
+pub certificate-said : (t : Test) (prices : PriceTable) (a : Answer) (made : Certificate) (bytes : List ℕ)
+    → CertifiesAnswer t prices a made
+    → ((c : said.Certificate) → KeepsCertificate made c → AreInRange c → bytes ≡ certificate_text c)
+    → ((c : said.Certificate) → KeepsCertificate made c → AreInRange c → CanBeSaid c → IsCertificateFile bytes c)
+    → SaysAnswer t prices a bytes
+certificate-said t prices (answer.Fenced f n) made bytes certifies written says = record {
+  certified = record {
+    certificate = certifies.certificate;
+    file = says certifies.certificate certifies.keeps certifies.in_range certifies.sayable;
+    written = written certifies.certificate certifies.keeps certifies.in_range;
+    version = certifies.version;
+    valid = certifies.valid;
+    judged = certifies.judged;
+    least = certifies.least;
+  };
+  witnesses = tt;
+}
+certificate-said t prices (answer.None w) made bytes certifies written says = let by = certifies.certifies in record {
+  certified = record {
+    certificate = by.certificate;
+    file = says by.certificate by.keeps by.in_range by.sayable;
+    written = written by.certificate by.keeps by.in_range;
+    version = by.version;
+    valid = by.valid;
+    judged = by.judged;
+    least = by.least;
+  };
+  witnesses = certifies.only;
+}

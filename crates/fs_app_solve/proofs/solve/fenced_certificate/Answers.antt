@@ -1,0 +1,32 @@
+use Rattle.std.proofs.Common.{subst, sym, ◌∙◌}
+use Rattle.fs_model.specs.Test.{IsBounded}
+use Rattle.fs_cert_evidence.specs.Evidence.{Question, ShowsForbidden}
+use Rattle.fs_app_solve.proofs.Founding.{board-there, least-there}
+use Rattle.fs_app_solve.proofs.solve.fenced_certificate.Goals as goal
+
+pub from_board-requires-clause-bounded : goal.from_board-requires-clause-bounded
+from_board-requires-clause-bounded c =
+    let found = c.requires.found in
+    let of = board-there c.args.question.now found.1 c.args.solved.now c.in-Some.board.now c.in-Some.ensures found.2.rests in
+    subst (λ (q : Question). IsBounded q.test) (sym of.question) found.2.bounded
+
+pub from_board-requires-clause-finished : goal.from_board-requires-clause-finished
+from_board-requires-clause-finished c =
+    let found = c.requires.found in
+    (board-there c.args.question.now found.1 c.args.solved.now c.in-Some.board.now c.in-Some.ensures found.2.rests).finished
+
+pub from_board-requires-clause-posted : goal.from_board-requires-clause-posted
+from_board-requires-clause-posted c =
+    let found = c.requires.found in
+    (board-there c.args.question.now found.1 c.args.solved.now c.in-Some.board.now c.in-Some.ensures found.2.rests).bound ∙ c.requires.placed
+
+pub from_board-requires-clause-cycles : goal.from_board-requires-clause-cycles
+from_board-requires-clause-cycles c =
+    let found = c.requires.found in
+    let of = board-there c.args.question.now found.1 c.args.solved.now c.in-Some.board.now c.in-Some.ensures found.2.rests in
+    subst (λ (q : Question). ShowsForbidden q.test c.args.forbidden.now) (sym of.question) c.requires.cycles
+
+pub from_least-requires-clause-least : goal.from_least-requires-clause-least
+from_least-requires-clause-least c =
+    let found = c.requires.found in
+    least-there c.args.question.now found.1 c.args.solved.now c.args.forbidden.now.placement c.in-None.ensures c.requires.placed found.2.rests

@@ -1,0 +1,23 @@
+use Rattle.fs_app_place_order.proofs.Faults.{IfErr-handed}
+use Rattle.fs_app_solve.specs.Solve.{of_memory}
+use Rattle.fs_app_solve.proofs.Founding.{found-asked}
+use Rattle.fs_app_solve.proofs.SolveFaults.{solve-search}
+use Rattle.fs_app_solve.proofs.solve.find_alone.Goals as goal
+
+pub returns-in_err-question-clause-fault : goal.returns-in_err-question-clause-fault
+returns-in_err-question-clause-fault g c =
+    IfErr-handed c.from_residual.result _ _ c.from_residual.ensures.1 (c.in_err-question.ensures.fault _)
+
+pub returns-in_err-asked-clause-fault : goal.returns-in_err-asked-clause-fault
+returns-in_err-asked-clause-fault g c =
+    IfErr-handed c.from_residual-in_err-asked.result _ _ c.from_residual-in_err-asked.ensures.1 of_memory
+
+pub returns-in_err-solved-clause-fault : goal.returns-in_err-solved-clause-fault
+returns-in_err-solved-clause-fault g c =
+    IfErr-handed c.from_residual-in_err-solved.result _ _ c.from_residual-in_err-solved.ensures.1
+    (solve-search _ _ c.args.limit _ _ _ c.in_ok-question.ensures.asked c.in_ok-asked.ensures c.in_err-solved.ensures.err)
+
+pub returns-clause-answer : goal.returns-clause-answer
+returns-clause-answer g c =
+    found-asked _ _ _ _ c.args.limit _ c.in_ok-question.ensures.asked c.in_ok-asked.ensures c.in_ok-solved.ensures.clean
+    c.in_ok-solved.ensures.ok c.in_ok-solved.ensures.rests

@@ -1,0 +1,38 @@
+-- What is made of an answer: its lines, a certificate and the text of that. Where the answer is none, each has its witness.
+use Rattle.std.specs.Prelude.{◌≡◌, ℕ, Some, List, [], ◌∷◌}
+use Rattle.fs_kinds.specs.PriceTable.{PriceTable}
+use Rattle.fs_model.specs.declared.test.Test.{Test}
+use Rattle.fs_model.specs.Witness.{Witness}
+use Rattle.serde_json.specs.Data.{Data}
+use Rattle.fs_cert_evidence.specs.Texts.{fenced_lines, none_lines}
+use Rattle.fs_cert_json.specs.declared.certificate.Certificate.{Certificate}
+use Rattle.fs_cert_evidence.specs.Evidence.{placement_in}
+use Rattle.fs_pool_workers.specs.Answers.{Answer, placement_of}
+use Rattle.fs_pool_workers.specs.Forms as answer
+use Rattle.fs_cert.specs.Certified.{Certifies, CertifiesNone}
+use Rattle.fs_report.specs.Objects.{fenced_value, none_value}
+use Rattle.fs_app_solve.specs.Solve.{IsCertificateOf}
+
+abbrev pub lines_of : Answer → List ℕ
+lines_of (answer.Fenced f n) = fenced_lines n (placement_in f)
+lines_of (answer.None w) = none_lines w.witness
+
+abbrev pub value_of : Answer → Data
+value_of (answer.Fenced f n) = fenced_value n (placement_in f)
+value_of (answer.None w) = none_value w.witness
+
+abbrev pub PrintsWitness : Answer → List ℕ → Type 0
+PrintsWitness (answer.Fenced f n) text = Unit {0}
+PrintsWitness (answer.None w) text = text ≡ none_lines w.witness
+
+abbrev pub CertifiesAnswer : Test → PriceTable → Answer → Certificate → Type 0
+CertifiesAnswer t prices (answer.Fenced f n) = Certifies t prices (Some (placement_in f))
+CertifiesAnswer t prices (answer.None w) = CertifiesNone t prices w.witness
+
+abbrev pub HasWitness : Answer → List Witness → Type 0
+HasWitness (answer.Fenced f n) witnesses = Unit {0}
+HasWitness (answer.None w) witnesses = witnesses ≡ w.witness ∷ []
+
+pub record SaysAnswer (t : Test) (prices : PriceTable) (a : Answer) (bytes : List ℕ) : Type 0 where
+  pub certified : IsCertificateOf t prices (placement_of a) bytes
+  pub witnesses : HasWitness a certified.certificate.witnesses

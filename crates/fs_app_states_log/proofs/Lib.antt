@@ -1,0 +1,9 @@
+mod Pieces
+mod Onward
+mod Reading
+pub mod Tallying
+pub mod Matching
+pub mod Lacking
+pub mod Blocks
+pub mod Results
+pub mod Naming

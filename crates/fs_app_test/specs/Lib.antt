@@ -1,0 +1,7 @@
+pub mod SaidVerdicts
+pub mod Words
+pub mod Status
+pub mod Notes
+pub mod Verdicts
+pub mod Report
+pub mod inner

@@ -1,0 +1,24 @@
+-- The exit status of `test`.
+use Rattle.std.specs.Prelude.{Bool, List, if◌then◌else◌}
+use Rattle.std.specs.List.{list_any}
+use Rattle.fs_app_io.specs.declared.status.Status.{Status}
+use Rattle.fs_app_io.specs.declared.status.Status.TheVariants as status
+use Rattle.fs_app_test.specs.declared.said.Kind.{Kind}
+use Rattle.fs_app_test.specs.declared.said.Kind.TheVariants as kind
+use Rattle.fs_app_test.specs.declared.said.Line.{Line}
+
+abbrev pub is_kind : Kind → Kind → Bool
+is_kind kind.Forbidden kind.Forbidden = Bool.true
+is_kind kind.Allowed kind.Allowed = Bool.true
+is_kind kind.Vacuous kind.Vacuous = Bool.true
+is_kind kind.Faulty kind.Faulty = Bool.true
+is_kind _ _ = Bool.false
+
+abbrev pub has : Kind → List Line → Bool
+has k = list_any (λ line. is_kind k line.said.kind)
+
+-- 1 where an outcome is possible; else 2 where a file has a fault; else 4 where an outcome is vacuous; else 0
+abbrev pub report_status : List Line → Status
+report_status lines =
+    if has kind.Allowed lines then status.Denied else if has kind.Faulty lines then status.Failure
+    else if has kind.Vacuous lines then status.Vacuous else status.Success

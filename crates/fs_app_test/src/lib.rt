@@ -1,0 +1,28 @@
+//! What the command `test` answers, from the names and bytes of its files to the text that is printed: whether a test, as it is written,
+//! can show its outcome, and why. And the note that `solve` gives of a test that is vacuous.
+#![tactic(auto)]
+
+mod contradictions;
+mod judged;
+mod never;
+mod note;
+mod objects;
+mod ordered;
+mod report;
+mod said;
+mod said_of_verdict;
+mod status;
+mod test_words;
+mod tested;
+mod vacuous;
+mod words;
+
+pub use judged::judge_test;
+pub use note::vacuous_note;
+pub use objects::test_objects;
+pub use report::{kind_text, padded, test_report};
+pub use said::{Kind, Line, Said};
+pub use said_of_verdict::{forbids, said_of};
+pub use status::{is_kind, status_of};
+pub use tested::test_file;
+pub use words::counted;

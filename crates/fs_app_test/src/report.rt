@@ -1,0 +1,172 @@
+//! What is printed of files.
+
+ghost use Rattle.std.specs.Prelude.{◌≡◌, ◌++◌, [], codes, length, max, IfOk, OnOk, IsOkUnless, map, string_bytes};
+ghost use Rattle.std.specs.List.{flat_map};
+ghost use Rattle.fs_kinds.specs.declared.fault.Fault.TheVariants.{Memory};
+ghost use Rattle.fs_model.specs.Printed.{joined};
+ghost use Rattle.fs_app_test.specs.Status.{report_status};
+ghost use Rattle.fs_app_test.specs.Report.{width, padded, kind_text, label, line_text, count_of, count_text, count_piece, pieces, summary, report_text};
+
+use crate::{Kind, Line, counted, is_kind, status_of};
+use fs_app_error_messages::shown_name;
+use fs_app_io::Output;
+use fs_kinds::Fault;
+use std::alloc::{AllocError, Global};
+
+/// The lines of the files, a last line that counts them, and the status: 1 where an outcome is possible; else 2 where a file has a fault;
+/// else 4 where an outcome is vacuous; else 0. The error is `Memory`.
+pub fn test_report(alloc: Global, lines: &[Line]) -> Result<Output, Fault>
+    ensures text { IfOk result (λ output. string_bytes output.text ≡ report_text lines.now) }
+    ensures status { IfOk result (λ output. output.status ≡ report_status lines.now) }
+    ensures err { IsOkUnless result Memory }
+{
+    let mut text = lines_text(alloc, lines)?;
+    let summary = summary(alloc, lines)?;
+    text.push_str(summary.as_str())?;
+    Ok(Output {
+        text,
+        status: status_of(lines),
+    })
+}
+
+// The characters of the longest name, as it is shown.
+fn width(alloc: Global, lines: &[Line]) -> Result<usize, AllocError>
+    ensures { IfOk result (λ most. most ≡ width lines.now) }
+{
+    let mut most = 0;
+    for line in lines {
+        let name = shown_name(alloc, line.name.as_str())?;
+        most = most.max(name.len());
+    }
+    Ok(most)
+}
+
+// All lines but the last one.
+fn lines_text(alloc: Global, lines: &[Line]) -> Result<String, AllocError>
+    ensures { IfOk result (λ text. string_bytes text ≡ flat_map (line_text (width lines.now)) lines.now) }
+{
+    let width = width(alloc, lines)?;
+    let mut text = String::new(alloc);
+    for line in lines {
+        write_line(alloc, width, line, &mut text)?;
+    }
+    Ok(text)
+}
+
+// Appends the line of a file, with its name in so many characters.
+fn write_line(alloc: Global, width: usize, line: &Line, text: &mut String) -> Result<(), AllocError>
+    ensures { OnOk result (string_bytes text.new ≡ string_bytes text.old ++ line_text width line.now) }
+{
+    let shown = shown_name(alloc, line.name.as_str())?;
+    let name = padded(alloc, width, shown.as_str())?;
+    let label = label(line.said.kind);
+    writeln!(
+        text,
+        "{}  {}{}",
+        name.as_str(),
+        label,
+        line.said.why.as_str()
+    )
+}
+
+/// The kind in a word.
+pub fn kind_text(kind: Kind) -> &'static str
+    ensures { result.now ≡ kind_text kind }
+{
+    match kind {
+        Kind::Forbidden => "forbidden",
+        Kind::Allowed => "allowed",
+        Kind::Vacuous => "vacuous",
+        Kind::Faulty => "fault",
+    }
+}
+
+// What stands before why.
+fn label(kind: Kind) -> &'static str
+    ensures { result.now ≡ label kind }
+{
+    match kind {
+        Kind::Forbidden => "forbidden  ",
+        Kind::Allowed => "allowed    ",
+        Kind::Vacuous => "vacuous    ",
+        Kind::Faulty => "",
+    }
+}
+
+/// The text with blanks behind it up to this many bytes; a longer text as it is.
+pub fn padded(alloc: Global, width: usize, text: &str) -> Result<String, AllocError>
+    ensures { IfOk result (λ padding. string_bytes padding ≡ padded width text.now) }
+{
+    let mut padding = String::from_str(alloc, text)?;
+    let blanks = " ".repeat(alloc, width.saturating_sub(text.len()))?;
+    padding.push_str(blanks.as_str())?;
+    Ok(padding)
+}
+
+// How many of the lines are of the kind.
+fn count_of(kind: Kind, lines: &[Line]) -> usize
+    ensures { result ≡ count_of kind lines.now }
+{
+    lines
+        .iter()
+        .filter(|line| is_kind(kind, line.said.kind))
+        .count()
+}
+
+// That so many are of the kind.
+fn count_text(alloc: Global, kind: Kind, count: usize) -> Result<String, AllocError>
+    ensures { IfOk result (λ text. string_bytes text ≡ count_text kind count) }
+{
+    match kind {
+        Kind::Forbidden => format!(in alloc; "{} forbidden", count),
+        Kind::Allowed => format!(in alloc; "{} allowed", count),
+        Kind::Vacuous => format!(in alloc; "{} vacuous", count),
+        Kind::Faulty => counted(alloc, count, "fault"),
+    }
+}
+
+// Appends how many lines are of the kind, if any are.
+fn push_count(
+    alloc: Global,
+    kind: Kind,
+    lines: &[Line],
+    pieces: &mut Vec<String>,
+) -> Result<(), AllocError>
+    ensures { OnOk result (map string_bytes pieces.new.items
+        ≡ map string_bytes pieces.old.items ++ count_piece lines.now kind) }
+{
+    let count = count_of(kind, lines);
+    if count != 0 {
+        pieces.push(count_text(alloc, kind, count)?)?;
+    }
+    Ok(())
+}
+
+// How many lines are of each kind, of which there are any.
+fn pieces(alloc: Global, lines: &[Line]) -> Result<Vec<String>, AllocError>
+    ensures { IfOk result (λ made. map string_bytes made.items ≡ pieces lines.now) }
+{
+    let mut pieces = Vec::new(alloc);
+    push_count(alloc, Kind::Forbidden, lines, &mut pieces)?;
+    push_count(alloc, Kind::Allowed, lines, &mut pieces)?;
+    push_count(alloc, Kind::Vacuous, lines, &mut pieces)?;
+    push_count(alloc, Kind::Faulty, lines, &mut pieces)?;
+    Ok(pieces)
+}
+
+// The same in one text.
+fn joined_pieces(alloc: Global, lines: &[Line]) -> Result<String, AllocError>
+    ensures { IfOk result (λ text. string_bytes text ≡ joined (codes ", ") (pieces lines.now)) }
+{
+    let pieces = pieces(alloc, lines)?;
+    pieces.join(alloc, ", ")
+}
+
+// The last line.
+fn summary(alloc: Global, lines: &[Line]) -> Result<String, AllocError>
+    ensures { IfOk result (λ text. string_bytes text ≡ summary lines.now) }
+{
+    let tests = counted(alloc, lines.len(), "test")?;
+    let pieces = joined_pieces(alloc, lines)?;
+    format!(in alloc; "{}: {}\n", tests.as_str(), pieces.as_str())
+}

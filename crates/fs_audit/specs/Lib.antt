@@ -1,5 +1,0 @@
-pub mod Standing
-pub mod Advice
-pub mod Report
-pub mod Audit
-pub mod inner

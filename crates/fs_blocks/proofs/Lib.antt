@@ -1,3 +1,0 @@
-mod Pieces
-mod Onward
-mod Reading

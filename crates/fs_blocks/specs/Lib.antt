@@ -1,4 +1,0 @@
-pub mod Lines
-pub mod Blocks
-pub mod Errors
-pub mod inner

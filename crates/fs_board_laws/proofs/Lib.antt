@@ -1,0 +1,16 @@
+pub mod Ranked
+pub mod Floors
+pub mod Breaks
+pub mod Bounded
+pub mod OneWitness
+pub mod Places
+pub mod PartsOfTests
+pub mod Children
+pub mod Moves
+pub mod Leaves
+pub mod Bettering
+pub mod Closed
+pub mod Final
+pub mod Growing
+pub mod Splitting
+pub mod Ended

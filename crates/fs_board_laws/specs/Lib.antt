@@ -1,0 +1,3 @@
+pub mod Bounds
+pub mod Trees
+pub mod Closing

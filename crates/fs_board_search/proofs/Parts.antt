@@ -1,0 +1,80 @@
+-- Parts, their floors, and stored witnesses.
+use Rattle.std.proofs.Common.{◌≡◌, ℕ, zero, suc, Bool, true, false, Option, Some, None, List, [], ◌∷◌, ◌++◌, refl, sym, ap, ap₂, subst, ◌∙◌, inl, inr}
+use Rattle.std.specs.Prelude.{slice_get, is_none, unwrap_or, ◌||◌}
+use Rattle.std.specs.List.{list_any}
+use Rattle.std.proofs.lemmas.Bool.{false≢true}
+use Rattle.fs_kinds.specs.declared.kind.Kind.{Kind}
+use Rattle.fs_kinds.specs.declared.kind.Kind.TheVariants.{RwRw}
+use Rattle.fs_kinds.specs.declared.placement.Entry.{Entry}
+use Rattle.fs_kinds.specs.declared.slot.Slot.{Slot}
+use Rattle.fs_kinds.specs.Placement.{slots_of, with_kind}
+use Rattle.fs_kinds.proofs.Entries.{slots_of-with_kind}
+use Rattle.fs_model.specs.declared.test.Test.{Test}
+use Rattle.fs_model.specs.Execution.{Execution}
+use Rattle.fs_model.specs.Allows.{Shows}
+use Rattle.fs_cert_evidence.specs.Shown.{IsShownBy}
+use Rattle.fs_cert_evidence.specs.Parts.{Part, Decision, filled_with, floor, filled}
+use Rattle.fs_board_laws.specs.Bounds.{slots_in_part}
+use Rattle.fs_board_laws.proofs.Places.{at-append}
+use Rattle.fs_cert_evidence.specs.Evidence.{Shown, IsWitnessFor}
+use Rattle.fs_board.specs.Growth.{AreWitnesses}
+
+pub slots-filled : (kind : Option Kind) (part : Part) → slots_of (filled_with kind part) ≡ slots_in_part part
+slots-filled kind [] = refl
+slots-filled kind (d ∷ part) = ap (λ (ss : List Slot). d.slot ∷ ss) (slots-filled kind part)
+
+-- with a kind put at a slot a placement has the same slots
+pub slots_with : (s : Slot) (kind : Option Kind) (p q : List Entry) → q ≡ with_kind s kind p → slots_of q ≡ slots_of p
+slots_with s kind p q is = ap slots_of is ∙ slots_of-with_kind s kind p
+
+-- a placement that is the floor has the slots of the part
+pub floor-slots : (part : Part) (p : List Entry) (ss : List Slot) → p ≡ floor part → slots_in_part part ≡ ss → slots_of p ≡ ss
+floor-slots part p ss is same = ap slots_of is ∙ (slots-filled None part ∙ same)
+
+entry-same : (d : Decision) → is_none d.decided ≡ false → unwrap_or d.decided None ≡ unwrap_or d.decided (Some RwRw)
+entry-same d some = elim d.decided as (λ o. is_none o ≡ false → unwrap_or o None ≡ unwrap_or o (Some RwRw)) [
+  | None ↦ λ e. absurd (false≢true (sym e))
+  | Some kind ↦ λ e. refl
+] some
+
+or-false : (a b : Bool) → (a || b) ≡ false → (a ≡ false) × (b ≡ false)
+or-false true b e = absurd (false≢true (sym e))
+or-false false b e = (refl, e)
+
+-- with no undecided slot there is one completion
+pub floor-filled : (part : Part) → list_any (λ d. is_none d.decided) part ≡ false → floor part ≡ filled part
+floor-filled [] e = refl
+floor-filled (d ∷ part) e =
+    let both = or-false (is_none d.decided) (list_any (λ d. is_none d.decided) part) e in
+    ap₂ (λ (k : Option Kind) (p : List Entry). record { slot = d.slot; kind = k } ∷ p) (entry-same d both.0) (floor-filled part both.1)
+
+-- ---- stored witnesses
+
+at-last : (w v : Shown) (k : ℕ) → slice_get (w ∷ []) k ≡ Some v → w ≡ v
+at-last w v zero at = cc
+at-last w v (suc k) at = absurd (cc)
+
+pub no-witnesses : (t : Test) → AreWitnesses t []
+no-witnesses t k w at = absurd (cc)
+
+pub one-more : (t : Test) (ws : List Shown) (w : Shown) (more : List Shown) → more ≡ ws ++ w ∷ [] → AreWitnesses t ws
+    → (e : Execution) × IsWitnessFor t w e → AreWitnesses t more
+one-more t ws w more is each new = λ k v at.
+    elim (at-append ws (w ∷ []) k v (ap (λ l. slice_get l k) (sym is) ∙ at)) [
+      | inl old ↦ each k v old
+      | inr last ↦ subst (λ (x : Shown). (e : Execution) × IsWitnessFor t x e) (at-last w v last.0 last.1) new
+    ]
+
+-- a witness of the list once more in another list
+pub picked-more : (t : Test) (ws vs more : List Shown) (w : Shown) (k : ℕ) → more ≡ vs ++ w ∷ [] → slice_get ws k ≡ Some w
+    → AreWitnesses t ws → AreWitnesses t vs → AreWitnesses t more
+picked-more t ws vs more w k is at all each = one-more t vs w more is each (all k w at)
+
+-- ---- verdicts on a node that has no undecided slot
+
+-- a witness of its one placement shows the outcome with the filled part
+pub leaf-shown : (t : Test) (part : Part) (p : List Entry) (w v : Shown) → list_any (λ d. is_none d.decided) part ≡ false → p ≡ floor part
+    → v ≡ w → (e : Execution) × IsWitnessFor t w e × Shows t p e → IsShownBy t (filled part) v.witness
+leaf-shown t part p w v none is copy shown =
+    subst (λ (x : Shown). IsShownBy t (filled part) x.witness) (sym copy)
+    (shown.0, (shown.1.shows.0, subst (λ (x : List Entry). Shows t x shown.0) (is ∙ floor-filled part none) shown.2))

@@ -1,0 +1,13 @@
+use Rattle.std.proofs.Common.{map, sym, subst}
+use Rattle.std.specs.Arc.{arc_value}
+use Rattle.fs_cert_evidence.specs.Evidence.{Question}
+use Rattle.fs_board.specs.Growth.{AreWitnesses}
+use Rattle.fs_board_search.proofs.scout.Scout.meet.Goals as goal
+
+pub invariant_of-self : goal.invariant_of-self
+invariant_of-self c = (
+  c.keep_all.ensures c.self.inside.judge.test
+      (subst (λ (q : Question). AreWitnesses q.test (map arc_value c.args.witnesses.now)) (sym c.self.view_is) c.requires)
+      c.self.invariant.0,
+  c.self.invariant.1,
+)

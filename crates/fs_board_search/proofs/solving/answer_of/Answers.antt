@@ -1,0 +1,19 @@
+use Rattle.std.proofs.Common.{◌≡◌, Option, None, Some, MatchOption, sym, subst}
+use Rattle.fs_kinds.specs.declared.kind.Kind.TheVariants.{RwRw}
+use Rattle.fs_kinds.specs.Placement.{all_with}
+use Rattle.fs_model.specs.Slots.{slots}
+use Rattle.fs_judge.specs.Verdicts.{IsVerdict}
+use Rattle.fs_board_search.specs.declared.answer.Answer.{Answer}
+use Rattle.fs_board_search.specs.Answers.{IsAnswer, placement_of}
+use Rattle.fs_board_search.proofs.Ends.{all-allowed}
+use Rattle.fs_board_search.proofs.solving.answer_of.Goals as goal
+
+pub unreachable-requires : goal.unreachable-requires
+unreachable-requires c =
+    let t = c.args.problem.now.test in
+    let s = c.args.board.now in
+    let refuted = subst (IsVerdict t (all_with (Some RwRw) (slots t))) c.in-Forbids.is c.in_ok-verdict.ensures.ok in
+    let nothing : s.board.bound ≡ None =
+    subst (λ (found : Option Answer). MatchOption found (s.board.bound ≡ None) (λ a. IsAnswer s.question.test s.question.prices a × (s.board.bound ≡ placement_of a)))
+    c.in_default.is c.in_ok-answer.ensures.ok in
+    refuted.2 (all-allowed s c.args.problem.now c.requires.same c.requires.prices c.log-legal.ensures.legal c.requires.finished (sym nothing))

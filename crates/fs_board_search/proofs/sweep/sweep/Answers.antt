@@ -1,0 +1,9 @@
+use Rattle.fs_board_search.proofs.Ends.{handed, later-fault}
+use Rattle.fs_board_search.proofs.Goes.{goes-further}
+use Rattle.fs_board_search.proofs.sweep.sweep.Goals as goal
+
+pub returns-in_err-finish_node-clause-err : goal.returns-in_err-finish_node-clause-err
+returns-in_err-finish_node-clause-err g c =
+    let goes = goes-further c.args.board.now c.loop-alloc.board c.next_node.new.board c.loop-alloc.invariant.goes c.in_ok-taken.ensures.goes in
+    handed c.from_residual-in_err-finish_node.result _ _ c.from_residual-in_err-finish_node.ensures.1
+    (λ other. later-fault c.args.board.now c.next_node.new.board _ goes (c.in_err-finish_node.ensures.err other))

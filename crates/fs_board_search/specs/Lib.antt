@@ -1,0 +1,4 @@
+pub mod Tries
+pub mod Answers
+pub mod Histories
+pub mod inner

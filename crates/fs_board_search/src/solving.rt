@@ -1,0 +1,200 @@
+//! The answer to a question.
+
+ghost use Rattle.std.specs.Prelude.{◌≡◌, ◌≢◌, ◌≤◌, IfOk, IfErr, IfSome, MatchOption, OnOk, IsOkUnless, IsTrue, All, Some, None, true};
+ghost use Rattle.std.specs.Arc.{arc_value};
+ghost use Rattle.fs_kinds.specs.Placement.{all_with};
+ghost use Rattle.fs_kinds.specs.PriceTable.{IsPriceTable, are_offered, cost};
+ghost use Rattle.fs_model.specs.Test.{IsBounded, IsStart};
+ghost use Rattle.fs_model.specs.Slots.{slots};
+ghost use Rattle.fs_model.specs.Allows.{Allows};
+ghost use Rattle.fs_cert_evidence.specs.CandidateFaults.{IsCandidateFault};
+ghost use Rattle.fs_cert_evidence.specs.Board.{is_finished};
+ghost use Rattle.fs_cert_evidence.specs.Sizes.{HasNoRunFault};
+ghost use Rattle.fs_cert_evidence.specs.Evidence.{placement_in};
+ghost use Rattle.fs_judge.specs.Verdicts.{IsVerdict};
+ghost use Rattle.fs_board_search.specs.Answers.{IsAnswer, IsAtAnEnd, IsEndFault, IsSolveFault, Rests, placement_of};
+ghost use Rattle.fs_board_search.specs.Histories.{GoesOn};
+
+use crate::Watch;
+use crate::answer::{Answer, Solved};
+use crate::sweep::search;
+use fs_board::Board;
+use fs_cert_evidence::{Forbidden, Question};
+use fs_judge::{Problem, Verdict};
+use fs_kinds::{Fault, Kind, Placement, Prices};
+use fs_model::slots;
+use std::alloc::Global;
+use std::sync::Arc;
+
+/// The placement as an answer, with its cost.
+fn fenced(prices: &Prices, forbidden: Arc<Forbidden>) -> Answer
+    requires { IsTrue (are_offered prices.now (placement_in forbidden)) }
+    ensures { result ≡ Answer.Fenced forbidden (cost prices.now (placement_in forbidden)) }
+{
+    let cost = prices.cost(&forbidden.placement);
+    Answer::Fenced { forbidden, cost }
+}
+
+/// The verdict on no fence at all.
+fn verdict_on_none(alloc: Global, problem: &Problem) -> Result<Verdict, Fault>
+    requires { IsBounded problem.now.test }
+    ensures ok { IfOk result (λ v. IsVerdict problem.now.test (all_with None (slots problem.now.test)) v) }
+    ensures err { IfErr result (λ f. f ≢ Fault.Memory → IsCandidateFault problem.now.test f) }
+{
+    let places = slots(alloc, &problem.question().test)?;
+    let placement = Placement::bottom(alloc, &places)?;
+    problem.verdict(alloc, &placement, &[])
+}
+
+/// The verdict on `rw,rw` in every slot.
+fn verdict_on_all(alloc: Global, problem: &Problem) -> Result<Verdict, Fault>
+    requires { IsBounded problem.now.test }
+    ensures ok { IfOk result (λ v. IsVerdict problem.now.test (all_with (Some Kind.RwRw) (slots problem.now.test)) v) }
+    ensures err { IfErr result (λ f. f ≢ Fault.Memory → IsCandidateFault problem.now.test f) }
+{
+    let places = slots(alloc, &problem.question().test)?;
+    let placement = Placement::top(alloc, &places)?;
+    problem.verdict(alloc, &placement, &[])
+}
+
+/// The bound of a finished board as an answer. None where it has no bound.
+fn posted_answer(board: &Board) -> Result<Option<Answer>, Fault>
+    requires prices { IsPriceTable board.now.question.prices }
+    requires finished { is_finished board.now.board ≡ true }
+    ensures ok { IfOk result (λ found. MatchOption found (board.now.board.bound ≡ None)
+        (λ a. IsAnswer board.now.question.test board.now.question.prices a × (board.now.board.bound ≡ placement_of a))) }
+    ensures err { IsOkUnless result Fault.Memory }
+{
+    let _legal = board.log();
+    let Some(best) = board.bound() else {
+        return Ok(None);
+    };
+    let forbidden = Arc::try_clone(best)?;
+    let answer = fenced(&board.question().prices, forbidden);
+    Ok(Some(answer))
+}
+
+/// The answer of a finished board: its bound, or where it has none the witness for `rw,rw` in every slot. This is the problem's own, and
+/// not that of a judge, so that it is the same whatever was searched before.
+fn answer_of(alloc: Global, problem: &Problem, board: &Board) -> Result<Answer, Fault>
+    requires bounded { IsBounded problem.now.test }
+    requires prices { IsPriceTable problem.now.prices }
+    requires same { board.now.question ≡ problem.now }
+    requires finished { is_finished board.now.board ≡ true }
+    ensures ok { IfOk result (λ a. IsAnswer problem.now.test problem.now.prices a) }
+    ensures bound { IfOk result (λ a. board.now.board.bound ≡ placement_of a) }
+    ensures err { IfErr result (λ f. f ≢ Fault.Memory → IsCandidateFault problem.now.test f) }
+{
+    let _legal = board.log();
+    if let Some(answer) = posted_answer(board)? {
+        return Ok(answer);
+    }
+    let verdict = verdict_on_all(alloc, problem)?;
+    match verdict {
+        Verdict::Allowed(witness) => Ok(Answer::None { witness }),
+        Verdict::Forbids(_) => unreachable!(),
+    }
+}
+
+/// The answer where the search came to its limit: none where `rw,rw` in every slot isn't enough, no fence where none is needed. Else F16,
+/// or the fault of a verdict.
+/// As in `answer_of` the witness of none is the problem's own.
+fn answer_by_ends(alloc: Global, problem: &Problem) -> Result<Solved, Fault>
+    requires bounded { IsBounded problem.now.test }
+    requires prices { IsPriceTable problem.now.prices }
+    ensures ok { IfOk result (λ s. IsAnswer problem.now.test problem.now.prices s.answer) }
+    ensures board { IfOk result (λ s. s.board ≡ None) }
+    ensures ends { IfOk result (λ s. IsAtAnEnd problem.now.test s.answer) }
+    ensures err { IfErr result (λ f. f ≢ Fault.Memory → IsEndFault problem.now.test f) }
+{
+    let on_all = verdict_on_all(alloc, problem)?;
+    if let Verdict::Allowed(witness) = on_all {
+        return Ok(Solved {
+            answer: Answer::None { witness },
+            board: None,
+        });
+    }
+    let on_none = verdict_on_none(alloc, problem)?;
+    match on_none {
+        Verdict::Forbids(forbidden) => {
+            let least = Arc::new(alloc, forbidden)?;
+            Ok(Solved {
+                answer: fenced(&problem.question().prices, least),
+                board: None,
+            })
+        }
+        Verdict::Allowed(_) => Err(Fault::NodeLimit),
+    }
+}
+
+/// Ends the search of a board, whatever open and held nodes it has, and reads the answer from it: the cheapest placement that forbids the
+/// outcome, of several the first, or a witness that none does. F16 comes only where fences are needed, `rw,rw` in every slot is enough,
+/// and the tree of all placements has more nodes below its root than the board's limit; F13 to F15 where a verdict can't be made for the
+/// candidates; or F19. The witness of none depends on the problem alone, not on what was searched before. What is handed out with the
+/// answer, `solve` says, and a board that is handed out is this one gone on with: its log begins with what was logged before. It takes
+/// what `search` takes, and at most two verdicts more.
+pub fn conclude<W: Watch>(
+    alloc: Global,
+    problem: Arc<Problem>,
+    board: Board,
+    watch: &mut W,
+) -> Result<Solved, Fault>
+    requires bounded { IsBounded (arc_value problem).test }
+    requires prices { IsPriceTable (arc_value problem).prices }
+    requires same { board.question ≡ arc_value problem }
+    requires clean { HasNoRunFault (arc_value problem).test }
+    ensures ok { IfOk result (λ s. IsAnswer (arc_value problem).test (arc_value problem).prices s.answer) }
+    ensures rests { IfOk result (Rests (arc_value problem) board.board.limit) }
+    ensures goes { IfOk result (λ s. IfSome s.board (GoesOn board)) }
+    ensures err { IfErr result (λ f. f ≢ Fault.Memory → IsSolveFault (arc_value problem) board.board.limit f) }
+{
+    let mut board = board;
+    let shared = Arc::try_clone(&problem)?;
+    match search(alloc, shared, &mut board, watch) {
+        Ok(()) => {
+            let answer = answer_of(alloc, &problem, &board)?;
+            Ok(Solved {
+                answer,
+                board: Some(board),
+            })
+        }
+        Err(Fault::NodeLimit) => {
+            let solved = answer_by_ends(alloc, &problem)?;
+            Ok(solved)
+        }
+        Err(fault) => Err(fault),
+    }
+}
+
+/// The answer to a question: the cheapest placement that forbids the outcome, of several the first, or a witness that none does. No node
+/// of the search has a number above the limit. F16 comes only where fences are needed, `rw,rw` in every slot is enough, and the tree of
+/// all placements has more nodes below its root than the limit. F13 to F15 come where the candidates can't be listed; or F19.
+///
+/// The finished board is handed out with the answer, and its bound is the answer's placement. There is none only where the tree of all
+/// placements has more nodes below its root than the limit, and then the answer is none or no fence at all. An answer that
+/// is a placement comes with what shows that it forbids the outcome.
+///
+/// To list the candidates takes time by how many lists of runs and how many raw candidates there are, times the square of the
+/// operations. What the search takes after that, `search` says; the watch is told how far it is.
+pub fn solve<W: Watch>(
+    alloc: Global,
+    question: Arc<Question>,
+    limit: usize,
+    watch: &mut W,
+) -> Result<Solved, Fault>
+    requires test { IsBounded (arc_value question).test }
+    requires starts { All IsStart (arc_value question).test.starts }
+    requires prices { IsPriceTable (arc_value question).prices }
+    requires some { 1 ≤ limit }
+    requires limit { limit ≤ 1000000 }
+    ensures ok { IfOk result (λ s. IsAnswer (arc_value question).test (arc_value question).prices s.answer) }
+    ensures clean { OnOk result (HasNoRunFault (arc_value question).test) }
+    ensures rests { IfOk result (Rests (arc_value question) limit) }
+    ensures err { IfErr result (λ f. f ≢ Fault.Memory → IsSolveFault (arc_value question) limit f) }
+{
+    let asked = Arc::try_clone(&question)?;
+    let problem = Problem::shared(alloc, asked)?;
+    let board = Board::new(alloc, question, limit)?;
+    let solved = conclude(alloc, problem, board, watch)?;
+    Ok(solved)
+}

@@ -1,0 +1,257 @@
+//! Answers of any number of workers.
+
+use fs_board::{Event, LogEntry, Reply};
+use fs_kinds::Fault;
+use fs_pool_workers::{Answer, Gate, Open, Solved, solve};
+use fs_tests_shared::{LB, MP11, MPA, PRICES, SB, SBF, SBX, question_of, told, write_fences};
+use std::alloc::{AllocError, Global};
+use std::sync::Wait;
+use std::sync::atomic::{AtomicU64, AtomicUsize, Ordering};
+use std::test::Fail;
+use std::thread::Threads;
+
+/// After how many nodes of the first worker the others join; how often the workers' board was handed out, with how many entries in its log
+/// at last, and how often it was given up.
+#[derive(Drop)]
+pub(crate) struct Ends {
+    alone: usize,
+    kept: AtomicU64,
+    lost: AtomicU64,
+    logged: AtomicUsize,
+}
+
+impl Ends {
+    /// All begin together.
+    pub(crate) fn new() -> Self {
+        Ends::after(0)
+    }
+
+    /// The others join after so many nodes.
+    fn after(alone: usize) -> Self {
+        Ends {
+            alone,
+            kept: AtomicU64::new(0),
+            lost: AtomicU64::new(0),
+            logged: AtomicUsize::new(0),
+        }
+    }
+
+    /// So many searches by several workers ended, and none of their boards was given up.
+    pub(crate) fn are(&self, kept: u64) -> bool {
+        self.kept.load(Ordering::SeqCst) == kept && self.lost.load(Ordering::SeqCst) == 0
+    }
+}
+
+impl Gate for Ends {
+    fn nodes_alone(&self) -> usize {
+        self.alone
+    }
+
+    fn planned(&self) {}
+
+    fn searched(&self, _nodes: usize, _best: Option<u64>) {}
+
+    fn before(&self, _worker: u8) {}
+
+    fn judging(&self, _worker: u8, _node: usize) {}
+
+    fn after(&self, _worker: u8) {}
+
+    fn ended(&self, logged: Option<usize>) {
+        let counted = match logged {
+            Some(entries) => {
+                self.logged.store(entries, Ordering::SeqCst);
+                &self.kept
+            }
+            None => &self.lost,
+        };
+        counted.fetch_add(1, Ordering::SeqCst);
+    }
+}
+
+/// The answer as a line.
+fn line_of(alloc: Global, solved: &Solved) -> Result<String, AllocError> {
+    let mut text = String::new(alloc);
+    match &solved.answer {
+        Answer::Fenced { forbidden, cost } => {
+            write!(text, "fenced {cost}")?;
+            write_fences(&forbidden.placement, &mut text)?;
+        }
+        Answer::None { .. } => text.push_str("none")?,
+    }
+    Ok(text)
+}
+
+/// The answer that so many workers find within so many nodes. The fault is F16 where these numbers are out of range.
+fn found<R: Threads + Wait + Sync, G: Gate + Sync>(
+    rt: &R,
+    alloc: Global,
+    test: &str,
+    workers: u8,
+    nodes: usize,
+    gate: &G,
+) -> Result<Solved, Fault> {
+    if workers == 0 || workers > 16 || nodes == 0 || nodes > 1_000_000 {
+        return Err(Fault::NodeLimit);
+    }
+    let question = question_of(alloc, test, PRICES)?;
+    solve(rt, alloc, question, workers, nodes, gate)
+}
+
+/// The answer as a line, or the line of the fault.
+pub(crate) fn answered<R: Threads + Wait + Sync, G: Gate + Sync>(
+    rt: &R,
+    alloc: Global,
+    test: &str,
+    workers: u8,
+    nodes: usize,
+    gate: &G,
+) -> Result<String, AllocError> {
+    match found(rt, alloc, test, workers, nodes, gate) {
+        Ok(solved) => line_of(alloc, &solved),
+        Err(fault) => fault.to_string(alloc),
+    }
+}
+
+/// Who made the node, by a split.
+fn maker(log: &[LogEntry], node: usize) -> Option<u8> {
+    for entry in log {
+        if let Reply::Children(first, count) = entry.reply() {
+            if *first <= node && node - *first < *count {
+                return Some(entry.worker());
+            }
+        }
+    }
+    None
+}
+
+/// Has a worker claimed a node that another one made, and got it? Only a hand tells it of such a node.
+fn is_stolen(log: &[LogEntry], entry: &LogEntry) -> bool {
+    match (entry.event(), entry.reply()) {
+        (Event::Claim(node), Reply::Node(_, _)) => {
+            maker(log, *node).is_some_and(|worker| worker != entry.worker())
+        }
+        _ => false,
+    }
+}
+
+/// Writes which of the workers 0 and 1 made events of a log, and whether a node was stolen.
+fn write_doers(log: &[LogEntry], text: &mut String) -> Result<(), AllocError> {
+    text.push_str(" by")?;
+    for worker in 0..2 {
+        if log.iter().any(|entry| entry.worker() == worker) {
+            write!(text, " {worker}")?;
+        }
+    }
+    if log.iter().any(|entry| is_stolen(log, entry)) {
+        text.push_str(" stolen")?;
+    }
+    Ok(())
+}
+
+/// The answer as a line, with what the log shows of who searched for it: so many of its entries came from the workers, and
+/// what follows these is the conclusion.
+fn line_of_many(alloc: Global, solved: &Solved, logged: usize) -> Result<String, AllocError> {
+    let mut text = line_of(alloc, solved)?;
+    if let Some(board) = solved.board() {
+        if let Some(searched) = board.log().get(..logged) {
+            write_doers(searched, &mut text)?;
+        }
+    }
+    Ok(text)
+}
+
+/// The answer to SB by two workers as a line, with what the log shows of them; or the line of the fault. The gate counts by
+/// these ends.
+pub(crate) fn answered_by_two<R: Threads + Wait + Sync, G: Gate + Sync>(
+    rt: &R,
+    alloc: Global,
+    gate: &G,
+    ends: &Ends,
+) -> Result<String, AllocError> {
+    match found(rt, alloc, SB, 2, 1_000_000, gate) {
+        Ok(solved) => line_of_many(alloc, &solved, ends.logged.load(Ordering::SeqCst)),
+        Err(fault) => fault.to_string(alloc),
+    }
+}
+
+/// The nodes that `take` handed out in a log.
+fn taken(alloc: Global, log: &[LogEntry]) -> Result<String, AllocError> {
+    let mut text = String::new(alloc);
+    for entry in log {
+        if !matches!(entry.event(), Event::Take) {
+            continue;
+        }
+        if let Reply::Node(node, _) = entry.reply() {
+            write!(text, "{node} ")?;
+        }
+    }
+    Ok(text)
+}
+
+/// The nodes that one worker took, where any worker might have been given them.
+fn taken_by_one<R: Threads + Wait + Sync>(rt: &R, alloc: Global) -> Result<String, Fault> {
+    let question = question_of(alloc, SB, PRICES)?;
+    let solved = solve(rt, alloc, question, 1, 1_000_000, &Open)?;
+    match solved.board() {
+        Some(board) => Ok(taken(alloc, board.log())?),
+        None => Ok(String::new(alloc)),
+    }
+}
+
+#[test]
+fn any_number_of_workers_answers_the_same(rt: HostRuntime) -> Result<(), Fail> {
+    let rows = [
+        (SB, 1_000_000, "fenced 18 "),
+        (SBF, 1_000_000, "fenced 18 "),
+        (LB, 1_000, "fenced 6 "),
+        (MPA, 1_000, "fenced 2 "),
+        (MP11, 1_000, "none"),
+        (SBX, 1_000, "fenced 6 "),
+        (SB, 1, "fault F16"),
+    ];
+    for (test, nodes, expected) in rows {
+        let alone = answered(&rt, rt.alloc(), test, 1, nodes, &Open)?;
+        assert!(rt; alone.starts_with(expected));
+        let ends = Ends::new();
+        for workers in [2, 4, 16] {
+            let line = answered(&rt, rt.alloc(), test, workers, nodes, &ends)?;
+            assert_eq!(rt; line.as_str(), alone.as_str());
+        }
+        assert!(rt; ends.are(3));
+    }
+    Ok(())
+}
+
+/// Store buffering takes 15 nodes. Whether the second worker still finds one to do, its turns decide.
+#[test]
+fn the_second_worker_joins_after_some_nodes(rt: HostRuntime) -> Result<(), Fail> {
+    for alone in [1, 2, 5, 9, 14] {
+        let ends = Ends::after(alone);
+        let line = answered_by_two(&rt, rt.alloc(), &ends, &ends)?;
+        assert!(rt; line.starts_with("fenced 18 ") && line.contains(" by 0"));
+        assert!(rt; ends.are(1));
+    }
+    let ends = Ends::after(16);
+    let line = answered_by_two(&rt, rt.alloc(), &ends, &ends)?;
+    assert!(rt; line.starts_with("fenced 18 ") && ends.are(0));
+    Ok(())
+}
+
+/// Whichever of its requests for memory is refused, as `rt try --test --fail-alloc` refuses them.
+#[test]
+fn two_workers_answer_or_lack_memory(rt: HostRuntime) -> Result<(), Fail> {
+    for alone in [0, 5] {
+        let ends = Ends::after(alone);
+        let line = answered(&rt, rt.alloc(), SB, 2, 1_000_000, &ends)?;
+        assert!(rt; line.starts_with("fenced 18") || line.starts_with("fault F19"));
+    }
+    Ok(())
+}
+
+#[test]
+fn one_worker_takes_the_root_and_claims_the_rest(rt: HostRuntime) -> Result<(), Fail> {
+    let nodes = told(rt.alloc(), taken_by_one(&rt, rt.alloc()))?;
+    assert_eq!(rt; nodes.as_str(), "0 ");
+    Ok(())
+}

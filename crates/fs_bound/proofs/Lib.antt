@@ -1,5 +1,0 @@
-pub mod Ranked
-pub mod Floors
-pub mod Breaks
-pub mod Bounded
-pub mod OneWitness

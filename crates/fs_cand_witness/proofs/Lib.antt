@@ -1,0 +1,12 @@
+pub mod Below
+pub mod Orders
+pub mod StepSides
+pub mod Joined
+pub mod Keeping
+pub mod Listing
+pub mod Numbered
+pub mod OneExecution
+pub mod Read
+pub mod Widening
+pub mod Witnessed
+pub mod Words

@@ -1,9 +1,0 @@
-use Rattle.std.proofs.Common.{take}
-use Rattle.serde_json.specs.View.{items_view}
-use Rattle.fs_answer.specs.WitnessFile.{IsWitnessValue, KeepsWitness}
-use Rattle.fs_certificate.proofs.Lists.{AreKept}
-use Rattle.fs_certificate.proofs.read.read_witnesses.Given as goal
-
--- the witnesses so far are kept of the items so far
-abbrev pub invariant-loop-item : goal.invariant-loop-item
-invariant-loop-item l = AreKept IsWitnessValue KeepsWitness (items_view (take l.item-index l.item-items)) l.witnesses.items

@@ -1,0 +1,17 @@
+pub mod Looked
+pub mod Linked
+pub mod Verdicts
+pub mod Against
+pub mod Breaks
+pub mod Pruned
+pub mod Refuting
+pub mod Bearing
+pub mod Children
+pub mod Keeping
+pub mod Words
+pub mod Filled
+pub mod Walking
+pub mod Faults
+pub mod Judged
+pub mod OneFile
+pub mod Covering

@@ -1,0 +1,6 @@
+use Rattle.std.proofs.Common.{◌≡◌, take}
+use Rattle.fs_cert_evidence.specs.Parts.{decide}
+use Rattle.fs_check_certificate.proofs.stack.decide.Given as goal
+
+abbrev pub invariant-loop-decision : goal.invariant-loop-decision
+invariant-loop-decision l = l.decisions.items ≡ decide l.slot (take l.decision-index l.part) l.kind

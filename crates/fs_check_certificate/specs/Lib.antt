@@ -1,0 +1,6 @@
+pub mod Cycles
+pub mod Held
+pub mod Breaks
+pub mod Leaves
+pub mod Checks
+pub mod inner

@@ -1,7 +1,0 @@
-use Rattle.std.proofs.Common.{map, string_bytes}
-use Rattle.fs_checker.proofs.Filled.{Going}
-use Rattle.fs_checker.proofs.answer.fill.Given as goal
-
--- the first slots are done, with the first words
-abbrev pub invariant-loop-slot : goal.invariant-loop-slot
-invariant-loop-slot l = Going l.prices l.slots (map string_bytes l.words) l.slot-index l.used l.placement

@@ -1,6 +1,0 @@
-use Rattle.std.proofs.Common.{◌≡◌, take}
-use Rattle.fs_claims.specs.Breaks.{all_breaks}
-use Rattle.fs_checker.proofs.breaking.all_breaks.Given as goal
-
-abbrev pub invariant-loop-kept : goal.invariant-loop-kept
-invariant-loop-kept l = l.breaks.items ≡ all_breaks l.prices l.slots (take l.kept-index l.shown)

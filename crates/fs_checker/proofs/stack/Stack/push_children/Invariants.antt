@@ -1,9 +1,0 @@
-use Rattle.std.proofs.Common.{◌≡◌, ◌++◌, map, drop}
-use Rattle.std.specs.Prelude.{filter}
-use Rattle.fs_kinds.specs.PriceTable.{is_offered}
-use Rattle.fs_answer.specs.Parts.{decide}
-use Rattle.fs_claims.specs.Breaks.{all_options}
-use Rattle.fs_checker.proofs.stack.Stack.push_children.Given as goal
-
-abbrev pub invariant-loop-way : goal.invariant-loop-way
-invariant-loop-way l = l.self ≡ map (decide l.slot l.part) (filter (is_offered l.prices) (drop l.way all_options)) ++ l.fn.self

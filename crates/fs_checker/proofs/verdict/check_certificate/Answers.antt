@@ -1,6 +1,0 @@
-use Rattle.fs_checker.proofs.verdict.check_certificate.Goals as goal
-
-pub returns-clause-ok : goal.returns-clause-ok
-returns-clause-ok c said keeps =
-    c.verdict_of.ensures c.args.test.value c.args.prices.now said c.in_ok-judgement.ensures.listable keeps
-    (c.in_ok-judgement.ensures.ok said keeps)

@@ -1,4 +1,0 @@
-pub mod Cycles
-pub mod Held
-pub mod Breaks
-pub mod Leaves

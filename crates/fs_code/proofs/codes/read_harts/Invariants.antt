@@ -1,6 +1,0 @@
-use Rattle.fs_code.specs.Columns.{cells_of}
-use Rattle.fs_code.proofs.HartLemmas.{HartsRead}
-use Rattle.fs_code.proofs.codes.read_harts.Given as goal
-
-abbrev pub invariant-loop-hart : goal.invariant-loop-hart
-invariant-loop-hart l = HartsRead l.columns l.hart (cells_of l.cells) l.codes.items l.first

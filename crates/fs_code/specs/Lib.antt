@@ -1,6 +1,0 @@
-pub mod Cells
-pub mod inner
-pub mod Columns
-pub mod Labels
-pub mod Codes
-pub mod Lines

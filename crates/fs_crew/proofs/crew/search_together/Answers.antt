@@ -1,4 +1,0 @@
-use Rattle.fs_crew.proofs.crew.search_together.Goals as goal
-
-pub work_together-requires-clause-met : goal.work_together-requires-clause-met
-work_together-requires-clause-met g c κs within = c.requires.met

@@ -1,5 +1,0 @@
-use Rattle.std.proofs.Common.{◌≡◌}
-use Rattle.fs_crew.proofs.work.Workplace.settle.Given as goal
-
-abbrev pub invariant-loop-way : goal.invariant-loop-way
-invariant-loop-way g l = l.scout ≡ l.initial.scout

@@ -1,5 +1,0 @@
-use Rattle.fs_hands.specs.Ring.{AreLinked}
-use Rattle.fs_crew_tests.proofs.rings.play.Given as goal
-
-abbrev pub invariant-loop-place : goal.invariant-loop-place
-invariant-loop-place l = AreLinked l.ring.items

@@ -1,4 +1,0 @@
-pub mod Below
-pub mod Orders
-pub mod StepSides
-pub mod Joined

@@ -1,2 +1,0 @@
-pub mod Evidence
-pub mod Inferences

@@ -1,7 +1,0 @@
-use Rattle.std.proofs.Common.{None}
-use Rattle.std.proofs.lemmas.Result.{IfOk-weaker}
-use Rattle.fs_place.proofs.Placements.{slots_of-IsPlaced}
-use Rattle.fs_examples.proofs.questions.placement_of.Goals as goal
-
-pub returns : goal.returns
-returns c = IfOk-weaker c.read_fences.result _ _ (λ p placed. slots_of-IsPlaced None _ _ p placed) c.read_fences.ensures.ok

@@ -1,5 +1,0 @@
-use Rattle.fs_hands.proofs.Moves.{pushes}
-use Rattle.fs_hands.proofs.deque.push.Goals as goal
-
-pub push_as-requires-clause-pushes : goal.push_as-requires-clause-pushes
-push_as-requires-clause-pushes c = pushes _ _ _ c.requires

@@ -1,2 +1,0 @@
-pub mod Ring
-pub mod inner

@@ -1,4 +1,0 @@
-pub mod Board
-pub mod Histories
-pub mod Sizes
-pub mod Receipts

@@ -1,0 +1,129 @@
+//! The list of all final states.
+
+ghost use Rattle.std.specs.Prelude.{◌≡◌, ◌≢◌, ◌≤◌, ◌++◌, ◌∷◌, [], List, All, length, IfOk, IfErr, OnOk};
+ghost use Rattle.std.specs.Arc.{arc_value};
+ghost use Rattle.fs_kinds.specs.declared.fault.Fault.{Fault as Faults};
+ghost use Rattle.fs_kinds.specs.declared.placement.Entry.{Entry};
+ghost use Rattle.fs_model.specs.declared.test.Test.{Test as Tests};
+ghost use Rattle.fs_judge_final_states.specs.declared.place.Place.{Place as Places};
+ghost use Rattle.fs_kinds.specs.declared.fault.Fault.TheVariants.{Memory};
+ghost use Rattle.fs_kinds.specs.Placement.{slots_of};
+ghost use Rattle.fs_model.specs.Slots.{slots};
+ghost use Rattle.fs_model.specs.Test.{IsBounded, IsStart};
+ghost use Rattle.fs_model.specs.TooMany.{IsRunFault};
+ghost use Rattle.fs_cert_evidence.specs.CandidateFaults.{IsCandidateFault};
+ghost use Rattle.fs_judge_final_states.specs.States.{AreStates, ArePlacesOf, IsShownState, IsStatesFault, most_states, words_of};
+ghost use Rattle.fs_judge_final_states.specs.inner.Parts.{states_in, IsListed};
+
+use crate::known::{Known, keep, listed};
+use crate::part::Part;
+use crate::place::Place;
+use crate::sought::sought;
+use crate::splitting::split;
+use crate::state::State;
+use fs_kinds::{Fault, List, Placement};
+use fs_model::Test;
+use fs_region_refutation::Basis;
+use std::alloc::{AllocError, Global};
+use std::sync::Arc;
+
+/// How many states a list may have.
+const MOST_STATES: usize = 200_000;
+
+// The states that are known, and the parts that may have others: each other state is in one of them.
+#[derive(Drop)]
+struct Listing {
+    known: Known,
+    parts: Vec<Part>,
+}
+
+// All states, before any is known: one part has them all.
+fn begun(alloc: Global) -> Result<Listing, AllocError>
+    ensures { (t : Tests) (p : List Entry) (places : List Places)
+        → IfOk result (λ l. IsListed t p places (states_in l.known) l.parts.items) }
+{
+    let known = Known::new(alloc);
+    let mut parts = Vec::new(alloc);
+    let all: Part = List::new(Vec::new(alloc));
+    parts.push(all)?;
+    Ok(Listing { known, parts })
+}
+
+// Asks for a state in the part. Where there is one it is known from then on, and what is left of the part beside it is asked later.
+fn advance(
+    alloc: Global,
+    test: &Test,
+    placement: &Placement,
+    places: &[Place],
+    listing: &mut Listing,
+    part: Part,
+) -> Result<(), Fault>
+    requires bounded { IsBounded test.now }
+    requires starts { All IsStart test.now.starts }
+    requires placement { slots_of placement.now ≡ slots test.now }
+    requires places { ArePlacesOf test.now places.now }
+    requires listed { IsListed test.now placement.now places.now (states_in listing.old.known)
+        (listing.old.parts.items ++ part ∷ []) }
+    ensures ok { OnOk result
+        (IsListed test.now placement.now places.now (states_in listing.new.known) listing.new.parts.items) }
+    ensures err { IfErr result (λ f. f ≢ Memory → IsCandidateFault test.now f) }
+{
+    if let Some(state) = sought(alloc, test, placement, places, part.as_slice())? {
+        split(alloc, &mut listing.parts, part, state.words.as_slice())?;
+        keep(alloc, &mut listing.known, state)?;
+    }
+    Ok(())
+}
+
+// Nothing, where the runs of the test's harts can be listed.
+fn check_runs(alloc: Global, test: &Arc<Test>) -> Result<(), Fault>
+    requires bounded { IsBounded (arc_value test.now) }
+    requires starts { All IsStart (arc_value test.now).starts }
+    ensures clean { OnOk result ((f : Faults) → IsRunFault (arc_value test.now) f → ⊥) }
+    ensures err { IfErr result (λ f. f ≢ Memory → IsRunFault (arc_value test.now) f) }
+{
+    let _runs = Basis::new(alloc, test)?;
+    Ok(())
+}
+
+/// Which final states RVWMO allows the test with the placement's fences: of each state in which some execution ends
+/// the words at the places, in their order, and an execution that ends in it. The states rise by their words, those
+/// at the first place before the others. The test's condition plays no part. The placement is one of the test's
+/// slots, and the places are the test's own.
+///
+/// The fault is F13 or F14 where a hart's runs can't be listed; else F15 where some location may get 11 stores or
+/// more and there are too many candidates or lists of runs, where no hunt gives a verdict and there are too many
+/// candidates, or where there are more than 200,000 states; or F19.
+///
+/// The cost: a verdict for each state, and one for each beginning of a state that isn't whole, on the test with
+/// another condition. No verdict shares anything with another one: each is that of `Problem::new` and
+/// `Judge::verdict` of fs_judge. Each is kept in a number of steps that is logarithmic in the states.
+pub fn states(
+    alloc: Global,
+    test: &Arc<Test>,
+    placement: &Placement,
+    places: &[Place],
+) -> Result<List<State>, Fault>
+    requires bounded { IsBounded (arc_value test.now) }
+    requires starts { All IsStart (arc_value test.now).starts }
+    requires placement { slots_of placement.now ≡ slots (arc_value test.now) }
+    requires places { ArePlacesOf (arc_value test.now) places.now }
+    ensures ok { IfOk result (λ found. AreStates (arc_value test.now) placement.now places.now (words_of found)) }
+    ensures shown { IfOk result (All (IsShownState (arc_value test.now) placement.now places.now)) }
+    ensures clean { OnOk result ((f : Faults) → IsRunFault (arc_value test.now) f → ⊥) }
+    ensures few { IfOk result (λ found. length found ≤ most_states) }
+    ensures err { IfErr result (λ f. f ≢ Memory → IsStatesFault (arc_value test.now) placement.now places.now f) }
+{
+    check_runs(alloc, test)?;
+    let mut listing = begun(alloc)?;
+    for _ in 0..u64::MAX {
+        if listing.known.len() > MOST_STATES {
+            return Err(Fault::TooManyCandidates);
+        }
+        let Some(part) = listing.parts.pop() else {
+            return Ok(listed(alloc, listing.known)?);
+        };
+        advance(alloc, test, placement, places, &mut listing, part)?;
+    }
+    Err(Fault::Memory) // no list of so many states takes so many steps
+}

@@ -1,0 +1,121 @@
+//! Asking the judge for a state that isn't known yet.
+
+ghost use Rattle.std.specs.Prelude.{◌≡◌, ◌≢◌, true, ℕ, All, List, length, IfOk, IfErr, IfNone, IfSome, IsOkUnless};
+ghost use Rattle.std.specs.Arc.{arc_value};
+ghost use Rattle.fs_kinds.specs.declared.fault.Fault.TheVariants.{Memory};
+ghost use Rattle.fs_kinds.specs.Placement.{slots_of};
+ghost use Rattle.fs_model.specs.Allows.{Allows};
+ghost use Rattle.fs_model.specs.Slots.{slots};
+ghost use Rattle.fs_model.specs.Test.{IsBounded, IsStart};
+ghost use Rattle.fs_cert_evidence.specs.CandidateFaults.{IsCandidateFault};
+ghost use Rattle.fs_judge.specs.Verdicts.{IsVerdict};
+ghost use Rattle.fs_judge_final_states.specs.States.{ArePlacesOf, IsState};
+ghost use Rattle.fs_judge_final_states.specs.inner.Parts.{is_in, AsksFor, EndsIn, IsFoundIn, IsPartOf};
+
+use crate::asked::asked;
+use crate::condition::condition;
+use crate::ended::ended;
+use crate::part::Atom;
+use crate::place::Place;
+use crate::state::State;
+use fs_cert_evidence::Question;
+use fs_judge::{Judge, Problem, Verdict};
+use fs_kinds::{Fault, Placement, Prices, read_prices};
+use fs_model::Test;
+use std::alloc::Global;
+use std::sync::Arc;
+
+/// Prices, which a question has and no verdict looks at.
+const PRICES: &[u8] = b"{\"rw,rw\":1}";
+
+// Prices, as they have to be in a question.
+fn prices(alloc: Global) -> Result<Prices, Fault>
+    ensures { IsOkUnless result Memory }
+{
+    match read_prices(alloc, PRICES) {
+        Ok(prices) => Ok(prices),
+        Err(_) => Err(Fault::Memory), // they are prices, so it can be nothing else
+    }
+}
+
+// The question of the test.
+fn question(alloc: Global, test: &Arc<Test>) -> Result<Arc<Question>, Fault>
+    ensures ok { IfOk result (λ question. (arc_value question).test ≡ arc_value test.now) }
+    ensures err { IsOkUnless result Memory }
+{
+    let prices = prices(alloc)?;
+    let test = Arc::try_clone(test)?;
+    Ok(Arc::new(alloc, Question { test, prices })?)
+}
+
+// The verdict on the test with these fences.
+fn verdict(alloc: Global, test: &Arc<Test>, placement: &Placement) -> Result<Verdict, Fault>
+    requires bounded { IsBounded (arc_value test.now) }
+    requires starts { All IsStart (arc_value test.now).starts }
+    requires placement { slots_of placement.now ≡ slots (arc_value test.now) }
+    ensures ok { IfOk result (IsVerdict (arc_value test.now) placement.now) }
+    ensures err { IfErr result (λ f. f ≢ Memory → IsCandidateFault (arc_value test.now) f) }
+{
+    let problem = Problem::shared(alloc, question(alloc, test)?)?;
+    let mut judge = Judge::new(alloc, problem);
+    judge.verdict(alloc, placement, &[])
+}
+
+// A state in which the test shows its outcome with these fences; none where it can't.
+fn shown_state(
+    alloc: Global,
+    test: &Arc<Test>,
+    placement: &Placement,
+    places: &[Place],
+) -> Result<Option<State>, Fault>
+    requires bounded { IsBounded (arc_value test.now) }
+    requires starts { All IsStart (arc_value test.now).starts }
+    requires placement { slots_of placement.now ≡ slots (arc_value test.now) }
+    requires places { ArePlacesOf (arc_value test.now) places.now }
+    ensures some { IfOk result (λ found. IfSome found
+        (λ state. EndsIn (arc_value test.now) placement.now places.now state.witness.witness state.words)) }
+    ensures none { IfOk result (λ found. IfNone found (Allows (arc_value test.now) placement.now → ⊥)) }
+    ensures err { IfErr result (λ f. f ≢ Memory → IsCandidateFault (arc_value test.now) f) }
+{
+    match verdict(alloc, test, placement)? {
+        Verdict::Forbids(_) => Ok(None),
+        Verdict::Allowed(witness) => { Ok(Some(ended(alloc, test, placement, places, witness)?)) }
+    }
+}
+
+// The test, asking for a state in the part.
+fn asking(alloc: Global, test: &Test, places: &[Place], part: &[Atom]) -> Result<Arc<Test>, Fault>
+    requires bounded { IsBounded test.now }
+    requires places { ArePlacesOf test.now places.now }
+    requires part { IsPartOf (length places.now) part.now }
+    ensures ok { IfOk result (λ made. AsksFor test.now places.now part.now (arc_value made)) }
+    ensures err { IsOkUnless result Memory }
+{
+    let condition = condition(alloc, places, part)?;
+    let asked = asked(alloc, test, condition)?;
+    Ok(Arc::new(alloc, asked)?)
+}
+
+// A state in the part in which the test can end with these fences; none where there is no such state. The cost is
+// that of copying the test, of `Problem::new` and `Judge::verdict` of fs_judge, and of `ended`. The fault is that of
+// the test's candidates, or F19.
+pub(crate) fn sought(
+    alloc: Global,
+    test: &Test,
+    placement: &Placement,
+    places: &[Place],
+    part: &[Atom],
+) -> Result<Option<State>, Fault>
+    requires bounded { IsBounded test.now }
+    requires starts { All IsStart test.now.starts }
+    requires placement { slots_of placement.now ≡ slots test.now }
+    requires places { ArePlacesOf test.now places.now }
+    requires part { IsPartOf (length places.now) part.now }
+    ensures some { IfOk result (λ found. IfSome found (IsFoundIn test.now placement.now places.now part.now)) }
+    ensures none { IfOk result (λ found. IfNone found ((s : List ℕ) → IsState test.now placement.now places.now s
+        → is_in part.now s ≡ true → ⊥)) }
+    ensures err { IfErr result (λ f. f ≢ Memory → IsCandidateFault test.now f) }
+{
+    let asked = asking(alloc, test, places, part)?;
+    shown_state(alloc, &asked, placement, places)
+}

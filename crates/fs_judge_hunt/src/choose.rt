@@ -1,0 +1,246 @@
+//! Which way a region is split.
+
+use crate::cases::is_at_once;
+use crate::endings::Outlook;
+use crate::facts::Facts;
+use crate::region::{Field, Region};
+use crate::saturate::{Looked, saturate};
+use crate::splits::{Decision, Splitter};
+use crate::uses::of_filter;
+use crate::{
+    Node, Origin, Part, Relation, Takes, Wanted, bit, do_meet, has, has_several, is_within, within,
+};
+use std::alloc::{AllocError, Global};
+
+/// A split with what it makes of a region, of which so many are left open.
+#[derive(Drop)]
+pub(crate) struct Split {
+    pub(crate) decision: Decision,
+    pub(crate) children: Vec<Looked>,
+    /// The pairs of stores that it rests on.
+    pub(crate) used: Relation,
+    live: usize,
+}
+
+/// A region to be split, with what must hold in it.
+#[derive(Clone, Copy)]
+pub(crate) struct Chooser<'a> {
+    pub(crate) alloc: Global,
+    pub(crate) field: Field<'a>,
+    pub(crate) region: &'a Region,
+    pub(crate) facts: &'a Facts,
+}
+
+/// Has the part, with a truth value, cases? The truth values of parts are on the stack.
+fn has_cases(alloc: Global, nodes: &[Node], truth: bool) -> Result<bool, AllocError> {
+    let mut stack = Vec::new(alloc);
+    stack.push(truth)?;
+    for node in nodes {
+        let truth = stack.pop().unwrap_or(true);
+        match node.part {
+            Part::Deny => stack.push(!truth)?,
+            Part::Both | Part::Either => {
+                if !is_at_once(node.part, truth) {
+                    return Ok(true);
+                }
+                stack.push(truth)?;
+                stack.push(truth)?;
+            }
+            _ => {}
+        }
+    }
+    Ok(false)
+}
+
+impl Chooser<'_> {
+    fn splitter(&self) -> Splitter<'_> {
+        Splitter {
+            alloc: self.alloc,
+            field: self.field,
+        }
+    }
+
+    /// Looks at what the decision makes of the region; nothing where that is the region itself.
+    fn try_split(&self, decision: Decision) -> Result<Option<Split>, AllocError> {
+        let mut regions = self.splitter().children(self.region, self.facts, decision)?;
+        if is_vain(self.region, decision, &regions) {
+            return Ok(None);
+        }
+        regions.reverse();
+        let mut split = Split {
+            decision,
+            children: Vec::new(self.alloc),
+            used: self.used_by(decision),
+            live: 0,
+        };
+        for _ in 0..regions.len() {
+            let Some(region) = regions.pop() else {
+                break;
+            };
+            let looked = saturate(self.alloc, self.field, region)?;
+            if looked.ending.is_none() {
+                split.live = split.live.saturating_add(1);
+            }
+            split.children.push(looked)?;
+        }
+        Ok(Some(split))
+    }
+
+    fn used_by(&self, decision: Decision) -> Relation {
+        match decision {
+            Decision::Filter(_) => {
+                let outlook = Outlook {
+                    field: self.field,
+                    region: self.region,
+                    facts: self.facts,
+                };
+                of_filter(&outlook, &self.region.before)
+            }
+            _ => Relation::new(),
+        }
+    }
+
+    fn is_undecided(&self) -> bool {
+        self.region
+            .origins
+            .iter()
+            .all(|origin| *origin == Origin::Unknown)
+    }
+
+    /// The first wanted condition that has cases.
+    fn cases(&self) -> Result<Option<Decision>, AllocError> {
+        for (number, wanted) in self.region.wanted.iter().enumerate() {
+            let wanted: &Wanted = wanted;
+            if has_cases(
+                self.alloc,
+                within(self.field.nodes, wanted.node),
+                wanted.truth,
+            )? {
+                return Ok(Some(Decision::Cases(number)));
+            }
+        }
+        Ok(None)
+    }
+
+    /// Do the runs that are left make several choices there?
+    fn has_choices(&self, name: u8) -> bool {
+        let Some(doing) = self.field.hart_of(name).and_then(|hart| hart.doing(name)) else {
+            return false;
+        };
+        let row = self.region.row(self.field.owner(name));
+        doing.choices.iter().any(|group| do_meet(row, &group.row) && !is_within(row, &group.row))
+    }
+
+    /// Is it an sc.w?
+    fn may_fail(&self, name: u8) -> bool {
+        self.field
+            .hart_of(name)
+            .and_then(|hart| hart.doing(name))
+            .is_some_and(|doing| doing.takes == Takes::Success)
+    }
+
+    /// Is the name worth a split by its source?
+    fn may_source(&self, name: u8) -> bool {
+        has(self.facts.may_load, name) && self.region.origin(name) != Origin::Initial
+    }
+
+    /// Adds the filters of harts.
+    fn add_filters(&self, options: &mut Vec<Decision>) -> Result<(), AllocError> {
+        let mut hart: u8 = 0;
+        for left in &self.region.left {
+            if has_several(&left.row) {
+                options.push(Decision::Filter(hart))?;
+            }
+            hart = hart.saturating_add(1);
+        }
+        Ok(())
+    }
+
+    /// What is tried first: filters, as long as no load has a source; then the sources of loads, and whether an sc.w
+    /// succeeds.
+    fn options(&self) -> Result<Vec<Decision>, AllocError> {
+        let mut options = Vec::new(self.alloc);
+        if self.is_undecided() {
+            self.add_filters(&mut options)?;
+        }
+        for name in 0..self.field.count {
+            if self.may_source(name) {
+                options.push(Decision::Source(name))?;
+            } else if self.may_fail(name) && self.has_choices(name) {
+                options.push(Decision::Choice(name))?;
+            }
+        }
+        Ok(options)
+    }
+
+    /// The one of these that leaves the fewest regions open.
+    fn best(&self, options: &[Decision]) -> Result<Option<Split>, AllocError> {
+        let mut best: Option<Split> = None;
+        for decision in options {
+            let Some(split) = self.try_split(*decision)? else {
+                continue;
+            };
+            let is_better = match &best {
+                Some(known) => split.live < known.live,
+                None => true,
+            };
+            if is_better {
+                let is_enough = split.live == 0 || split.children.len() == 1;
+                best = Some(split);
+                if is_enough {
+                    break;
+                }
+            }
+        }
+        Ok(best)
+    }
+
+    /// A choice that is left, by which runs differ.
+    fn choice(&self) -> Option<Decision> {
+        (0..self.field.count)
+            .find(|name| self.has_choices(*name))
+            .map(Decision::Choice)
+    }
+
+    /// Two stores of a location of which none is known to be first.
+    fn order(&self) -> Option<Decision> {
+        for first in 0..self.field.count {
+            let stores = self.facts.stored(self.facts.store_at(first));
+            let open = stores & !self.region.before.row(first) & !bit(first);
+            for second in first..self.field.count {
+                if has(open, second) && !self.region.before.has(second, first) {
+                    return Some(Decision::Order(first, second));
+                }
+            }
+        }
+        None
+    }
+
+    /// The split to make; nothing where all is decided.
+    pub(crate) fn split(&self) -> Result<Option<Split>, AllocError> {
+        if self.is_undecided() {
+            if let Some(cases) = self.cases()? {
+                return self.try_split(cases);
+            }
+        }
+        if let Some(split) = self.best(&self.options()?)? {
+            return Ok(Some(split));
+        }
+        if let Some(choice) = self.choice() {
+            return self.try_split(choice);
+        }
+        match self.order() {
+            Some(order) => self.try_split(order),
+            None => Ok(None),
+        }
+    }
+}
+
+/// Is the one region that a split makes the region itself?
+fn is_vain(region: &Region, decision: Decision, made: &[Region]) -> bool {
+    match (decision, made) {
+        (Decision::Cases(_), _) => false,
+        (_, [one]) => one.is_like(region),
+        _ => false,
+    }
+}

@@ -1,0 +1,209 @@
+//! The search: regions are split until each has ended, or one has nothing left to decide.
+
+use crate::Relation;
+use crate::choose::{Chooser, Split};
+use crate::facts::Facts;
+use crate::region::{Field, Region};
+use crate::saturate::{Ending, Looked, Step, saturate};
+use crate::splits::Decision;
+use fs_cert_evidence::Inference;
+use std::alloc::{AllocError, Global};
+
+/// What a search comes to.
+#[derive(Drop)]
+pub(crate) enum Hunted {
+    /// All regions ended: the inferences, the first one first.
+    Refuted(Vec<Inference>),
+    /// A region with nothing left to decide.
+    Shown(Region),
+    GaveUp,
+}
+
+/// A region that was split, with those of its children that are still to be looked through.
+#[derive(Drop)]
+struct Frame {
+    /// What followed in the region.
+    steps: Vec<Step>,
+    decision: Decision,
+    /// The last one is the next.
+    children: Vec<Looked>,
+    /// The pairs of stores on which rests what was written below it.
+    used: Relation,
+}
+
+/// A search. The inferences stand in reverse, since of a region's children the last is looked through first.
+#[derive(Drop)]
+struct Search<'a> {
+    alloc: Global,
+    field: Field<'a>,
+    stack: Vec<Frame>,
+    written: Vec<Inference>,
+    entered: usize,
+}
+
+impl Search<'_> {
+    /// Writes, before what was written of a region, what followed in it and is used.
+    fn write_steps(&mut self, mut steps: Vec<Step>, used: &mut Relation) -> Result<(), AllocError> {
+        for _ in 0..steps.len() {
+            let Some(step) = steps.pop() else {
+                break;
+            };
+            let Step {
+                first,
+                second,
+                ending,
+            } = step;
+            if !used.has(first, second) {
+                continue;
+            }
+            used.remove(first, second);
+            let mut more = ending.used;
+            more.remove(second, first);
+            used.join(&more);
+            self.written.push(ending.inference)?;
+            let opposite = Decision::Order(second, first);
+            self.written.push(opposite.inference(self.field))?;
+        }
+        Ok(())
+    }
+
+    /// The region above rests on these too.
+    fn hand_up(&mut self, used: &Relation) {
+        if let Some(frame) = self.stack.last_mut() {
+            frame.used.join(used);
+        }
+    }
+
+    fn end(&mut self, steps: Vec<Step>, ending: Ending) -> Result<(), AllocError> {
+        let Ending {
+            inference,
+            mut used,
+        } = ending;
+        self.written.push(inference)?;
+        self.write_steps(steps, &mut used)?;
+        self.hand_up(&used);
+        Ok(())
+    }
+
+    /// The split that is made of the region.
+    fn split(&self, region: &Region) -> Result<Option<Split>, AllocError> {
+        let facts = Facts::of(self.field, region);
+        let chooser = Chooser {
+            alloc: self.alloc,
+            field: self.field,
+            region,
+            facts: &facts,
+        };
+        chooser.split()
+    }
+
+    /// Looks through a region. The region itself where nothing is left to decide.
+    fn enter(&mut self, looked: Looked) -> Result<Option<Region>, AllocError> {
+        self.entered = self.entered.saturating_add(1);
+        let Looked {
+            region,
+            steps,
+            ending,
+        } = looked;
+        if let Some(ending) = ending {
+            self.end(steps, ending)?;
+            return Ok(None);
+        }
+        let Some(split) = self.split(&region)? else {
+            return Ok(Some(region));
+        };
+        self.stack.push(Frame {
+            steps,
+            decision: split.decision,
+            children: split.children,
+            used: split.used,
+        })?;
+        Ok(None)
+    }
+
+    /// Writes a region whose children have been written.
+    fn leave(&mut self, frame: Frame) -> Result<(), AllocError> {
+        let Frame {
+            steps,
+            decision,
+            children: _,
+            mut used,
+        } = frame;
+        if let Decision::Order(first, second) = decision {
+            used.remove(first, second);
+            used.remove(second, first);
+        }
+        self.written.push(decision.inference(self.field))?;
+        self.write_steps(steps, &mut used)?;
+        self.hand_up(&used);
+        Ok(())
+    }
+
+    /// The next region, if the one that was split last has one left; else that one is done.
+    fn advance(&mut self) -> Result<Option<Looked>, AllocError> {
+        let Some(frame) = self.stack.last_mut() else {
+            return Ok(None);
+        };
+        if let Some(child) = frame.children.pop() {
+            return Ok(Some(child));
+        }
+        if let Some(frame) = self.stack.pop() {
+            self.leave(frame)?;
+        }
+        Ok(None)
+    }
+
+    /// How many inferences there will be at least.
+    fn size(&self) -> usize {
+        self.written
+            .len()
+            .saturating_add(self.stack.len())
+            .max(self.entered)
+    }
+
+    /// All of them, the first one first.
+    fn refutation(self) -> Vec<Inference> {
+        let mut written = self.written;
+        written.reverse();
+        written
+    }
+
+    fn run(mut self, looked: Looked, most: usize) -> Result<Hunted, AllocError> {
+        let mut next = Some(looked);
+        for _ in 0..most.saturating_mul(4).saturating_add(8) {
+            if self.size() > most {
+                return Ok(Hunted::GaveUp);
+            }
+            match next.take() {
+                Some(looked) => {
+                    if let Some(region) = self.enter(looked)? {
+                        return Ok(Hunted::Shown(region));
+                    }
+                }
+                None => next = self.advance()?,
+            }
+            if next.is_none() && self.stack.is_empty() {
+                return Ok(Hunted::Refuted(self.refutation()));
+            }
+        }
+        Ok(Hunted::GaveUp)
+    }
+}
+
+/// Refutes the region, or finds what it shows, with at most so many inferences.
+pub(crate) fn hunt(
+    alloc: Global,
+    field: Field<'_>,
+    region: Region,
+    most: usize,
+) -> Result<Hunted, AllocError> {
+    let looked = saturate(alloc, field, region)?;
+    let search = Search {
+        alloc,
+        field,
+        stack: Vec::new(alloc),
+        written: Vec::new(alloc),
+        entered: 0,
+    };
+    search.run(looked, most)
+}

@@ -1,0 +1,138 @@
+//! Links of cycles, and why each operation comes before the next.
+
+use crate::facts::Facts;
+use crate::region::{Field, Region};
+use crate::uses::add_link;
+use crate::{Hart, Origin, Relation, Rule, has, is_within};
+use fs_cert_evidence::{Cause, Inference, Link};
+use fs_kinds::List;
+use std::alloc::{AllocError, Global};
+
+/// A name, and why it comes before the next one.
+#[derive(Clone, Copy)]
+pub(crate) struct Edge {
+    pub(crate) name: u8,
+    pub(crate) cause: Cause,
+}
+
+fn cause_of(rule: u8) -> Cause {
+    match rule {
+        1 => Cause::Rule1,
+        2 => Cause::Rule2,
+        3 => Cause::Rule3,
+        4 => Cause::Rule4,
+        5 => Cause::Rule5,
+        6 => Cause::Rule6,
+        7 => Cause::Rule7,
+        8 => Cause::Rule8,
+        9 => Cause::Rule9,
+        10 => Cause::Rule10,
+        11 => Cause::Rule11,
+        12 => Cause::Rule12,
+        _ => Cause::Rule13,
+    }
+}
+
+/// Are the sources of the two what the rule asks for?
+fn has_sources(region: &Region, rule: &Rule) -> bool {
+    let (first, second) = (region.origin(rule.first), region.origin(rule.second));
+    match rule.number {
+        2 => first != Origin::Unknown && second != Origin::Unknown && first != second,
+        3 => second == Origin::From(rule.first),
+        _ => true,
+    }
+}
+
+/// The rule among these that puts the one before the other in each run.
+fn rule_in(rules: &[Rule], region: &Region, row: &[u64], first: u8, second: u8) -> Option<Cause> {
+    let rule = rules.iter().find(|rule| {
+        rule.first == first
+            && rule.second == second
+            && has_sources(region, rule)
+            && (rule.is_whole || is_within(row, &rule.row))
+    })?;
+    Some(cause_of(rule.number))
+}
+
+/// Does rule 12 do so?
+fn is_forwarded(hart: &Hart, region: &Region, row: &[u64], first: u8, second: u8) -> bool {
+    hart.forwarded.iter().any(|forwarded| {
+        forwarded.first == first
+            && forwarded.second == second
+            && region.origin(second) == Origin::From(forwarded.store)
+            && is_within(row, &forwarded.row)
+    })
+}
+
+/// Why a rule puts the one before the other.
+fn preserved(field: Field<'_>, region: &Region, first: u8, second: u8) -> Option<Cause> {
+    let owner = field.owner(first);
+    let hart = field.hart_of(first)?;
+    let row = region.row(owner);
+    let found = rule_in(&hart.rules, region, row, first, second);
+    let found = found.or(rule_in(field.fenced_in(owner), region, row, first, second));
+    if found.is_none() && is_forwarded(hart, region, row, first, second) {
+        return Some(Cause::Rule12);
+    }
+    found
+}
+
+/// Why the one comes before the other.
+fn cause(field: Field<'_>, region: &Region, facts: &Facts, first: u8, second: u8) -> Cause {
+    if field.owner(first) == field.owner(second) {
+        if let Some(cause) = preserved(field, region, first, second) {
+            return cause;
+        }
+    } else if region.origin(second) == Origin::From(first) {
+        return Cause::ReadsFrom;
+    }
+    if first != second && has(facts.overwriting(region, first), second) {
+        Cause::FromReads
+    } else {
+        Cause::Coherence
+    }
+}
+
+impl Edge {
+    /// The edge from the name to the next one; what it rests on is added.
+    pub(crate) fn found(
+        field: Field<'_>,
+        region: &Region,
+        facts: &Facts,
+        used: &mut Relation,
+        name: u8,
+        next: u8,
+    ) -> Edge {
+        let cause = cause(field, region, facts, name, next);
+        add_link(used, region, cause, name, next);
+        Edge { name, cause }
+    }
+}
+
+/// The place of the edge with the least name.
+fn least(edges: &[Edge]) -> usize {
+    let least = edges.iter().map(|edge| edge.name).min();
+    edges
+        .iter()
+        .position(|edge| Some(edge.name) == least)
+        .unwrap_or(0)
+}
+
+/// The cycle of these edges, from its least name on.
+pub(crate) fn inference_of(
+    alloc: Global,
+    field: Field<'_>,
+    edges: &[Edge],
+) -> Result<Inference, AllocError> {
+    let least = least(edges);
+    let mut links = Vec::new(alloc);
+    let behind = edges.get(least..).unwrap_or(&[]);
+    let before = edges.get(..least).unwrap_or(&[]);
+    for edge in behind.iter().chain(before.iter()) {
+        links.push(Link {
+            operation: field.name(edge.name),
+            cause: edge.cause,
+        })?;
+    }
+    Ok(Inference::Cycle(List::new(links)))
+}

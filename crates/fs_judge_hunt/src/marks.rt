@@ -1,0 +1,228 @@
+//! With which runs of a hart the members of a region may end as wanted: for all of its runs at once.
+
+use crate::endings::{LastWord, Outlook, Truth};
+use crate::{
+    Group, Hart, Node, Part, Place, Row, Wanted, both, has, join, location_in, narrow, no_run,
+    within, without, word_in,
+};
+use std::alloc::{AllocError, Global};
+
+/// The runs of a hart with which a condition may be true, and with which it may be false.
+#[derive(Drop)]
+struct Marks {
+    yes: Row,
+    no: Row,
+}
+
+/// No run twice.
+fn blank(alloc: Global, words: usize) -> Result<Marks, AllocError> {
+    Ok(Marks {
+        yes: no_run(alloc, words)?,
+        no: no_run(alloc, words)?,
+    })
+}
+
+/// The marks of two parts, put into those of the left one.
+fn join_marks(part: Part, left: &mut Marks, right: &Marks) {
+    match part {
+        Part::Both => {
+            narrow(&mut left.yes, &right.yes);
+            join(&mut left.no, &right.no);
+        }
+        _ => {
+            join(&mut left.yes, &right.yes);
+            narrow(&mut left.no, &right.no);
+        }
+    }
+}
+
+/// Puts into the marks which of the runs store the word, or another one, at the location.
+fn mark_stores(
+    alloc: Global,
+    marks: &mut Marks,
+    row: &[u64],
+    classes: &[Group],
+    last: LastWord,
+) -> Result<(), AllocError> {
+    for class in classes {
+        if location_in(class.key) == last.location {
+            let kept = both(alloc, row, &class.row)?;
+            if word_in(class.key) == last.word {
+                join(&mut marks.yes, &kept);
+            } else {
+                join(&mut marks.no, &kept);
+            }
+        }
+    }
+    Ok(())
+}
+
+/// Drops the runs that store at the location.
+fn drop_stores(
+    alloc: Global,
+    row: &mut Row,
+    places: &[Place],
+    location: u8,
+) -> Result<(), AllocError> {
+    for place in places {
+        if place.location == location {
+            let kept = without(alloc, row, &place.row)?;
+            *row = kept;
+        }
+    }
+    Ok(())
+}
+
+impl Outlook<'_> {
+    /// The same for each of the hart's runs.
+    fn same_marks(
+        &self,
+        alloc: Global,
+        hart: u8,
+        words: usize,
+        truth: Truth,
+    ) -> Result<Marks, AllocError> {
+        let mut marks = blank(alloc, words)?;
+        let row = self.region.row(hart);
+        if truth.yes {
+            join(&mut marks.yes, row);
+        }
+        if truth.no {
+            join(&mut marks.no, row);
+        }
+        Ok(marks)
+    }
+
+    fn register_marks(&self, alloc: Global, hart: u8, number: usize) -> Result<Marks, AllocError> {
+        let row = self.region.row(hart);
+        let atom = self.atom_row(hart, number);
+        Ok(Marks {
+            yes: both(alloc, row, atom)?,
+            no: without(alloc, row, atom)?,
+        })
+    }
+
+    /// The runs that leave the location as it begins, where those of the other harts may.
+    fn idle(&self, alloc: Global, hart: u8, found: &Hart, location: u8) -> Result<Row, AllocError> {
+        let others = (0..self.field.count).any(|name| has(self.facts.stored(location), name)
+            && self.field.owner(name) != hart);
+        if others {
+            return no_run(alloc, found.words);
+        }
+        let mut row = Vec::new(alloc);
+        row.extend_from_slice(self.region.row(hart))?;
+        for doing in &found.doings {
+            drop_stores(alloc, &mut row, &doing.stores.places, location)?;
+        }
+        Ok(row)
+    }
+
+    fn location_marks(
+        &self,
+        alloc: Global,
+        hart: u8,
+        found: &Hart,
+        last: LastWord,
+    ) -> Result<Marks, AllocError> {
+        let others = self.stored_by_others(Some(hart), last);
+        let mut marks = self.same_marks(alloc, hart, found.words, others)?;
+        let idle = self.idle(alloc, hart, found, last.location)?;
+        if self.initial_word(last.location) == last.word {
+            join(&mut marks.yes, &idle);
+        } else {
+            join(&mut marks.no, &idle);
+        }
+        let row = self.region.row(hart);
+        let mut store = found.first();
+        for doing in &found.doings {
+            if self.region.before.row(store) == 0 {
+                mark_stores(alloc, &mut marks, row, &doing.stores.classes, last)?;
+            }
+            store = store.saturating_add(1);
+        }
+        Ok(marks)
+    }
+
+    fn atom_marks(
+        &self,
+        alloc: Global,
+        hart: u8,
+        found: &Hart,
+        part: Part,
+        number: usize,
+    ) -> Result<Marks, AllocError> {
+        match part {
+            Part::Location { location, word } => {
+                self.location_marks(alloc, hart, found, LastWord { location, word })
+            }
+            Part::Register { hart: own, .. } if own == hart => self.register_marks(
+                alloc, hart, number,
+            ),
+            _ => self.same_marks(alloc, hart, found.words, self.atom(part, number)),
+        }
+    }
+
+    /// Takes the part, with those of its own parts on the stack.
+    fn step_marks(
+        &self,
+        alloc: Global,
+        hart: u8,
+        found: &Hart,
+        stack: &mut Vec<Marks>,
+        node: (Part, usize),
+    ) -> Result<(), AllocError> {
+        let (part, number) = node;
+        match part {
+            Part::Deny => {
+                if let Some(Marks { yes, no }) = stack.pop() {
+                    stack.push(Marks { yes: no, no: yes })?;
+                }
+            }
+            Part::Both | Part::Either => {
+                if let Some(mut left) = stack.pop() {
+                    if let Some(right) = stack.pop() {
+                        join_marks(part, &mut left, &right);
+                    }
+                    stack.push(left)?;
+                }
+            }
+            _ => stack.push(self.atom_marks(alloc, hart, found, part, number)?)?,
+        }
+        Ok(())
+    }
+
+    /// The hart's runs with which the wanted condition may have its truth value.
+    fn may_row(
+        &self,
+        alloc: Global,
+        hart: u8,
+        found: &Hart,
+        wanted: Wanted,
+    ) -> Result<Option<Row>, AllocError> {
+        let nodes: &[Node] = within(self.field.nodes, wanted.node);
+        let mut stack = Vec::new(alloc);
+        for (place, node) in nodes.iter().enumerate().rev() {
+            let number = wanted.node.saturating_add(place);
+            self.step_marks(alloc, hart, found, &mut stack, (node.part, number))?;
+        }
+        match stack.pop() {
+            Some(Marks { yes, no }) => Ok(Some(if wanted.truth { yes } else { no })),
+            None => Ok(None),
+        }
+    }
+
+    /// The hart's runs with each of which every wanted condition may have its truth value.
+    pub(crate) fn showing(&self, alloc: Global, hart: u8) -> Result<Row, AllocError> {
+        let mut row = Vec::new(alloc);
+        row.extend_from_slice(self.region.row(hart))?;
+        let Some(found) = self.field.harts.get(usize::from(hart)) else {
+            return Ok(row);
+        };
+        for wanted in self.region.wanted.iter() {
+            if let Some(may) = self.may_row(alloc, hart, found, *wanted)? {
+                narrow(&mut row, &may);
+            }
+        }
+        Ok(row)
+    }
+}

@@ -1,0 +1,205 @@
+//! Regions: what is known of the candidates that are in one.
+
+use crate::{
+    Hart, Left, MOST_NAMES, Node, Origin, Relation, Rule, Wanted, are_same, both, is_empty,
+    left_with,
+};
+use fs_kinds::{List, OperationName};
+use std::alloc::{AllocError, Global};
+use std::sync::Arc;
+
+/// What a hunt is over.
+#[derive(Clone, Copy)]
+pub(crate) struct Field<'a> {
+    pub(crate) harts: &'a [Hart],
+    /// Rule 4 in each hart, with the placement.
+    pub(crate) fenced: &'a [Vec<Rule>],
+    pub(crate) nodes: &'a [Node],
+    /// The words that locations begin with.
+    pub(crate) words: &'a [u32],
+    pub(crate) names: &'a [OperationName],
+    /// How many names there are.
+    pub(crate) count: u8,
+}
+
+/// The candidates with these runs, sources, orders and truth values.
+#[derive(Drop)]
+pub(crate) struct Region {
+    /// For each hart.
+    pub(crate) left: Vec<Arc<Left>>,
+    pub(crate) origins: [Origin; MOST_NAMES],
+    /// Stores that come earlier in coherence order than others.
+    pub(crate) before: Relation,
+    pub(crate) wanted: Arc<List<Wanted>>,
+}
+
+impl<'a> Field<'a> {
+    /// The number of the name's hart.
+    pub(crate) fn owner(&self, name: u8) -> u8 {
+        self.name(name).hart
+    }
+
+    /// The name of this number.
+    pub(crate) fn name(&self, number: u8) -> OperationName {
+        self.names
+            .get(usize::from(number))
+            .copied()
+            .unwrap_or(OperationName { hart: 255, at: 255 })
+    }
+
+    pub(crate) fn hart_of(&self, name: u8) -> Option<&'a Hart> {
+        self.harts.get(usize::from(self.owner(name)))
+    }
+
+    /// The rows of rule 4 in this hart.
+    pub(crate) fn fenced_in(&self, hart: u8) -> &'a [Rule] {
+        match self.fenced.get(usize::from(hart)) {
+            Some(rules) => rules.as_slice(),
+            None => &[],
+        }
+    }
+
+    /// These runs of the hart of this number.
+    fn left(
+        &self,
+        alloc: Global,
+        hart: u8,
+        row: Vec<u64>,
+    ) -> Result<Option<Arc<Left>>, AllocError> {
+        let Some(found) = self.harts.get(usize::from(hart)) else {
+            return Ok(None);
+        };
+        let left = left_with(alloc, found, self.fenced_in(hart), row)?;
+        Ok(Some(Arc::new(alloc, left)?))
+    }
+
+    /// All runs of each hart; nothing where some hart has none.
+    fn all_left(&self, alloc: Global) -> Result<Option<Vec<Arc<Left>>>, AllocError> {
+        let mut all = Vec::new(alloc);
+        let mut number: u8 = 0;
+        for hart in self.harts {
+            if is_empty(&hart.all) {
+                return Ok(None);
+            }
+            if let Some(left) = self.left(alloc, number, hart.all.clone()?)? {
+                all.push(left)?;
+            }
+            number = number.saturating_add(1);
+        }
+        Ok(Some(all))
+    }
+
+    /// All candidates with the outcome, if there can be one. The condition is to have this truth value.
+    pub(crate) fn root(&self, alloc: Global, truth: bool) -> Result<Option<Region>, AllocError> {
+        let Some(left) = self.all_left(alloc)? else {
+            return Ok(None);
+        };
+        let mut wanted = Vec::new(alloc);
+        wanted.push(Wanted { node: 0, truth })?;
+        Ok(Some(Region {
+            left,
+            origins: [Origin::Unknown; MOST_NAMES],
+            before: Relation::new(),
+            wanted: Arc::new(alloc, List::new(wanted))?,
+        }))
+    }
+}
+
+fn share(alloc: Global, left: &[Arc<Left>]) -> Result<Vec<Arc<Left>>, AllocError> {
+    let mut shared = Vec::new(alloc);
+    for one in left {
+        shared.push(Arc::try_clone(one)?)?;
+    }
+    Ok(shared)
+}
+
+impl Region {
+    /// The same region.
+    pub(crate) fn copy(&self, alloc: Global) -> Result<Region, AllocError> {
+        Ok(Region {
+            left: share(alloc, &self.left)?,
+            origins: self.origins,
+            before: self.before,
+            wanted: Arc::try_clone(&self.wanted)?,
+        })
+    }
+
+    /// What is left of the hart.
+    pub(crate) fn left(&self, hart: u8) -> Option<&Left> {
+        match self.left.get(usize::from(hart)) {
+            Some(left) => Some(&**left),
+            None => None,
+        }
+    }
+
+    /// The runs that are left of the hart.
+    pub(crate) fn row(&self, hart: u8) -> &[u64] {
+        match self.left(hart) {
+            Some(left) => left.row.as_slice(),
+            None => &[],
+        }
+    }
+
+    /// What the load returns from.
+    pub(crate) fn origin(&self, load: u8) -> Origin {
+        self.origins
+            .get(usize::from(load))
+            .copied()
+            .unwrap_or(Origin::Unknown)
+    }
+
+    pub(crate) fn set_origin(&mut self, load: u8, origin: Origin) {
+        if let Some(known) = self.origins.get_mut(usize::from(load)) {
+            *known = origin;
+        }
+    }
+
+    /// Leaves only these of the hart's runs, which are among those that are left. Is one left?
+    pub(crate) fn keep(
+        &mut self,
+        alloc: Global,
+        field: Field<'_>,
+        hart: u8,
+        row: Vec<u64>,
+    ) -> Result<bool, AllocError> {
+        if is_empty(&row) {
+            return Ok(false);
+        }
+        if are_same(&row, self.row(hart)) {
+            return Ok(true);
+        }
+        if let Some(left) = field.left(alloc, hart, row)? {
+            if let Some(place) = self.left.get_mut(usize::from(hart)) {
+                *place = left;
+            }
+        }
+        Ok(true)
+    }
+
+    /// The region with only those of the hart's runs that are in the row, if one is.
+    pub(crate) fn with_some(
+        &self,
+        alloc: Global,
+        field: Field<'_>,
+        hart: u8,
+        row: &[u64],
+    ) -> Result<Option<Region>, AllocError> {
+        let kept = both(alloc, self.row(hart), row)?;
+        if is_empty(&kept) {
+            return Ok(None);
+        }
+        let mut region = self.copy(alloc)?;
+        region.keep(alloc, field, hart, kept)?;
+        Ok(Some(region))
+    }
+
+    /// Have the two the same runs and sources?
+    pub(crate) fn is_like(&self, other: &Region) -> bool {
+        self.origins == other.origins
+            && self
+                .left
+                .iter()
+                .zip(other.left.iter())
+                .all(|(one, left)| are_same(&one.row, &left.row))
+    }
+}

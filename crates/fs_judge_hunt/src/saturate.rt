@@ -1,0 +1,221 @@
+//! What follows in a region by itself: which stores come before others, until it ends or nothing more follows.
+
+use crate::endings::Outlook;
+use crate::facts::Facts;
+use crate::links::{Edge, inference_of};
+use crate::region::{Field, Region};
+use crate::uses::of_filter;
+use crate::{MOST_NAMES, Relation, bit, cycle, has, way};
+use fs_cert_evidence::{Cause, Inference};
+use std::alloc::{AllocError, Global};
+
+/// More rounds than there are pairs of names.
+const MOST_ROUNDS: usize = MOST_NAMES * MOST_NAMES + 1;
+
+/// An inference that ends a region, and the pairs of stores that it rests on.
+#[derive(Drop)]
+pub(crate) struct Ending {
+    pub(crate) inference: Inference,
+    pub(crate) used: Relation,
+}
+
+/// The first store must come before the second: in the other order the inference would end the region.
+#[derive(Drop)]
+pub(crate) struct Step {
+    pub(crate) first: u8,
+    pub(crate) second: u8,
+    pub(crate) ending: Ending,
+}
+
+/// A region in which everything was drawn that follows; at the end what ends it, if something does.
+#[derive(Drop)]
+pub(crate) struct Looked {
+    pub(crate) region: Region,
+    pub(crate) steps: Vec<Step>,
+    pub(crate) ending: Option<Ending>,
+}
+
+/// What must hold in a region at some time.
+#[derive(Drop)]
+pub(crate) struct View {
+    pub(crate) facts: Facts,
+    edges: Relation,
+    pub(crate) closure: Relation,
+}
+
+/// What follows in the region.
+pub(crate) fn saturate(
+    alloc: Global,
+    field: Field<'_>,
+    region: Region,
+) -> Result<Looked, AllocError> {
+    let known = region.before;
+    let mut looked = Looked {
+        region,
+        steps: Vec::new(alloc),
+        ending: None,
+    };
+    let facts = Facts::of(field, &looked.region);
+    let mut view = View {
+        facts,
+        edges: Relation::new(),
+        closure: Relation::new(),
+    };
+    for _ in 0..MOST_ROUNDS {
+        view.edges = view.facts.all_edges(&looked.region, field.count);
+        view.closure = view.edges.closure(field.count);
+        let round = Round {
+            alloc,
+            field,
+            view: &view,
+        };
+        if !round.draw(&mut looked, &known)? {
+            break;
+        }
+    }
+    Ok(looked)
+}
+
+/// One round.
+#[derive(Clone, Copy)]
+pub(crate) struct Round<'a> {
+    alloc: Global,
+    pub(crate) field: Field<'a>,
+    pub(crate) view: &'a View,
+}
+
+impl Looked {
+    pub(crate) fn end(&mut self, ending: Ending) {
+        self.ending = Some(ending);
+    }
+
+    /// The first store comes before the second.
+    pub(crate) fn order(
+        &mut self,
+        first: u8,
+        second: u8,
+        ending: Ending,
+    ) -> Result<(), AllocError> {
+        self.region.before.add(first, second);
+        self.steps.push(Step {
+            first,
+            second,
+            ending,
+        })?;
+        Ok(())
+    }
+
+    pub(crate) fn is_before(&self, first: u8, second: u8) -> bool {
+        self.region.before.has(first, second)
+    }
+}
+
+impl Round<'_> {
+    /// Draws what follows next. Is there something, and doesn't it end the region?
+    fn draw(self, looked: &mut Looked, known: &Relation) -> Result<bool, AllocError> {
+        self.end_by_cycle(looked)?;
+        if looked.ending.is_some() {
+            return Ok(false);
+        }
+        self.end_by_outcome(looked, known)?;
+        let count = looked.steps.len();
+        if looked.ending.is_none() {
+            self.follow_loads(looked)?;
+        }
+        if looked.ending.is_none() && looked.steps.len() == count {
+            self.follow_pairs(looked)?;
+        }
+        if looked.ending.is_none() && looked.steps.len() == count {
+            self.follow_paths(looked)?;
+        }
+        Ok(looked.ending.is_none() && looked.steps.len() > count)
+    }
+
+    /// Ends by a cycle, if there is one.
+    fn end_by_cycle(self, looked: &mut Looked) -> Result<(), AllocError> {
+        let found = cycle(
+            self.alloc,
+            &self.view.edges,
+            &self.view.closure,
+            self.field.count,
+        )?;
+        if let Some(names) = found {
+            let ending = self.cycle_of(&looked.region, &names, None)?;
+            looked.end(ending);
+        }
+        Ok(())
+    }
+
+    /// The cycle of these names, and why the last comes before the first, if that isn't known yet.
+    fn cycle_of(
+        self,
+        region: &Region,
+        names: &[u8],
+        closing: Option<Cause>,
+    ) -> Result<Ending, AllocError> {
+        let mut edges = Vec::new(self.alloc);
+        let mut used = Relation::new();
+        for (place, name) in names.iter().enumerate() {
+            let is_last = place.saturating_add(1) == names.len();
+            let next = names.get(place.saturating_add(1)).or(names.first());
+            let next = next.copied().unwrap_or(0);
+            let edge = match closing {
+                Some(cause) if is_last => Edge { name: *name, cause },
+                _ => Edge::found(self.field, region, &self.view.facts, &mut used, *name, next),
+            };
+            edges.push(edge)?;
+        }
+        Ok(Ending {
+            inference: inference_of(self.alloc, self.field, &edges)?,
+            used,
+        })
+    }
+
+    /// Ends where the outcome can't be.
+    fn end_by_outcome(self, looked: &mut Looked, known: &Relation) -> Result<(), AllocError> {
+        let outlook = Outlook {
+            field: self.field,
+            region: &looked.region,
+            facts: &self.view.facts,
+        };
+        if !outlook.may_show(self.alloc)? {
+            let used = of_filter(&outlook, known);
+            looked.end(Ending {
+                inference: Inference::Filter(0),
+                used,
+            });
+        }
+        Ok(())
+    }
+
+    /// The way from the first to the last, and back to the first for this cause.
+    pub(crate) fn cycle_by(
+        self,
+        region: &Region,
+        first: u8,
+        last: u8,
+        closing: Cause,
+    ) -> Result<Ending, AllocError> {
+        let mut names = way(self.alloc, &self.view.edges, first, last, self.field.count)?;
+        names.push(last)?;
+        self.cycle_of(region, &names, Some(closing))
+    }
+
+    /// Of two stores of a location the one with a way to the other comes first.
+    fn follow_paths(self, looked: &mut Looked) -> Result<(), AllocError> {
+        for first in 0..self.field.count {
+            let stores = self.view.facts.stored(self.view.facts.store_at(first));
+            let later = stores & self.view.closure.row(first) & !bit(first);
+            if later == 0 {
+                continue;
+            }
+            for second in 0..self.field.count {
+                if has(later, second) && !looked.is_before(first, second) {
+                    let ending = self.cycle_by(&looked.region, first, second, Cause::Coherence)?;
+                    looked.order(first, second, ending)?;
+                }
+            }
+        }
+        Ok(())
+    }
+}

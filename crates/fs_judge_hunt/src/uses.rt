@@ -1,0 +1,77 @@
+//! Which pairs of stores, one earlier in coherence order, an inference rests on.
+
+use crate::endings::Outlook;
+use crate::facts::Facts;
+use crate::region::Region;
+use crate::{Origin, Part, Relation, Wanted, bit, has, within};
+use fs_cert_evidence::Cause;
+
+/// Adds that the store is later than what the load returns from.
+pub(crate) fn add_overwriting(used: &mut Relation, region: &Region, load: u8, store: u8) {
+    if let Origin::From(source) = region.origin(load) {
+        used.add(source, store);
+    }
+}
+
+/// Adds what a link of a cycle rests on.
+pub(crate) fn add_link(used: &mut Relation, region: &Region, cause: Cause, first: u8, second: u8) {
+    match cause {
+        Cause::Coherence => used.add(first, second),
+        Cause::FromReads => add_overwriting(used, region, first, second),
+        _ => {}
+    }
+}
+
+/// The locations of which the wanted conditions speak, a bit for each.
+fn asked(outlook: &Outlook<'_>) -> u64 {
+    let mut locations = 0;
+    for wanted in outlook.region.wanted.iter() {
+        let wanted: &Wanted = wanted;
+        for node in within(outlook.field.nodes, wanted.node) {
+            if let Part::Location { location, .. } = node.part {
+                locations |= bit(location);
+            }
+        }
+    }
+    locations
+}
+
+/// May the name be one that stores at one of the locations?
+fn may_store_at(outlook: &Outlook<'_>, locations: u64, store: u8) -> bool {
+    let facts: &Facts = outlook.facts;
+    if !has(facts.may_store, store) {
+        return false;
+    }
+    match outlook
+        .field
+        .hart_of(store)
+        .and_then(|hart| hart.doing(store))
+    {
+        Some(doing) => doing.stores.places.iter().any(|place| place.location < 64
+            && has(locations, place.location)),
+        None => false,
+    }
+}
+
+/// The least name of a set.
+fn least(names: u64) -> u64 {
+    names & names.wrapping_neg()
+}
+
+/// What a filter rests on: of each store that isn't the last one of its location a later one, if there is one that
+/// was known before.
+pub(crate) fn of_filter(outlook: &Outlook<'_>, known: &Relation) -> Relation {
+    let mut used = Relation::new();
+    let locations = asked(outlook);
+    if locations == 0 {
+        return used;
+    }
+    for store in 0..outlook.field.count {
+        let later = outlook.region.before.row(store);
+        if later != 0 && may_store_at(outlook, locations, store) {
+            let before = known.row(store);
+            used.add_all(store, least(if before != 0 { before } else { later }));
+        }
+    }
+    used
+}

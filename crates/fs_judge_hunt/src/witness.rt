@@ -1,0 +1,75 @@
+//! The execution that a region shows in which nothing is left to decide.
+
+use crate::facts::Facts;
+use crate::region::{Field, Region};
+use crate::{Doing, Hart, Takes, first_run, has_run, sorted};
+use fs_cert_evidence::{ChoiceLists, Choices};
+use fs_kinds::{List, OperationName};
+use fs_model::Choice;
+use std::alloc::{AllocError, Global};
+
+/// What the run chooses at a name, if it chooses something there.
+fn choice(doing: &Doing, run: usize) -> Option<Choice> {
+    let group = doing.choices.iter().find(|group| has_run(&group.row, run))?;
+    match (doing.takes, group.key) {
+        (Takes::Nothing, _) | (_, 0) => None,
+        (Takes::Success, 1) => Some(Choice::Success),
+        (Takes::Success, _) => Some(Choice::Failure),
+        (Takes::Word, key) => Some(Choice::Word(u32::try_from(key.wrapping_sub(1)).unwrap_or(0))),
+    }
+}
+
+/// The choices of the run.
+fn choices_of(alloc: Global, hart: &Hart, run: usize) -> Result<Choices, AllocError> {
+    let mut choices = Vec::new(alloc);
+    for doing in &hart.doings {
+        if let Some(choice) = choice(doing, run) {
+            choices.push(choice)?;
+        }
+    }
+    Ok(Choices::new(choices))
+}
+
+fn choices(alloc: Global, field: Field<'_>, region: &Region) -> Result<ChoiceLists, AllocError> {
+    let mut lists = Vec::new(alloc);
+    for (hart, left) in field.harts.iter().zip(region.left.iter()) {
+        let run = first_run(&left.row).unwrap_or(0);
+        lists.push(choices_of(alloc, hart, run)?)?;
+    }
+    Ok(ChoiceLists::new(lists))
+}
+
+/// An order of the operations in which each comes after what must come before it.
+fn order(
+    alloc: Global,
+    field: Field<'_>,
+    region: &Region,
+) -> Result<List<OperationName>, AllocError> {
+    let facts = Facts::of(field, region);
+    let closure = facts.all_edges(region, field.count).closure(field.count);
+    let numbers = sorted(alloc, &closure, facts.loads | facts.stores, field.count)?;
+    let mut names = Vec::new(alloc);
+    for number in &numbers {
+        names.push(field.name(*number))?;
+    }
+    Ok(List::new(names))
+}
+
+/// An execution, by the choices of each hart and the names of the operations in their order.
+#[derive(Drop)]
+pub struct Execution {
+    pub choices: ChoiceLists,
+    pub order: List<OperationName>,
+}
+
+/// The execution that the region shows.
+pub(crate) fn execution_of(
+    alloc: Global,
+    field: Field<'_>,
+    region: &Region,
+) -> Result<Execution, AllocError> {
+    Ok(Execution {
+        choices: choices(alloc, field, region)?,
+        order: order(alloc, field, region)?,
+    })
+}

@@ -1,0 +1,274 @@
+//! What hunts find is right: trees by the check of trees, executions by the check of executions.
+
+ghost use Rattle.std.specs.Prelude.{All};
+ghost use Rattle.fs_model.specs.Test.{IsBounded, IsStart};
+
+use crate::texts::{ADDERS, ALWAYS, CASES, LAST, LOCK, LOCK3, PAIRS, SEEN, SOURCES, THREE, UNTOLD};
+use fs_cert_evidence::{Names, WitnessFile};
+use fs_check::shown_by;
+use fs_judge_hunt::{Execution, Found, Hunter};
+use fs_kinds::{Fault, Placement};
+use fs_litmus::{Test, read_test};
+use fs_region_refutation::{Basis, reason_against};
+use fs_tests_shared::{
+    CO_RR, FORWARDED, LB, LRSC, LRSCF, MP, MP11, MPA, MPB, POINTER, SB, SBXA, TWO_WRITES,
+    placement_of,
+};
+use std::alloc::{AllocError, Global};
+use std::sync::Arc;
+use std::test::Fail;
+
+/// How a hunt is made.
+#[derive(Clone, Copy)]
+struct Way {
+    is_first: bool,
+    most: usize,
+}
+
+const ANY: Way = Way {
+    is_first: false,
+    most: 1000000,
+};
+
+const FIRST: Way = Way {
+    is_first: true,
+    most: 1000000,
+};
+
+/// Writes the choices of each hart.
+fn write_choices(file: &WitnessFile, text: &mut String) -> Result<(), AllocError> {
+    for choices in file.choices.iter() {
+        text.push_str(";")?;
+        for choice in choices.iter() {
+            write!(text, " {choice:?}")?;
+        }
+    }
+    Ok(())
+}
+
+/// Writes the order of the operations.
+fn write_order(file: &WitnessFile, text: &mut String) -> Result<(), AllocError> {
+    text.push_str(" :")?;
+    for name in file.order.iter().flatten() {
+        write!(text, " {name}")?;
+    }
+    Ok(())
+}
+
+/// The execution as a witness file has it.
+fn file_of(alloc: Global, execution: Execution) -> Result<WitnessFile, AllocError> {
+    let mut order = Vec::new(alloc);
+    for name in &execution.order {
+        order.push(Some(*name))?;
+    }
+    Ok(WitnessFile {
+        choices: execution.choices,
+        order: Names::new(order),
+    })
+}
+
+/// What was found, in words.
+fn told(
+    alloc: Global,
+    basis: &Basis,
+    test: &Test,
+    placement: &Placement,
+    found: Found,
+    way: Way,
+) -> Result<String, Fault>
+    requires bounded { IsBounded test.now }
+    requires starts { All IsStart test.now.starts }
+{
+    let mut text = String::new(alloc);
+    match found {
+        Found::Refuted(tree) => {
+            let why = reason_against(alloc, basis, placement, tree.as_slice())?;
+            write!(text, "refuted, {why:?}")?;
+        }
+        Found::Shown(execution) => {
+            let file = file_of(alloc, execution)?;
+            let shown = shown_by(alloc, test, placement, &file)?;
+            let is_right = shown.is_some();
+            write!(text, "shown {is_right}")?;
+            if way.is_first {
+                write_choices(&file, &mut text)?;
+                write_order(&file, &mut text)?;
+            }
+        }
+        Found::GaveUp => text.push_str("gave up")?,
+    }
+    Ok(text)
+}
+
+/// What is found on the test of this text with the fences that the words name.
+fn hunted(alloc: Global, text: &str, fences: &str, way: Way) -> Result<String, Fault> {
+    let test = Arc::new(alloc, read_test(alloc, text.as_bytes())?)?;
+    let placement = placement_of(alloc, &test, fences)?;
+    let basis = Basis::new(alloc, &test)?;
+    let hunter = Hunter::new(alloc, &test, basis.names(), basis.runs())?;
+    let found = if way.is_first {
+        hunter.first(alloc, &placement, way.most)?
+    } else {
+        hunter.hunt(alloc, &placement, way.most)?
+    };
+    told(alloc, &basis, &test, &placement, found, way)
+}
+
+/// The same for each of the tests, a line for each.
+fn all_hunted(alloc: Global, rows: &[(&str, &str)], way: Way) -> Result<String, Fault> {
+    let mut lines = String::new(alloc);
+    for (text, fences) in rows {
+        let line = hunted(alloc, text, fences, way)?;
+        lines.push_str(&line)?;
+        lines.push_str("\n")?;
+    }
+    Ok(lines)
+}
+
+/// Two harts whose accesses are in order by fences or without.
+const PLAIN: [(&str, &str); 12] = [
+    (SB, ""),
+    (SB, "P0:2=rw,rw"),
+    (SB, "P0:2=rw,rw P1:2=w,r"),
+    (MP, "P0:3=w,w"),
+    (MP, "P0:3=w,w P1:1=r,r"),
+    (MPA, "P0:3=w,w"),
+    (MPB, "P0:3=w,w P1:2=r,r"),
+    (LB, ""),
+    (LB, "P0:2=r,w P1:2=rw,rw"),
+    (TWO_WRITES, ""),
+    (TWO_WRITES, "P0:3=w,w P1:3=w,w"),
+    (CO_RR, ""),
+];
+
+const PLAIN_FOUND: &str = "shown true
+shown true
+refuted, None
+shown true
+refuted, None
+refuted, None
+refuted, None
+shown true
+refuted, None
+shown true
+refuted, None
+refuted, None
+";
+
+const LOCK3_FENCES: &str = "P0:3=r,r P0:7=w,w P1:3=r,r P1:7=w,w P2:3=r,r P2:7=w,w";
+
+/// Pairs, AMOs, forwarding, and conditions of other forms.
+const OTHERS: [(&str, &str); 13] = [
+    (LRSC, ""),
+    (LRSCF, ""),
+    (SBXA, ""),
+    (POINTER, ""),
+    (FORWARDED, ""),
+    (ALWAYS, ""),
+    (ALWAYS, "P0:2=rw,rw P1:2=rw,rw"),
+    (CASES, ""),
+    (CASES, "P0:2=rw,rw P1:2=rw,rw"),
+    (LOCK, ""),
+    (LOCK, "P0:3=r,r P0:7=w,w P1:3=r,r P1:7=w,w"),
+    (LOCK, "P0:3=r,r P0:7=w,w P1:7=w,w"),
+    (LOCK3, LOCK3_FENCES),
+];
+
+const OTHERS_FOUND: &str = "refuted, None
+shown true
+refuted, None
+shown true
+shown true
+shown true
+refuted, None
+shown true
+refuted, None
+shown true
+refuted, None
+shown true
+refuted, None
+";
+
+#[test]
+fn plain_ones(rt: HostRuntime) -> Result<(), Fail> {
+    let found = all_hunted(rt.alloc(), &PLAIN, ANY)?;
+    assert_eq!(rt; found.as_str(), PLAIN_FOUND);
+    Ok(())
+}
+
+#[test]
+fn others(rt: HostRuntime) -> Result<(), Fail> {
+    let found = all_hunted(rt.alloc(), &OTHERS, ANY)?;
+    assert_eq!(rt; found.as_str(), OTHERS_FOUND);
+    Ok(())
+}
+
+/// Tests of which the first execution is asked for. It is told by its choices, which are the least that show the outcome, and by its order.
+/// In those below the lock a hunt for any execution finds one that isn't the first: with greater words, another source, or another order
+/// of stores.
+const FIRSTS: [(&str, &str); 10] = [
+    (MP11, ""),
+    (MP11, "P0:3=rw,rw P1:1=rw,rw"),
+    (SB, ""),
+    (LOCK, "P0:7=w,w P1:3=r,r"),
+    (UNTOLD, ""),
+    (SEEN, ""),
+    (PAIRS, ""),
+    (SOURCES, ""),
+    (THREE, ""),
+    (LAST, ""),
+];
+
+const FIRSTS_FOUND: &str = "shown true;; Word(1) Word(1) : P0:1 P0:3 P1:0 P1:1
+shown true;; Word(1) Word(1) : P0:1 P0:3 P1:0 P1:1
+shown true; Word(0); Word(0) : P0:2 P1:1 P1:2 P0:1
+shown true; Word(0) Word(0) Word(1); Word(0) Word(0) Word(1) : P0:3 P1:1 P1:3 P1:7 P0:1 P0:5 P0:7 P1:5
+shown true; Word(0); Word(0) : P0:2 P1:1 P1:2 P0:1
+shown true;; Word(0) Word(1) : P0:1 P1:0 P0:2 P1:1
+shown true; Word(0) Success; Word(0) Failure : P0:1 P1:1 P0:2
+shown true;;; Word(1) : P0:1 P2:0 P1:1
+shown true;;; : P0:1 P2:1 P1:1
+shown true;; : P0:2 P1:2 P1:3 P0:3
+";
+
+#[test]
+fn first_ones(rt: HostRuntime) -> Result<(), Fail> {
+    let found = all_hunted(rt.alloc(), &FIRSTS, FIRST)?;
+    assert_eq!(rt; found.as_str(), FIRSTS_FOUND);
+    Ok(())
+}
+
+/// How many inferences the refutation has that a hunt finds; 0 where it finds none.
+fn refuted_by(alloc: Global, text: &str, fences: &str, most: usize) -> Result<usize, Fault> {
+    let test = Arc::new(alloc, read_test(alloc, text.as_bytes())?)?;
+    let placement = placement_of(alloc, &test, fences)?;
+    let basis = Basis::new(alloc, &test)?;
+    let hunter = Hunter::new(alloc, &test, basis.names(), basis.runs())?;
+    match hunter.hunt(alloc, &placement, most)? {
+        Found::Refuted(tree) => Ok(tree.len()),
+        _ => Ok(0),
+    }
+}
+
+/// For each of the tests the numbers for a limit of a million inferences, of as many as the refutation then has, and of one less.
+fn write_bounds(alloc: Global, rows: &[(&str, &str)], text: &mut String) -> Result<(), Fault> {
+    for (test, fences) in rows {
+        let size = refuted_by(alloc, test, fences, ANY.most)?;
+        let within = refuted_by(alloc, test, fences, size)?;
+        let beyond = refuted_by(alloc, test, fences, size.saturating_sub(1))?;
+        let is_long = size > 250;
+        write!(text, "{is_long} {} {beyond}\n", within == size)?;
+    }
+    Ok(())
+}
+
+/// Locks of three harts and additions of five, which have more than 4,000,000 candidates: a hunt gives up where the refutation would pass
+/// its limit, and not before.
+#[test]
+fn hunts_give_up_at_their_limit(rt: HostRuntime) -> Result<(), Fail> {
+    let rows = [(LOCK3, LOCK3_FENCES), (ADDERS, "")];
+    let mut text = String::new(rt.alloc());
+    write_bounds(rt.alloc(), &rows, &mut text)?;
+    assert_eq!(rt; text.as_str(), "true true 0\ntrue true 0\n");
+    Ok(())
+}

@@ -1,5 +1,0 @@
-use Rattle.fs_laws.proofs.NoPlacement.{joined}
-use Rattle.fs_laws.proofs.joined.rule_4_with_placements.Goals as goal
-
-pub returns : goal.returns
-returns c = joined

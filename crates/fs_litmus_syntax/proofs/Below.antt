@@ -1,0 +1,74 @@
+-- The list of layers, of which the last is the innermost, and how many denials are in them.
+use Rattle.std.proofs.Common.{◌≡◌, ℕ, ◌+◌, ◌<◌, ◌≤◌, List, [], ◌∷◌, ◌++◌, length, Option, Some, None, refl, arith}
+use Rattle.fs_litmus_tokens.specs.Tokens.{Tok, Word, Sign}
+use Rattle.fs_litmus_tokens.specs.Sections.{Move, Go, Finish, Bad}
+use Rattle.fs_litmus_tokens.specs.Values.{Target, Value}
+use Rattle.fs_litmus_tokens.specs.declared.word.Class.TheVariants as class
+use Rattle.fs_litmus_tokens.specs.declared.token.Mark.TheVariants.{Equals, OpenBracket, Tilde, OpenParen, CloseParen, And, Or}
+use Rattle.fs_litmus_syntax.specs.declared.layer.Layer.{Layer}
+use Rattle.fs_litmus_syntax.specs.Machine.{AtomPlace, Frame, Place, Begin, AfterNot, AfterTrue, AfterFalse, InAtom, AfterUnit, State, put_off, with_denial, next_atom, next_begin, next_after, place_after, placed, next_in, next, end_in}
+use Rattle.fs_litmus_syntax.specs.Limited.{Bounded, limited}
+use Rattle.fs_litmus_syntax.specs.Views.{layer_of, below_of}
+
+pub below_of_push : (ls : List Layer) (l : Layer) (fs : List (Frame Bounded)) → below_of (ls ++ l ∷ []) fs ≡ layer_of l ∷ below_of ls fs
+below_of_push [] l fs = refl
+below_of_push (m ∷ ls) l fs = below_of_push ls l (layer_of m ∷ fs)
+
+not_ended_below : (p : Place Bounded) (g f : Frame Bounded) (ls : List Layer) (fs : List (Frame Bounded)) → end_in limited p g (below_of ls (f ∷ fs)) ≡ None
+not_ended_below p g f [] fs = refl
+not_ended_below p g f (l ∷ ls) fs = not_ended_below p g (layer_of l) ls (f ∷ fs)
+
+pub not_ended : (p : Place Bounded) (g : Frame Bounded) (ls : List Layer) → 0 < length ls → end_in limited p g (below_of ls []) ≡ None
+not_ended p g [] h = absurd (omega arith)
+not_ended p g (l ∷ ls) h = not_ended_below p g (layer_of l) ls []
+
+-- each layer has at most n denials, with one that is put off
+abbrev pub AllSmall : ℕ → List (Frame Bounded) → Type 0
+AllSmall n [] = Unit {0}
+AllSmall n (f ∷ fs) = (f.denials ≤ n) × AllSmall n fs
+
+abbrev pub Small : ℕ → State Bounded → Type 0
+Small n s = (s.frame.denials + put_off s.place ≤ n) × AllSmall n s.below
+
+abbrev pub SmallOf : ℕ → Option (State Bounded) → Type 0
+SmallOf n None = Unit {0}
+SmallOf n (Some s) = Small n s
+
+all_small_more : (n : ℕ) (fs : List (Frame Bounded)) → AllSmall n fs → AllSmall (n + 1) fs
+all_small_more n [] h = tt
+all_small_more n (f ∷ fs) h = (omega (arith, h.0), all_small_more n fs h.1)
+
+small_begin : (n : ℕ) (f : Frame Bounded) (fs : List (Frame Bounded)) (t : Tok) → f.denials ≤ n → AllSmall n fs → SmallOf (n + 1) (next_begin f fs t)
+small_begin n f fs (Word class.Other w) h hs = tt
+small_begin n f fs (Word class.NotWord w) h hs = (omega arith, all_small_more n fs hs)
+small_begin n f fs (Word c w) h hs = (omega arith, all_small_more n fs hs)
+small_begin n f fs (Sign OpenBracket) h hs = (omega arith, all_small_more n fs hs)
+small_begin n f fs (Sign Tilde) h hs = (omega arith, all_small_more n fs hs)
+small_begin n f fs (Sign OpenParen) h hs = (omega arith, (omega arith, all_small_more n fs hs))
+small_begin n f fs _ h hs = tt
+
+small_after : (n : ℕ) (u : Bounded) (f : Frame Bounded) (fs : List (Frame Bounded)) (t : Tok) → f.denials ≤ n → AllSmall n fs → SmallOf (n + 1) (next_after limited u f fs t)
+small_after n u f fs (Sign And) h hs = (omega arith, all_small_more n fs hs)
+small_after n u f fs (Sign Or) h hs = (omega arith, all_small_more n fs hs)
+small_after n u f [] (Sign CloseParen) h hs = tt
+small_after n u f (g ∷ fs) (Sign CloseParen) h hs = (omega (arith, hs.0), all_small_more n fs hs.1)
+small_after n u f fs _ h hs = tt
+
+small_atom : (n : ℕ) (m : Move AtomPlace (Target × Value)) (f : Frame Bounded) (fs : List (Frame Bounded)) → f.denials ≤ n → AllSmall n fs → SmallOf (n + 1) (placed (place_after limited m) f fs)
+small_atom n (Go p) f fs h hs = (omega arith, all_small_more n fs hs)
+small_atom n (Finish a) f fs h hs = (omega arith, all_small_more n fs hs)
+small_atom n Bad f fs h hs = tt
+
+small_next_in : (n : ℕ) (p : Place Bounded) (f : Frame Bounded) (fs : List (Frame Bounded)) (t : Tok) → f.denials + put_off p ≤ n → AllSmall n fs → SmallOf (n + 1) (next_in limited p f fs t)
+small_next_in n Begin f fs t h hs = small_begin n f fs t (omega arith) hs
+small_next_in n (AfterNot w) f fs (Sign Equals) h hs = (omega arith, all_small_more n fs hs)
+small_next_in n (AfterNot w) f fs t h hs = small_begin n (with_denial f) fs t (omega arith) hs
+small_next_in n (AfterTrue w) f fs (Sign Equals) h hs = (omega arith, all_small_more n fs hs)
+small_next_in n (AfterTrue w) f fs t h hs = small_after n limited.truth f fs t (omega arith) hs
+small_next_in n (AfterFalse w) f fs (Sign Equals) h hs = (omega arith, all_small_more n fs hs)
+small_next_in n (AfterFalse w) f fs t h hs = small_after n limited.falsity f fs t (omega arith) hs
+small_next_in n (InAtom p) f fs t h hs = small_atom n (next_atom p t) f fs (omega arith) hs
+small_next_in n (AfterUnit u) f fs t h hs = small_after n u f fs t (omega arith) hs
+
+pub small_next : (n : ℕ) (s : State Bounded) (t : Tok) → Small n s → SmallOf (n + 1) (next limited s t)
+small_next n s t h = small_next_in n s.place s.frame s.below t h.0 h.1

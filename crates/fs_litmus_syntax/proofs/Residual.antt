@@ -1,0 +1,458 @@
+-- What the tokens to come must be, in each state of the reader, by the grammar alone.
+use Rattle.std.proofs.Common.{◌≡◌, ℕ, zero, suc, ◌+◌, true, false, List, [], ◌∷◌, Option, Some, None, refl, sym, ap, subst, add-one}
+use Rattle.fs_litmus_tokens.specs.Words.{is_name}
+use Rattle.fs_litmus_tokens.specs.Tokens.{Tok, Lined, Word, Sign}
+use Rattle.fs_litmus_tokens.specs.Values.{Target, Register, Location, Value, Number, Address, IsTarget, register, location, bracketed, IsValue, number, minus, address}
+use Rattle.fs_litmus_tokens.specs.Sections.{Go, Finish}
+use Rattle.fs_litmus_tokens.specs.declared.word.Class.{Class}
+use Rattle.fs_litmus_tokens.specs.declared.word.Class.TheVariants as class
+use Rattle.fs_litmus_tokens.specs.declared.token.Mark.TheVariants.{Colon, Equals, OpenBracket, CloseBracket, Minus, Tilde, OpenParen, CloseParen, And, Or}
+use Rattle.fs_litmus_syntax.specs.Grammar.{Syntax, Atom, True, False, Deny, Group, Both, Either, IsUnit, atom, truth, falsity, tilde, denial, group, IsConjunction, unit, both, IsDisjunction, conjunction, either, IsCondition}
+use Rattle.fs_litmus_syntax.specs.Machine.{AtomPlace, AfterHart, AfterColon, AfterBracket, AfterName, AfterTarget, AfterEquals, AfterMinus, next_atom, Maker, Frame, Place, Begin, AfterNot, AfterTrue, AfterFalse, InAtom, AfterUnit, State, joined, denied, with_denial, start, next_begin, named, product_of, sum_of, next_after, place_after, placed, next_in, end_in}
+
+-- the syntax itself
+abbrev pub tree : Maker Syntax
+tree = record { atom = Atom; truth = True; falsity = False; deny = Deny; group = Group; both = Both; either = Either }
+
+-- what may come after a conjunction, or a disjunction, that is read so far
+data ConjunctionTail : Syntax → List Lined → Syntax → List Lined → Type 0 where
+  done : {v : Syntax} {ts : List Lined} → ConjunctionTail v ts v ts
+  more : {v w b : Syntax} {k : ℕ} {ts mid rest : List Lined} → IsUnit ts b mid → ConjunctionTail (Both v b) mid w rest → ConjunctionTail v ((Sign And, k) ∷ ts) w rest
+
+data DisjunctionTail : Syntax → List Lined → Syntax → List Lined → Type 0 where
+  end : {v : Syntax} {ts : List Lined} → DisjunctionTail v ts v ts
+  plus : {v w b : Syntax} {k : ℕ} {ts mid rest : List Lined} → IsConjunction ts b mid → DisjunctionTail (Either v b) mid w rest → DisjunctionTail v ((Sign Or, k) ∷ ts) w rest
+
+conjunction_tail_push : {v a b : Syntax} {k : ℕ} {ts mid rest : List Lined} → ConjunctionTail v ts a ((Sign And, k) ∷ mid) → IsUnit mid b rest → ConjunctionTail v ts (Both a b) rest
+conjunction_tail_push done u = more u done
+conjunction_tail_push (more x t) u = more x (conjunction_tail_push t u)
+
+disjunction_tail_push : {v a b : Syntax} {k : ℕ} {ts mid rest : List Lined} → DisjunctionTail v ts a ((Sign Or, k) ∷ mid) → IsConjunction mid b rest → DisjunctionTail v ts (Either a b) rest
+disjunction_tail_push end u = plus u end
+disjunction_tail_push (plus x t) u = plus x (disjunction_tail_push t u)
+
+-- a conjunction is a unit and a tail
+record ConjunctionSplit (ts : List Lined) (a : Syntax) (rest : List Lined) : Type 0 where
+  first : Syntax
+  mid : List Lined
+  is_unit : IsUnit ts first mid
+  tail : ConjunctionTail first mid a rest
+
+conjunction_split : {a : Syntax} {ts rest : List Lined} → IsConjunction ts a rest → ConjunctionSplit ts a rest
+conjunction_split (unit u) = record { first = _; mid = _; is_unit = u; tail = done }
+conjunction_split (both p u) =
+    let s = conjunction_split p in
+    record { first = s.first; mid = s.mid; is_unit = s.is_unit; tail = conjunction_tail_push s.tail u }
+
+conjunction_join : {v a : Syntax} {ts mid rest : List Lined} → IsConjunction ts v mid → ConjunctionTail v mid a rest → IsConjunction ts a rest
+conjunction_join p done = p
+conjunction_join p (more u t) = conjunction_join (both p u) t
+
+record DisjunctionSplit (ts : List Lined) (a : Syntax) (rest : List Lined) : Type 0 where
+  first : Syntax
+  mid : List Lined
+  is_conjunction : IsConjunction ts first mid
+  tail : DisjunctionTail first mid a rest
+
+disjunction_split : {a : Syntax} {ts rest : List Lined} → IsDisjunction ts a rest → DisjunctionSplit ts a rest
+disjunction_split (conjunction u) = record { first = _; mid = _; is_conjunction = u; tail = end }
+disjunction_split (either p u) =
+    let s = disjunction_split p in
+    record { first = s.first; mid = s.mid; is_conjunction = s.is_conjunction; tail = disjunction_tail_push s.tail u }
+
+disjunction_join : {v a : Syntax} {ts mid rest : List Lined} → IsDisjunction ts v mid → DisjunctionTail v mid a rest → IsDisjunction ts a rest
+disjunction_join p end = p
+disjunction_join p (plus u t) = disjunction_join (either p u) t
+
+-- no tokens
+pub data IsEmpty : List Lined → Type 0 where
+  nothing : IsEmpty []
+
+-- a closing parenthesis, and then a rest
+pub data IsClosing : List Lined → List Lined → Type 0 where
+  closing : {k : ℕ} {rest : List Lined} → IsClosing ((Sign CloseParen, k) ∷ rest) rest
+
+-- With a disjunction and a conjunction read so far inside a frame, the tokens complete the frame to a value and leave a rest, of which K holds.
+pub record Inside (K : List Lined → Syntax → Type 0) (before : Option Syntax) (read : Syntax) (ts : List Lined) : Type 0 where
+  product : Syntax
+  value : Syntax
+  mid : List Lined
+  rest : List Lined
+  products : ConjunctionTail read ts product mid
+  sums : DisjunctionTail (joined Either before product) mid value rest
+  then : K rest value
+
+-- With a value of the innermost frame read, the tokens close the frames around it and the text, whose syntax is c.
+abbrev pub Closes : List (Frame Syntax) → Syntax → List Lined → Syntax → Type 0
+Closes [] c m w = IsEmpty m × (w ≡ c)
+Closes (g ∷ fs) c m w = (r : List Lined) × IsClosing m r × Inside (Closes fs c) g.sum (product_of tree g (Group w)) r
+
+-- after a unit
+abbrev pub UnitRead : Frame Syntax → List (Frame Syntax) → Syntax → List Lined → Syntax → Type 0
+UnitRead f fs u ts c = Inside (Closes fs c) f.sum (product_of tree f u) ts
+
+-- a unit, and what comes after it
+pub record UnitTo (f : Frame Syntax) (fs : List (Frame Syntax)) (ts : List Lined) (c : Syntax) : Type 0 where
+  value : Syntax
+  mid : List Lined
+  is_unit : IsUnit ts value mid
+  then : UnitRead f fs value mid c
+
+-- the rest of an atom, which becomes this target with this value
+pub data AtomLeft : AtomPlace → List Lined → Target → Value → List Lined → Type 0 where
+  after_hart : {h : List ℕ} {k : ℕ} {ts rest : List Lined} {t : Target} {v : Value} → AtomLeft (AfterColon h) ts t v rest → AtomLeft (AfterHart h) ((Sign Colon, k) ∷ ts) t v rest
+  after_colon : {h r : List ℕ} {c : Class} {k : ℕ} {ts rest : List Lined} {t : Target} {v : Value} → AtomLeft (AfterTarget (Register h r)) ts t v rest → AtomLeft (AfterColon h) ((Word c r, k) ∷ ts) t v rest
+  after_bracket : {w : List ℕ} {c : Class} {k : ℕ} {ts rest : List Lined} {t : Target} {v : Value} → is_name c ≡ true → AtomLeft (AfterName w) ts t v rest → AtomLeft AfterBracket ((Word c w, k) ∷ ts) t v rest
+  after_name : {w : List ℕ} {k : ℕ} {ts rest : List Lined} {t : Target} {v : Value} → AtomLeft (AfterTarget (Location w)) ts t v rest → AtomLeft (AfterName w) ((Sign CloseBracket, k) ∷ ts) t v rest
+  after_target : {s t : Target} {k : ℕ} {ts rest : List Lined} {v : Value} → AtomLeft (AfterEquals s) ts t v rest → AtomLeft (AfterTarget s) ((Sign Equals, k) ∷ ts) t v rest
+  after_equals : {t : Target} {ts rest : List Lined} {v : Value} → IsValue ts v rest → AtomLeft (AfterEquals t) ts t v rest
+  after_minus : {t : Target} {w : List ℕ} {k : ℕ} {rest : List Lined} → AtomLeft (AfterMinus t) ((Word class.Number w, k) ∷ rest) t (Number true w) rest
+
+-- the rest of an atom, and what comes after it
+pub record AtomTo (p : AtomPlace) (f : Frame Syntax) (fs : List (Frame Syntax)) (ts : List Lined) (c : Syntax) : Type 0 where
+  target : Target
+  value : Value
+  mid : List Lined
+  is_atom : AtomLeft p ts target value mid
+  then : UnitRead f fs (Atom target value) mid c
+
+-- a word names a location, or it is what it says
+pub data Decided (A B : Type 0) : Type 0 where
+  names : A → Decided A B
+  says : B → Decided A B
+
+-- the tokens to come, in each state
+abbrev pub LeftIn : Place Syntax → Frame Syntax → List (Frame Syntax) → List Lined → Syntax → Type 0
+LeftIn Begin f fs ts c = UnitTo f fs ts c
+LeftIn (AfterNot w) f fs ts c = Decided (AtomTo (AfterTarget (Location w)) f fs ts c) (UnitTo (with_denial f) fs ts c)
+LeftIn (AfterTrue w) f fs ts c = Decided (AtomTo (AfterTarget (Location w)) f fs ts c) (UnitRead f fs True ts c)
+LeftIn (AfterFalse w) f fs ts c = Decided (AtomTo (AfterTarget (Location w)) f fs ts c) (UnitRead f fs False ts c)
+LeftIn (InAtom p) f fs ts c = AtomTo p f fs ts c
+LeftIn (AfterUnit u) f fs ts c = UnitRead f fs u ts c
+
+abbrev pub Left : State Syntax → List Lined → Syntax → Type 0
+Left s ts c = LeftIn s.place s.frame s.below ts c
+
+abbrev pub LeftOf : Option (State Syntax) → List Lined → Syntax → Type 0
+LeftOf None ts c = ⊥
+LeftOf (Some s) ts c = Left s ts c
+
+-- one more denial
+denied_swap : (f : Syntax → Syntax) (n : ℕ) (u : Syntax) → f (denied f n u) ≡ denied f n (f u)
+denied_swap f zero u = refl
+denied_swap f (suc n) u = ap f (denied_swap f n u)
+
+denied_more : (f : Syntax → Syntax) (n : ℕ) (u : Syntax) → denied f n (f u) ≡ denied f (n + 1) u
+denied_more f n u = rw add-one (sym (denied_swap f n u))
+
+one_more_denial : (f : Frame Syntax) (u : Syntax) → product_of tree f (Deny u) ≡ product_of tree (with_denial f) u
+one_more_denial f u = ap (joined Both f.product) (denied_more Deny f.denials u)
+
+with_one_denial : {ts mid : List Lined} {u : Syntax} (c : Syntax) (f : Frame Syntax) (fs : List (Frame Syntax)) → IsUnit ts u mid → UnitRead f fs (Deny u) mid c → UnitTo (with_denial f) fs ts c
+with_one_denial {mid = m} {u = u} c f fs x k =
+    record { value = u; mid = m; is_unit = x; then = subst (λ p. Inside (Closes fs c) f.sum p m) (one_more_denial f u) k }
+
+without_denial : {ts mid : List Lined} {u : Syntax} (c : Syntax) (f : Frame Syntax) (fs : List (Frame Syntax)) → IsUnit ts (Deny u) mid → UnitRead (with_denial f) fs u mid c → UnitTo f fs ts c
+without_denial {mid = m} {u = u} c f fs x k =
+    record { value = Deny u; mid = m; is_unit = x; then = subst (λ p. Inside (Closes fs c) f.sum p m) (sym (one_more_denial f u)) k }
+
+-- a unit's first token
+named_begin : (n : Class) (w : List ℕ) (f : Frame Syntax) (fs : List (Frame Syntax)) (ts : List Lined) (c : Syntax) → is_name n ≡ true → AtomTo (AfterTarget (Location w)) f fs ts c → LeftOf (next_begin f fs (Word n w)) ts c
+named_begin class.Number w f fs ts c e h = absurd (cc)
+named_begin class.Other w f fs ts c e h = absurd (cc)
+named_begin class.NotWord w f fs ts c e h = names h
+named_begin class.TrueWord w f fs ts c e h = names h
+named_begin class.FalseWord w f fs ts c e h = names h
+named_begin _ w f fs ts c e h = h
+
+begin_forward : {x : Lined} {ts mid : List Lined} {u : Syntax} (c : Syntax) (f : Frame Syntax) (fs : List (Frame Syntax)) → IsUnit (x ∷ ts) u mid → UnitRead f fs u mid c → LeftOf (next_begin f fs x.0) ts c
+begin_forward {mid = m} c f fs (atom {t = t} {v = v} register iv) k =
+    record { target = t; value = v; mid = m; is_atom = after_hart (after_colon (after_target (after_equals iv))); then = k }
+begin_forward {mid = m} c f fs (atom {v = v} (location {w = w} {c = n} e) iv) k =
+    named_begin n w f fs _ c e (record { target = Location w; value = v; mid = m; is_atom = after_target (after_equals iv); then = k })
+begin_forward {mid = m} c f fs (atom {t = t} {v = v} (bracketed e) iv) k =
+    record { target = t; value = v; mid = m; is_atom = after_bracket e (after_name (after_target (after_equals iv))); then = k }
+begin_forward c f fs truth k = says k
+begin_forward c f fs falsity k = says k
+begin_forward c f fs (tilde x) k = with_one_denial c f fs x k
+begin_forward c f fs (denial x) k = says (with_one_denial c f fs x k)
+begin_forward {mid = m} c f fs (group {k = j} x) k =
+    let s = disjunction_split x in
+    let p = conjunction_split s.is_conjunction in
+    record { value = p.first; mid = p.mid; is_unit = p.is_unit; then = record { product = s.first; value = _; mid = s.mid; rest = (Sign CloseParen, j) ∷ m; products = p.tail; sums = s.tail; then = (m, closing, k) } }
+
+close_forward : {x : Lined} {ts r : List Lined} {read : Syntax} (u c : Syntax) (f g : Frame Syntax) (fs : List (Frame Syntax)) → read ≡ product_of tree f u → IsClosing (x ∷ ts) r → Inside (Closes fs c) g.sum (product_of tree g (Group (joined Either f.sum read))) r → LeftOf (next_after tree u f (g ∷ fs) x.0) ts c
+close_forward {r = r} u c f g fs e closing k = subst (λ q. UnitRead g fs (Group (joined Either f.sum q)) r c) e k
+
+after_forward : {x : Lined} {ts mid rest : List Lined} {read p w : Syntax} (u c : Syntax) (f : Frame Syntax) (fs : List (Frame Syntax)) → read ≡ product_of tree f u → ConjunctionTail read (x ∷ ts) p mid → DisjunctionTail (joined Either f.sum p) mid w rest → Closes fs c rest w → LeftOf (next_after tree u f fs x.0) ts c
+after_forward {mid = m} {rest = r} {p = p} {w = w} u c f fs e (more {b = b} {ts = ts} {mid = m1} x tail) sums k =
+    subst (λ q. UnitTo (record { sum = f.sum; product = Some q; denials = 0 }) fs ts c) e
+    (record { value = b; mid = m1; is_unit = x; then = record { product = p; value = w; mid = m; rest = r; products = tail; sums = sums; then = k } })
+after_forward {rest = r} {w = w} u c f fs e done (plus {b = b} {ts = ts} {mid = m} x tail) k =
+    let s = conjunction_split x in
+    subst (λ q. UnitTo (record { sum = Some (joined Either f.sum q); product = None; denials = 0 }) fs ts c) e
+    (record { value = s.first; mid = s.mid; is_unit = s.is_unit; then = record { product = b; value = w; mid = m; rest = r; products = s.tail; sums = tail; then = k } })
+after_forward u c f [] e done end k = elim k.0 [ ]
+after_forward u c f (g ∷ fs) e done end (r, close, k) = close_forward u c f g fs e close k
+
+-- a word with = after it names a location
+named_forward : {x : Lined} {ts mid : List Lined} {t : Target} {v : Value} (w : List ℕ) (c : Syntax) (f : Frame Syntax) (fs : List (Frame Syntax)) (p : Place Syntax) → next_in tree p f fs (Sign Equals) ≡ named w f fs → AtomLeft (AfterTarget (Location w)) (x ∷ ts) t v mid → UnitRead f fs (Atom t v) mid c → LeftOf (next_in tree p f fs x.0) ts c
+named_forward {ts = ts} {mid = m} {t = t} {v = v} w c f fs p e (after_target a) k =
+    subst (λ o. LeftOf o ts c) (sym e) (record { target = t; value = v; mid = m; is_atom = a; then = k })
+
+-- and without it, is what it says
+not_forward : (w : List ℕ) (f : Frame Syntax) (fs : List (Frame Syntax)) (t : Tok) (ts : List Lined) (c : Syntax) → LeftOf (next_begin (with_denial f) fs t) ts c → LeftOf (next_in tree (AfterNot w) f fs t) ts c
+not_forward w f fs (Sign Equals) ts c h = absurd h
+not_forward w f fs _ ts c h = h
+
+true_forward : (w : List ℕ) (f : Frame Syntax) (fs : List (Frame Syntax)) (t : Tok) (ts : List Lined) (c : Syntax) → LeftOf (next_after tree True f fs t) ts c → LeftOf (next_in tree (AfterTrue w) f fs t) ts c
+true_forward w f fs (Sign Equals) ts c h = absurd h
+true_forward w f fs _ ts c h = h
+
+false_forward : (w : List ℕ) (f : Frame Syntax) (fs : List (Frame Syntax)) (t : Tok) (ts : List Lined) (c : Syntax) → LeftOf (next_after tree False f fs t) ts c → LeftOf (next_in tree (AfterFalse w) f fs t) ts c
+false_forward w f fs (Sign Equals) ts c h = absurd h
+false_forward w f fs _ ts c h = h
+
+-- in an atom
+bracket_word : (n : Class) (w : List ℕ) → is_name n ≡ true → next_atom AfterBracket (Word n w) ≡ Go (AfterName w)
+bracket_word class.Number w e = absurd (cc)
+bracket_word class.Other w e = absurd (cc)
+bracket_word _ w e = refl
+
+value_word : (n : Class) (t : Target) (w : List ℕ) → is_name n ≡ true → next_atom (AfterEquals t) (Word n w) ≡ Finish (t, Address w)
+value_word class.Number t w e = absurd (cc)
+value_word class.Other t w e = absurd (cc)
+value_word _ t w e = refl
+
+atom_forward : {x : Lined} {p : AtomPlace} {ts mid : List Lined} {t : Target} {v : Value} (c : Syntax) (f : Frame Syntax) (fs : List (Frame Syntax)) → AtomLeft p (x ∷ ts) t v mid → UnitRead f fs (Atom t v) mid c → LeftOf (placed (place_after tree (next_atom p x.0)) f fs) ts c
+atom_forward {mid = m} {t = t} {v = v} c f fs (after_hart a) k = record { target = t; value = v; mid = m; is_atom = a; then = k }
+atom_forward {mid = m} {t = t} {v = v} c f fs (after_colon a) k = record { target = t; value = v; mid = m; is_atom = a; then = k }
+atom_forward {mid = m} {t = t} {v = v} c f fs (after_bracket {w = w} {c = n} {ts = ts} e a) k =
+    subst (λ q. LeftOf (placed (place_after tree q) f fs) ts c) (sym (bracket_word n w e)) (record { target = t; value = v; mid = m; is_atom = a; then = k })
+atom_forward {mid = m} {t = t} {v = v} c f fs (after_name a) k = record { target = t; value = v; mid = m; is_atom = a; then = k }
+atom_forward {mid = m} {t = t} {v = v} c f fs (after_target a) k = record { target = t; value = v; mid = m; is_atom = a; then = k }
+atom_forward c f fs (after_equals number) k = k
+atom_forward {mid = m} {t = t} c f fs (after_equals (minus {w = w})) k = record { target = t; value = Number true w; mid = m; is_atom = after_minus; then = k }
+atom_forward {mid = m} {t = t} c f fs (after_equals (address {w = w} {c = n} e)) k =
+    subst (λ q. LeftOf (placed (place_after tree q) f fs) m c) (sym (value_word n t w e)) k
+atom_forward c f fs after_minus k = k
+
+-- the tokens to come, after one more token
+pub forward : (p : Place Syntax) (f : Frame Syntax) (fs : List (Frame Syntax)) (x : Lined) (ts : List Lined) (c : Syntax) → LeftIn p f fs (x ∷ ts) c → LeftOf (next_in tree p f fs x.0) ts c
+forward Begin f fs x ts c h = begin_forward c f fs h.is_unit h.then
+forward (AfterNot w) f fs x ts c (names h) = named_forward w c f fs (AfterNot w) refl h.is_atom h.then
+forward (AfterNot w) f fs x ts c (says h) = not_forward w f fs x.0 ts c (begin_forward c (with_denial f) fs h.is_unit h.then)
+forward (AfterTrue w) f fs x ts c (names h) = named_forward w c f fs (AfterTrue w) refl h.is_atom h.then
+forward (AfterTrue w) f fs x ts c (says h) = true_forward w f fs x.0 ts c (after_forward True c f fs refl h.products h.sums h.then)
+forward (AfterFalse w) f fs x ts c (names h) = named_forward w c f fs (AfterFalse w) refl h.is_atom h.then
+forward (AfterFalse w) f fs x ts c (says h) = false_forward w f fs x.0 ts c (after_forward False c f fs refl h.products h.sums h.then)
+forward (InAtom p) f fs x ts c h = atom_forward c f fs h.is_atom h.then
+forward (AfterUnit u) f fs x ts c h = after_forward u c f fs refl h.products h.sums h.then
+
+-- ---- the same the other way
+
+hart_back : {h : List ℕ} {ts mid : List Lined} {t : Target} {v : Value} (k : ℕ) → AtomLeft (AfterHart h) ts t v mid → IsUnit ((Word class.Number h, k) ∷ ts) (Atom t v) mid
+hart_back k (after_hart (after_colon (after_target (after_equals iv)))) = atom register iv
+
+name_back : {w : List ℕ} {ts mid : List Lined} {t : Target} {v : Value} (n : Class) (k : ℕ) → is_name n ≡ true → AtomLeft (AfterTarget (Location w)) ts t v mid → IsUnit ((Word n w, k) ∷ ts) (Atom t v) mid
+name_back n k e (after_target (after_equals iv)) = atom (location e) iv
+
+bracket_back : {ts mid : List Lined} {t : Target} {v : Value} (k : ℕ) → AtomLeft AfterBracket ts t v mid → IsUnit ((Sign OpenBracket, k) ∷ ts) (Atom t v) mid
+bracket_back k (after_bracket e (after_name (after_target (after_equals iv)))) = atom (bracketed e) iv
+
+parens_back : {ts mid mid2 rest : List Lined} {u p w : Syntax} (k : ℕ) (c : Syntax) (f : Frame Syntax) (fs : List (Frame Syntax)) → IsUnit ts u mid → ConjunctionTail u mid p mid2 → DisjunctionTail p mid2 w rest → Closes (f ∷ fs) c rest w → UnitTo f fs ((Sign OpenParen, k) ∷ ts) c
+parens_back {w = w} k c f fs u products sums (r, closing, t) =
+    record { value = Group w; mid = r; is_unit = group (disjunction_join (conjunction (conjunction_join (unit u) products)) sums); then = t }
+
+begin_backward : (f : Frame Syntax) (fs : List (Frame Syntax)) (t : Tok) (k : ℕ) (ts : List Lined) (c : Syntax) → LeftOf (next_begin f fs t) ts c → UnitTo f fs ((t, k) ∷ ts) c
+begin_backward f fs (Word class.Number w) k ts c h = record { value = Atom h.target h.value; mid = h.mid; is_unit = hart_back k h.is_atom; then = h.then }
+begin_backward f fs (Word class.NotWord w) k ts c (names h) = record { value = Atom h.target h.value; mid = h.mid; is_unit = name_back class.NotWord k refl h.is_atom; then = h.then }
+begin_backward f fs (Word class.NotWord w) k ts c (says h) = without_denial c f fs (denial h.is_unit) h.then
+begin_backward f fs (Word class.TrueWord w) k ts c (names h) = record { value = Atom h.target h.value; mid = h.mid; is_unit = name_back class.TrueWord k refl h.is_atom; then = h.then }
+begin_backward f fs (Word class.TrueWord w) k ts c (says h) = record { value = True; mid = ts; is_unit = truth; then = h }
+begin_backward f fs (Word class.FalseWord w) k ts c (names h) = record { value = Atom h.target h.value; mid = h.mid; is_unit = name_back class.FalseWord k refl h.is_atom; then = h.then }
+begin_backward f fs (Word class.FalseWord w) k ts c (says h) = record { value = False; mid = ts; is_unit = falsity; then = h }
+begin_backward f fs (Word class.Other w) k ts c h = absurd h
+begin_backward f fs (Word n w) k ts c h = record { value = Atom h.target h.value; mid = h.mid; is_unit = name_back n k refl h.is_atom; then = h.then }
+begin_backward f fs (Sign OpenBracket) k ts c h = record { value = Atom h.target h.value; mid = h.mid; is_unit = bracket_back k h.is_atom; then = h.then }
+begin_backward f fs (Sign Tilde) k ts c h = without_denial c f fs (tilde h.is_unit) h.then
+begin_backward f fs (Sign OpenParen) k ts c h = parens_back k c f fs h.is_unit h.then.products h.then.sums h.then.then
+begin_backward f fs _ k ts c h = absurd h
+
+after_backward : (u : Syntax) (f : Frame Syntax) (fs : List (Frame Syntax)) (t : Tok) (k : ℕ) (ts : List Lined) (c : Syntax) → LeftOf (next_after tree u f fs t) ts c → UnitRead f fs u ((t, k) ∷ ts) c
+after_backward u f fs (Sign And) k ts c h =
+    record { product = h.then.product; value = h.then.value; mid = h.then.mid; rest = h.then.rest; products = more h.is_unit h.then.products; sums = h.then.sums; then = h.then.then }
+after_backward u f fs (Sign Or) k ts c h =
+    record { product = product_of tree f u; value = h.then.value; mid = (Sign Or, k) ∷ ts; rest = h.then.rest; products = done; sums = plus (conjunction_join (unit h.is_unit) h.then.products) h.then.sums; then = h.then.then }
+after_backward u f [] (Sign CloseParen) k ts c h = absurd h
+after_backward u f (g ∷ fs) (Sign CloseParen) k ts c h =
+    record { product = product_of tree f u; value = sum_of tree f u; mid = (Sign CloseParen, k) ∷ ts; rest = (Sign CloseParen, k) ∷ ts; products = done; sums = end; then = (ts, closing, h) }
+after_backward u f fs _ k ts c h = absurd h
+
+minus_back : {s t : Target} {ts mid : List Lined} {v : Value} (k : ℕ) → AtomLeft (AfterMinus s) ts t v mid → AtomLeft (AfterEquals s) ((Sign Minus, k) ∷ ts) t v mid
+minus_back k after_minus = after_equals minus
+
+atom_backward : (p : AtomPlace) (f : Frame Syntax) (fs : List (Frame Syntax)) (t : Tok) (k : ℕ) (ts : List Lined) (c : Syntax) → LeftOf (placed (place_after tree (next_atom p t)) f fs) ts c → AtomTo p f fs ((t, k) ∷ ts) c
+atom_backward (AfterHart w) f fs (Sign Colon) k ts c h = record { target = h.target; value = h.value; mid = h.mid; is_atom = after_hart h.is_atom; then = h.then }
+atom_backward (AfterHart w) f fs _ k ts c h = absurd h
+atom_backward (AfterColon w) f fs (Word n r) k ts c h = record { target = h.target; value = h.value; mid = h.mid; is_atom = after_colon h.is_atom; then = h.then }
+atom_backward (AfterColon w) f fs _ k ts c h = absurd h
+atom_backward AfterBracket f fs (Word class.Number w) k ts c h = absurd h
+atom_backward AfterBracket f fs (Word class.Other w) k ts c h = absurd h
+atom_backward AfterBracket f fs (Word n w) k ts c h = record { target = h.target; value = h.value; mid = h.mid; is_atom = after_bracket refl h.is_atom; then = h.then }
+atom_backward AfterBracket f fs _ k ts c h = absurd h
+atom_backward (AfterName w) f fs (Sign CloseBracket) k ts c h = record { target = h.target; value = h.value; mid = h.mid; is_atom = after_name h.is_atom; then = h.then }
+atom_backward (AfterName w) f fs _ k ts c h = absurd h
+atom_backward (AfterTarget t) f fs (Sign Equals) k ts c h = record { target = h.target; value = h.value; mid = h.mid; is_atom = after_target h.is_atom; then = h.then }
+atom_backward (AfterTarget t) f fs _ k ts c h = absurd h
+atom_backward (AfterEquals t) f fs (Word class.Number w) k ts c h = record { target = t; value = Number false w; mid = ts; is_atom = after_equals number; then = h }
+atom_backward (AfterEquals t) f fs (Word class.Other w) k ts c h = absurd h
+atom_backward (AfterEquals t) f fs (Word n w) k ts c h = record { target = t; value = Address w; mid = ts; is_atom = after_equals (address refl); then = h }
+atom_backward (AfterEquals t) f fs (Sign Minus) k ts c h = record { target = h.target; value = h.value; mid = h.mid; is_atom = minus_back k h.is_atom; then = h.then }
+atom_backward (AfterEquals t) f fs _ k ts c h = absurd h
+atom_backward (AfterMinus t) f fs (Word class.Number w) k ts c h = record { target = t; value = Number true w; mid = ts; is_atom = after_minus; then = h }
+atom_backward (AfterMinus t) f fs _ k ts c h = absurd h
+
+pub backward : (p : Place Syntax) (f : Frame Syntax) (fs : List (Frame Syntax)) (t : Tok) (k : ℕ) (ts : List Lined) (c : Syntax) → LeftOf (next_in tree p f fs t) ts c → LeftIn p f fs ((t, k) ∷ ts) c
+backward Begin f fs t k ts c h = begin_backward f fs t k ts c h
+backward (AfterNot w) f fs (Sign Equals) k ts c h = names (record { target = h.target; value = h.value; mid = h.mid; is_atom = after_target h.is_atom; then = h.then })
+backward (AfterNot w) f fs t k ts c h = says (begin_backward (with_denial f) fs t k ts c h)
+backward (AfterTrue w) f fs (Sign Equals) k ts c h = names (record { target = h.target; value = h.value; mid = h.mid; is_atom = after_target h.is_atom; then = h.then })
+backward (AfterTrue w) f fs t k ts c h = says (after_backward True f fs t k ts c h)
+backward (AfterFalse w) f fs (Sign Equals) k ts c h = names (record { target = h.target; value = h.value; mid = h.mid; is_atom = after_target h.is_atom; then = h.then })
+backward (AfterFalse w) f fs t k ts c h = says (after_backward False f fs t k ts c h)
+backward (InAtom p) f fs t k ts c h = atom_backward p f fs t k ts c h
+backward (AfterUnit u) f fs t k ts c h = after_backward u f fs t k ts c h
+
+-- ---- where the text may end
+
+no_value : {v : Value} {m : List Lined} → IsValue [] v m → ⊥
+no_value h = elim h [ ]
+
+no_target : {t : Target} {m : List Lined} → IsTarget [] t m → ⊥
+no_target h = elim h [ ]
+
+no_unit : {u : Syntax} {m : List Lined} → IsUnit [] u m → ⊥
+no_unit (atom it iv) = no_target it
+
+no_atom : {p : AtomPlace} {t : Target} {v : Value} {m : List Lined} → AtomLeft p [] t v m → ⊥
+no_atom (after_equals iv) = no_value iv
+
+no_closing : {r : List Lined} → IsClosing [] r → ⊥
+no_closing h = elim h [ ]
+
+ends_with : {read p w : Syntax} {mid rest : List Lined} (c : Syntax) (before : Option Syntax) (fs : List (Frame Syntax)) → ConjunctionTail read [] p mid → DisjunctionTail (joined Either before p) mid w rest → Closes fs c rest w → (fs ≡ []) × (joined Either before read ≡ c)
+ends_with c before [] done end k = (refl, k.1)
+ends_with c before (g ∷ fs) done end (r, s, k) = absurd (no_closing s)
+
+unit_ends : (u : Syntax) (f : Frame Syntax) (c : Syntax) → UnitRead f [] u [] c → Some (sum_of tree f u) ≡ Some c
+unit_ends u f c h = ap Some (ends_with c f.sum [] h.products h.sums h.then).1
+
+unit_open : (u : Syntax) (f g : Frame Syntax) (fs : List (Frame Syntax)) (c : Syntax) → UnitRead f (g ∷ fs) u [] c → ⊥
+unit_open u f g fs c h = let e = (ends_with c f.sum (g ∷ fs) h.products h.sums h.then).0 in cc
+
+pub end_forward : (p : Place Syntax) (f : Frame Syntax) (fs : List (Frame Syntax)) (c : Syntax) → LeftIn p f fs [] c → end_in tree p f fs ≡ Some c
+end_forward Begin f fs c h = absurd (no_unit h.is_unit)
+end_forward (AfterNot w) f fs c (names h) = absurd (no_atom h.is_atom)
+end_forward (AfterNot w) f fs c (says h) = absurd (no_unit h.is_unit)
+end_forward (AfterTrue w) f fs c (names h) = absurd (no_atom h.is_atom)
+end_forward (AfterTrue w) f [] c (says h) = unit_ends True f c h
+end_forward (AfterTrue w) f (g ∷ fs) c (says h) = absurd (unit_open True f g fs c h)
+end_forward (AfterFalse w) f fs c (names h) = absurd (no_atom h.is_atom)
+end_forward (AfterFalse w) f [] c (says h) = unit_ends False f c h
+end_forward (AfterFalse w) f (g ∷ fs) c (says h) = absurd (unit_open False f g fs c h)
+end_forward (InAtom p) f fs c h = absurd (no_atom h.is_atom)
+end_forward (AfterUnit u) f [] c h = unit_ends u f c h
+end_forward (AfterUnit u) f (g ∷ fs) c h = absurd (unit_open u f g fs c h)
+
+unit_ended : (u : Syntax) (f : Frame Syntax) (c : Syntax) → sum_of tree f u ≡ c → UnitRead f [] u [] c
+unit_ended u f c e = record { product = product_of tree f u; value = sum_of tree f u; mid = []; rest = []; products = done; sums = end; then = (nothing, e) }
+
+pub end_backward : (p : Place Syntax) (f : Frame Syntax) (fs : List (Frame Syntax)) (c : Syntax) → end_in tree p f fs ≡ Some c → LeftIn p f fs [] c
+end_backward p f (g ∷ fs) c e = absurd (cc)
+end_backward (AfterTrue w) f [] c e = says (unit_ended True f c (cc))
+end_backward (AfterFalse w) f [] c e = says (unit_ended False f c (cc))
+end_backward (AfterUnit u) f [] c e = unit_ended u f c (cc)
+end_backward _ f [] c e = absurd (cc)
+
+-- ---- each state can be completed
+
+ending : (fs : List (Frame Syntax)) (w : Syntax) → (ts : List Lined) × (c : Syntax) × Closes fs c ts w
+ending [] w = ([], w, (nothing, refl))
+ending (g ∷ fs) w =
+    let v = Group w in
+    let x = ending fs (sum_of tree g v) in
+    ((Sign CloseParen, 0) ∷ x.0, x.1, (x.0, closing, record { product = product_of tree g v; value = sum_of tree g v; mid = x.0; rest = x.0; products = done; sums = end; then = x.2 }))
+
+after_live : (f : Frame Syntax) (fs : List (Frame Syntax)) (u : Syntax) → (ts : List Lined) × (c : Syntax) × UnitRead f fs u ts c
+after_live f fs u =
+    let x = ending fs (sum_of tree f u) in
+    (x.0, x.1, record { product = product_of tree f u; value = sum_of tree f u; mid = x.0; rest = x.0; products = done; sums = end; then = x.2 })
+
+-- the word true
+begin_live : (f : Frame Syntax) (fs : List (Frame Syntax)) → (ts : List Lined) × (c : Syntax) × UnitTo f fs ts c
+begin_live f fs =
+    let x = after_live f fs True in
+    ((Word class.TrueWord (116 ∷ 114 ∷ 117 ∷ 101 ∷ []), 0) ∷ x.0, x.1, record { value = True; mid = x.0; is_unit = truth; then = x.2 })
+
+-- an atom that ends with the register x5 or the location x, and the number 0
+abbrev live_target : AtomPlace → Target
+live_target (AfterHart h) = Register h (120 ∷ 53 ∷ [])
+live_target (AfterColon h) = Register h (120 ∷ 53 ∷ [])
+live_target AfterBracket = Location (120 ∷ [])
+live_target (AfterName w) = Location w
+live_target (AfterTarget t) = t
+live_target (AfterEquals t) = t
+live_target (AfterMinus t) = t
+
+abbrev live_value : AtomPlace → Value
+live_value (AfterMinus t) = Number true (48 ∷ [])
+live_value _ = Number false (48 ∷ [])
+
+abbrev zero_then : List Lined → List Lined
+zero_then ts = (Word class.Number (48 ∷ []), 0) ∷ ts
+
+abbrev equals_then : List Lined → List Lined
+equals_then ts = (Sign Equals, 0) ∷ zero_then ts
+
+abbrev live_tokens : AtomPlace → List Lined → List Lined
+live_tokens (AfterHart h) ts = (Sign Colon, 0) ∷ (Word class.Name (120 ∷ 53 ∷ []), 0) ∷ equals_then ts
+live_tokens (AfterColon h) ts = (Word class.Name (120 ∷ 53 ∷ []), 0) ∷ equals_then ts
+live_tokens AfterBracket ts = (Word class.Name (120 ∷ []), 0) ∷ (Sign CloseBracket, 0) ∷ equals_then ts
+live_tokens (AfterName w) ts = (Sign CloseBracket, 0) ∷ equals_then ts
+live_tokens (AfterTarget t) ts = equals_then ts
+live_tokens (AfterEquals t) ts = zero_then ts
+live_tokens (AfterMinus t) ts = zero_then ts
+
+atom_live : (p : AtomPlace) (ts : List Lined) → AtomLeft p (live_tokens p ts) (live_target p) (live_value p) ts
+atom_live (AfterHart h) ts = after_hart (after_colon (after_target (after_equals number)))
+atom_live (AfterColon h) ts = after_colon (after_target (after_equals number))
+atom_live AfterBracket ts = after_bracket refl (after_name (after_target (after_equals number)))
+atom_live (AfterName w) ts = after_name (after_target (after_equals number))
+atom_live (AfterTarget t) ts = after_target (after_equals number)
+atom_live (AfterEquals t) ts = after_equals number
+atom_live (AfterMinus t) ts = after_minus
+
+pub live : (p : Place Syntax) (f : Frame Syntax) (fs : List (Frame Syntax)) → (ts : List Lined) × (c : Syntax) × LeftIn p f fs ts c
+live Begin f fs = begin_live f fs
+live (AfterNot w) f fs = let x = begin_live (with_denial f) fs in (x.0, x.1, says x.2)
+live (AfterTrue w) f fs = let x = after_live f fs True in (x.0, x.1, says x.2)
+live (AfterFalse w) f fs = let x = after_live f fs False in (x.0, x.1, says x.2)
+live (InAtom p) f fs =
+    let x = after_live f fs (Atom (live_target p) (live_value p)) in
+    (live_tokens p x.0, x.1, record { target = live_target p; value = live_value p; mid = x.0; is_atom = atom_live p x.0; then = x.2 })
+live (AfterUnit u) f fs = after_live f fs u
+
+-- ---- the start
+
+pub start_forward : (ts : List Lined) (c : Syntax) → IsCondition ts c → Left start ts c
+start_forward ts c h =
+    let s = disjunction_split h in
+    let p = conjunction_split s.is_conjunction in
+    record { value = p.first; mid = p.mid; is_unit = p.is_unit; then = record { product = s.first; value = c; mid = s.mid; rest = []; products = p.tail; sums = s.tail; then = (nothing, refl) } }
+
+condition_from : {ts rest : List Lined} {w c : Syntax} → IsDisjunction ts w rest → IsEmpty rest → w ≡ c → IsCondition ts c
+condition_from {ts = ts} s nothing e = subst (λ w. IsDisjunction ts w []) e s
+
+pub start_backward : (ts : List Lined) (c : Syntax) → Left start ts c → IsCondition ts c
+start_backward ts c h = condition_from (disjunction_join (conjunction (conjunction_join (unit h.is_unit) h.then.products)) h.then.sums) h.then.then.0 h.then.then.1

@@ -1,0 +1,40 @@
+-- Conditions as they are written (herd7's format of litmus tests).
+-- L ts s rest says that the tokens ts are an L with the syntax s, and then rest.
+use Rattle.std.specs.Prelude.{ℕ, List, [], ◌∷◌}
+use Rattle.fs_litmus_tokens.specs.Tokens.{Lined, Word, Sign}
+use Rattle.fs_litmus_tokens.specs.Values.{Target, Value, IsTarget, IsValue}
+use Rattle.fs_litmus_tokens.specs.declared.word.Class.TheVariants.{NotWord, TrueWord, FalseWord}
+use Rattle.fs_litmus_tokens.specs.declared.token.Mark.TheVariants.{Equals, Tilde, OpenParen, CloseParen, And, Or}
+
+-- a condition as it is written; a group stands in parentheses
+pub data Syntax : Type 0 where
+  Atom : Target → Value → Syntax
+  True : Syntax
+  False : Syntax
+  Deny : Syntax → Syntax
+  Group : Syntax → Syntax
+  Both : Syntax → Syntax → Syntax
+  Either : Syntax → Syntax → Syntax
+
+mutual
+  pub data IsUnit : List Lined → Syntax → List Lined → Type 0 where
+    atom : {t : Target} {v : Value} {k : ℕ} {ts mid rest : List Lined} → IsTarget ts t ((Sign Equals, k) ∷ mid) → IsValue mid v rest → IsUnit ts (Atom t v) rest
+    truth : {w : List ℕ} {k : ℕ} {rest : List Lined} → IsUnit ((Word TrueWord w, k) ∷ rest) True rest
+    falsity : {w : List ℕ} {k : ℕ} {rest : List Lined} → IsUnit ((Word FalseWord w, k) ∷ rest) False rest
+    tilde : {s : Syntax} {k : ℕ} {ts rest : List Lined} → IsUnit ts s rest → IsUnit ((Sign Tilde, k) ∷ ts) (Deny s) rest
+    denial : {s : Syntax} {w : List ℕ} {k : ℕ} {ts rest : List Lined} → IsUnit ts s rest → IsUnit ((Word NotWord w, k) ∷ ts) (Deny s) rest
+    group : {s : Syntax} {j k : ℕ} {ts rest : List Lined} → IsDisjunction ts s ((Sign CloseParen, k) ∷ rest) → IsUnit ((Sign OpenParen, j) ∷ ts) (Group s) rest
+
+  -- units joined by /\, to the left
+  pub data IsConjunction : List Lined → Syntax → List Lined → Type 0 where
+    unit : {s : Syntax} {ts rest : List Lined} → IsUnit ts s rest → IsConjunction ts s rest
+    both : {a b : Syntax} {k : ℕ} {ts mid rest : List Lined} → IsConjunction ts a ((Sign And, k) ∷ mid) → IsUnit mid b rest → IsConjunction ts (Both a b) rest
+
+  -- conjunctions joined by \/, to the left
+  pub data IsDisjunction : List Lined → Syntax → List Lined → Type 0 where
+    conjunction : {s : Syntax} {ts rest : List Lined} → IsConjunction ts s rest → IsDisjunction ts s rest
+    either : {a b : Syntax} {k : ℕ} {ts mid rest : List Lined} → IsDisjunction ts a ((Sign Or, k) ∷ mid) → IsConjunction mid b rest → IsDisjunction ts (Either a b) rest
+
+-- the tokens are a condition, and nothing follows it
+abbrev pub IsCondition : List Lined → Syntax → Type 0
+IsCondition ts s = IsDisjunction ts s []

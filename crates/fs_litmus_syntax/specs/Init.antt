@@ -1,0 +1,168 @@
+-- The block of initial values (herd7's format of litmus tests).
+-- L ts a rest says that the tokens ts are an L that means a, and then rest.
+use Rattle.std.specs.Prelude.{ℕ, List, [], ◌∷◌, ◌++◌, true, false, map}
+use Rattle.fs_litmus_tokens.specs.Tokens.{Tok, Lined, Word, Sign}
+use Rattle.fs_litmus_tokens.specs.declared.word.Class.TheVariants as class
+use Rattle.fs_litmus_tokens.specs.declared.token.Mark.TheVariants.{OpenBrace, CloseBrace, Semicolon, Colon, Equals, OpenBracket, CloseBracket, Minus}
+use Rattle.fs_litmus_tokens.specs.Values.{Target, Register, Location, Value, Number, Address, IsTarget, IsValue, target_of, value_of}
+use Rattle.fs_litmus_tokens.specs.Sections.{Move, Go, Finish, Bad}
+use Rattle.fs_litmus_syntax.specs.declared.init.Entry as entries
+use Rattle.fs_litmus_syntax.specs.declared.init.Position as positions
+use Rattle.fs_litmus_syntax.specs.declared.init.Position.TheVariants as position
+use Rattle.fs_litmus_syntax.specs.declared.init.Transition as transitions
+use Rattle.fs_litmus_syntax.specs.declared.init.Transition.TheVariants as transition
+
+-- an initial value, and the line of the first token of its target
+pub record Entry : Type 0 where
+  pub line : ℕ
+  pub target : Target
+  pub value : Value
+
+-- a target, =, a value
+pub data IsBare : List Lined → Entry → List Lined → Type 0 where
+  bare : {t : Tok} {line k : ℕ} {x : Target} {v : Value} {ts mid rest : List Lined} → IsTarget ((t, line) ∷ ts) x ((Sign Equals, k) ∷ mid) → IsValue mid v rest → IsBare ((t, line) ∷ ts) (record { line = line; target = x; value = v }) rest
+
+-- one of the words int, int32_t and uint32_t may stand before it, and has no effect
+pub data IsEntry : List Lined → Entry → List Lined → Type 0 where
+  untyped : {e : Entry} {ts rest : List Lined} → IsBare ts e rest → IsEntry ts e rest
+  typed : {w : List ℕ} {k : ℕ} {e : Entry} {ts rest : List Lined} → IsBare ts e rest → IsEntry ((Word class.TypeWord w, k) ∷ ts) e rest
+
+-- entries ended by semicolons, of which the last may be missing, and the closing brace
+mutual
+  pub data IsEntries : List Lined → List Entry → List Lined → Type 0 where
+    none : {k : ℕ} {rest : List Lined} → IsEntries ((Sign CloseBrace, k) ∷ rest) [] rest
+    entry : {e : Entry} {es : List Entry} {ts mid rest : List Lined} → IsEntry ts e mid → IsEntryEnd mid es rest → IsEntries ts (e ∷ es) rest
+
+  pub data IsEntryEnd : List Lined → List Entry → List Lined → Type 0 where
+    brace : {k : ℕ} {rest : List Lined} → IsEntryEnd ((Sign CloseBrace, k) ∷ rest) [] rest
+    semicolon : {k : ℕ} {es : List Entry} {ts rest : List Lined} → IsEntries ts es rest → IsEntryEnd ((Sign Semicolon, k) ∷ ts) es rest
+
+pub data IsInit : List Lined → List Entry → List Lined → Type 0 where
+  block : {k : ℕ} {es : List Entry} {ts rest : List Lined} → IsEntries ts es rest → IsInit ((Sign OpenBrace, k) ∷ ts) es rest
+
+-- ---- what the reader's values stand for
+
+abbrev pub entry_of : entries.Entry → Entry
+entry_of e = record { line = e.line; target = target_of e.target; value = value_of e.value }
+
+abbrev pub entries_of : List entries.Entry → List Entry
+entries_of es = map entry_of es
+
+-- ---- what the reader does
+
+-- what was read last
+pub data Position : Type 0 where
+  BeforeBrace : Position
+  BeforeEntry : Position
+  AfterType : (line : ℕ) → (w : List ℕ) → Position
+  AfterHart : (line : ℕ) → (hart : List ℕ) → Position
+  AfterColon : (line : ℕ) → (hart : List ℕ) → Position
+  AfterBracket : (line : ℕ) → Position
+  AfterBracketedName : (line : ℕ) → (name : List ℕ) → Position
+  AfterTarget : (line : ℕ) → Target → Position
+  AfterEquals : (line : ℕ) → Target → Position
+  AfterMinus : (line : ℕ) → Target → Position
+  AfterValue : Entry → Position
+
+-- what a token does that ends no entry
+abbrev pub Turn : Type 0
+Turn = Move Position (Unit {0})
+
+abbrev pub target_begun : Lined → Turn
+target_begun (Word class.Number h, k) = Go (AfterHart k h)
+target_begun (Word class.Other w, k) = Bad
+target_begun (Word c w, k) = Go (AfterTarget k (Location w))
+target_begun (Sign OpenBracket, k) = Go (AfterBracket k)
+target_begun _ = Bad
+
+abbrev pub entry_begun : Lined → Turn
+entry_begun (Sign CloseBrace, k) = Finish tt
+entry_begun (Word class.TypeWord w, k) = Go (AfterType k w)
+entry_begun t = target_begun t
+
+abbrev pub type_followed : ℕ → List ℕ → Lined → Turn
+type_followed line w (Sign Equals, k) = Go (AfterEquals line (Location w))
+type_followed line w t = target_begun t
+
+abbrev pub bracket_followed : ℕ → Tok → Turn
+bracket_followed line (Word class.Number w) = Bad
+bracket_followed line (Word class.Other w) = Bad
+bracket_followed line (Word c w) = Go (AfterBracketedName line w)
+bracket_followed line _ = Bad
+
+abbrev pub target_followed : Position → Tok → Turn
+target_followed (AfterHart line h) (Sign Colon) = Go (AfterColon line h)
+target_followed (AfterColon line h) (Word c r) = Go (AfterTarget line (Register h r))
+target_followed (AfterBracket line) t = bracket_followed line t
+target_followed (AfterBracketedName line w) (Sign CloseBracket) = Go (AfterTarget line (Location w))
+target_followed (AfterTarget line x) (Sign Equals) = Go (AfterEquals line x)
+target_followed _ _ = Bad
+
+abbrev pub valued : ℕ → Target → Value → Turn
+valued line x v = Go (AfterValue (record { line = line; target = x; value = v }))
+
+abbrev pub value_begun : ℕ → Target → Tok → Turn
+value_begun line x (Word class.Number d) = valued line x (Number false d)
+value_begun line x (Word class.Other w) = Bad
+value_begun line x (Word c w) = valued line x (Address w)
+value_begun line x (Sign Minus) = Go (AfterMinus line x)
+value_begun line x _ = Bad
+
+abbrev pub minus_followed : ℕ → Target → Tok → Turn
+minus_followed line x (Word class.Number d) = valued line x (Number true d)
+minus_followed line x _ = Bad
+
+abbrev pub brace_expected : Tok → Turn
+brace_expected (Sign OpenBrace) = Go BeforeEntry
+brace_expected _ = Bad
+
+pub record State : Type 0 where
+  pub position : Position
+  pub entries : List Entry
+
+-- with the entries so far
+abbrev pub at_entries : List Entry → Turn → Move State (List Entry)
+at_entries es (Go p) = Go (record { position = p; entries = es })
+at_entries es (Finish u) = Finish es
+at_entries es Bad = Bad
+
+abbrev pub entry_ended : Entry → List Entry → Tok → Move State (List Entry)
+entry_ended e es (Sign Semicolon) = Go (record { position = BeforeEntry; entries = es ++ e ∷ [] })
+entry_ended e es (Sign CloseBrace) = Finish (es ++ e ∷ [])
+entry_ended e es _ = Bad
+
+abbrev pub next_in : Position → List Entry → Lined → Move State (List Entry)
+next_in BeforeBrace es t = at_entries es (brace_expected t.0)
+next_in BeforeEntry es t = at_entries es (entry_begun t)
+next_in (AfterType line w) es t = at_entries es (type_followed line w t)
+next_in (AfterEquals line x) es t = at_entries es (value_begun line x t.0)
+next_in (AfterMinus line x) es t = at_entries es (minus_followed line x t.0)
+next_in (AfterValue e) es t = entry_ended e es t.0
+next_in p es t = at_entries es (target_followed p t.0)
+
+abbrev pub next : State → Lined → Move State (List Entry)
+next s t = next_in s.position s.entries t
+
+abbrev pub start : State
+start = record { position = BeforeBrace; entries = [] }
+
+abbrev pub position_of : positions.Position → Position
+position_of position.BeforeBrace = BeforeBrace
+position_of position.BeforeEntry = BeforeEntry
+position_of (position.AfterType line w) = AfterType line w.now
+position_of (position.AfterHart line h) = AfterHart line h.now
+position_of (position.AfterColon line h) = AfterColon line h.now
+position_of (position.AfterBracket line) = AfterBracket line
+position_of (position.AfterBracketedName line w) = AfterBracketedName line w.now
+position_of (position.AfterTarget line x) = AfterTarget line (target_of x)
+position_of (position.AfterEquals line x) = AfterEquals line (target_of x)
+position_of (position.AfterMinus line x) = AfterMinus line (target_of x)
+position_of (position.AfterValue e) = AfterValue (entry_of e)
+
+abbrev pub turn_of : transitions.Transition → Turn
+turn_of (transition.Go p) = Go (position_of p)
+turn_of transition.Finish = Finish tt
+turn_of transition.Bad = Bad
+
+abbrev pub move_of : transitions.Transition → List entries.Entry → Move State (List Entry)
+move_of s es = at_entries (entries_of es) (turn_of s)

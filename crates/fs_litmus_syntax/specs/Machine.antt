@@ -1,0 +1,195 @@
+-- What the reader of conditions does, over any values for the parts of a condition.
+use Rattle.std.specs.Prelude.{ℕ, zero, suc, ◌+◌, List, [], ◌∷◌, ◌++◌, true, false, Option, Some, None, Result, Ok, Err}
+use Rattle.fs_litmus_tokens.specs.Tokens.{Tok, Lined, Word, Sign}
+use Rattle.fs_litmus_tokens.specs.Sections.{Move, Go, Finish, Bad}
+use Rattle.fs_litmus_tokens.specs.Values.{Target, Register, Location, Value, Number, Address}
+use Rattle.fs_litmus_tokens.specs.declared.word.Class.TheVariants as class
+use Rattle.fs_litmus_tokens.specs.declared.token.Mark.TheVariants.{Colon, Equals, OpenBracket, CloseBracket, Minus, Tilde, OpenParen, CloseParen, And, Or}
+
+-- ---- atoms
+
+-- what was read last of an atom
+pub data AtomPlace : Type 0 where
+  AfterHart : (hart : List ℕ) → AtomPlace
+  AfterColon : (hart : List ℕ) → AtomPlace
+  AfterBracket : AtomPlace
+  AfterName : (name : List ℕ) → AtomPlace
+  AfterTarget : Target → AtomPlace
+  AfterEquals : Target → AtomPlace
+  AfterMinus : Target → AtomPlace
+
+abbrev pub next_atom : AtomPlace → Tok → Move AtomPlace (Target × Value)
+next_atom (AfterHart h) (Sign Colon) = Go (AfterColon h)
+next_atom (AfterColon h) (Word c r) = Go (AfterTarget (Register h r))
+next_atom AfterBracket (Word class.Number w) = Bad
+next_atom AfterBracket (Word class.Other w) = Bad
+next_atom AfterBracket (Word c w) = Go (AfterName w)
+next_atom (AfterName w) (Sign CloseBracket) = Go (AfterTarget (Location w))
+next_atom (AfterTarget t) (Sign Equals) = Go (AfterEquals t)
+next_atom (AfterEquals t) (Word class.Number w) = Finish (t, Number false w)
+next_atom (AfterEquals t) (Word class.Other w) = Bad
+next_atom (AfterEquals t) (Word c w) = Finish (t, Address w)
+next_atom (AfterEquals t) (Sign Minus) = Go (AfterMinus t)
+next_atom (AfterMinus t) (Word class.Number w) = Finish (t, Number true w)
+next_atom _ _ = Bad
+
+-- ---- conditions
+
+-- what is made of a condition's parts
+pub record Maker (X : Type 0) : Type 0 where
+  pub atom : Target → Value → X
+  pub truth : X
+  pub falsity : X
+  pub deny : X → X
+  pub group : X → X
+  pub both : X → X → X
+  pub either : X → X → X
+
+-- what stands before a unit inside one pair of parentheses
+pub record Frame (X : Type 0) : Type 0 where
+  pub sum : Option X
+  pub product : Option X
+  pub denials : ℕ
+
+pub data Place (X : Type 0) : Type 0 where
+  Begin : Place X
+  AfterNot : (word : List ℕ) → Place X
+  AfterTrue : (word : List ℕ) → Place X
+  AfterFalse : (word : List ℕ) → Place X
+  InAtom : AtomPlace → Place X
+  AfterUnit : X → Place X
+
+pub record State (X : Type 0) : Type 0 where
+  pub place : Place X
+  pub frame : Frame X
+  pub below : List (Frame X)
+
+abbrev pub joined : {X : Type 0} → (X → X → X) → Option X → X → X
+joined f None x = x
+joined f (Some a) x = f a x
+
+abbrev pub denied : {X : Type 0} → (X → X) → ℕ → X → X
+denied f zero x = x
+denied f (suc n) x = f (denied f n x)
+
+abbrev pub empty : {X : Type 0} → Frame X
+empty = record { sum = None; product = None; denials = 0 }
+
+abbrev pub with_denial : {X : Type 0} → Frame X → Frame X
+with_denial f = record { sum = f.sum; product = f.product; denials = f.denials + 1 }
+
+abbrev pub at : {X : Type 0} → Place X → Frame X → List (Frame X) → State X
+at p f fs = record { place = p; frame = f; below = fs }
+
+-- denials that are read and not counted yet: of the word not, which may name a location
+abbrev pub put_off : {X : Type 0} → Place X → ℕ
+put_off (AfterNot w) = 1
+put_off _ = 0
+
+abbrev pub start : {X : Type 0} → State X
+start = at Begin empty []
+
+-- before a unit
+abbrev pub next_begin : {X : Type 0} → Frame X → List (Frame X) → Tok → Option (State X)
+next_begin f fs (Word class.Number w) = Some (at (InAtom (AfterHart w)) f fs)
+next_begin f fs (Word class.NotWord w) = Some (at (AfterNot w) f fs)
+next_begin f fs (Word class.TrueWord w) = Some (at (AfterTrue w) f fs)
+next_begin f fs (Word class.FalseWord w) = Some (at (AfterFalse w) f fs)
+next_begin f fs (Word class.Other w) = None
+next_begin f fs (Word c w) = Some (at (InAtom (AfterTarget (Location w))) f fs)
+next_begin f fs (Sign OpenBracket) = Some (at (InAtom AfterBracket) f fs)
+next_begin f fs (Sign Tilde) = Some (at Begin (with_denial f) fs)
+next_begin f fs (Sign OpenParen) = Some (at Begin empty (f ∷ fs))
+next_begin f fs _ = None
+
+-- a word that names a location, and then =
+abbrev pub named : {X : Type 0} → List ℕ → Frame X → List (Frame X) → Option (State X)
+named w f fs = Some (at (InAtom (AfterEquals (Location w))) f fs)
+
+-- the atoms that end with this token
+abbrev pub finished : Move AtomPlace (Target × Value) → List (Target × Value)
+finished (Finish a) = a ∷ []
+finished _ = []
+
+abbrev pub atoms_at : {X : Type 0} → Place X → Tok → List (Target × Value)
+atoms_at (InAtom p) t = finished (next_atom p t)
+atoms_at _ t = []
+
+abbrev pub placed : {X : Type 0} → Option (Place X) → Frame X → List (Frame X) → Option (State X)
+placed None f fs = None
+placed (Some p) f fs = Some (at p f fs)
+
+module _ {X : Type 0} (make : Maker X) where
+  abbrev pub product_of : Frame X → X → X
+  product_of f u = joined make.both f.product (denied make.deny f.denials u)
+
+  abbrev pub sum_of : Frame X → X → X
+  sum_of f u = joined make.either f.sum (product_of f u)
+
+  abbrev pub with_unit : Frame X → X → Frame X
+  with_unit f u = record { sum = f.sum; product = Some (product_of f u); denials = 0 }
+
+  abbrev pub with_conjunction : Frame X → X → Frame X
+  with_conjunction f u = record { sum = Some (sum_of f u); product = None; denials = 0 }
+
+  -- a parenthesis closes
+  abbrev pub closed : Frame X → List (Frame X) → X → Option (State X)
+  closed f [] u = None
+  closed f (g ∷ fs) u = Some (at (AfterUnit (make.group (sum_of f u))) g fs)
+
+  abbrev pub next_after : X → Frame X → List (Frame X) → Tok → Option (State X)
+  next_after u f fs (Sign And) = Some (at Begin (with_unit f u) fs)
+  next_after u f fs (Sign Or) = Some (at Begin (with_conjunction f u) fs)
+  next_after u f fs (Sign CloseParen) = closed f fs u
+  next_after u f fs _ = None
+
+  abbrev pub place_after : Move AtomPlace (Target × Value) → Option (Place X)
+  place_after (Go p) = Some (InAtom p)
+  place_after (Finish a) = Some (AfterUnit (make.atom a.0 a.1))
+  place_after Bad = None
+
+  abbrev pub next_in : Place X → Frame X → List (Frame X) → Tok → Option (State X)
+  next_in Begin f fs t = next_begin f fs t
+  next_in (AfterNot w) f fs (Sign Equals) = named w f fs
+  next_in (AfterNot w) f fs t = next_begin (with_denial f) fs t
+  next_in (AfterTrue w) f fs (Sign Equals) = named w f fs
+  next_in (AfterTrue w) f fs t = next_after make.truth f fs t
+  next_in (AfterFalse w) f fs (Sign Equals) = named w f fs
+  next_in (AfterFalse w) f fs t = next_after make.falsity f fs t
+  next_in (InAtom p) f fs t = placed (place_after (next_atom p t)) f fs
+  next_in (AfterUnit u) f fs t = next_after u f fs t
+
+  abbrev pub next : State X → Tok → Option (State X)
+  next s t = next_in s.place s.frame s.below t
+
+  -- the last unit, where a condition may end
+  abbrev pub last_unit : Place X → Option X
+  last_unit (AfterTrue w) = Some make.truth
+  last_unit (AfterFalse w) = Some make.falsity
+  last_unit (AfterUnit u) = Some u
+  last_unit _ = None
+
+  abbrev pub total : Frame X → Option X → Option X
+  total f None = None
+  total f (Some u) = Some (sum_of f u)
+
+  -- the whole, where the text may end
+  abbrev pub end_in : Place X → Frame X → List (Frame X) → Option X
+  end_in p f [] = total f (last_unit p)
+  end_in p f (g ∷ fs) = None
+
+  abbrev pub end_of : State X → Option X
+  end_of s = end_in s.place s.frame s.below
+
+  -- The value of the tokens from a state on with the atoms up to their end, or the tokens from the first bad one on.
+  abbrev pub ended : Option X → List (Target × Value) → Result (X × List (Target × Value)) (List Lined)
+  ended None found = Err []
+  ended (Some x) found = Ok (x, found)
+
+  abbrev pub went : Option (State X) → (State X → Result (X × List (Target × Value)) (List Lined)) → List Lined → Result (X × List (Target × Value)) (List Lined)
+  went None go ts = Err ts
+  went (Some s) go ts = go s
+
+  abbrev pub read : State X → List (Target × Value) → List Lined → Result (X × List (Target × Value)) (List Lined)
+  read s found [] = ended (end_of s) found
+  read s found (t ∷ ts) = went (next s t.0) (λ s'. read s' (found ++ atoms_at s.place t.0) ts) (t ∷ ts)

@@ -1,6 +1,0 @@
-pub mod Tallying
-pub mod Matching
-pub mod Lacking
-pub mod Blocks
-pub mod Results
-pub mod Naming

@@ -1,4 +1,0 @@
-pub mod Tallies
-pub mod Rows
-pub mod Compared
-pub mod Left

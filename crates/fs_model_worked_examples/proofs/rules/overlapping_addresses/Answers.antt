@@ -1,0 +1,11 @@
+use Rattle.fs_model_worked_examples.proofs.Examples.{same_word, reads, returned}
+use Rattle.fs_model_worked_examples.proofs.rules.overlapping_addresses.Goals as goal
+
+pub returns-clause-same_word : goal.returns-clause-same_word
+returns-clause-same_word c = same_word
+
+pub returns-clause-reads : goal.returns-clause-reads
+returns-clause-reads c = reads
+
+pub returns-clause-returned : goal.returns-clause-returned
+returns-clause-returned c = returned

@@ -1,0 +1,15 @@
+pub mod Examples
+pub mod StoreBuffering
+pub mod CoherentReads
+pub mod Rows
+pub mod Limits
+pub mod Ties
+pub mod CoherentCertificates
+pub mod MessagePassing
+pub mod Witnessed
+pub mod Adding
+pub mod PassingCertificates
+pub mod Bounded
+pub mod EarlyReads
+pub mod Small
+pub mod Refutations

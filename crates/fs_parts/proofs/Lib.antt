@@ -1,3 +1,0 @@
-pub mod LeastCosts
-pub mod Apart
-pub mod Bounding

@@ -1,2 +1,0 @@
-pub mod Bests
-pub mod Breaks

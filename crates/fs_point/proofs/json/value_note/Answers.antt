@@ -1,9 +1,0 @@
-use Rattle.std.proofs.Common.{None, refl, string_bytes}
-use Rattle.fs_point.specs.Messages.{message}
-use Rattle.fs_point.specs.Explained.{IsJsonMessage, whole}
-use Rattle.fs_point.proofs.Telling.{told}
-use Rattle.fs_point.proofs.json.value_note.Goals as goal
-
-pub returns : goal.returns
-returns c =
-    told string_bytes (message c.args.name.now c.args.bytes.now c.args.fault None c.as_str.result.now) (IsJsonMessage c.args.name.now c.args.bytes.now c.args.fault) c.message.result (whole c.as_str.result.now c.requires refl) c.message.ensures

@@ -1,8 +1,0 @@
-use Rattle.std.proofs.Common.{subst, sym, ◌∙◌}
-use Rattle.fs_point.specs.Points.{IsPoint, title}
-use Rattle.fs_point.specs.declared.point.Point.TheVariants.{Byte}
-use Rattle.fs_point.proofs.Aims.{titled}
-use Rattle.fs_point.proofs.point.point_of.Goals as goal
-
-pub returns-in-Title : goal.returns-in-Title
-returns-in-Title c = subst (λ f. IsPoint c.args.bytes.now f (Byte 0)) (sym (titled c.args.fault (sym c.aim_of.ensures ∙ c.in-Title.is))) title

@@ -1,0 +1,78 @@
+-- What a desk, a question and a problem are made of may cross threads.
+use denote.RattleType.{RattleType}
+use denote.Param.Send.{IsSend, IsSync, sendable}
+use denote.Param.SendFields.{declared_send, declared_sync}
+use Rattle.std.proofs.Crossing.{crosses}
+use Rattle.fs_model.specs.contracts.outcome.Outcome as Outcome
+use Rattle.fs_model.specs.contracts.test.Test as Test
+use Rattle.fs_kinds.proofs.list.List.TheSendSync as list
+use Rattle.fs_instr.proofs.instr.Instr.TheSendSync as instr
+use Rattle.fs_model.proofs.lists.Name.TheSendSync as name
+use Rattle.fs_model.proofs.test.Location.TheSendSync as location
+use Rattle.fs_model.proofs.test.Quantifier.TheSendSync as quantifier
+use Rattle.fs_kinds.proofs.prices.Prices.TheSendSync as prices
+use Rattle.fs_pool.specs.declared.Asked as asked
+use Rattle.fs_pool.specs.contracts.shared.Shared as Shared
+use Rattle.fs_pool.specs.contracts.desk.Desk as Desk
+use Rattle.fs_cert_evidence.specs.contracts.question.Question as Question
+use Rattle.fs_cert_evidence.specs.contracts.evidence.Witness as Witness
+use Rattle.fs_board.specs.contracts.board.Board as Board
+use Rattle.fs_board.proofs.tree.Tree.TheSendSync as tree
+use Rattle.fs_board.proofs.event.LogEntry.TheSendSync as entry
+use Rattle.fs_kinds.proofs.reason.OperationName.TheSendSync as named
+use Rattle.fs_region_runs.specs.contracts.lone.Lone as Lone
+use Rattle.fs_region_refutation.specs.contracts.basis.Basis as Basis
+use Rattle.fs_board_search.proofs.Problems as problem
+use Rattle.fs_pool_workers.proofs.Outcomes.{hole_send, hole_sync}
+
+outcome_send : IsSend Outcome.the_row
+outcome_send = search (hole_send, crosses, sendable) depth 20 fits 20000
+
+outcome_sync : IsSync Outcome.the_row
+outcome_sync = search (hole_sync, crosses, sendable) depth 20 fits 20000
+
+test_send : IsSend Test.the_row
+test_send = declared_send Test.the_type (name.the_send, (search (instr.the_send, list.the_send, crosses, sendable) depth 20, (search (list.the_send, crosses, sendable) depth 20, (search (location.the_send, list.the_send, crosses, sendable) depth 20, (quantifier.the_send, (outcome_send, tt))))))
+
+test_sync : IsSync Test.the_row
+test_sync = declared_sync Test.the_type (name.the_sync, (search (instr.the_sync, list.the_sync, crosses, sendable) depth 20, (search (list.the_sync, crosses, sendable) depth 20, (search (location.the_sync, list.the_sync, crosses, sendable) depth 20, (quantifier.the_sync, (outcome_sync, tt))))))
+
+question_send : IsSend Question.the_row
+question_send = search (test_send, test_sync, prices.the_send, crosses, sendable) depth 40 fits 100000
+
+question_sync : IsSync Question.the_row
+question_sync = search (test_send, test_sync, prices.the_sync, crosses, sendable) depth 40 fits 100000
+
+board_send : IsSend Board.the_row
+board_send = search (question_send, question_sync, tree.the_send, entry.the_send, crosses, sendable) depth 40 fits 100000
+
+-- what is asked is a mark without bytes, so it may be of any type
+shared_send : (A : RattleType) (g : asked.Ghosts A.Denot) → IsSend (Shared.the_row A g)
+shared_send A g = search (board_send, crosses, sendable) depth 40 fits 100000
+
+pub desk_sync : (A : RattleType) (g : asked.Ghosts A.Denot) → IsSync (Desk.the_row A g)
+desk_sync A g = let s = shared_send A g in search (crosses, sendable) depth 40 fits 100000
+
+lone_send : IsSend Lone.the_row
+lone_send = search (test_send, test_sync, list.the_send, crosses, sendable) depth 60 fits 1000000
+
+lone_sync : IsSync Lone.the_row
+lone_sync = search (test_send, test_sync, list.the_sync, crosses, sendable) depth 60 fits 1000000
+
+basis_send : IsSend Basis.the_row
+basis_send = search (test_send, test_sync, lone_send, list.the_send, named.the_send, crosses, sendable) depth 40 fits 100000
+
+basis_sync : IsSync Basis.the_row
+basis_sync = search (test_send, test_sync, lone_sync, list.the_sync, named.the_sync, crosses, sendable) depth 40 fits 100000
+
+pub problem_send : IsSend problem.the_row
+problem_send = search (question_send, question_sync, basis_send, crosses, sendable) depth 40 fits 100000
+
+pub problem_sync : IsSync problem.the_row
+problem_sync = search (question_send, question_sync, basis_sync, crosses, sendable) depth 40 fits 100000
+
+pub witness_send : IsSend Witness.the_row
+witness_send = search (list.the_send, named.the_send, crosses, sendable) depth 40 fits 100000
+
+pub witness_sync : IsSync Witness.the_row
+witness_sync = search (list.the_sync, named.the_sync, crosses, sendable) depth 40 fits 100000

@@ -1,5 +1,0 @@
-use Rattle.fs_promise.proofs.Yeses.{true_yes}
-use Rattle.fs_promise.proofs.checked.yes_is_true.Goals as goal
-
-pub returns : goal.returns
-returns c = true_yes

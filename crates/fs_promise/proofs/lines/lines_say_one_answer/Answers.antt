@@ -1,5 +1,0 @@
-use Rattle.fs_promise.proofs.ReadLines.{one_answer}
-use Rattle.fs_promise.proofs.lines.lines_say_one_answer.Goals as goal
-
-pub returns : goal.returns
-returns c = one_answer

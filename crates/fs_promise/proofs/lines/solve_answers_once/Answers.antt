@@ -1,5 +1,0 @@
-use Rattle.fs_promise.proofs.SolvesOnce.{solves_once}
-use Rattle.fs_promise.proofs.lines.solve_answers_once.Goals as goal
-
-pub returns : goal.returns
-returns c = solves_once

@@ -1,3 +1,0 @@
-pub mod Chains
-pub mod Stacks
-pub mod Walked

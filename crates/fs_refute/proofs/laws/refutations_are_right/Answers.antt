@@ -1,5 +1,0 @@
-use Rattle.fs_refute.proofs.Walked.{none_to, none_from}
-use Rattle.fs_refute.proofs.laws.refutations_are_right.Goals as goal
-
-pub returns : goal.returns
-returns c = λ t p regions inferences k. (none_to t p regions inferences k, none_from t p regions inferences k)

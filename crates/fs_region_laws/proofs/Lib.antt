@@ -1,0 +1,17 @@
+pub mod Places
+pub mod Steps
+pub mod Sources
+pub mod Named
+pub mod Links
+pub mod Cycles
+pub mod Lists
+pub mod Names
+pub mod Runs
+pub mod Alone
+pub mod Coherent
+pub mod Edges
+pub mod Outcomes
+pub mod Splits
+pub mod Walk
+pub mod Covering
+pub mod Stronger

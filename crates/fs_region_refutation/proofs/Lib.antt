@@ -1,0 +1,11 @@
+pub mod Alike
+pub mod Each
+pub mod Listed
+pub mod Lists
+pub mod Pairs
+pub mod Regions
+pub mod Rises
+pub mod Whole
+pub mod Chains
+pub mod Stacks
+pub mod Walked

@@ -1,0 +1,7 @@
+use Rattle.std.proofs.Common.{◌≡◌, map, take}
+use Rattle.std.specs.Arc.{arc_value}
+use Rattle.fs_region_refutation.specs.Runs.{lone_of}
+use Rattle.fs_region_refutation.proofs.ready.ready.Given as goal
+
+abbrev pub invariant-loop-trace : goal.invariant-loop-trace
+invariant-loop-trace l = l.runs.items ≡ map (lone_of (arc_value l.test) l.hart) (take l.trace-index l.traces)

@@ -1,0 +1,31 @@
+use Rattle.std.proofs.Common.{◌≡◌, ◌∙◌, Bool, List, filter, ap, sym}
+use Rattle.std.specs.Borrow.{Bor}
+use Rattle.std.specs.List.{list_any}
+use Rattle.fs_model.specs.declared.step.Step.{Step}
+use Rattle.fs_cert_evidence.specs.Splits.{agree, keep}
+use Rattle.fs_region_runs.specs.Alone.{RunOf}
+use Rattle.fs_region_refutation.specs.Views.{list_at, runs_of}
+use Rattle.fs_region_refutation.proofs.splits.keep_between.Goals as goal
+
+pub returns : goal.returns
+returns c =
+    let old = c.args.region.now in
+    let load = c.args.load in
+    let store = c.args.store in
+    let loads : List (Bor RunOf) → List Step → Bool = λ others run. list_any (λ other. agree run load other store) (runs_of others) in
+    let stores : List (Bor RunOf) → List Step → Bool = λ others other. list_any (λ run. agree run load other store) (runs_of others) in
+    let kept_stores : c.in_ok-stores.stores ≡ filter (λ run. stores (list_at old load.hart) run.now.steps) (list_at old store.hart) =
+    c.in_ok-stores.ensures
+    ∙ ap (λ others. filter (λ (run : Bor RunOf). stores others run.now.steps) c.runs-storing.result.now) c.runs-loading.ensures
+    ∙ ap (filter (λ (run : Bor RunOf). stores (list_at old load.hart) run.now.steps)) c.runs-storing.ensures in
+    let kept_loads : c.in_ok-loads.loads ≡ filter (λ run. loads (list_at old store.hart) run.now.steps) (list_at c.in_ok-smaller.smaller load.hart) =
+    c.in_ok-loads.ensures
+    ∙ ap (λ others. filter (λ (run : Bor RunOf). loads others run.now.steps) c.runs-loading.result.now) c.runs-storing.ensures
+    ∙ ap (filter (λ (run : Bor RunOf). loads (list_at old store.hart) run.now.steps))
+    (c.runs-loading.ensures ∙ sym (c.in_ok-smaller.ensures.others load.hart (λ same. c.requires (sym same)))) in
+    record {
+      region = c.in_ok-smallest.ensures.kept (loads (list_at old store.hart)) kept_loads
+          ∙ ap (keep load.hart (loads (list_at old store.hart))) (c.in_ok-smaller.ensures.kept (stores (list_at old load.hart)) kept_stores);
+      of = λ t of. c.in_ok-smallest.ensures.of (loads (list_at old store.hart)) kept_loads t
+          (c.in_ok-smaller.ensures.of (stores (list_at old load.hart)) kept_stores t of);
+    }

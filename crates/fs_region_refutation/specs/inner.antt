@@ -1,0 +1,5 @@
+-- What only inner functions and proofs need.
+pub mod Asked
+pub mod Each
+pub mod Pairs
+pub mod Stacks

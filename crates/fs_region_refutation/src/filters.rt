@@ -1,0 +1,232 @@
+//! Runs of a hart that pass a test.
+
+ghost use Rattle.std.specs.Prelude.{◌≡◌, ℕ, ◌==◌, ◌&&◌, not, filter, Option, Some, IfOk};
+ghost use Rattle.std.specs.List.{list_any, filter_map};
+ghost use Rattle.std.specs.List.Sorted.{IsSorted};
+ghost use Rattle.fs_model.specs.Test.{address_of};
+ghost use Rattle.fs_cert_evidence.specs.Regions.{address_at, loaded_at, loads_at};
+ghost use Rattle.fs_cert_evidence.specs.Splits.{chosen_at, agree, agrees_initially};
+ghost use Rattle.fs_model.specs.Numbers.{is_same};
+ghost use Rattle.fs_region_refutation.specs.Views.{runs_of};
+ghost use Rattle.fs_region_refutation.specs.inner.Pairs.{both, pair_at, pairs_of, is_among, by_pair};
+
+use crate::basis::Basis;
+use crate::musts::{Access, accessed};
+use crate::region::Runs;
+use fs_kinds::{List, OperationName};
+use fs_model::Location;
+use fs_region_runs::Lone;
+use std::alloc::{AllocError, Global};
+
+// Those that make the choice of this number at the position.
+pub(crate) fn choosing<'a>(
+    alloc: Global,
+    runs: &[&'a Lone],
+    at: u8,
+    number: u64,
+) -> Result<Runs<'a>, AllocError>
+    ensures { IfOk result (λ kept. kept ≡ filter (λ run. chosen_at at run.now.steps == number) runs.now) }
+{
+    let kept = runs
+        .iter()
+        .copied()
+        .filter(|run| run.chosen_at(at) == number)
+        .collect(alloc)?;
+    Ok(List::new(kept))
+}
+
+// Those that load nothing at the position.
+pub(crate) fn not_loading<'a>(
+    alloc: Global,
+    runs: &[&'a Lone],
+    at: u8,
+) -> Result<Runs<'a>, AllocError>
+    ensures { IfOk result (λ kept. kept ≡ filter (λ run. not (loads_at run.now.steps at)) runs.now) }
+{
+    let kept = runs
+        .iter()
+        .copied()
+        .filter(|run| !run.loads_at(at))
+        .collect(alloc)?;
+    Ok(List::new(kept))
+}
+
+// Both are there, and the same.
+fn is_same(word: Option<u32>, other: Option<u32>) -> bool
+    ensures { result ≡ is_same word other }
+{
+    match (word, other) {
+        (Some(word), Some(other)) => word == other,
+        _ => false,
+    }
+}
+
+// Does the run load this word from the location?
+fn loads_from(run: &Lone, load: OperationName, location: u8, word: u32) -> bool
+    ensures { result ≡ (is_same (address_at run.now.steps load.at) (Some (address_of location))
+        && is_same (loaded_at run.now.steps load.at) (Some word)) }
+{
+    is_same(run.address_at(load.at), Some(Location::address(location)))
+        && is_same(run.loaded_at(load.at), Some(word))
+}
+
+// Does the run load the word that its location begins with?
+fn agrees_initially(basis: &Basis, load: OperationName, run: &Lone) -> bool
+    ensures { result ≡ agrees_initially basis.now load run.now.steps }
+{
+    for (number, location) in basis.test().locations.as_slice().iter().enumerate() {
+        if loads_from(run, load, number as u8, location.word) {
+            return true;
+        }
+    }
+    false
+}
+
+// Those that load the word that its location begins with.
+pub(crate) fn loading_initial<'a>(
+    alloc: Global,
+    basis: &Basis,
+    runs: &[&'a Lone],
+    load: OperationName,
+) -> Result<Runs<'a>, AllocError>
+    ensures { IfOk result (λ kept. kept ≡ filter (λ run. agrees_initially basis.now load run.now.steps) runs.now) }
+{
+    let kept = runs
+        .iter()
+        .copied()
+        .filter(|run| agrees_initially(basis, load, run))
+        .collect(alloc)?;
+    Ok(List::new(kept))
+}
+
+// Does the load of one run have the address and the word of the store of the other?
+fn agree(run: &Lone, load: OperationName, other: &Lone, store: OperationName) -> bool
+    ensures { result ≡ agree run.now.steps load other.now.steps store }
+{
+    is_same(run.address_at(load.at), other.address_at(store.at))
+        && is_same(run.loaded_at(load.at), other.stored_at(store.at))
+}
+
+// An address and a word, if both are there.
+fn both(address: Option<u32>, word: Option<u32>) -> Option<(u32, u32)>
+    ensures { result ≡ both address word }
+{
+    Some((address?, word?))
+}
+
+// The address and the word of the run's access at the position.
+fn pair_at(run: &Lone, access: Access, at: u8) -> Option<(u32, u32)>
+    ensures { result ≡ pair_at access at run.now.steps }
+{
+    both(run.address_at(at), accessed(run, access, at))
+}
+
+// The addresses and words of the runs' accesses at the position.
+fn listed(
+    alloc: Global,
+    runs: &[&Lone],
+    access: Access,
+    at: u8,
+) -> Result<Vec<(u32, u32)>, AllocError>
+    ensures { IfOk result (λ pairs. pairs.items ≡ filter_map (λ run. pair_at access at run.now.steps) runs.now) }
+{
+    runs.iter()
+        .filter_map(|run| pair_at(run, access, at))
+        .collect(alloc)
+}
+
+// The same, each once and in order.
+fn pairs(
+    alloc: Global,
+    runs: &[&Lone],
+    access: Access,
+    at: u8,
+) -> Result<Vec<(u32, u32)>, AllocError>
+    ensures has { IfOk result (λ pairs. (pair : Option (ℕ × ℕ))
+        → is_among pairs.items pair ≡ is_among (pairs_of access at (runs_of runs.now)) pair) }
+    ensures sorted { IfOk result (λ pairs. IsSorted by_pair pairs.items) }
+{
+    let mut pairs = listed(alloc, runs, access, at)?;
+    pairs.sort()?;
+    pairs.dedup();
+    Ok(pairs)
+}
+
+// Is the pair there, and among these? By halving.
+fn is_among(pairs: &[(u32, u32)], pair: Option<(u32, u32)>) -> bool
+    ensures { IsSorted by_pair pairs.now → result ≡ is_among pairs.now pair }
+{
+    match pair {
+        Some(pair) => pairs.binary_search(&pair).is_ok(),
+        None => false,
+    }
+}
+
+// Those whose access at the position has one of the pairs.
+fn keep_among<'a>(
+    alloc: Global,
+    runs: &[&'a Lone],
+    access: Access,
+    at: u8,
+    pairs: &[(u32, u32)],
+) -> Result<Runs<'a>, AllocError>
+    requires { IsSorted by_pair pairs.now }
+    ensures { IfOk result (λ kept.
+        kept ≡ filter (λ run. is_among pairs.now (pair_at access at run.now.steps)) runs.now) }
+{
+    let kept = runs
+        .iter()
+        .copied()
+        .filter(|run| is_among(pairs, pair_at(run, access, at)))
+        .collect(alloc)?;
+    Ok(List::new(kept))
+}
+
+// Those whose load agrees with their own store.
+pub(crate) fn agreeing_alone<'a>(
+    alloc: Global,
+    runs: &[&'a Lone],
+    load: OperationName,
+    store: OperationName,
+) -> Result<Runs<'a>, AllocError>
+    ensures { IfOk result (λ kept. kept ≡ filter (λ run. agree run.now.steps load run.now.steps store) runs.now) }
+{
+    let kept = runs
+        .iter()
+        .copied()
+        .filter(|run| agree(run, load, run, store))
+        .collect(alloc)?;
+    Ok(List::new(kept))
+}
+
+// Those whose load agrees with the store of some of the others.
+pub(crate) fn agreeing_loads<'a>(
+    alloc: Global,
+    runs: &[&'a Lone],
+    load: OperationName,
+    others: &[&Lone],
+    store: OperationName,
+) -> Result<Runs<'a>, AllocError>
+    ensures { IfOk result (λ kept.
+        kept ≡ filter (λ run. list_any (λ other. agree run.now.steps load other store) (runs_of others.now)) runs.now) }
+{
+    let pairs = pairs(alloc, others, Access::Store, store.at)?;
+    let kept = keep_among(alloc, runs, Access::Load, load.at, &pairs)?;
+    Ok(kept)
+}
+
+// Those whose store agrees with the load of some of the others.
+pub(crate) fn agreeing_stores<'a>(
+    alloc: Global,
+    runs: &[&'a Lone],
+    store: OperationName,
+    others: &[&Lone],
+    load: OperationName,
+) -> Result<Runs<'a>, AllocError>
+    ensures { IfOk result (λ kept.
+        kept ≡ filter (λ run. list_any (λ other. agree other load run.now.steps store) (runs_of others.now)) runs.now) }
+{
+    let pairs = pairs(alloc, others, Access::Load, load.at)?;
+    let kept = keep_among(alloc, runs, Access::Store, store.at, &pairs)?;
+    Ok(kept)
+}

@@ -1,2 +1,0 @@
-pub mod AllRuns
-pub mod Listable

@@ -1,9 +1,0 @@
-use Rattle.fs_rows.proofs.CoherentListing.{listing}
-use Rattle.fs_rows.proofs.PassingListing.{listing as passing_listing}
-use Rattle.fs_rows.proofs.certificates.one_candidate.Goals as goal
-
-pub returns-clause-listing : goal.returns-clause-listing
-returns-clause-listing c = listing
-
-pub returns-clause-passing : goal.returns-clause-passing
-returns-clause-passing c = passing_listing

@@ -1,3 +1,0 @@
-pub mod Verdicts
-pub mod Words
-pub mod Status

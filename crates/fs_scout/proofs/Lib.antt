@@ -1,2 +1,0 @@
-pub mod Handed
-pub mod Scouts

@@ -1,6 +1,0 @@
-use Rattle.fs_plan.proofs.Parts.{floor-slots}
-use Rattle.fs_scout.proofs.floor_and_filled.judge_floor.Goals as goal
-
-pub judge_placement-requires-clause-slots : goal.judge_placement-requires-clause-slots
-judge_placement-requires-clause-slots c =
-    floor-slots c.args.part.now c.in_ok-floor.floor _ c.in_ok-floor.ensures c.requires.slots

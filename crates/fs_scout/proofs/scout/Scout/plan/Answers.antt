@@ -1,8 +1,0 @@
-use Rattle.std.proofs.Common.{refl}
-use Rattle.fs_scout.proofs.Handed.{candidates-handed}
-use Rattle.fs_scout.proofs.scout.Scout.plan.Goals as goal
-
-pub returns-in_err-is_last-clause-err : goal.returns-in_err-is_last-clause-err
-returns-in_err-is_last-clause-err c =
-    candidates-handed c.from_residual.result _ c.args.self.now c.args.self.now refl c.from_residual.ensures.1
-    c.in_err-is_last.ensures.err

@@ -1,6 +1,0 @@
-use Rattle.fs_scout.proofs.Handed.{candidates-handed}
-use Rattle.fs_scout.proofs.scout.Scout.prepare.Goals as goal
-
-pub returns-in_err-plan-clause-err : goal.returns-in_err-plan-clause-err
-returns-in_err-plan-clause-err g c =
-    candidates-handed c.from_residual.result _ c.loop.self c.args.self.now c.loop.invariant c.from_residual.ensures.1 c.in_err-plan.ensures.err

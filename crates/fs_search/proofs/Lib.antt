@@ -1,5 +1,0 @@
-pub mod Ends
-pub mod Goes
-pub mod Problems
-pub mod Replied
-pub mod Stopping

@@ -1,8 +1,0 @@
-use Rattle.std.proofs.Common.{◌≡◌, ◌≤◌, ◌+◌, take, length}
-use Rattle.fs_answer.specs.CandidateFaults.{most_candidates}
-use Rattle.fs_showing.specs.Ways.{product_by}
-use Rattle.fs_showing.specs.inner.Listed.{capped}
-use Rattle.fs_showing.proofs.counting.count_choices.Given as goal
-
-abbrev pub invariant-loop-list : goal.invariant-loop-list
-invariant-loop-list g l = (l.count ≡ capped (product_by length (take l.list-index l.lists))) × (l.count ≤ most_candidates + 1)

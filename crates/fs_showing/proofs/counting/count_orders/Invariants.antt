@@ -1,8 +1,0 @@
-use Rattle.std.proofs.Common.{◌≡◌, ◌≤◌, ◌+◌}
-use Rattle.fs_answer.specs.CandidateFaults.{most_candidates}
-use Rattle.fs_showing.specs.Ways.{factorial}
-use Rattle.fs_showing.specs.inner.Listed.{capped}
-use Rattle.fs_showing.proofs.counting.count_orders.Given as goal
-
-abbrev pub invariant-loop-k : goal.invariant-loop-k
-invariant-loop-k l = (l.count ≡ capped (factorial l.k)) × (l.count ≤ most_candidates + 1)

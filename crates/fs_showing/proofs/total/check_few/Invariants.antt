@@ -1,8 +1,0 @@
-use Rattle.std.proofs.Common.{◌≡◌, ◌≤◌}
-use Rattle.fs_answer.specs.CandidateFaults.{most_candidates}
-use Rattle.fs_showing.proofs.Totals.{sum_to}
-use Rattle.fs_showing.proofs.total.check_few.Given as goal
-
--- the raw candidates with the runs so far
-abbrev pub invariant-loop-number : goal.invariant-loop-number
-invariant-loop-number l = (l.total ≡ sum_to l.test l.lists l.number) × (l.total ≤ most_candidates)

@@ -1,8 +1,0 @@
-pub mod Alike
-pub mod Each
-pub mod Listed
-pub mod Lists
-pub mod Pairs
-pub mod Regions
-pub mod Rises
-pub mod Whole

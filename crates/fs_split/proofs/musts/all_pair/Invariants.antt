@@ -1,9 +1,0 @@
-use Rattle.std.proofs.Common.{◌≡◌, true, [], take}
-use Rattle.std.specs.List.{list_all}
-use Rattle.fs_model.specs.Preserved.{Rule8}
-use Rattle.fs_answer.specs.Regions.{Region}
-use Rattle.fs_split.specs.inner.Asked.{is_ordered_in}
-use Rattle.fs_split.proofs.musts.all_pair.Given as goal
-
-abbrev pub invariant-loop-run : goal.invariant-loop-run
-invariant-loop-run l = (region : Region) → list_all (is_ordered_in region [] Rule8 l.load l.store) (take l.run-index l.runs) ≡ true

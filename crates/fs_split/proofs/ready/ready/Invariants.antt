@@ -1,7 +1,0 @@
-use Rattle.std.proofs.Common.{◌≡◌, map, take}
-use Rattle.std.specs.Arc.{arc_value}
-use Rattle.fs_split.specs.Runs.{lone_of}
-use Rattle.fs_split.proofs.ready.ready.Given as goal
-
-abbrev pub invariant-loop-trace : goal.invariant-loop-trace
-invariant-loop-trace l = l.runs.items ≡ map (lone_of (arc_value l.test) l.hart) (take l.trace-index l.traces)

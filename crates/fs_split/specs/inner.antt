@@ -1,4 +1,0 @@
--- What only inner functions and proofs need.
-pub mod Asked
-pub mod Each
-pub mod Pairs

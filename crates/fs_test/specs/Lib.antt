@@ -1,4 +1,0 @@
-pub mod Notes
-pub mod Verdicts
-pub mod Report
-pub mod inner

@@ -1,7 +1,0 @@
-use Rattle.fs_thin_air.proofs.Faults.{never_astray}
-use Rattle.fs_thin_air.proofs.Grounded.{always_grounded}
-use Rattle.fs_thin_air.proofs.Readings.{says_the_same}
-use Rattle.fs_thin_air.proofs.grounded_says_nothing_more.Goals as goal
-
-pub returns : goal.returns
-returns c t bounded words no_fault = says_the_same t (always_grounded t bounded words (never_astray t no_fault))

@@ -1,2 +1,0 @@
-pub mod ThinAir
-pub mod Readings

@@ -1,5 +1,0 @@
-use Rattle.fs_witness.proofs.OneExecution.{one_execution}
-use Rattle.fs_witness.proofs.laws.witnesses_give_one_execution.Goals as goal
-
-pub returns : goal.returns
-returns c = one_execution

@@ -1,4 +1,0 @@
--- What only inner functions and proofs need.
-pub mod Keeping
-pub mod Reading
-pub mod Widening
