@@ -10,7 +10,8 @@ use std::rt::Files;
 /// So many bytes of stack are asked for: four times what runs on hostile files were seen to need.
 const LEAST_STACK: u64 = 524_288;
 
-/// Where the system says what it lets a run use: a line for each limit, with its name, the limit, and the greatest that may be asked for.
+/// Where the system says what it lets a run use: a line for each limit, with its name, the limit, and the greatest that
+/// may be asked for.
 const LIMITS: &str = "/proc/self/limits";
 
 /// So much of it is looked at: some 1,400 bytes are there.
@@ -59,8 +60,8 @@ pub(crate) fn room_of<R: Files>(rt: &R, stream: &str) -> Option<usize> {
     }
 }
 
-/// Writes the whole text. Of one for which there is no room what fits is written: the first byte behind that would end the run by a
-/// signal, and so it is a `WriteFault`.
+/// Writes the whole text. Of one for which there is no room what fits is written: the first byte behind that would end
+/// the run by a signal, and so it is a `WriteFault`.
 pub(crate) fn write_within<W: Write>(
     writer: &mut W,
     text: &[u8],

@@ -79,11 +79,12 @@ impl Voice {
     }
 }
 
-/// Does what the process's command line asks for, and answers the exit status: 0 where it was done or the answer is yes, fenced or
-/// forbidden, 1 where it is no, none or allowed, 2 for a fault or a bad command line, 3 where memory ran out, 4 where tests are vacuous
-/// and nothing is worse. A fault or a bad command line prints on standard error, and nothing on standard output unless it was standard
-/// output that failed; but a fault of a file of `test` stands in its line. Where standard error is a terminal, as the caller
-/// says, a message explains a fault, and a long search has a line there while it goes on.
+/// Does what the process's command line asks for, and answers the exit status: 0 where it was done or the answer is
+/// yes, fenced or forbidden, 1 where it is no, none or allowed, 2 for a fault or a bad command line, 3 where memory ran
+/// out, 4 where tests are vacuous and nothing is worse. A fault or a bad command line prints on standard error, and
+/// nothing on standard output unless it was standard output that failed; but a fault of a file of `test` stands in its
+/// line. Where standard error is a terminal, as the caller says, a message explains a fault, and a long search has a
+/// line there while it goes on.
 pub fn run<R: Env + Files + Input + Print + Eprint + AllocGlobal + Clock + Threads + Wait + Sync>(
     rt: &R,
     is_terminal: bool,
@@ -334,7 +335,8 @@ fn answer_solve<'a, R: Files + Input + Eprint + AllocGlobal + Clock + Threads + 
     Ok(in_form(answered.output, answered.object, solve.json))
 }
 
-/// What `solve` prints of the test and the prices that were read, once its certificate is written where one is asked for.
+/// What `solve` prints of the test and the prices that were read, once its certificate is written where one is asked
+/// for.
 fn answered<R: Files + Eprint + AllocGlobal + Clock + Threads + Wait + Sync>(
     rt: &R,
     solve: &Solve<'_>,

@@ -12,8 +12,8 @@ const QUIET: u64 = 2_000;
 /// So many milliseconds pass from a line to the next, or more.
 const PAUSE: u64 = 100;
 
-/// Says on standard error how far a search is, by one worker or by several: a line after `QUIET`, which changes until it is wiped. Where
-/// standard error is no terminal, and where the clock fails, it says nothing.
+/// Says on standard error how far a search is, by one worker or by several: a line after `QUIET`, which changes until
+/// it is wiped. Where standard error is no terminal, and where the clock fails, it says nothing.
 #[derive(Drop)]
 pub(crate) struct Progress<'a, R> {
     rt: &'a R,
@@ -120,7 +120,8 @@ impl<R: Clock + Eprint> Watch for Progress<'_, R> {
     }
 }
 
-/// As long as one worker is alone, its lines are those of a watch. Then the best cost is under the lock, so no line has it.
+/// As long as one worker is alone, its lines are those of a watch. Then the best cost is under the lock, so no line has
+/// it.
 impl<R: Clock + Eprint> Gate for Progress<'_, R> {
     fn nodes_alone(&self) -> usize {
         Open.nodes_alone()

@@ -138,7 +138,8 @@ fn worse(status: Status, other: Status) -> Status {
     }
 }
 
-/// What is said of a file. None where it, or what the log has of its test, has a fault, which is said on standard error.
+/// What is said of a file. None where it, or what the log has of its test, has a fault, which is said on standard
+/// error.
 fn compare_file<'a, R: Files + Input + Eprint + AllocGlobal>(
     rt: &R,
     path: &'a str,

@@ -28,10 +28,11 @@ struct Beside<F> {
     file: F,
 }
 
-/// Gives the file these bytes. Where the name is free, or a plain file's, they are written beside it, to a new file that then takes the
-/// name, with the mode of the one before: so a run that is stopped, or a disk that is full, leaves what was there, and of several runs each
-/// writes to a file of its own. A device, a pipe and a link are written as they are, and so is a plain file where nothing can be made
-/// beside it. A `WriteFault` where the bytes can't be written; or F19.
+/// Gives the file these bytes. Where the name is free, or a plain file's, they are written beside it, to a new file
+/// that then takes the name, with the mode of the one before: so a run that is stopped, or a disk that is full, leaves
+/// what was there, and of several runs each writes to a file of its own. A device, a pipe and a link are written as
+/// they are, and so is a plain file where nothing can be made beside it. A `WriteFault` where the bytes can't be
+/// written; or F19.
 pub(crate) fn write_whole<R: Files + AllocGlobal>(
     rt: &R,
     path: &str,
@@ -53,8 +54,9 @@ fn look<R: Files>(rt: &R, path: &str) -> Found {
     }
 }
 
-/// A new file beside the name, with the mode of what stands there: `PATH.part`, or where there is such a file `PATH.1.part` and so on. What
-/// stands under one of these names is another run's, or somebody's, and stays. None where none can be made.
+/// A new file beside the name, with the mode of what stands there: `PATH.part`, or where there is such a file
+/// `PATH.1.part` and so on. What stands under one of these names is another run's, or somebody's, and stays. None where
+/// none can be made.
 fn make_beside<R: Files + AllocGlobal>(
     rt: &R,
     path: &str,

@@ -1,4 +1,5 @@
--- What a test keeps without its FENCEs, and where those that name devices order no memory: its branches go forward, and it has the same accesses.
+-- What a test keeps without its FENCEs, and where those that name devices order no memory: its branches go forward, and
+-- it has the same accesses.
 use Rattle.std.proofs.Common.{◌≡◌, ℕ, zero, suc, ◌+◌, ◌-◌, ◌<◌, ◌≤◌, List, [], ◌∷◌, length, map, filter, take, drop, cond, Bool, true, false, ◌&&◌, if◌then◌else◌, Some, refl, ap, sym, ◌∙◌, subst, arith, All}
 use Rattle.std.specs.Prelude.{slice_get, option_and_then, sum_by, count_by}
 use Rattle.std.proofs.Math.ListN.{length-take}

@@ -1,4 +1,5 @@
--- What is advised of each FENCE of a code, and of each access that lacks one, by a placement over the slots of the unfenced test.
+-- What is advised of each FENCE of a code, and of each access that lacks one, by a placement over the slots of the
+-- unfenced test.
 use Rattle.std.specs.Prelude.{ℕ, Bool, true, false, Option, None, Some, option_and_then, is_none, List, [], length, slice_get, if◌then◌else◌}
 use Rattle.std.specs.List.{list_all, slice_index_or}
 use Rattle.fs_instr.specs.declared.instr.Instr.{Instr}

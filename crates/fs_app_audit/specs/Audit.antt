@@ -35,8 +35,9 @@ use Rattle.fs_app_audit.specs.Report.{audit_status, below, first_line}
 
 -- ---- what is asked of a test
 
--- Where something is said of each FENCE, those that name devices count too, and the test without FENCEs has none that orders memory. What
--- is written for use keeps each FENCE that names devices, with all that it orders; then only the others count.
+-- Where something is said of each FENCE, those that name devices count too, and the test without FENCEs has none that
+-- orders memory. What is written for use keeps each FENCE that names devices, with all that it orders; then only the
+-- others count.
 abbrev pub asked : Purpose → Test → Test
 asked Advise t = t
 asked Write t = eased t
@@ -92,8 +93,9 @@ costs_there prices e = is_none e.kind || not (weight_of prices e.slot == 0)
 abbrev pub costs_everywhere : PriceTable → List Entry → Bool
 costs_everywhere prices = list_all (costs_there prices)
 
--- The fences that are advised: those that are written, where each of them costs something, they forbid the outcome, and nothing cheaper
--- does; or else the first of the cheapest. Or none forbid the outcome, and there is an execution that shows it.
+-- The fences that are advised: those that are written, where each of them costs something, they forbid the outcome, and
+-- nothing cheaper does; or else the first of the cheapest. Or none forbid the outcome, and there is an execution that
+-- shows it.
 abbrev pub IsKept : Test → PriceTable → List Entry → Type 0
 IsKept bare prices written = (costs_everywhere prices written ≡ true) × IsLeastCost bare prices written
 
@@ -162,8 +164,8 @@ pub record IsMended (test prices text : List ℕ) (status : Status) : Type 0 whe
 abbrev pub IsTested : Test → Type 0
 IsTested t = (k : Kind) × (why : List ℕ) × (witness : Option Witness) × IsTestedAs t k why witness
 
--- the first fault: of the prices; else of the test as a file; else of it as it is written; else of the search for fences. Want of memory may
--- come in place of any answer.
+-- the first fault: of the prices; else of the test as a file; else of it as it is written; else of the search for
+-- fences. Want of memory may come in place of any answer.
 pub data IsFirstFault (purpose : Purpose) (test prices : List ℕ) (limit : ℕ) : Fault → Type 0 where
   of_prices : {fault : Fault} → IsPricesFault (Some prices) fault → IsFirstFault purpose test prices limit fault
   of_test : {fault : Fault} (table : PriceTable) → ArePricesOf prices table → IsTestFault test fault

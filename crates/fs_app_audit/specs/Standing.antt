@@ -31,9 +31,9 @@ is_stop code at = is_target code at || (is_memory_at code at || is_at (leads_on 
 abbrev pub reached : List Instr → ℕ → Option ℕ
 reached code at = if is_memory_at code at && not (is_target code at) then Some at else None
 
--- The access at which a FENCE at `at` stands: the first one behind it, to which each run comes that has an access behind the FENCE, and
--- to which no run comes that passes the FENCE by. For no label stands between, nor at the access, and no branch but to where no access is
--- to come. A FENCE right before the access orders the same.
+-- The access at which a FENCE at `at` stands: the first one behind it, to which each run comes that has an access
+-- behind the FENCE, and to which no run comes that passes the FENCE by. For no label stands between, nor at the access,
+-- and no branch but to where no access is to come. A FENCE right before the access orders the same.
 abbrev pub access_after : List Instr → ℕ → Option ℕ
 access_after code at = option_and_then (reached code) (find (λ n. nat_lt at n && is_stop code n) (numbers_below (length code)))
 

@@ -1,4 +1,5 @@
--- The test without its FENCE instructions, but for those that name devices; and the test in which these order no memory.
+-- The test without its FENCE instructions, but for those that name devices; and the test in which these order no
+-- memory.
 use Rattle.std.specs.Prelude.{ℕ, Bool, true, false, not, ◌&&◌, ◌||◌, is_some, Option, None, Some, List, map, filter, count_by, take, if◌then◌else◌}
 use Rattle.fs_instr.specs.declared.instr.Instr.{Instr}
 use Rattle.fs_instr.specs.declared.instr.Instr.TheVariants.{Branch, Jump, Fence, FenceTso}

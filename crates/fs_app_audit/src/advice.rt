@@ -15,7 +15,8 @@ use fs_instr::Instr;
 use fs_kinds::{Kind, Placement, Slot};
 use fs_litmus::Code;
 
-/// What is advised of a FENCE, or of an access at which none stands, by fences that rule an outcome out at the least cost.
+/// What is advised of a FENCE, or of an access at which none stands, by fences that rule an outcome out at the least
+/// cost.
 #[derive(Clone, Copy, Debug, PartialEq, Eq)]
 pub enum Advice {
     /// It is one of these fences.
@@ -36,7 +37,7 @@ pub enum Advice {
     Missing(Kind),
 }
 
-// Is it a FENCE? Of one that orders memory this isn't asked.
+/// Is it a FENCE? Of one that orders memory this isn't asked.
 fn is_device_fence(instr: Instr) -> bool
     ensures { result ≡ is_device_fence instr }
 {
@@ -52,7 +53,7 @@ fn is_device_fence_at(code: &[Instr], at: usize) -> bool
     }
 }
 
-// Of the FENCE that stands for this kind, by its own.
+/// Of the FENCE that stands for this kind, by its own.
 fn graded(kind: Kind, own: Option<Kind>) -> Advice
     ensures { result ≡ graded kind own }
 {
@@ -65,7 +66,7 @@ fn graded(kind: Kind, own: Option<Kind>) -> Advice
     }
 }
 
-// The kind of the FENCE there.
+/// The kind of the FENCE there.
 fn kind_there(code: &[Instr], at: usize) -> Option<Kind>
     ensures { result ≡ kind_there code.now at }
 {
@@ -75,7 +76,7 @@ fn kind_there(code: &[Instr], at: usize) -> Option<Kind>
     }
 }
 
-// Of a FENCE at a slot where the placement has this.
+/// Of a FENCE at a slot where the placement has this.
 fn advice_for(code: &[Instr], at: usize, access: usize, kind: Option<Kind>) -> Advice
     ensures { result ≡ advice_for code.now at access kind }
 {
@@ -89,7 +90,7 @@ fn advice_for(code: &[Instr], at: usize, access: usize, kind: Option<Kind>) -> A
     }
 }
 
-// Of an access at which no FENCE stands, where the placement has this.
+/// Of an access at which no FENCE stands, where the placement has this.
 fn missing(code: &[Instr], access: usize, kind: Option<Kind>) -> Option<Advice>
     ensures { result ≡ missing code.now access kind }
 {
@@ -110,14 +111,14 @@ pub(crate) fn slot_of(hart: u8, code: &[Instr], access: usize) -> Slot
     Slot { hart, at }
 }
 
-// Has the placement this slot?
+/// Has the placement this slot?
 fn has_slot(placement: &Placement, slot: Slot) -> bool
     ensures { result ≡ has_slot slot placement.now }
 {
     placement.as_slice().iter().any(|entry| entry.slot == slot)
 }
 
-// Of a FENCE at no slot.
+/// Of a FENCE at no slot.
 fn off_slot(code: &[Instr], at: usize) -> Advice
     ensures { result ≡ off_slot code.now at }
 {
@@ -128,7 +129,7 @@ fn off_slot(code: &[Instr], at: usize) -> Advice
     }
 }
 
-// Of a FENCE that stands at this access.
+/// Of a FENCE that stands at this access.
 fn advice_at(
     placement: &Placement,
     hart: u8,
@@ -172,7 +173,7 @@ pub(crate) fn advice_of(
     }
 }
 
-// Is there nothing to change?
+/// Is there nothing to change?
 fn is_content(advice: Option<Advice>) -> bool
     ensures { result ≡ is_content advice }
 {
@@ -195,7 +196,7 @@ fn is_right_code(placement: &Placement, hart: u8, code: &[Instr]) -> bool
     (0..code.len()).all(|at| is_content(advice_of(placement, hart, code, at)))
 }
 
-// The code of the hart.
+/// The code of the hart.
 fn code_of(codes: &[Code], hart: usize) -> &[Instr]
     ensures { result.now ≡ slice_index_or codes.now hart [] }
 {

@@ -18,17 +18,19 @@ use fs_kinds::{Fault, Placement};
 use fs_litmus::{Test, write_fenced};
 use std::alloc::{AllocError, Global};
 
-/// What `audit` prints for a test file and a file of prices. Its FENCE instructions that order memory are taken out, or order none where they
-/// name devices, and fences are found that rule the outcome out over the slots of that test, and of which none cost less: those that are
-/// written, as far as each stands at a slot, if they do and each of them costs something; or else the first of the cheapest. A first line
-/// says whether the outcome is possible as the test is written, what its FENCEs cost, where each stands at a slot of its own with a kind
-/// that has a price, and what the cheapest fences cost. Then come a line for each FENCE and for each fence that is missing, by hart and
-/// place, with the line of the file. The status is 4 where the outcome is vacuous, else 1 where it is possible or there is something to
-/// change, else 0. The files are bytes as they were read. One worker searches, and the call ends.
+/// What `audit` prints for a test file and a file of prices. Its FENCE instructions that order memory are taken out, or
+/// order none where they name devices, and fences are found that rule the outcome out over the slots of that test, and
+/// of which none cost less: those that are written, as far as each stands at a slot, if they do and each of them costs
+/// something; or else the first of the cheapest. A first line says whether the outcome is possible as the test is
+/// written, what its FENCEs cost, where each stands at a slot of its own with a kind that has a price, and what the
+/// cheapest fences cost. Then come a line for each FENCE and for each fence that is missing, by hart and place, with
+/// the line of the file. The status is 4 where the outcome is vacuous, else 1 where it is possible or there is
+/// something to change, else 0. The files are bytes as they were read. One worker searches, and the call ends.
 ///
-/// The first fault in this order: `BadPrices` and `NoTop`; those of a test file by number and then line; those of `judge_test` of
-/// fs_app_test; those of a search for the cheapest fences with this limit of nodes. `Memory` may come in place of any answer. The cost is that
-/// of reading the test four times, of judging it twice, of the search, and of each hart the fourth power of its code's length.
+/// The first fault in this order: `BadPrices` and `NoTop`; those of a test file by number and then line; those of
+/// `judge_test` of fs_app_test; those of a search for the cheapest fences with this limit of nodes. `Memory` may come
+/// in place of any answer. The cost is that of reading the test four times, of judging it twice, of the search, and of
+/// each hart the fourth power of its code's length.
 pub fn run_audit(alloc: Global, test: &[u8], prices: &[u8], limit: usize) -> Result<Output, Fault>
     requires least { 1 ≤ limit }
     requires most { limit ≤ 1000000 }
@@ -44,10 +46,11 @@ pub fn run_audit(alloc: Global, test: &[u8], prices: &[u8], limit: usize) -> Res
     })
 }
 
-/// A test that has fences which rule the outcome out, in the printed form of herd7's format; nothing is printed where none do. Each FENCE that
-/// names devices stays as it is, with all that it orders. The others are taken out, and of the fences that come in their place none cost
-/// less: they are found as those of `run_audit`, over the slots of what is left. The status is that of `run_audit` if of the FENCEs that
-/// stay nothing were said, and the faults are the same, but that this search may end with another one.
+/// A test that has fences which rule the outcome out, in the printed form of herd7's format; nothing is printed where
+/// none do. Each FENCE that names devices stays as it is, with all that it orders. The others are taken out, and of the
+/// fences that come in their place none cost less: they are found as those of `run_audit`, over the slots of what is
+/// left. The status is that of `run_audit` if of the FENCEs that stay nothing were said, and the faults are the same,
+/// but that this search may end with another one.
 pub fn run_mended(alloc: Global, test: &[u8], prices: &[u8], limit: usize) -> Result<Output, Fault>
     requires least { 1 ≤ limit }
     requires most { limit ≤ 1000000 }
@@ -96,7 +99,7 @@ fn mended_text(alloc: Global, found: &Findings) -> Result<String, Fault>
     }
 }
 
-// The test with the fences of a placement over its slots.
+/// The test with the fences of a placement over its slots.
 fn mended(alloc: Global, test: &Test, best: &Placement) -> Result<String, Fault>
     requires bounded { IsBounded test.now }
     requires slots { slots_of best.now ≡ slots test.now }

@@ -16,7 +16,7 @@ const DEVICES: Letters = Letters {
     writes: false,
 };
 
-// The instruction, or `fence io,io` in place of a FENCE that orders memory and names devices.
+/// The instruction, or `fence io,io` in place of a FENCE that orders memory and names devices.
 fn eased_instr(instr: &Instr) -> Instr
     ensures { result ≡ eased_instr instr.now }
 {
@@ -50,7 +50,8 @@ fn eased_codes(alloc: Global, codes: &[Code]) -> Result<Vec<Code>, AllocError>
     Ok(made)
 }
 
-/// The test with `fence io,io` in place of each FENCE that orders memory and names devices. Linear in the test. Fails only for want of memory.
+/// The test with `fence io,io` in place of each FENCE that orders memory and names devices. Linear in the test. Fails
+/// only for want of memory.
 pub fn eased(alloc: Global, mut test: Test) -> Result<Test, AllocError>
     ensures { IfOk result (λ made. made ≡ eased test) }
 {

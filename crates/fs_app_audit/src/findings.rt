@@ -61,7 +61,7 @@ pub(crate) struct Findings {
 
 // ---- the FENCEs as they are written
 
-// A fence of this kind at the slot of this access, if there are both.
+/// A fence of this kind at the slot of this access, if there are both.
 fn fence_there(
     hart: u8,
     code: &[Instr],
@@ -76,7 +76,7 @@ fn fence_there(
     Some((slot_of(hart, code, access), kind))
 }
 
-// Appends what is there of the instruction at `at`, where it is a FENCE.
+/// Appends what is there of the instruction at `at`, where it is a FENCE.
 fn push_fence(
     hart: u8,
     code: &[Instr],
@@ -94,7 +94,7 @@ fn push_fence(
     Ok(())
 }
 
-// Appends the FENCEs of a hart.
+/// Appends the FENCEs of a hart.
 fn push_fences(
     hart: u8,
     code: &[Instr],
@@ -109,7 +109,7 @@ fn push_fences(
     Ok(())
 }
 
-// The FENCEs of all harts, each with its slot.
+/// The FENCEs of all harts, each with its slot.
 fn written_fences(
     alloc: Global,
     codes: &[Code],
@@ -125,7 +125,7 @@ fn written_fences(
     Ok(fences)
 }
 
-// Puts the fence at its slot where it fits: where there is such a slot, with no fence yet, and the kind has a price.
+/// Puts the fence at its slot where it fits: where there is such a slot, with no fence yet, and the kind has a price.
 fn take_up(prices: &Prices, fence: Option<(Slot, FenceKind)>, placement: &mut Placement) -> bool
     ensures fits { result ≡ fits_one prices.now placement.old fence }
     ensures taken { placement.new ≡ with_one prices.now placement.old fence }
@@ -139,14 +139,14 @@ fn take_up(prices: &Prices, fence: Option<(Slot, FenceKind)>, placement: &mut Pl
     placement.with(slot, Some(kind)).is_ok()
 }
 
-// Do both hold?
+/// Do both hold?
 fn both(one: bool, other: bool) -> bool
     ensures { result ≡ one && other }
 {
     one && other
 }
 
-// Takes up the fences in turn. Do all fit?
+/// Takes up the fences in turn. Do all fit?
 fn take_up_all(
     prices: &Prices,
     fences: &[Option<(Slot, FenceKind)>],
@@ -163,7 +163,7 @@ fn take_up_all(
     all_fit
 }
 
-// The FENCEs as a placement over the slots of the test without them, as far as they fit; and whether all do.
+/// The FENCEs as a placement over the slots of the test without them, as far as they fit; and whether all do.
 fn written_placement(
     alloc: Global,
     question: &Question,
@@ -183,7 +183,7 @@ fn written_placement(
     Ok((placement, all_fit))
 }
 
-// The same for a question that is shared: a placement over the slots of its test, with kinds that have a price.
+/// The same for a question that is shared: a placement over the slots of its test, with kinds that have a price.
 fn own_fences(
     alloc: Global,
     question: &Arc<Question>,
@@ -209,7 +209,7 @@ fn costs_there(prices: &Prices, entry: &Entry) -> bool
     entry.kind.is_none() || prices.weight(entry.slot) != 0
 }
 
-// Is no fence of the placement for nothing?
+/// Is no fence of the placement for nothing?
 fn costs_everywhere(prices: &Prices, placement: &Placement) -> bool
     ensures { result ≡ costs_everywhere prices.now placement.now }
 {
@@ -219,7 +219,7 @@ fn costs_everywhere(prices: &Prices, placement: &Placement) -> bool
         .all(|entry| costs_there(prices, entry))
 }
 
-// Is no fence of the placement for nothing, does it cost as much as the cheapest, and forbid the outcome as they do?
+/// Is no fence of the placement for nothing, does it cost as much as the cheapest, and forbid the outcome as they do?
 fn is_kept(
     alloc: Global,
     question: &Arc<Question>,
@@ -245,7 +245,7 @@ fn is_kept(
     }
 }
 
-// The FENCEs as they are written, where they are kept; else the first of the cheapest placements.
+/// The FENCEs as they are written, where they are kept; else the first of the cheapest placements.
 fn kept_or_first(
     alloc: Global,
     question: &Arc<Question>,
@@ -270,7 +270,7 @@ fn kept_or_first(
     }
 }
 
-// The fences that are advised; nothing where none rule the outcome out. The fault is that of a search by one worker.
+/// The fences that are advised; nothing where none rule the outcome out. The fault is that of a search by one worker.
 fn best(
     alloc: Global,
     question: &Arc<Question>,
@@ -301,7 +301,7 @@ fn best(
 
 // ---- all of it
 
-// The test that the bytes are, to be shared.
+/// The test that the bytes are, to be shared.
 fn read_shared(alloc: Global, bytes: &[u8]) -> Result<Arc<Test>, Fault>
     ensures ok { IfOk result (λ test. Reads bytes.now (arc_value test)) }
     ensures test { IfOk result (λ test. IsTest (arc_value test)) }
@@ -311,7 +311,7 @@ fn read_shared(alloc: Global, bytes: &[u8]) -> Result<Arc<Test>, Fault>
     Ok(Arc::new(alloc, test)?)
 }
 
-// The lines of the instructions of a test.
+/// The lines of the instructions of a test.
 fn lines_of(alloc: Global, bytes: &[u8]) -> Result<Vec<List<usize>>, Fault>
     requires { (t : Tests) × Reads bytes.now t }
     ensures ok { IfOk result (λ lines. StandIn bytes.now lines.items) }
@@ -320,7 +320,7 @@ fn lines_of(alloc: Global, bytes: &[u8]) -> Result<Vec<List<usize>>, Fault>
     read_lines(alloc, bytes)
 }
 
-// The test of the bytes with the FENCEs that count.
+/// The test of the bytes with the FENCEs that count.
 fn read_asked(alloc: Global, purpose: Purpose, bytes: &[u8]) -> Result<Arc<Test>, Fault>
     ensures codes { IfOk result (λ test. (t : Tests) → Reads bytes.now t → (arc_value test).codes ≡ (asked purpose t).codes) }
     ensures bounded { IfOk result (λ test. IsBounded (arc_value test)) }
@@ -331,7 +331,7 @@ fn read_asked(alloc: Global, purpose: Purpose, bytes: &[u8]) -> Result<Arc<Test>
     Ok(Arc::new(alloc, counted)?)
 }
 
-// The test of the bytes without FENCEs.
+/// The test of the bytes without FENCEs.
 fn read_bare(alloc: Global, purpose: Purpose, bytes: &[u8]) -> Result<Arc<Test>, Fault>
     ensures same { IfOk result (λ made. (t : Tests) → Reads bytes.now t → IsSame (arc_value made) (bare purpose t)) }
     ensures bounded { IfOk result (λ made. IsBounded (arc_value made)) }
@@ -343,7 +343,7 @@ fn read_bare(alloc: Global, purpose: Purpose, bytes: &[u8]) -> Result<Arc<Test>,
     Ok(Arc::new(alloc, made)?)
 }
 
-// The question of the test without FENCEs at these prices.
+/// The question of the test without FENCEs at these prices.
 fn bare_question(
     alloc: Global,
     purpose: Purpose,
@@ -360,7 +360,7 @@ fn bare_question(
     Ok(Arc::new(alloc, Question { test, prices })?)
 }
 
-// What is found of a test that was judged as it is written.
+/// What is found of a test that was judged as it is written.
 fn find_judged(
     alloc: Global,
     purpose: Purpose,

@@ -1,6 +1,6 @@
-//! What the command `audit` answers, from the bytes of its files to the text that is printed: which FENCE instructions of a test are
-//! needed to rule its outcome out at the least cost, and which are missing. It tries the test without its FENCE instructions, but for
-//! those that name devices, and the test in which these order no memory.
+//! What the command `audit` answers, from the bytes of its files to the text that is printed: which FENCE instructions
+//! of a test are needed to rule its outcome out at the least cost, and which are missing. It tries the test without its
+//! FENCE instructions, but for those that name devices, and the test in which these order no memory.
 #![tactic(auto)]
 
 mod advice;

@@ -78,7 +78,7 @@ pub fn position(code: &[Instr], at: usize) -> u8
     count_kept(before(code, at)) as u8
 }
 
-// The instruction, going to where its label stands in the unfenced code.
+/// The instruction, going to where its label stands in the unfenced code.
 fn moved(code: &[Instr], instr: &Instr) -> Instr
     requires { length code.now ≤ most_instructions }
     ensures { result ≡ moved code.now instr.now }
@@ -113,8 +113,8 @@ fn unfenced_codes(alloc: Global, codes: &[Code]) -> Result<Vec<Code>, AllocError
     Ok(made)
 }
 
-/// The test without its FENCEs that order memory and name no devices; labels stay before what stood behind them. The square of a code's length
-/// at most. Fails only for want of memory.
+/// The test without its FENCEs that order memory and name no devices; labels stay before what stood behind them. The
+/// square of a code's length at most. Fails only for want of memory.
 pub fn unfenced(alloc: Global, mut test: Test) -> Result<Test, AllocError>
     requires { IsBounded test }
     ensures { IfOk result (λ made. made ≡ unfenced test) }

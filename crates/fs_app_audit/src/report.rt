@@ -24,7 +24,7 @@ const PLACE_WIDTH: usize = 5;
 
 const FENCE_WIDTH: usize = 9;
 
-// The letters of a FENCE, such as `rw,w` or `tso`.
+/// The letters of a FENCE, such as `rw,w` or `tso`.
 fn fence_letters(alloc: Global, instr: Instr) -> Result<String, AllocError>
     ensures { IfOk result (λ text. string_bytes text ≡ fence_letters instr) }
 {
@@ -37,7 +37,7 @@ fn fence_letters(alloc: Global, instr: Instr) -> Result<String, AllocError>
     }
 }
 
-// Of a FENCE that names devices too, memory alone is spoken of.
+/// Of a FENCE that names devices too, memory alone is spoken of.
 fn about(instr: Instr) -> &'static str
     ensures { result.now ≡ about instr }
 {
@@ -85,7 +85,7 @@ fn fence_cell(alloc: Global, instr: Instr) -> Result<String, AllocError>
     padded(alloc, FENCE_WIDTH, text.as_str())
 }
 
-// The line of the file, the instruction, the FENCE that is there, and the advice.
+/// The line of the file, the instruction, the FENCE that is there, and the advice.
 fn line_text(
     alloc: Global,
     line: usize,
@@ -118,7 +118,7 @@ fn lines_of_hart(lines: &[List<usize>], hart: u8) -> &[usize]
     }
 }
 
-// The line of the file in which instruction `at` of the hart stands.
+/// The line of the file in which instruction `at` of the hart stands.
 fn line_of(lines: &[List<usize>], hart: u8, at: usize) -> usize
     ensures { result ≡ line_of lines.now hart at }
 {
@@ -140,7 +140,7 @@ fn advised(
     }
 }
 
-// What is said of the FENCEs of one hart.
+/// What is said of the FENCEs of one hart.
 fn code_text(
     alloc: Global,
     lines: &[List<usize>],
@@ -162,7 +162,7 @@ fn code_text(
     Ok(text)
 }
 
-// What is said of the FENCEs of all harts.
+/// What is said of the FENCEs of all harts.
 fn lines_text(
     alloc: Global,
     lines: &[List<usize>],
@@ -181,7 +181,7 @@ fn lines_text(
     Ok(text)
 }
 
-// What the FENCEs cost, where that is known.
+/// What the FENCEs cost, where that is known.
 fn cost_text(
     alloc: Global,
     prices: &Prices,
@@ -257,7 +257,8 @@ fn is_as_advised(codes: &[Code], best: Option<&Placement>) -> bool
     }
 }
 
-/// The exit status: 4 where the outcome is vacuous; else 1 where it is possible, or there is something to change; else 0.
+/// The exit status: 4 where the outcome is vacuous; else 1 where it is possible, or there is something to change; else
+/// 0.
 pub(crate) fn audit_status(kind: Kind, codes: &[Code], best: Option<&Placement>) -> Status
     requires harts { length codes.now ≤ most_harts }
     requires lengths { All (λ code. length code ≤ most_instructions) codes.now }

@@ -38,7 +38,7 @@ fn has_access(code: &[Instr]) -> bool
     code.iter().any(|instr| instr.is_memory())
 }
 
-// Does it go to where an access is still to come?
+/// Does it go to where an access is still to come?
 fn leads_on(code: &[Instr], instr: Instr) -> bool
     ensures { result ≡ leads_on code.now instr }
 {
@@ -66,21 +66,21 @@ fn goes_to(instr: &Instr, at: usize) -> bool
     }
 }
 
-// Does a label stand there?
+/// Does a label stand there?
 fn is_target(code: &[Instr], at: usize) -> bool
     ensures { result ≡ is_target code.now at }
 {
     code.iter().any(|instr| goes_to(instr, at))
 }
 
-// Does an access stand there, or a label, or a branch to where an access is still to come?
+/// Does an access stand there, or a label, or a branch to where an access is still to come?
 fn is_stop(code: &[Instr], at: usize) -> bool
     ensures { result ≡ is_stop code.now at }
 {
     is_target(code, at) || (is_memory_at(code, at) || leads_on_at(code, at))
 }
 
-// The access there, where there is one and no label.
+/// The access there, where there is one and no label.
 fn reached(code: &[Instr], at: usize) -> Option<usize>
     ensures { result ≡ reached code.now at }
 {
@@ -91,7 +91,7 @@ fn reached(code: &[Instr], at: usize) -> Option<usize>
     }
 }
 
-// The first stop behind it.
+/// The first stop behind it.
 fn next_stop(code: &[Instr], at: usize) -> Option<usize>
     ensures { result ≡ find (λ n. nat_lt at n && is_stop code.now n) (numbers_below (length code.now)) }
 {
@@ -108,7 +108,7 @@ pub(crate) fn access_after(code: &[Instr], at: usize) -> Option<usize>
     }
 }
 
-// Does a FENCE at `at` stand at this access?
+/// Does a FENCE at `at` stand at this access?
 fn stands_at(code: &[Instr], access: usize, at: usize) -> bool
     ensures { result ≡ stands_at code.now access at }
 {
@@ -142,7 +142,7 @@ pub(crate) fn is_of(kind: Kind, own: Option<Kind>) -> bool
     }
 }
 
-// Is a FENCE there of which one of these is so?
+/// Is a FENCE there of which one of these is so?
 fn is_of_at(code: &[Instr], kind: Kind, at: usize) -> bool
     ensures { result ≡ is_at (λ i. is_of kind (memory_kind i)) code.now at }
 {
@@ -161,29 +161,29 @@ fn covers_at(code: &[Instr], kind: Kind, at: usize) -> bool
     }
 }
 
-// The first FENCE of the kind at the access.
+/// The first FENCE of the kind at the access.
 fn first_of(code: &[Instr], access: usize, kind: Kind) -> Option<usize>
     ensures { result ≡ first_at (is_of kind) code.now access }
 {
     (0..access).find(|at| stands_at(code, access, *at) && is_of_at(code, kind, *at))
 }
 
-// The first that orders all that the kind orders.
+/// The first that orders all that the kind orders.
 fn first_covering(code: &[Instr], access: usize, kind: Kind) -> Option<usize>
     ensures { result ≡ first_at (covers kind) code.now access }
 {
     (0..access).find(|at| stands_at(code, access, *at) && covers_at(code, kind, *at))
 }
 
-// The first.
+/// The first.
 fn first(code: &[Instr], access: usize) -> Option<usize>
     ensures { result ≡ find (stands_at code.now access) (numbers_below access) }
 {
     (0..access).find(|at| stands_at(code, access, *at))
 }
 
-// Of the FENCEs at the access the first of this kind, or else the first that covers it, or else the first. The cube of the code's length at
-// most.
+// Of the FENCEs at the access the first of this kind, or else the first that covers it, or else the first. The cube of
+// the code's length at most.
 pub(crate) fn answering(code: &[Instr], access: usize, kind: Kind) -> Option<usize>
     ensures { result ≡ answering code.now access kind }
 {

@@ -28,7 +28,8 @@ yes_line = codes "yes\n"
 abbrev pub refusal_line : Reason → List ℕ
 refusal_line why = codes "no: " ++ reason_text why ++ codes "\n"
 
--- The certificate is valid for a placement, which is printed with its cost. So this is the best one, as the version has it.
+-- The certificate is valid for a placement, which is printed with its cost. So this is the best one, as the version has
+-- it.
 pub record PrintsFences (t : Test) (prices : PriceTable) (c : Certificate) (text : List ℕ) (status : Status) : Type 0 where
   pub placement : List Entry
   pub valid : IsValidFor t prices c placement
@@ -88,8 +89,8 @@ pub record IsChecked (test prices certificate text : List ℕ) (status : Status)
   pub listed : HasNoCyclesFault the_certificate.cycles the_test
   pub verdict : PrintsVerdict the_test table the_certificate text status
 
--- the first fault: of the prices, else of the test, else of the certificate and then of the test's candidates, or of its runs where the
--- certificate has a refutation; want of memory may come in place of any answer
+-- the first fault: of the prices, else of the test, else of the certificate and then of the test's candidates, or of
+-- its runs where the certificate has a refutation; want of memory may come in place of any answer
 pub data IsFirstCheckFault (test prices certificate : List ℕ) : Fault → Type 0 where
   of_prices : {fault : Fault} → IsPricesFault (Some prices) fault → IsFirstCheckFault test prices certificate fault
   of_test : {fault : Fault} (table : PriceTable) → ArePricesOf prices table → IsTestFault test fault

@@ -21,7 +21,8 @@ use fs_kinds::{Fault, List, OperationName, Placement};
 use fs_report::{fenced_text, none_text};
 use std::alloc::{AllocError, Global};
 
-/// The line `yes`, and below it the placement as the answer of the certificate, with the cost that it names. The error is `Memory`.
+/// The line `yes`, and below it the placement as the answer of the certificate, with the cost that it names. The error
+/// is `Memory`.
 pub(crate) fn fenced_answer(
     alloc: Global,
     certificate: &Certificate,

@@ -21,9 +21,9 @@ use fs_litmus::{Test, read_test};
 use std::alloc::{AllocError, Global};
 use std::sync::Arc;
 
-/// What `check` prints for a test file, a file of prices and a certificate, in lines or as JSON: where the certificate is valid, `yes` and below it the
-/// answer as `solve` prints it, and status 0; else `no: ` and the first reason against it, and status 1. The files are bytes as they
-/// were read. Nothing of the search is called.
+/// What `check` prints for a test file, a file of prices and a certificate, in lines or as JSON: where the certificate
+/// is valid, `yes` and below it the answer as `solve` prints it, and status 0; else `no: ` and the first reason against
+/// it, and status 1. The files are bytes as they were read. Nothing of the search is called.
 ///
 /// The first fault in this order: `BadPrices` and `NoTop`; those of a test file by number and then line;
 /// `BadCertificate`; `TooManyTraces` and `Astray`; and `TooManyCandidates`, but not where the certificate has a

@@ -1,5 +1,5 @@
-//! Scripts by which a shell completes the words of a command line. They are made of what the program is told of its own command line, so
-//! each command and each option stands there.
+//! Scripts by which a shell completes the words of a command line. They are made of what the program is told of its own
+//! command line, so each command and each option stands there.
 use clap::builder::ValueParser;
 use clap::{Arg, Command};
 use std::alloc::{AllocError, Global};

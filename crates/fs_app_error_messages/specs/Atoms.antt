@@ -1,5 +1,5 @@
--- Atoms of a condition that can't be true or false, since a hart or a register isn't there or a number is out of range (herd7's format of
--- litmus tests).
+-- Atoms of a condition that can't be true or false, since a hart or a register isn't there or a number is out of range
+-- (herd7's format of litmus tests).
 use Rattle.std.specs.Prelude.{◌≡◌, ℕ, ◌+◌, ◌<◌, List, [], ◌∷◌, Option, Bool, true, false, not, ◌&&◌, ◌||◌, nat_lt, None, Some, is_some, length, take, drop}
 use Rattle.fs_litmus_tokens.specs.Tokens.{Tok, Sign, Lined}
 use Rattle.fs_litmus_tokens.specs.declared.token.Mark.TheVariants.{Colon, OpenBracket, Equals}

@@ -15,7 +15,8 @@ abbrev pub offset_of : Point → ℕ
 offset_of (Token n offset) = offset
 offset_of (Byte offset) = offset
 
--- The text is a message of the fault, with some hint: at a place that the fault is pointed at, or at none where there is none.
+-- The text is a message of the fault, with some hint: at a place that the fault is pointed at, or at none where there
+-- is none.
 pub data IsMessage (name bytes : List ℕ) (f : Fault) (text : List ℕ) : Type 0 where
   nowhere : (hint : List ℕ) → IsNowhere bytes f → text ≡ message name bytes f None hint → IsMessage name bytes f text
   somewhere : (hint : List ℕ) {p : Point} → IsPoint bytes f p → text ≡ message name bytes f (Some (offset_of p)) hint → IsMessage name bytes f text
@@ -32,7 +33,8 @@ pub record IsJson (bytes : List ℕ) : Type 0 where
   pub value : Data
   pub reads : read bytes ≡ Some value
 
--- The text is a message of the fault of a JSON file, with some hint: at no place where the file is JSON, and else at one of its bytes or at its end.
+-- The text is a message of the fault of a JSON file, with some hint: at no place where the file is JSON, and else at
+-- one of its bytes or at its end.
 pub data IsJsonMessage (name bytes : List ℕ) (f : Fault) (text : List ℕ) : Type 0 where
   whole : (hint : List ℕ) → IsJson bytes → text ≡ message name bytes f None hint → IsJsonMessage name bytes f text
   broken : (hint : List ℕ) (offset : ℕ) → ¬ IsJson bytes → offset ≤ length bytes → text ≡ message name bytes f (Some offset) hint → IsJsonMessage name bytes f text

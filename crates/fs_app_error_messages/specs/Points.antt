@@ -44,7 +44,8 @@ pub record IsFaultIn (file : List ℕ) (f : Fault) (n : ℕ) : Type 0 where
   pub same_number : number found ≡ number f
   pub in_line : line_of found ≡ Some (n + 2)
 
--- The fault has a line, and is of token number n, from 0 on: where each token of the file stands in a line of its own, the fault of the same number is in the line of this one; or, where there are n tokens, it is of the end of the file.
+-- The fault has a line, and is of token number n, from 0 on: where each token of the file stands in a line of its own,
+-- the fault of the same number is in the line of this one; or, where there are n tokens, it is of the end of the file.
 pub record IsFaultOf (bytes : List ℕ) (f : Fault) (n : ℕ) : Type 0 where
   pub has_line : aim_of f ≡ InLine
   pub tokens : List Lined

@@ -17,7 +17,8 @@ AreAtMost bytes n = (line : ℕ) (tokens : List Lined) (closed : Bool) → AreTo
 
 -- ---- what the walk does
 
--- what stands at the front of a text, without the token and the line: something to skip, or a token, with the bytes after it; or a comment that isn't closed
+-- what stands at the front of a text, without the token and the line: something to skip, or a token, with the bytes
+-- after it; or a comment that isn't closed
 pub data Shape : Type 0 where
   Blank : List ℕ → Shape
   Token : List ℕ → Shape

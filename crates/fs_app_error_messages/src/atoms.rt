@@ -13,7 +13,7 @@ ghost use Rattle.fs_app_error_messages.specs.Atoms.{BeginsBad, BeginsTarget, Beg
 use fs_instr::Reg;
 use fs_litmus_tokens::{Class, Kind, Mark, Target, Token, Value, number_of};
 
-// Is it the number of a hart that is there?
+/// Is it the number of a hart that is there?
 fn is_hart(columns: usize, word: &str) -> bool
     ensures { result ≡ is_hart_number columns (number_of word.now) }
 {
@@ -23,7 +23,7 @@ fn is_hart(columns: usize, word: &str) -> bool
     }
 }
 
-// Is it a number that no word is, or is the negative of?
+/// Is it a number that no word is, or is the negative of?
 fn is_far(negative: bool, digits: &str) -> bool
     ensures { result ≡ is_far negative (number_of digits.now) }
 {
@@ -33,7 +33,7 @@ fn is_far(negative: bool, digits: &str) -> bool
     }
 }
 
-// Has the target a hart or a register that isn't there?
+/// Has the target a hart or a register that isn't there?
 fn is_absent(columns: usize, target: Target<'_>) -> bool
     ensures { result ≡ is_absent columns (target_of target.entry) }
 {
@@ -44,7 +44,7 @@ fn is_absent(columns: usize, target: Target<'_>) -> bool
     }
 }
 
-// Is the number out of range?
+/// Is the number out of range?
 fn is_out_of_range(value: Value<'_>) -> bool
     ensures { result ≡ is_out_of_range (value_of value.entry) }
 {
@@ -63,7 +63,7 @@ fn is_this_mark(token: &Token<'_>, mark: Mark) -> bool
     }
 }
 
-// The register behind a hart's number.
+/// The register behind a hart's number.
 fn take_register<'b, 'a>(
     hart: &'a str,
     tokens: &'b [Token<'a>],
@@ -82,7 +82,7 @@ fn take_register<'b, 'a>(
     }
 }
 
-// The location whose name stands in brackets.
+/// The location whose name stands in brackets.
 fn take_bracketed<'b, 'a>(tokens: &'b [Token<'a>]) -> Option<(Target<'a>, &'b [Token<'a>])>
     ensures found { IfSome result (λ x. (line : ℕ) → IsTarget ((Sign mark.OpenBracket, line) ∷ views tokens.now) (target_of x.0) (views x.1.now)) }
     ensures absent { IsNone result → (line : ℕ) → ¬ BeginsTarget ((Sign mark.OpenBracket, line) ∷ views tokens.now) }
@@ -104,7 +104,7 @@ fn take_bracketed<'b, 'a>(tokens: &'b [Token<'a>]) -> Option<(Target<'a>, &'b [T
     }
 }
 
-// The target at the front.
+/// The target at the front.
 fn take_target<'b, 'a>(tokens: &'b [Token<'a>]) -> Option<(Target<'a>, &'b [Token<'a>])>
     ensures found { IfSome result (λ x. IsTarget (views tokens.now) (target_of x.0) (views x.1.now)) }
     ensures absent { IsNone result → ¬ BeginsTarget (views tokens.now) }
@@ -124,14 +124,14 @@ fn take_target<'b, 'a>(tokens: &'b [Token<'a>]) -> Option<(Target<'a>, &'b [Toke
     }
 }
 
-// Is it the class of numbers?
+/// Is it the class of numbers?
 fn is_number(found: Class) -> bool
     ensures { Decides result (found ≡ class.Number) }
 {
     matches!(found, Class::Number)
 }
 
-// The value behind a minus.
+/// The value behind a minus.
 fn take_negative<'a>(tokens: &[Token<'a>]) -> Option<Value<'a>>
     ensures found { IfSome result (λ v. (after : List Lined) × ((line : ℕ) → IsValue ((Sign mark.Minus, line) ∷ views tokens.now) (value_of v) after)) }
     ensures absent { IsNone result → (line : ℕ) → ¬ BeginsValue ((Sign mark.Minus, line) ∷ views tokens.now) }
@@ -152,7 +152,7 @@ fn take_negative<'a>(tokens: &[Token<'a>]) -> Option<Value<'a>>
     }
 }
 
-// The value at the front.
+/// The value at the front.
 fn take_value<'a>(tokens: &[Token<'a>]) -> Option<Value<'a>>
     ensures found { IfSome result (λ v. (after : List Lined) × IsValue (views tokens.now) (value_of v) after) }
     ensures absent { IsNone result → ¬ BeginsValue (views tokens.now) }
@@ -176,14 +176,14 @@ fn take_value<'a>(tokens: &[Token<'a>]) -> Option<Value<'a>>
     }
 }
 
-// Are they, whatever locations there are, no register or location and its word?
+/// Are they, whatever locations there are, no register or location and its word?
 fn is_bad(columns: usize, target: Target<'_>, value: Value<'_>) -> bool
     ensures { Decides result (IsBad columns (target_of target.entry) (value_of value.entry)) }
 {
     is_absent(columns, target) || is_out_of_range(value)
 }
 
-// Do the tokens begin with a target, `=` and a value that are bad?
+/// Do the tokens begin with a target, `=` and a value that are bad?
 fn begins_bad(columns: usize, tokens: &[Token<'_>]) -> bool
     ensures { Decides result (BeginsBad columns (views tokens.now)) }
 {
@@ -202,14 +202,14 @@ fn begins_bad(columns: usize, tokens: &[Token<'_>]) -> bool
     }
 }
 
-// Does a target go on behind the token?
+/// Does a target go on behind the token?
 fn opens(kind: Kind<'_>) -> bool
     ensures { result ≡ opens (kind_of kind.entry) }
 {
     matches!(kind, Kind::Sign(Mark::Colon | Mark::OpenBracket))
 }
 
-// Does a bad atom begin with the tokens, and no target before them go on there?
+/// Does a bad atom begin with the tokens, and no target before them go on there?
 fn is_bad_behind(columns: usize, is_open: bool, tokens: &[Token<'_>]) -> bool
     ensures { Decides result ((is_open ≡ false) × BeginsBad columns (views tokens.now)) }
 {

@@ -21,7 +21,7 @@ pub(crate) fn columns_of(alloc: Global, tokens: &[Token<'_>]) -> Result<usize, A
     }
 }
 
-// How many tokens a target has that begins with this one.
+/// How many tokens a target has that begins with this one.
 fn target_len(spot: Spot<'_, '_>) -> usize {
     match spot.ahead(0) {
         Some(Kind::Word(Class::Number, _) | Kind::Sign(Mark::OpenBracket)) => 3,
@@ -36,7 +36,7 @@ fn is_hart(columns: usize, word: &str) -> bool {
     }
 }
 
-// What is said of a register's hart and name.
+/// What is said of a register's hart and name.
 fn register_words(columns: usize, spot: Spot<'_, '_>) -> Option<&'static str> {
     let Some(Kind::Word(Class::Number, hart)) = spot.ahead(0) else {
         return None;
@@ -55,7 +55,7 @@ fn register_words(columns: usize, spot: Spot<'_, '_>) -> Option<&'static str> {
     None
 }
 
-// Is it a number that is out of range?
+/// Is it a number that is out of range?
 fn is_out_of_range(spot: Spot<'_, '_>) -> bool {
     match spot.ahead(0) {
         Some(Kind::Word(Class::Number, digits)) => number_of(digits).is_none(),
@@ -64,7 +64,7 @@ fn is_out_of_range(spot: Spot<'_, '_>) -> bool {
     }
 }
 
-// Is it a number that no word is the negative of?
+/// Is it a number that no word is the negative of?
 fn is_low(kind: Option<Kind<'_>>) -> bool {
     match kind {
         Some(Kind::Word(_, digits)) => match number_of(digits) {
@@ -75,7 +75,7 @@ fn is_low(kind: Option<Kind<'_>>) -> bool {
     }
 }
 
-// What is said of the target and the value that begin with this token.
+/// What is said of the target and the value that begin with this token.
 fn binding_words(columns: usize, spot: Spot<'_, '_>) -> Option<&'static str> {
     if let Some(words) = register_words(columns, spot) {
         return Some(words);
@@ -86,7 +86,7 @@ fn binding_words(columns: usize, spot: Spot<'_, '_>) -> Option<&'static str> {
     None
 }
 
-// Is it x0?
+/// Is it x0?
 fn is_x0(spot: Spot<'_, '_>) -> bool {
     match (spot.ahead(0), spot.ahead(2)) {
         (Some(Kind::Word(Class::Number, _)), Some(Kind::Word(_, register))) => {

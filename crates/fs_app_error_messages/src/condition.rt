@@ -15,7 +15,7 @@ use fs_litmus_syntax::{read_condition, read_form};
 use fs_litmus_tokens::{Stop, Token};
 use std::alloc::{AllocError, Global};
 
-// Nothing, unless memory was refused.
+/// Nothing, unless memory was refused.
 fn nothing(stop: Stop<'_, '_>) -> Result<Option<usize>, AllocError>
     ensures none { IfOk result (λ o. o ≡ None) }
     ensures stopped { IfOk result (λ o. (ts : List Lined) → IsTextStop ts stop.entry → (s : Syntax) → ¬ IsText ts s) }
@@ -26,7 +26,7 @@ fn nothing(stop: Stop<'_, '_>) -> Result<Option<usize>, AllocError>
     }
 }
 
-// How many columns a test file has, and the tokens of its condition.
+/// How many columns a test file has, and the tokens of its condition.
 fn read_columns<'b, 'a>(
     alloc: Global,
     tokens: &'b [Token<'a>],
@@ -41,8 +41,8 @@ fn read_columns<'b, 'a>(
     Ok((form.columns, rest))
 }
 
-/// The number of the token with which the first atom of the condition begins that can't be true or false, since a hart or a
-/// register isn't there or a number is out of range. Linear in the tokens.
+/// The number of the token with which the first atom of the condition begins that can't be true or false, since a hart
+/// or a register isn't there or a number is out of range. Linear in the tokens.
 pub(crate) fn atom_number(alloc: Global, tokens: &[Token<'_>]) -> Result<Option<usize>, AllocError>
     ensures found { IfOk result (λ o. IfSome o (IsBadAtom (views tokens.now))) }
     ensures absent { IfOk result (λ o. IsNone o → HasNoBadAtom (views tokens.now)) }

@@ -9,7 +9,7 @@ use fs_kinds::{Fault, Kind, Prices, Slot, read_fence, read_prices};
 use fs_litmus::{read_test, slots};
 use std::alloc::{AllocError, Global};
 
-// Does an earlier word name the slot?
+/// Does an earlier word name the slot?
 fn is_named(words: &[String], slot: Slot) -> bool {
     for word in words {
         if let Some((other, _)) = read_fence(word.as_str()) {
@@ -28,7 +28,7 @@ fn is_offered(prices: Option<&Prices>, kind: Kind) -> bool {
     }
 }
 
-// What is wrong with a word, behind these and for a test with these slots.
+/// What is wrong with a word, behind these and for a test with these slots.
 fn word_words(
     word: &str,
     before: &[String],
@@ -52,7 +52,7 @@ fn word_words(
     None
 }
 
-// The first word that has a fault, and what is wrong with it.
+/// The first word that has a fault, and what is wrong with it.
 fn first_word<'a>(
     words: &'a [String],
     slots: &[Slot],
@@ -66,7 +66,7 @@ fn first_word<'a>(
     None
 }
 
-// The slots of a test file, none where it is none.
+/// The slots of a test file, none where it is none.
 fn slots_of(alloc: Global, test: &[u8]) -> Result<Vec<Slot>, AllocError> {
     let test = match read_test(alloc, test) {
         Ok(test) => test,

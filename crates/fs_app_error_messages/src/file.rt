@@ -16,7 +16,7 @@ use fs_litmus::read_test;
 use fs_litmus_tokens::tokens;
 use std::alloc::{AllocError, Global};
 
-// The offset of a point.
+/// The offset of a point.
 fn offset_of(point: Point) -> usize
     ensures { result ≡ offset_of point }
 {
@@ -36,7 +36,7 @@ fn limit_words(what: Limit) -> &'static str {
     }
 }
 
-// What is said of a fault that no token is named for.
+/// What is said of a fault that no token is named for.
 fn whole_words(fault: Fault) -> &'static str {
     match fault {
         Fault::TooBig { what } => limit_words(what),
@@ -54,7 +54,7 @@ fn whole_words(fault: Fault) -> &'static str {
     }
 }
 
-// What is said of a fault that has a token, in a file whose initial values begin at this offset, in this line.
+/// What is said of a fault that has a token, in a file whose initial values begin at this offset, in this line.
 fn token_words(
     alloc: Global,
     bytes: &[u8],
@@ -87,7 +87,7 @@ fn token_words(
     }
 }
 
-// What is said of a fault of a test file.
+/// What is said of a fault of a test file.
 fn hint_of(
     alloc: Global,
     bytes: &[u8],
@@ -137,7 +137,7 @@ pub fn explain_test(alloc: Global, name: &str, bytes: &[u8]) -> Result<Option<St
     }
 }
 
-// What is said of the first fault of a test file.
+/// What is said of the first fault of a test file.
 fn told_of(alloc: Global, name: &str, bytes: &[u8], fault: Fault) -> Result<String, AllocError>
     requires { IsTestFault bytes.now fault }
     ensures { IfOk result (λ text. IsToldOf name.now bytes.now (string_bytes text)) }

@@ -65,7 +65,7 @@ fn is_this_word(kind: Kind<'_>, word: &str) -> bool {
     }
 }
 
-// In the initial values.
+/// In the initial values.
 fn init_words(spot: Spot<'_, '_>) -> &'static str {
     let Some(found) = spot.ahead(0) else {
         return "the file ends before the `}` of the initial values";
@@ -85,7 +85,7 @@ fn init_words(spot: Spot<'_, '_>) -> &'static str {
     }
 }
 
-// The first token of a value.
+/// The first token of a value.
 fn value_words(found: Kind<'_>) -> &'static str {
     match found {
         Kind::Sign(Mark::OpenBrace) => "arrays are left out: write a location for each element",
@@ -93,7 +93,7 @@ fn value_words(found: Kind<'_>) -> &'static str {
     }
 }
 
-// A word behind a word.
+/// A word behind a word.
 fn second_word(spot: Spot<'_, '_>) -> &'static str {
     if !is_word(spot.back(1)) {
         return "expected an entry and `;`, as `x=1;` or `0:x6=x;`";
@@ -104,7 +104,7 @@ fn second_word(spot: Spot<'_, '_>) -> &'static str {
     "expected `=` and a value; types are `int`, `int32_t` and `uint32_t`: write `x=0;` for `uint64_t x;`"
 }
 
-// In the rows.
+/// In the rows.
 fn rows_words(spot: Spot<'_, '_>) -> &'static str {
     let Some(found) = spot.ahead(0) else {
         return end_words(spot.tokens);
@@ -118,7 +118,7 @@ fn rows_words(spot: Spot<'_, '_>) -> &'static str {
     }
 }
 
-// The file ends in its rows.
+/// The file ends in its rows.
 fn end_words(tokens: &[Token<'_>]) -> &'static str {
     for token in tokens {
         if is_this_word(token.kind, "filter") {
@@ -128,7 +128,7 @@ fn end_words(tokens: &[Token<'_>]) -> &'static str {
     "the file ends before its condition: is the last row ended by `;`, and is there an `exists`?"
 }
 
-// In the condition.
+/// In the condition.
 fn condition_words(spot: Spot<'_, '_>) -> &'static str {
     let Some(found) = spot.ahead(0) else {
         return "the file ends within its condition";
@@ -158,7 +158,7 @@ fn behind_labels<'b, 'a>(cell: Spot<'b, 'a>) -> Spot<'b, 'a> {
     spot
 }
 
-// In a cell, whose first token is meant.
+/// In a cell, whose first token is meant.
 fn cell_words(cell: Spot<'_, '_>) -> &'static str {
     let spot = behind_labels(cell);
     let Some(Kind::Word(_, word)) = spot.ahead(0) else {
@@ -177,7 +177,7 @@ fn is_load_or_store(op: Op) -> bool {
     matches!(op, Op::Lw | Op::Sw)
 }
 
-// Where the form breaks; it may be met as a whole.
+/// Where the form breaks; it may be met as a whole.
 fn section_of(alloc: Global, tokens: &[Token<'_>]) -> Result<Section, AllocError> {
     let rest = match read_init(alloc, tokens) {
         Ok((_, rest)) => rest,

@@ -12,7 +12,7 @@ use std::alloc::{AllocError, Global};
 /// How many characters of a key are shown.
 const MOST_KEY: usize = 40;
 
-// What is wrong at a key.
+/// What is wrong at a key.
 fn key_words(alloc: Global, key: &str, words: &str) -> Result<String, AllocError> {
     let mut text = String::from_str(alloc, "`")?;
     push_shown(&mut text, key.as_bytes(), 0, MOST_KEY)?;
@@ -21,7 +21,7 @@ fn key_words(alloc: Global, key: &str, words: &str) -> Result<String, AllocError
     Ok(text)
 }
 
-// The offset at which a line begins, from 1 on.
+/// The offset at which a line begins, from 1 on.
 fn line_start(bytes: &[u8], line: usize) -> usize {
     let mut left = line.saturating_sub(1);
     for (i, byte) in bytes.iter().enumerate() {
@@ -35,7 +35,7 @@ fn line_start(bytes: &[u8], line: usize) -> usize {
     bytes.len()
 }
 
-// The offset of a line and a column, both from 1 on, in bytes; the end where there is none.
+/// The offset of a line and a column, both from 1 on, in bytes; the end where there is none.
 fn offset_at(bytes: &[u8], line: usize, column: usize) -> usize
     ensures { result ≤ length bytes.now }
 {
@@ -47,7 +47,7 @@ fn offset_at(bytes: &[u8], line: usize, column: usize) -> usize
     }
 }
 
-// Is it a whole number in this range?
+/// Is it a whole number in this range?
 fn is_whole(value: &Value, least: u64, most: u64) -> bool {
     match value.as_u64() {
         Some(number) => least <= number && number <= most,
@@ -55,7 +55,7 @@ fn is_whole(value: &Value, least: u64, most: u64) -> bool {
     }
 }
 
-// What is wrong with the weights of prices.
+/// What is wrong with the weights of prices.
 fn weights_words(alloc: Global, value: &Value) -> Result<Option<String>, AllocError> {
     let Some(members) = value.as_object() else {
         return Ok(Some(String::from_str(
@@ -78,7 +78,7 @@ fn weights_words(alloc: Global, value: &Value) -> Result<Option<String>, AllocEr
     Ok(None)
 }
 
-// What is wrong with a member of prices.
+/// What is wrong with a member of prices.
 fn price_words(alloc: Global, name: &str, value: &Value) -> Result<Option<String>, AllocError> {
     if name == "weights" {
         return weights_words(alloc, value);
@@ -111,7 +111,7 @@ fn prices_words(alloc: Global, value: &Value) -> Result<String, AllocError> {
     String::from_str(alloc, "`rw,rw` needs a price")
 }
 
-// Is it an object with so many keys?
+/// Is it an object with so many keys?
 fn has_keys(value: &Value, count: usize) -> bool {
     match value.as_object() {
         Some(members) => members.len() == count,
@@ -150,7 +150,7 @@ fn certificate_words(alloc: Global, value: &Value) -> Result<String, AllocError>
     )
 }
 
-// What is wrong with a JSON value for which this fault was given.
+/// What is wrong with a JSON value for which this fault was given.
 fn value_words(alloc: Global, value: &Value, fault: Fault) -> Result<String, AllocError> {
     match fault {
         Fault::BadPrices | Fault::NoTop => prices_words(alloc, value),
@@ -160,7 +160,7 @@ fn value_words(alloc: Global, value: &Value, fault: Fault) -> Result<String, All
     }
 }
 
-// The message of a JSON file whose value is of no use.
+/// The message of a JSON file whose value is of no use.
 fn value_note(
     alloc: Global,
     name: &str,
@@ -175,7 +175,7 @@ fn value_note(
     message(alloc, name, bytes, fault, None, words.as_str())
 }
 
-// The message of a file that is no JSON.
+/// The message of a file that is no JSON.
 fn text_note(
     alloc: Global,
     name: &str,

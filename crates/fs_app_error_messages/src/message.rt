@@ -20,7 +20,7 @@ const MOST_BEFORE: usize = 60;
 /// How many characters of a file's name are shown.
 const MOST_NAME: usize = 4096;
 
-// How many bytes stand before the first LF.
+/// How many bytes stand before the first LF.
 fn line_len(bytes: &[u8]) -> usize
     ensures { result ≡ prefix_len is_within_line bytes.now }
 {
@@ -32,21 +32,21 @@ fn line_len(bytes: &[u8]) -> usize
     bytes.len()
 }
 
-// The bytes of the first line, without its LF.
+/// The bytes of the first line, without its LF.
 fn line_of(bytes: &[u8]) -> &[u8]
     ensures { result.now ≡ line_of bytes.now }
 {
     up_to(bytes, line_len(bytes))
 }
 
-// How many characters at the front of a line are cut off.
+/// How many characters at the front of a line are cut off.
 fn cut(column: usize) -> usize
     ensures { result ≡ cut column }
 {
     column.saturating_sub(1).saturating_sub(MOST_BEFORE)
 }
 
-// Appends the name of a file.
+/// Appends the name of a file.
 fn push_name(text: &mut String, name: &str) -> Result<(), AllocError>
     ensures { OnOk result (string_bytes text.new ≡ string_bytes text.old ++ name_text name.now) }
 {
@@ -63,7 +63,7 @@ pub fn shown_name(alloc: Global, name: &str) -> Result<String, AllocError>
     Ok(text)
 }
 
-// Appends the line at a place, and below it the caret and a hint.
+/// Appends the line at a place, and below it the caret and a hint.
 fn push_source(
     alloc: Global,
     text: &mut String,
@@ -85,7 +85,7 @@ fn push_source(
     Ok(())
 }
 
-// The message of a fault at an offset.
+/// The message of a fault at an offset.
 fn message_at(
     alloc: Global,
     name: &str,
@@ -104,7 +104,7 @@ fn message_at(
     Ok(text)
 }
 
-// The message of a fault without a place.
+/// The message of a fault without a place.
 fn message_of(alloc: Global, name: &str, fault: Fault, hint: &str) -> Result<String, AllocError>
     ensures { IfOk result (λ text. string_bytes text ≡ message_of name.now fault hint.now) }
 {

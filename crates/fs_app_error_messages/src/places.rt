@@ -15,14 +15,14 @@ pub struct Place {
     pub start: usize,
 }
 
-// Does the byte go on with a character of UTF-8?
+/// Does the byte go on with a character of UTF-8?
 fn goes_on(byte: u8) -> bool
     ensures { result ≡ goes_on byte }
 {
     byte >= 128 && byte < 192
 }
 
-// The place behind a byte at this offset.
+/// The place behind a byte at this offset.
 fn behind(place: Place, at: usize, byte: u8) -> Place
     requires line { place.line + 1 < 2 ^ 64 }
     requires column { place.column + 1 < 2 ^ 64 }
@@ -65,7 +65,7 @@ pub(crate) fn place_of(bytes: &[u8], offset: usize) -> Place
     place
 }
 
-// The character of this first byte, as it is shown.
+/// The character of this first byte, as it is shown.
 fn shown_char(byte: u8) -> char
     ensures value { result ≡ shown_byte byte }
     ensures ascii { result < 128 }
@@ -76,8 +76,8 @@ fn shown_char(byte: u8) -> char
     if byte == b'\t' { ' ' } else { '?' }
 }
 
-// Appends the character of this first byte, unless it is left out or there is no room; how many are to be left out
-// then, and the room.
+/// Appends the character of this first byte, unless it is left out or there is no room; how many are to be left out
+/// then, and the room.
 fn push_char(
     text: &mut String,
     byte: u8,

@@ -74,7 +74,7 @@ fn line_of(fault: Fault) -> Option<usize>
     }
 }
 
-// The number of the token in the line of the fault that was found, where that is the other but for its line.
+/// The number of the token in the line of the fault that was found, where that is the other but for its line.
 fn number_of(found: Fault, fault: Fault) -> Option<usize>
     ensures number { IfSome result (λ n. number found ≡ number fault) }
     ensures line { IfSome result (λ n. line_of found ≡ Some (n + 2)) }
@@ -92,7 +92,7 @@ fn is_memory(fault: Fault) -> bool
     fault.number() == Fault::Memory.number()
 }
 
-// The number of the token that the fault is of, or how many there are, where it is of the end.
+/// The number of the token that the fault is of, or how many there are, where it is of the end.
 fn fault_number(
     alloc: Global,
     tokens: &[Token<'_>],
@@ -114,7 +114,7 @@ fn fault_number(
     }
 }
 
-// What the fault is pointed at by, in a file whose initial values begin at this offset, in this line.
+/// What the fault is pointed at by, in a file whose initial values begin at this offset, in this line.
 fn text_point(
     alloc: Global,
     bytes: &[u8],
@@ -142,7 +142,7 @@ fn text_point(
     }
 }
 
-// Is it an LF?
+/// Is it an LF?
 fn is_line_end(byte: Option<u8>) -> bool
     ensures { result ≡ is_line_end byte }
 {
@@ -152,7 +152,7 @@ fn is_line_end(byte: Option<u8>) -> bool
     }
 }
 
-// The offset behind the last line.
+/// The offset behind the last line.
 fn end_of(bytes: &[u8]) -> usize
     ensures value { result ≡ end_of bytes.now }
     ensures within { result ≤ length bytes.now }
@@ -165,8 +165,8 @@ fn end_of(bytes: &[u8]) -> usize
     }
 }
 
-// The first token of the atom that a fault of the condition is of, in a file whose initial values begin at this offset, in
-// this line.
+/// The first token of the atom that a fault of the condition is of, in a file whose initial values begin at this
+/// offset, in this line.
 fn atom_point(
     alloc: Global,
     bytes: &[u8],
@@ -192,7 +192,7 @@ fn atom_point(
     }
 }
 
-// What a fault of the condition is pointed at by.
+/// What a fault of the condition is pointed at by.
 fn condition_point(alloc: Global, bytes: &[u8]) -> Result<Option<Point>, AllocError>
     ensures { IfOk result (IsPlaced bytes.now Fault.BadCondition) }
 {
@@ -202,7 +202,7 @@ fn condition_point(alloc: Global, bytes: &[u8]) -> Result<Option<Point>, AllocEr
     }
 }
 
-// What a fault of the form of the text, of an instruction, a label or an initial value is pointed at by.
+/// What a fault of the form of the text, of an instruction, a label or an initial value is pointed at by.
 fn form_point(alloc: Global, bytes: &[u8], fault: Fault) -> Result<Option<Point>, AllocError>
     requires { aim_of fault ≡ Aim.InLine }
     ensures { IfOk result (IsPlaced bytes.now fault) }
@@ -213,7 +213,7 @@ fn form_point(alloc: Global, bytes: &[u8], fault: Fault) -> Result<Option<Point>
     }
 }
 
-// The first byte that isn't UTF-8.
+/// The first byte that isn't UTF-8.
 fn encoding_point(bytes: &[u8]) -> Option<Point>
     ensures { IsPlaced bytes.now Fault.BadUtf8 result }
 {

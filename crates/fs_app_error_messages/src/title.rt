@@ -8,7 +8,7 @@ ghost use Rattle.fs_litmus.specs.Title.{after_line, unindented, IsBody};
 use crate::slices::from;
 use crate::walk::{begins, is_blank};
 
-// How many blanks stand at the front.
+/// How many blanks stand at the front.
 fn blanks(bytes: &[u8]) -> usize
     ensures value { result ≡ prefix_len is_blank bytes.now }
     ensures within { result ≤ length bytes.now }
@@ -21,7 +21,7 @@ fn blanks(bytes: &[u8]) -> usize
     bytes.len()
 }
 
-// Where the line ends of which these are the first bytes: behind its LF.
+/// Where the line ends of which these are the first bytes: behind its LF.
 fn line_len(bytes: &[u8]) -> Option<usize>
     ensures value { option_map (λ n. drop n bytes.now) result ≡ after_line bytes.now }
     ensures moves { IfSome result (λ n. (0 < n) × (n ≤ length bytes.now)) }
@@ -34,8 +34,8 @@ fn line_len(bytes: &[u8]) -> Option<usize>
     None
 }
 
-/// The offset at which the block of initial values begins, with the tokens of a test file, and its line; nothing where no line below the
-/// first begins with `{` past its blanks. Linear in the bytes.
+/// The offset at which the block of initial values begins, with the tokens of a test file, and its line; nothing where
+/// no line below the first begins with `{` past its blanks. Linear in the bytes.
 pub fn body_start(bytes: &[u8]) -> Option<(usize, usize)>
     ensures value { IfSome result (λ b. (doc : List ℕ) × (after_line bytes.now ≡ Some doc) × IsBody doc 2 (drop b.0 bytes.now) b.1) }
     ensures absent { IsNone result → (doc body : List ℕ) → (at : ℕ) → after_line bytes.now ≡ Some doc → ¬ IsBody doc 2 body at }

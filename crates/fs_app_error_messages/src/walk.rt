@@ -28,7 +28,7 @@ pub(crate) fn is_blank(b: u8) -> bool
     b == b' ' || b == b'\t' || b == b'\r'
 }
 
-// How many bytes at the front are letters.
+/// How many bytes at the front are letters.
 fn word_len(bytes: &[u8]) -> usize
     ensures value { result ≡ prefix_len is_letter bytes.now }
     ensures within { result ≤ length bytes.now }
@@ -56,7 +56,7 @@ fn ends_comment(byte: u8, after: &[u8]) -> bool
     byte == b'*' && begins(b')', after)
 }
 
-// How many bytes there are up to the end of the first `*)`.
+/// How many bytes there are up to the end of the first `*)`.
 fn comment_len(bytes: &[u8]) -> Option<usize>
     ensures value { option_map (λ n. drop n bytes.now) result ≡ option_map (λ x. x.0) (comment_end bytes.now 0) }
     ensures within { IfSome result (λ n. n ≤ length bytes.now) }
@@ -69,7 +69,7 @@ fn comment_len(bytes: &[u8]) -> Option<usize>
     None
 }
 
-// What stands at the front.
+/// What stands at the front.
 fn front(first: u8, after: &[u8]) -> Step
     ensures value { step_of (first ∷ after.now) result ≡ shape_of (piece first after.now 0) }
     ensures moves { Moves (length after.now) result }

@@ -2,7 +2,7 @@
 
 use fs_instr::Op;
 
-// Words of calls and of jumps to registers.
+/// Words of calls and of jumps to registers.
 fn is_call(word: &str) -> bool {
     matches!(
         word,
@@ -10,22 +10,22 @@ fn is_call(word: &str) -> bool {
     )
 }
 
-// Words of accesses of a byte or of half a word.
+/// Words of accesses of a byte or of half a word.
 fn is_narrow(word: &str) -> bool {
     matches!(word, "lb" | "lbu" | "lh" | "lhu" | "sb" | "sh")
 }
 
-// Branches that stand for others with the registers swapped.
+/// Branches that stand for others with the registers swapped.
 fn is_swapped(word: &str) -> bool {
     matches!(word, "bgt" | "ble" | "bgtu" | "bleu")
 }
 
-// Branches that stand for others with x0.
+/// Branches that stand for others with x0.
 fn is_with_zero(word: &str) -> bool {
     matches!(word, "bgtz" | "blez" | "bgez" | "bltz")
 }
 
-// Words that stand for others, but for branches.
+/// Words that stand for others, but for branches.
 fn is_short(word: &str) -> bool {
     matches!(
         word,
@@ -33,12 +33,12 @@ fn is_short(word: &str) -> bool {
     )
 }
 
-// Accesses of 64 bits.
+/// Accesses of 64 bits.
 fn is_wide(word: &str) -> bool {
     matches!(word, "ld" | "sd" | "lwu") || word.ends_with(".d") || word.contains(".d.")
 }
 
-// The name of an instruction of the table with a w behind it.
+/// The name of an instruction of the table with a w behind it.
 fn is_of_rv64(word: &str) -> bool {
     match word.strip_suffix("w") {
         Some(name) => Op::of(name).is_some(),

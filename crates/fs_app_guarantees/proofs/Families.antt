@@ -1,4 +1,5 @@
--- A test has one list of each hart's runs: the order of choices is asymmetric, so two rising lists with the same members are one.
+-- A test has one list of each hart's runs: the order of choices is asymmetric, so two rising lists with the same
+-- members are one.
 use Rattle.std.proofs.Common.{◌≡◌, ℕ, zero, suc, ◌<◌, ◌⊎◌, List, [], ◌∷◌, length, refl, sym, ap₂, subst, ◌∙◌, arith, inl, inr}
 use Rattle.std.specs.List.{AllPairs, Contains, slice_index_or}
 use Rattle.std.proofs.Math.Path.{fun_ext}

@@ -1,4 +1,5 @@
--- A statement on tests that stays true where a condition is replaced by one that says the same carries over to the same tests.
+-- A statement on tests that stays true where a condition is replaced by one that says the same carries over to the same
+-- tests.
 use Rattle.std.proofs.Common.{◌≡◌, ◌↔◌, List, [], ◌∷◌, ap, sym, subst, ◌∙◌}
 use Rattle.std.specs.Prelude.{All}
 use Rattle.std.specs.List.{AllZip, slice_index_or}

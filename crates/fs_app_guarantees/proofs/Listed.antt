@@ -1,4 +1,5 @@
--- A test has one listing of its showing candidates: their order is asymmetric, so two rising lists with the same members are one.
+-- A test has one listing of its showing candidates: their order is asymmetric, so two rising lists with the same
+-- members are one.
 use Rattle.std.proofs.Common.{◌≡◌, ℕ, ◌==◌, ◌&&◌, true, List, [], ◌∷◌, sym, subst, arith, inl, inr}
 use Rattle.std.specs.Prelude.{nat_lt}
 use Rattle.std.proofs.lemmas.Bool.{false≢true, and_parts, or_cases, ltb-true, eqb-true}

@@ -18,7 +18,8 @@ use Rattle.fs_check_certificate.proofs.Filled.{heads, no_later}
 
 -- ---- placements over the same slots
 
--- of two entries at one slot, with the same words up to the end, the kinds are the same, and so are the words behind them
+-- of two entries at one slot, with the same words up to the end, the kinds are the same, and so are the words behind
+-- them
 same_kinds : (s : Slot) (k l : Option Kind) (p q : List Entry) → IsSlot s → AllByRecursion IsSlot (slots_of p) → AllByRecursion IsSlot (slots_of q)
     → list_all (is_before s) (slots_of p) ≡ true → list_all (is_before s) (slots_of q) ≡ true
     → words_at s k ++ fence_words p ≡ words_at s l ++ fence_words q → (k ≡ l) × (fence_words p ≡ fence_words q)

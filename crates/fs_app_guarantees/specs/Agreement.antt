@@ -22,14 +22,15 @@ SaysYes test witness words = IsOrderAnswer test witness words (codes "yes\n") Su
 abbrev pub Place : Test → (words : List (List ℕ)) → List Entry → Type 0
 Place t words p = IsPlaced None (slots t) words (Some p)
 
--- each placement over the slots of a test is placed by its words, one for each fence in slot order, and words place one placement at most
+-- each placement over the slots of a test is placed by its words, one for each fence in slot order, and words place one
+-- placement at most
 abbrev pub HaveOnePlacement : Test → Type 0
 HaveOnePlacement t =
     ((p : List Entry) → slots_of p ≡ slots t → Place t (fence_words p) p)
     × ((words : List (List ℕ)) (p q : List Entry) → Place t words p → Place t words q → p ≡ q)
 
--- A placement and its cost are printed. With its fences `order` says yes to no witness file; with those of any better placement over the
--- same slots and kinds, be it cheaper or of equal cost and earlier, it says yes to some file.
+-- A placement and its cost are printed. With its fences `order` says yes to no witness file; with those of any better
+-- placement over the same slots and kinds, be it cheaper or of equal cost and earlier, it says yes to some file.
 pub record SaysNoToAnswer (test : List ℕ) (t : Test) (prices : PriceTable) (text : List ℕ) : Type 0 where
   pub placement : List Entry
   pub shown : text ≡ fenced_lines (cost prices placement) placement
@@ -38,8 +39,8 @@ pub record SaysNoToAnswer (test : List ℕ) (t : Test) (prices : PriceTable) (te
   pub better : (q : List Entry) → IsPlacement t prices q → is_better prices q placement ≡ true
       → (words : List (List ℕ)) → Place t words q → (witness : List ℕ) × SaysYes test witness words
 
--- `none` is printed, and a witness file as a line. `order` says yes to this file, with its line end or without, whatever fences are placed,
--- rw,rw in every slot among them.
+-- `none` is printed, and a witness file as a line. `order` says yes to this file, with its line end or without,
+-- whatever fences are placed, rw,rw in every slot among them.
 pub record SaysYesToWitness (test : List ℕ) (t : Test) (text : List ℕ) : Type 0 where
   pub witness : List ℕ
   pub shown : text ≡ line (codes "none") ++ line witness

@@ -10,7 +10,8 @@ use Rattle.fs_app_guarantees.specs.Headline.{IsPossible}
 abbrev pub IsMendedTest : (text : List ℕ) → Type 0
 IsMendedTest text = (u : Test) → Reads text u → IsPossible u → ⊥
 
--- Nothing is printed, or a test with such an outcome. A text of a hart of more than 32 instructions doesn't read as a test.
+-- Nothing is printed, or a test with such an outcome. A text of a hart of more than 32 instructions doesn't read as a
+-- test.
 abbrev pub IsNothingOrMended : (text : List ℕ) → Type 0
 IsNothingOrMended text = (text ≡ []) ⊎ IsMendedTest text
 

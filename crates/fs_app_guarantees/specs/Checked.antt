@@ -29,8 +29,8 @@ IsBestAnswer First = LeastRulesOut
 IsBestAnswer Second = CheapestRulesOut
 IsBestAnswer Fourth = CheapestRulesOut
 
--- A line `yes` is printed, and below it what is true of the test and the prices. And the test's candidates can be listed, or its runs
--- where the certificate has a refutation.
+-- A line `yes` is printed, and below it what is true of the test and the prices. And the test's candidates can be
+-- listed, or its runs where the certificate has a refutation.
 abbrev pub IsTrueAnswerBelow : Certificate → Test → PriceTable → (text : List ℕ) → Type 0
 IsTrueAnswerBelow c t prices text =
     HasNoCyclesFault c.cycles t

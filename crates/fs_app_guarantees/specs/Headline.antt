@@ -34,8 +34,8 @@ StaysPossible t p = (u : Test) → IsFencedTest t p u → IsPossible u
 abbrev pub IsRuledOut : Test → List Entry → Type 0
 IsRuledOut t p = (u : Test) → IsFencedTest t p u → IsPossible u → ⊥
 
--- A placement and its cost are printed. It rules the outcome out, and no better one over the same slots and kinds does: none that costs
--- less, and of those that cost as much none that is earlier.
+-- A placement and its cost are printed. It rules the outcome out, and no better one over the same slots and kinds does:
+-- none that costs less, and of those that cost as much none that is earlier.
 pub record CheapestRulesOut (t : Test) (prices : PriceTable) (text : List ℕ) : Type 0 where
   pub placement : List Entry
   pub shown : text ≡ fenced_lines (cost prices placement) placement
@@ -43,8 +43,8 @@ pub record CheapestRulesOut (t : Test) (prices : PriceTable) (text : List ℕ) :
   pub ruled_out : IsRuledOut t placement
   pub better : (q : List Entry) → IsPlacement t prices q → is_better prices q placement ≡ true → StaysPossible t q
 
--- `none` is printed, and a witness file. The outcome is possible whatever fences stand in the slots, and `order` says yes to the witness
--- with rw,rw in each of them.
+-- `none` is printed, and a witness file. The outcome is possible whatever fences stand in the slots, and `order` says
+-- yes to the witness with rw,rw in each of them.
 pub record NothingRulesOut (t : Test) (text : List ℕ) : Type 0 where
   pub witness : Witness
   pub shown : text ≡ none_lines witness

@@ -10,8 +10,8 @@ use Rattle.fs_cert_evidence.specs.WitnessFile.{IsWitnessFile}
 use Rattle.fs_app_io.specs.declared.status.Status.{Status}
 use Rattle.fs_app_io.specs.declared.status.Status.TheVariants.{Success}
 
--- The lines of a placement over the test's slots are those of no other, whatever costs stand in them. Those of a witness whose text is a
--- file are those of no other such witness. And no lines are of both kinds.
+-- The lines of a placement over the test's slots are those of no other, whatever costs stand in them. Those of a
+-- witness whose text is a file are those of no other such witness. And no lines are of both kinds.
 pub record SayOneAnswer (t : Test) : Type 0 where
   pub placement : (p q : List Entry) (m n : ℕ) → slots_of p ≡ slots t → slots_of q ≡ slots t → fenced_lines m p ≡ fenced_lines n q → p ≡ q
   pub witness : (v w : Witness) → IsWitnessFile (length t.codes) (witness_text v) v → IsWitnessFile (length t.codes) (witness_text w) w

@@ -25,7 +25,8 @@ ghost use Rattle.fs_cert_evidence.specs.Board.{Board, Event, Reply};
 ghost use Rattle.fs_cert_evidence.specs.Histories.{LogEntry, Steps, IsHistory};
 ghost use Rattle.fs_cert_evidence.specs.Sizes.{IsNodeLimit};
 
-/// A law: the same tests have the same slots, and are refused for the same faults: those of their runs, and too many candidates.
+/// A law: the same tests have the same slots, and are refused for the same faults: those of their runs, and too many
+/// candidates.
 pub fn same_tests_fail_alike()
     ensures places { (t u : Test) → IsSame t u → slots t ≡ slots u }
     ensures runs { (t u : Test) → IsSame t u → (f : Fault) → IsRunFault t f ↔ IsRunFault u f }
@@ -39,9 +40,9 @@ pub fn same_tests_list_alike()
     ensures listing { (t u : Test) → IsSame t u → (cs : List Candidate) → IsListing t cs ↔ IsListing u cs }
 {}
 
-/// A law: the same tests have the same placements, and under each of them both allow the outcome or both forbid it. So they have
-/// the same cheapest one. A witness gives the same execution of both. It shows the outcome of both under the same placements, and
-/// has the same width at each slot.
+/// A law: the same tests have the same placements, and under each of them both allow the outcome or both forbid it. So
+/// they have the same cheapest one. A witness gives the same execution of both. It shows the outcome of both under the
+/// same placements, and has the same width at each slot.
 pub fn same_tests_allow_alike()
     ensures placements { (t u : Test) → IsSame t u → (prices : PriceTable) (p : List Entry)
         → IsPlacement t prices p ↔ IsPlacement u prices p }
@@ -56,8 +57,8 @@ pub fn same_tests_allow_alike()
     ensures widths { (t u : Test) → IsSame t u → (e : Execution) → width t e ≡ width u e }
 {}
 
-/// A law: the search boards of the same tests have the same steps and histories, and a search of one may end for want of nodes
-/// where a search of the other may.
+/// A law: the search boards of the same tests have the same steps and histories, and a search of one may end for want
+/// of nodes where a search of the other may.
 pub fn same_tests_search_alike()
     ensures steps { (t u : Test) → IsSame t u
         → (prices : PriceTable) (old : Board) (worker : ℕ) (event : Event) (reply : Reply) (new : Board)

@@ -17,9 +17,10 @@ pub fn yes_is_true()
         → IsTrueYes test prices certificate text }
 {}
 
-/// A law: where `check` answers of what `solve --cert` wrote, for the bytes of the same test and prices, it says yes, and below the
-/// `yes` stands what `solve` printed, byte for byte. Faults are no answers: the contract of `run_check` says which may come. F18 isn't
-/// among them here, since the certificate is one, nor are F13 to F15, since nothing is in the way of judging it.
+/// A law: where `check` answers of what `solve --cert` wrote, for the bytes of the same test and prices, it says yes,
+/// and below the `yes` stands what `solve` printed, byte for byte. Faults are no answers: the contract of `run_check`
+/// says which may come. F18 isn't among them here, since the certificate is one, nor are F13 to F15, since nothing is
+/// in the way of judging it.
 pub fn certified_is_accepted()
     ensures { (test prices text certificate verdict : List ℕ) (status end : Status) → IsCertified test prices text status certificate
         → IsChecked test prices certificate verdict end → IsYesTo text verdict end }

@@ -1,8 +1,8 @@
-//! The promises of the commands, as laws over the bytes of files: what an answer of `solve` means, that `order` agrees with it,
-//! that `solve` and `order` have one answer, that printed lines say one answer, what a yes of `check` means, and that the certificate of
-//! `solve --cert` gets one; that a certificate has one verdict; that the fences which `audit` advises rule the outcome out,
-//! and what it writes keeps FENCEs that name devices; what final
-//! states tell of the outcome; and that two tests that are the same wherever the parts of their conditions lie in memory have all else
+//! The promises of the commands, as laws over the bytes of files: what an answer of `solve` means, that `order` agrees
+//! with it, that `solve` and `order` have one answer, that printed lines say one answer, what a yes of `check` means,
+//! and that the certificate of `solve --cert` gets one; that a certificate has one verdict; that the fences which
+//! `audit` advises rule the outcome out, and what it writes keeps FENCEs that name devices; what final states tell of
+//! the outcome; and that two tests that are the same wherever the parts of their conditions lie in memory have all else
 //! alike. No other crate stands on this one, and nothing in it runs.
 #![tactic(auto)]
 

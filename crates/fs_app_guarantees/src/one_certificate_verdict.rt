@@ -10,9 +10,9 @@ ghost use Rattle.fs_cert_evidence.specs.Certificate.{Certificate};
 ghost use Rattle.fs_cert_evidence.specs.Refusals.{IsRefusal};
 ghost use Rattle.fs_cert_evidence.specs.Valid.{IsValid};
 
-/// A law: for a test within the limits, and whatever the prices, a certificate that is valid has one answer, a placement or none;
-/// one that is valid isn't refused; and one that is refused has one reason against it. So of all that a checker may say of a
-/// certificate one thing at most is right.
+/// A law: for a test within the limits, and whatever the prices, a certificate that is valid has one answer, a
+/// placement or none; one that is valid isn't refused; and one that is refused has one reason against it. So of all
+/// that a checker may say of a certificate one thing at most is right.
 pub fn one_verdict()
     ensures answer { (t : Test) (prices : PriceTable) (c : Certificate) (a b : Option (List Entry)) → IsBounded t
         → IsValid t prices c a → IsValid t prices c b → a ≡ b }

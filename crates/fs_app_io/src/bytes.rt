@@ -16,7 +16,7 @@ const CHUNK: usize = 8192;
 /// So many times in a row a call that a signal interrupted is made: no clock ends it, and that it ends is proved.
 const MOST_TRIES: u64 = u64::MAX;
 
-// One read, made again where a signal interrupts it.
+/// One read, made again where a signal interrupts it.
 fn read_some<R: Read>(reader: &mut R, chunk: &mut [u8]) -> Result<usize, Unread>
     ensures bound { ReadsAtMost result chunk.new }
     ensures bytes { ReadConsumes (R.remaining reader.old) (R.remaining reader.new) result chunk.new }
@@ -32,7 +32,7 @@ fn read_some<R: Read>(reader: &mut R, chunk: &mut [u8]) -> Result<usize, Unread>
     Err(Unread::Failed)
 }
 
-// One write, made again where a signal interrupts it.
+/// One write, made again where a signal interrupts it.
 fn write_some<W: Write>(writer: &mut W, text: &[u8]) -> Result<usize, Fault>
     ensures bound { WritesAtMost result text.now }
     ensures bytes { WriteAppends (W.contents writer.old) (W.contents writer.new) result text.now }

@@ -26,8 +26,8 @@ abbrev pub verdict_status : OrderVerdict → Status
 verdict_status Yes = Success
 verdict_status (No reason) = Denied
 
--- the bytes read as a test, the words as a placement of its slots, and the other bytes as a witness; the verdict on this witness
--- is printed
+-- the bytes read as a test, the words as a placement of its slots, and the other bytes as a witness; the verdict on
+-- this witness is printed
 pub record IsOrderAnswer (test witness : List ℕ) (fences : List (List ℕ)) (text : List ℕ) (status : Status) : Type 0 where
   pub the_test : Test
   pub placement : List Entry

@@ -12,12 +12,12 @@ use fs_kinds::{Fault, Placement};
 use fs_litmus::{Test, read_fences, read_test};
 use std::alloc::Global;
 
-/// What `order` prints for a test file, a witness and the words of fences to place: `yes` where the witness gives an execution,
-/// under RVWMO, of the test with these fences that shows the outcome of its condition; else `no: ` and the first reason against
-/// it. The files are bytes as they were read.
+/// What `order` prints for a test file, a witness and the words of fences to place: `yes` where the witness gives an
+/// execution, under RVWMO, of the test with these fences that shows the outcome of its condition; else `no: ` and the
+/// first reason against it. The files are bytes as they were read.
 ///
-/// The first fault in this order: those of a test file by number and then line, `BadFence`, `BadWitness`. `Memory` may come in
-/// place of any answer.
+/// The first fault in this order: those of a test file by number and then line, `BadFence`, `BadWitness`. `Memory` may
+/// come in place of any answer.
 pub fn run_order(
     alloc: Global,
     test: &[u8],
@@ -32,7 +32,7 @@ pub fn run_order(
     judge(alloc, &test, witness, fences)
 }
 
-// What `order` prints for a test that was read.
+/// What `order` prints for a test that was read.
 fn judge(alloc: Global, test: &Test, witness: &[u8], fences: &[String]) -> Result<Output, Fault>
     requires { IsTest test.now }
     ensures answer { IfOk result (λ output. (bytes : List ℕ) → Reads bytes test.now
@@ -44,7 +44,7 @@ fn judge(alloc: Global, test: &Test, witness: &[u8], fences: &[String]) -> Resul
     judge_placed(alloc, test, &placement, witness)
 }
 
-// What `order` prints for a test with this placement.
+/// What `order` prints for a test with this placement.
 fn judge_placed(
     alloc: Global,
     test: &Test,
@@ -66,7 +66,7 @@ fn judge_placed(
     })
 }
 
-// The line of the verdict.
+/// The line of the verdict.
 fn verdict_text(alloc: Global, verdict: OrderVerdict) -> Result<String, Fault>
     ensures ok { IfOk result (λ text. string_bytes text ≡ verdict_line verdict) }
     ensures err { IsOkUnless result Fault.Memory }

@@ -56,9 +56,9 @@ abbrev pub PrintsPlaced : Test → PriceTable → Option (List Entry) → List �
 PrintsPlaced t prices (Some p) text status = IsCheapest t prices p × (text ≡ fenced_lines (cost prices p) p) × (status ≡ Success)
 PrintsPlaced t prices None text status = PrintsNone t text status
 
--- The bytes are a certificate file, as it is written, which is valid with this placement as its answer, or with none, and no fault is in
--- the way of judging that. It is of the second version where it lists cycles, each of which begins at its least operation, and else of the
--- fourth.
+-- The bytes are a certificate file, as it is written, which is valid with this placement as its answer, or with none,
+-- and no fault is in the way of judging that. It is of the second version where it lists cycles, each of which begins
+-- at its least operation, and else of the fourth.
 pub record IsCertificateOf (t : Test) (prices : PriceTable) (answer : Option (List Entry)) (bytes : List ℕ) : Type 0 where
   pub certificate : said.Certificate
   pub file : IsCertificateFile bytes certificate
@@ -73,7 +73,8 @@ abbrev pub IsWitnessed : Option (List Entry) → List Witness → List ℕ → T
 IsWitnessed (Some p) witnesses text = Unit {0}
 IsWitnessed None witnesses text = (w : Witness) × (witnesses ≡ w ∷ []) × (text ≡ none_lines w)
 
--- as `IsSolved`, and the certificate is one of the answer that is printed: of the placement, or of `none` by the same witness
+-- as `IsSolved`, and the certificate is one of the answer that is printed: of the placement, or of `none` by the same
+-- witness
 pub record IsCertified (test prices text : List ℕ) (status : Status) (certificate : List ℕ) : Type 0 where
   pub the_test : Test
   pub table : PriceTable
@@ -85,8 +86,8 @@ pub record IsCertified (test prices text : List ℕ) (status : Status) (certific
   pub certified : IsCertificateOf the_test table placed certificate
   pub witnessed : IsWitnessed placed certified.certificate.witnesses text
 
--- the first fault: of the prices, else of the test, else of its candidates and then of the search; want of memory may come in place of
--- any answer
+-- the first fault: of the prices, else of the test, else of its candidates and then of the search; want of memory may
+-- come in place of any answer
 pub data IsFirstSolveFault (test prices : List ℕ) (limit : ℕ) : Fault → Type 0 where
   of_prices : {fault : Fault} → IsPricesFault (Some prices) fault → IsFirstSolveFault test prices limit fault
   of_test : {fault : Fault} (table : PriceTable) → ArePricesOf prices table → IsTestFault test fault

@@ -52,14 +52,15 @@ struct Found {
     solved: Solved,
 }
 
-/// What `solve` prints for a test file and a file of prices, in lines or as JSON: the first of the cheapest placements of fences that rule the outcome
-/// out, with its cost, and status 0; or `none`, with an execution that shows the outcome with `rw,rw` in every slot, and status 1.
-/// The files are bytes as they were read. One worker searches, without threads, and the call ends; the watch is told how far it is.
+/// What `solve` prints for a test file and a file of prices, in lines or as JSON: the first of the cheapest placements
+/// of fences that rule the outcome out, with its cost, and status 0; or `none`, with an execution that shows the
+/// outcome with `rw,rw` in every slot, and status 1. The files are bytes as they were read. One worker searches,
+/// without threads, and the call ends; the watch is told how far it is.
 ///
-/// The first fault in this order: `BadPrices` and `NoTop`; those of a test file by number and then line; `TooManyTraces` and
-/// `Astray`; `TooManyCandidates`; `NodeLimit`, which comes only where fences are needed, `rw,rw` in every slot is enough, and the
-/// tree of all placements has more than `limit` nodes below its root. `Memory` may come in place of any answer. The law `headline`
-/// of fs_app_guarantees says what an answer means.
+/// The first fault in this order: `BadPrices` and `NoTop`; those of a test file by number and then line;
+/// `TooManyTraces` and `Astray`; `TooManyCandidates`; `NodeLimit`, which comes only where fences are needed, `rw,rw` in
+/// every slot is enough, and the tree of all placements has more than `limit` nodes below its root. `Memory` may come
+/// in place of any answer. The law `headline` of fs_app_guarantees says what an answer means.
 pub fn run_solve_alone<W: Watch>(
     alloc: Global,
     test: &[u8],
@@ -78,9 +79,10 @@ pub fn run_solve_alone<W: Watch>(
     both_forms(alloc, &found.solved.answer)
 }
 
-/// What `run_solve_alone` answers, with the text of a certificate, which is valid for the test and the prices with the answer that is
-/// printed: of the second version where it lists cycles, each of which begins at its least operation, else of the fourth. Where the
-/// answer is `none`, its witness is the printed one. The faults are those of `run_solve_alone`.
+/// What `run_solve_alone` answers, with the text of a certificate, which is valid for the test and the prices with the
+/// answer that is printed: of the second version where it lists cycles, each of which begins at its least operation,
+/// else of the fourth. Where the answer is `none`, its witness is the printed one. The faults are those of
+/// `run_solve_alone`.
 pub fn run_certified_alone<W: Watch>(
     alloc: Global,
     test: &[u8],
@@ -103,13 +105,14 @@ pub fn run_certified_alone<W: Watch>(
     with_certificate(alloc, &found)
 }
 
-/// What `run_solve_alone` answers, searched by 1 to 16 workers: one begins, and where judging takes long the others join it, in threads
-/// of their own; the gate is told how far they are. Whatever their number, the printed placement is the first of the cheapest.
+/// What `run_solve_alone` answers, searched by 1 to 16 workers: one begins, and where judging takes long the others
+/// join it, in threads of their own; the gate is told how far they are. Whatever their number, the printed placement is
+/// the first of the cheapest.
 ///
-/// The faults are those of `run_solve_alone`. Where what was logged under the lock isn't what the workers were told, the lock or the threads
-/// didn't do as they should: then nothing of it is used, and one worker searches alone; no test meets it. Several workers may make more
-/// nodes, and so come to `NodeLimit` where one has the answer. It isn't proved that a thread comes back: a call that waits for ever has no
-/// answer.
+/// The faults are those of `run_solve_alone`. Where what was logged under the lock isn't what the workers were told,
+/// the lock or the threads didn't do as they should: then nothing of it is used, and one worker searches alone; no test
+/// meets it. Several workers may make more nodes, and so come to `NodeLimit` where one has the answer. It isn't proved
+/// that a thread comes back: a call that waits for ever has no answer.
 pub fn run_solve<R: Threads + Wait + Sync, G: Gate + Sync>(
     rt: &R,
     alloc: Global,
@@ -337,7 +340,8 @@ fn certificate_of(alloc: Global, question: &Question, solved: &Solved) -> Result
     }
 }
 
-/// The certificate of an answer that is a placement: of the board's bound, where there is a board, else of no fence at all.
+/// The certificate of an answer that is a placement: of the board's bound, where there is a board, else of no fence at
+/// all.
 fn fenced_certificate(
     alloc: Global,
     question: &Question,

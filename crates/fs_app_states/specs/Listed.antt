@@ -1,5 +1,6 @@
--- What the section `locations [..]` of a test file lists, and the names by which the file calls registers. The section is that of the
--- first `locations` with `[` behind it: in a text that reads as a test these two stand in a row nowhere else.
+-- What the section `locations [..]` of a test file lists, and the names by which the file calls registers. The section
+-- is that of the first `locations` with `[` behind it: in a text that reads as a test these two stand in a row nowhere
+-- else.
 use Rattle.std.specs.Prelude.{◌≡◌, ℕ, Bool, true, false, ◌&&◌, Option, None, Some, is_none, List, [], ◌∷◌, ◌++◌, map, drop, find, codes, if◌then◌else◌}
 use Rattle.std.specs.Option.{option_or}
 use Rattle.std.specs.Fmt.{decimal}

@@ -23,8 +23,8 @@ use Rattle.fs_app_states.specs.Report.{is_true, states_text}
 abbrev pub places_of : List Column → List Place
 places_of = map (λ column. column.place)
 
--- The bytes read as a test, the words as a placement of its slots, and the text is of all states of the test with these fences, each with
--- an execution that ends in it.
+-- The bytes read as a test, the words as a placement of its slots, and the text is of all states of the test with these
+-- fences, each with an execution that ends in it.
 pub record IsStatesText (test : List ℕ) (fences : List (List ℕ)) (asked : Shown) (text : List ℕ) : Type 0 where
   pub the_test : Test
   pub reads : Reads test the_test
@@ -40,8 +40,8 @@ pub record IsStatesText (test : List ℕ) (fences : List (List ℕ)) (asked : Sh
       ≡ holds (final_register the_test e.traces) (final_word (pre_execution the_test e.traces) e.order) (condition_of the_test.condition)
   pub is_text : text ≡ states_text the_test placement columns asked.witnesses states
 
--- The first fault: of the test; else of `locations`; else of the words; else of its runs, its candidates or its states. Want of memory may
--- come in place of any answer.
+-- The first fault: of the test; else of `locations`; else of the words; else of its runs, its candidates or its states.
+-- Want of memory may come in place of any answer.
 pub data IsFirstStatesFault (test : List ℕ) (fences : List (List ℕ)) (asked : Shown) : Fault → Type 0 where
   of_test : {fault : Fault} → IsTestFault test fault → IsFirstStatesFault test fences asked fault
   of_locations : {fault : Fault} (t : Test) → Reads test t → IsColumnsFault test t fault → IsFirstStatesFault test fences asked fault

@@ -23,7 +23,7 @@ pub struct Column {
 
 // ---- names
 
-// The hart of this number, of so many.
+/// The hart of this number, of so many.
 fn hart_named(harts: usize, word: &str) -> Option<u8>
     requires { harts ≤ most_harts }
     ensures { result ≡ hart_named harts word.now }
@@ -36,7 +36,7 @@ fn hart_named(harts: usize, word: &str) -> Option<u8>
     }
 }
 
-// The hart's register of this name.
+/// The hart's register of this name.
 fn register_named(harts: usize, hart: &str, register: &str) -> Option<Place>
     requires { harts ≤ most_harts }
     ensures { result ≡ register_named harts hart.now register.now }
@@ -62,7 +62,7 @@ fn is_named(locations: &[Location], location: u8, name: &str) -> bool
     name_of(locations, location) == name
 }
 
-// The number of the first location of this name.
+/// The number of the first location of this name.
 fn number_named(locations: &[Location], name: &str) -> Option<u8>
     requires { length locations.now ≤ most_locations }
     ensures { result ≡ number_named locations.now name.now }
@@ -71,7 +71,7 @@ fn number_named(locations: &[Location], name: &str) -> Option<u8>
     (0..count).find(|location| is_named(locations, *location, name))
 }
 
-// The location of this name.
+/// The location of this name.
 fn location_named(locations: &[Location], name: &str) -> Option<Place>
     requires { length locations.now ≤ most_locations }
     ensures { result ≡ location_named locations.now name.now }
@@ -92,7 +92,7 @@ fn location_at(test: &Test, name: Kind<'_>) -> Option<Place>
     }
 }
 
-// What stands between a word and another.
+/// What stands between a word and another.
 fn register_at(test: &Test, hart: &str, middle: Kind<'_>, last: Kind<'_>) -> Option<Place>
     requires { length test.now.codes ≤ most_harts }
     ensures { result ≡ register_at test.now hart.now (kind_of middle.entry) (kind_of last.entry) }
@@ -106,7 +106,7 @@ fn register_at(test: &Test, hart: &str, middle: Kind<'_>, last: Kind<'_>) -> Opt
     }
 }
 
-// What stands between brackets.
+/// What stands between brackets.
 fn bracketed_at(test: &Test, name: Kind<'_>, last: Kind<'_>) -> Option<Place>
     requires { length test.now.locations ≤ most_locations }
     ensures { result ≡ bracketed_at test.now (kind_of name.entry) (kind_of last.entry) }
@@ -117,7 +117,7 @@ fn bracketed_at(test: &Test, name: Kind<'_>, last: Kind<'_>) -> Option<Place>
     }
 }
 
-// A hart, `:` and a register; or `[`, a location and `]`.
+/// A hart, `:` and a register; or `[`, a location and `]`.
 fn place_at(test: &Test, first: Kind<'_>, middle: Kind<'_>, last: Kind<'_>) -> Option<Place>
     requires harts { length test.now.codes ≤ most_harts }
     requires locations { length test.now.locations ≤ most_locations }
@@ -161,7 +161,7 @@ pub fn place_named(alloc: Global, test: &Test, name: &str) -> Result<Option<Plac
 
 // ---- a state in print
 
-// Appends the name of the location whose address the word is, or else the word in decimal.
+/// Appends the name of the location whose address the word is, or else the word in decimal.
 fn push_value(text: &mut String, locations: &[Location], word: u32) -> Result<(), AllocError>
     requires { length locations.now ≤ most_locations }
     ensures { OnOk result (string_bytes text.new ≡ string_bytes text.old ++ value_text locations.now word) }
@@ -174,7 +174,7 @@ fn push_value(text: &mut String, locations: &[Location], word: u32) -> Result<()
     write!(text, "{word}")
 }
 
-// The name of the place and its word, as `0:x7=1;`.
+/// The name of the place and its word, as `0:x7=1;`.
 fn cell_text(
     alloc: Global,
     locations: &[Location],
@@ -191,7 +191,7 @@ fn cell_text(
     Ok(text)
 }
 
-// The same of all places.
+/// The same of all places.
 fn cells_text(
     alloc: Global,
     locations: &[Location],
@@ -216,7 +216,7 @@ fn cells_text(
     Ok(cells)
 }
 
-// The same in one text.
+/// The same in one text.
 fn joined_cells(
     alloc: Global,
     locations: &[Location],

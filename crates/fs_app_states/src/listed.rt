@@ -51,7 +51,7 @@ fn begins_with_bracket(tokens: &[Token<'_>]) -> bool
     }
 }
 
-// The tokens behind the first `locations` and `[`.
+/// The tokens behind the first `locations` and `[`.
 fn behind<'b, 'a>(tokens: &'b [Token<'a>]) -> &'b [Token<'a>]
     ensures { views result.now ≡ behind (views tokens.now) }
 {
@@ -73,7 +73,7 @@ fn part_of(kind: Kind<'_>) -> Part
     }
 }
 
-// Appends the item, unless it is empty.
+/// Appends the item, unless it is empty.
 fn keep<'a>(items: &mut Vec<List<Token<'a>>>, item: Vec<Token<'a>>) -> Result<(), AllocError>
     ensures { OnOk result (map views items.new.items ≡ map views items.old.items ++ kept (views item.entry.items)) }
 {
@@ -83,7 +83,7 @@ fn keep<'a>(items: &mut Vec<List<Token<'a>>>, item: Vec<Token<'a>>) -> Result<()
     Ok(())
 }
 
-// What stands between `;` up to `]`.
+/// What stands between `;` up to `]`.
 fn items<'a>(alloc: Global, tokens: &[Token<'a>]) -> Result<Vec<List<Token<'a>>>, AllocError>
     ensures { IfOk result (λ items. map views items.items ≡ items_from [] (views tokens.now)) }
 {
@@ -106,7 +106,7 @@ fn items<'a>(alloc: Global, tokens: &[Token<'a>]) -> Result<Vec<List<Token<'a>>>
     Ok(items)
 }
 
-// The line of the first token.
+/// The line of the first token.
 fn line_of(tokens: &[Token<'_>]) -> usize
     ensures { result ≡ line_at (views tokens.now) 0 }
 {
@@ -116,7 +116,7 @@ fn line_of(tokens: &[Token<'_>]) -> usize
     }
 }
 
-// The places that the items name.
+/// The places that the items name.
 fn places_of(alloc: Global, test: &Test, items: &[List<Token<'_>>]) -> Result<Vec<Place>, Fault>
     requires harts { length test.now.codes ≤ most_harts }
     requires locations { length test.now.locations ≤ most_locations }
@@ -163,7 +163,7 @@ fn is_register(word: &str, reg: Reg) -> bool
     Reg::of(word).is_some_and(|found| found.number() == reg.number())
 }
 
-// The word, where it is a name of the register and a number of the hart stands before it.
+/// The word, where it is a name of the register and a number of the hart stands before it.
 fn named_so<'a>(word: &str, name: &'a str, hart: u8, reg: Reg) -> Option<&'a str>
     ensures { option_map (λ name. name.now) result ≡ named_so hart reg word.now name.now }
 {
@@ -174,7 +174,7 @@ fn named_so<'a>(word: &str, name: &'a str, hart: u8, reg: Reg) -> Option<&'a str
     }
 }
 
-// The name of the register, where a number of the hart, `:` and it stand here.
+/// The name of the register, where a number of the hart, `:` and it stand here.
 fn named_at<'a>(
     hart: u8,
     reg: Reg,
@@ -207,7 +207,7 @@ fn named_first<'a>(hart: u8, reg: Reg, first: Kind<'a>, after: &[Token<'a>]) -> 
     }
 }
 
-// The name by which the tokens first call the hart's register, behind a number of the hart and `:`.
+/// The name by which the tokens first call the hart's register, behind a number of the hart and `:`.
 fn first_name<'a>(tokens: &[Token<'a>], hart: u8, reg: Reg) -> Option<&'a str>
     ensures { option_map (λ name. name.now) result ≡ first_name hart reg (views tokens.now) }
 {

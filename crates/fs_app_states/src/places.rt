@@ -59,8 +59,8 @@ pub(crate) fn is_place(place: &Place, other: &Place) -> bool
     }
 }
 
-// Does an atom of the condition speak of the place? Recursion goes as deep as the condition, whose depth is within
-// the limit.
+/// Does an atom of the condition speak of the place? Recursion goes as deep as the condition, whose depth is within
+/// the limit.
 fn speaks_of(condition: &Outcome, place: &Place) -> bool
     ensures { result ≡ speaks_of (condition_of condition.now) place.now }
 {
@@ -82,7 +82,7 @@ fn writes(instr: Instr, reg: Reg) -> bool
         .is_some_and(|dest| dest.number() == reg.number())
 }
 
-// The code of the hart; none where it is no hart.
+/// The code of the hart; none where it is no hart.
 fn code_of(codes: &[Code], hart: u8) -> &[Instr]
     ensures { result.now ≡ slice_index_or codes.now hart [] }
 {
@@ -93,7 +93,7 @@ fn code_of(codes: &[Code], hart: u8) -> &[Instr]
     }
 }
 
-// Does an instruction of the hart write the register?
+/// Does an instruction of the hart write the register?
 fn hart_writes(test: &Test, hart: u8, reg: Reg) -> bool
     ensures { result ≡ list_any (λ i. is_same (dest_of i) (Some reg)) (slice_index_or test.now.codes hart []) }
 {
@@ -102,7 +102,7 @@ fn hart_writes(test: &Test, hart: u8, reg: Reg) -> bool
         .any(|instr| writes(*instr, reg))
 }
 
-// The same of a place; any location may be written.
+/// The same of a place; any location may be written.
 fn may_write(test: &Test, place: &Place) -> bool
     ensures { result ≡ may_write test.now place.now }
 {
@@ -127,7 +127,7 @@ fn is_shown(test: &Test, listed: &[Place], all: bool, place: &Place) -> bool
 
 // ---- their order and their names
 
-// Appends the registers of the hart.
+/// Appends the registers of the hart.
 fn push_registers(hart: u8, places: &mut Vec<Place>) -> Result<(), AllocError>
     ensures { OnOk result (places.new.items ≡ places.old.items ++ map (Register hart) (numbers_below 32)) }
 {
@@ -137,7 +137,7 @@ fn push_registers(hart: u8, places: &mut Vec<Place>) -> Result<(), AllocError>
     Ok(())
 }
 
-// Appends so many locations.
+/// Appends so many locations.
 fn push_locations(locations: usize, places: &mut Vec<Place>) -> Result<(), AllocError>
     requires { locations ≤ most_locations }
     ensures { OnOk result (places.new.items ≡ places.old.items ++ map Locations (numbers_below locations)) }
@@ -148,7 +148,7 @@ fn push_locations(locations: usize, places: &mut Vec<Place>) -> Result<(), Alloc
     Ok(())
 }
 
-// All places of a test of so many harts and locations.
+/// All places of a test of so many harts and locations.
 fn all_places(alloc: Global, harts: usize, locations: usize) -> Result<Vec<Place>, AllocError>
     requires harts { harts ≤ most_harts }
     requires locations { locations ≤ most_locations }
@@ -162,7 +162,7 @@ fn all_places(alloc: Global, harts: usize, locations: usize) -> Result<Vec<Place
     Ok(places)
 }
 
-// Those that are shown.
+/// Those that are shown.
 fn shown_places(
     alloc: Global,
     test: &Test,
@@ -180,7 +180,7 @@ fn shown_places(
         .collect(alloc)
 }
 
-// The name under which the place is shown.
+/// The name under which the place is shown.
 fn place_text(
     alloc: Global,
     test: &Test,
@@ -209,7 +209,7 @@ fn column_of(
     Ok(Column { place, name })
 }
 
-// The places under their names.
+/// The places under their names.
 fn columns_of(
     alloc: Global,
     test: &Test,
@@ -225,7 +225,7 @@ fn columns_of(
     Ok(columns)
 }
 
-// What is shown of a test file of these tokens.
+/// What is shown of a test file of these tokens.
 fn shown_columns(
     alloc: Global,
     test: &Test,

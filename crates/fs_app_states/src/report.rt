@@ -25,7 +25,7 @@ use std::alloc::{AllocError, Global};
 
 // ---- what the condition says of a state
 
-// The word at the place.
+/// The word at the place.
 fn word_in(columns: &[Column], words: &[u32], place: &Place) -> u32
     ensures { result ≡ word_in columns.now words.now place.now }
 {
@@ -44,8 +44,8 @@ fn word_in(columns: &[Column], words: &[u32], place: &Place) -> u32
     0
 }
 
-// Is the condition, without its quantifier, true of the state? Recursion goes as deep as the condition, whose depth
-// is within the limit.
+/// Is the condition, without its quantifier, true of the state? Recursion goes as deep as the condition, whose depth
+/// is within the limit.
 fn is_true(columns: &[Column], condition: &Outcome, words: &[u32]) -> bool
     ensures { result ≡ is_true columns.now (condition_of condition.now) words.now }
 {
@@ -68,7 +68,7 @@ fn is_true(columns: &[Column], condition: &Outcome, words: &[u32]) -> bool
     }
 }
 
-// How many states make the condition true.
+/// How many states make the condition true.
 fn positive(columns: &[Column], condition: &Outcome, states: &[State]) -> usize
     ensures { result ≡ positive columns.now (condition_of condition.now) states.now }
 {
@@ -78,7 +78,7 @@ fn positive(columns: &[Column], condition: &Outcome, states: &[State]) -> usize
         .count()
 }
 
-// How many make it false.
+/// How many make it false.
 fn negative(columns: &[Column], condition: &Outcome, states: &[State]) -> usize
     ensures { result ≡ negative columns.now (condition_of condition.now) states.now }
 {
@@ -100,7 +100,7 @@ fn quantifier_word(quantifier: Quantifier) -> &'static str
     }
 }
 
-// Is the condition with its quantifier true of so many states that make it true without, and so many that don't?
+/// Is the condition with its quantifier true of so many states that make it true without, and so many that don't?
 fn is_met(quantifier: Quantifier, positive: usize, negative: usize) -> bool
     ensures { result ≡ is_met quantifier positive negative }
 {
@@ -129,7 +129,7 @@ fn observation_word(positive: usize, negative: usize) -> &'static str
     }
 }
 
-// What stands before the last LF of a text.
+/// What stands before the last LF of a text.
 fn before_break(text: &str) -> &str
     ensures { result.now ≡ before_break text.now }
 {
@@ -139,7 +139,7 @@ fn before_break(text: &str) -> &str
     }
 }
 
-// What stands behind it.
+/// What stands behind it.
 fn behind_break(text: &str) -> &str
     ensures { result.now ≡ behind_break text.now }
 {
@@ -149,7 +149,7 @@ fn behind_break(text: &str) -> &str
     }
 }
 
-// The quantifier and the condition, as they stand in the last line of what `place` prints.
+/// The quantifier and the condition, as they stand in the last line of what `place` prints.
 fn condition_line(alloc: Global, test: &Test, placement: &Placement) -> Result<String, Fault>
     requires bounded { IsBounded test.now }
     requires slots { slots_of placement.now ≡ slots test.now }
@@ -162,7 +162,7 @@ fn condition_line(alloc: Global, test: &Test, placement: &Placement) -> Result<S
 
 // ---- the lines
 
-// The test, and how many states there are.
+/// The test, and how many states there are.
 fn title_lines(alloc: Global, test: &Test, states: usize) -> Result<String, AllocError>
     ensures { IfOk result (λ text. string_bytes text ≡ title_lines test.now states) }
 {
@@ -171,7 +171,7 @@ fn title_lines(alloc: Global, test: &Test, states: usize) -> Result<String, Allo
     format!(in alloc; "Test {} {}\nStates {}\n", name.as_str(), word, states)
 }
 
-// The execution as the JSON text of a witness, in a line.
+/// The execution as the JSON text of a witness, in a line.
 fn json_line(alloc: Global, witness: &Witness) -> Result<String, AllocError>
     ensures { IfOk result (λ text. string_bytes text ≡ ended (witness_text witness.now.witness)) }
 {
@@ -180,7 +180,7 @@ fn json_line(alloc: Global, witness: &Witness) -> Result<String, AllocError>
     Ok(text)
 }
 
-// Appends the execution, where it is asked for.
+/// Appends the execution, where it is asked for.
 fn push_witness(
     alloc: Global,
     text: &mut String,
@@ -196,7 +196,7 @@ fn push_witness(
     Ok(())
 }
 
-// Appends the lines of a state.
+/// Appends the lines of a state.
 fn push_lines(
     alloc: Global,
     text: &mut String,
@@ -213,7 +213,7 @@ fn push_lines(
     push_witness(alloc, text, witnesses, state)
 }
 
-// The lines of all states.
+/// The lines of all states.
 fn all_lines(
     alloc: Global,
     locations: &[Location],
@@ -232,7 +232,7 @@ fn all_lines(
     Ok(text)
 }
 
-// Whether the condition is met, and how many states make it true and false.
+/// Whether the condition is met, and how many states make it true and false.
 fn counts_lines(
     alloc: Global,
     quantifier: Quantifier,
@@ -248,7 +248,7 @@ fn counts_lines(
     )
 }
 
-// The condition, the verdict on it in words, and a blank line.
+/// The condition, the verdict on it in words, and a blank line.
 fn last_lines(
     alloc: Global,
     test: &Test,
@@ -274,7 +274,7 @@ fn last_lines(
     )?)
 }
 
-// What stands behind the states.
+/// What stands behind the states.
 fn verdict_lines(
     alloc: Global,
     test: &Test,
@@ -295,7 +295,7 @@ fn verdict_lines(
     Ok(text)
 }
 
-// The test, how many states there are, and the states.
+/// The test, how many states there are, and the states.
 fn listing_lines(
     alloc: Global,
     test: &Test,

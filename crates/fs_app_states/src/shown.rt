@@ -46,7 +46,7 @@ pub fn run_states(
     test_states(alloc, test, read, fences, asked)
 }
 
-// The same of a file that reads as this test.
+/// The same of a file that reads as this test.
 fn test_states(
     alloc: Global,
     bytes: &[u8],
@@ -64,7 +64,7 @@ fn test_states(
     owned_states(alloc, test, &placement, &columns, asked.witnesses)
 }
 
-// What is printed of the test with the placement's fences.
+/// What is printed of the test with the placement's fences.
 fn owned_states(
     alloc: Global,
     test: Test,
@@ -82,21 +82,21 @@ fn owned_states(
     placed_states(alloc, &test, placement, columns, witnesses)
 }
 
-// The test, to be shared.
+/// The test, to be shared.
 fn shared(alloc: Global, test: Test) -> Result<Arc<Test>, AllocError>
     ensures { IfOk result (λ shared. arc_value shared ≡ test) }
 {
     Ok(Arc::new(alloc, test)?)
 }
 
-// The places of the columns.
+/// The places of the columns.
 fn places_of(alloc: Global, columns: &[Column]) -> Result<Vec<Place>, AllocError>
     ensures { IfOk result (λ places. places.items ≡ places_of columns.now) }
 {
     columns.iter().map(|column| column.place).collect(alloc)
 }
 
-// All states of the test with the placement's fences, at the places of the columns.
+/// All states of the test with the placement's fences, at the places of the columns.
 fn states_at(
     alloc: Global,
     test: &Arc<Test>,
@@ -117,7 +117,7 @@ fn states_at(
     states(alloc, test, placement, &places)
 }
 
-// The same in print.
+/// The same in print.
 fn placed_states(
     alloc: Global,
     test: &Arc<Test>,

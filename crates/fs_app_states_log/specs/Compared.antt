@@ -1,5 +1,5 @@
--- What is said of a test that is held against a log: which states were seen and are forbidden, and which are allowed and weren't
--- seen.
+-- What is said of a test that is held against a log: which states were seen and are forbidden, and which are allowed
+-- and weren't seen.
 use Rattle.std.specs.Prelude.{◌≡◌, ℕ, ◌==◌, Bool, true, false, not, is_some, Option, None, Some, List, [], ◌++◌, codes, length, map, if◌then◌else◌}
 use Rattle.std.specs.Fmt.{decimal}
 use Rattle.std.specs.List.{AllZip, filter, flat_map, list_any}
@@ -37,8 +37,8 @@ is_among states state = list_any (is_of state) states
 abbrev pub is_lacking : List Counted → (state : List ℕ) → Bool
 is_lacking tally state = not (is_some (lookup (is_of state) tally))
 
--- of states that were seen: each state once, and how many they are; how many are allowed; those that are not, in their order, with
--- how often each was seen; and those that are allowed and weren't seen, in their order
+-- of states that were seen: each state once, and how many they are; how many are allowed; those that are not, in their
+-- order, with how often each was seen; and those that are allowed and weren't seen, in their order
 pub record AreFindings (t : Test) (p : List Entry) (columns : List Column) (rows : List Counted) (found : Findings) : Type 0 where
   pub tally : List Counted
   pub is_tally : IsTally rows tally

@@ -1,4 +1,5 @@
--- The lines of a log, each by itself and without the blanks at its ends: which of them is of what kind, and what it says.
+-- The lines of a log, each by itself and without the blanks at its ends: which of them is of what kind, and what it
+-- says.
 use Rattle.std.specs.Prelude.{ℕ, ◌-◌, ◌==◌, ◌^◌, nat_lt, nat_eq, Bool, true, false, not, ◌&&◌, ◌||◌, Option, Some, None, option_map, option_and_then, is_some, List, [], ◌∷◌, codes, drop, length, if◌then◌else◌}
 use Rattle.std.specs.Char.{is_ascii_digit, is_ascii_whitespace}
 use Rattle.std.specs.List.{after_first, before_first, list_all, list_any, position_or_len, slice_split, starts_with}

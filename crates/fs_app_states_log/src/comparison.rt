@@ -23,8 +23,8 @@ use fs_model::Test;
 use std::alloc::{AllocError, Global};
 use std::sync::Arc;
 
-/// What is said of a test file: the name of its test, the text that is printed, and the status, which is 1 where a state
-/// was seen that is forbidden, 2 where the log lacks the test, and else 0.
+/// What is said of a test file: the name of its test, the text that is printed, and the status, which is 1 where a
+/// state was seen that is forbidden, 2 where the log lacks the test, and else 0.
 #[derive(Drop)]
 pub struct Compared {
     pub name: String,
@@ -32,14 +32,14 @@ pub struct Compared {
     pub status: Status,
 }
 
-// Has the log a test of this name?
+/// Has the log a test of this name?
 fn is_in_log(log: &[Block<'_>], name: &str) -> bool
     ensures { result ≡ is_in_log log.now name.now }
 {
     log.iter().any(|block| is_of(block, name))
 }
 
-// What is found of the test, whose states that were seen are these rows.
+/// What is found of the test, whose states that were seen are these rows.
 fn findings(
     alloc: Global,
     test: &Arc<Test>,
@@ -67,7 +67,7 @@ fn findings(
     })
 }
 
-// What is said of the test, of which the log has these states.
+/// What is said of the test, of which the log has these states.
 fn held(
     alloc: Global,
     test: &Test,
@@ -100,7 +100,7 @@ fn status_of(findings: &Findings) -> Status
     }
 }
 
-// What is said of the test, whose states the log has.
+/// What is said of the test, whose states the log has.
 fn compare_states(
     alloc: Global,
     log: &[Block<'_>],
@@ -121,7 +121,7 @@ fn compare_states(
     Ok(held(alloc, test, &columns, &findings)?)
 }
 
-// What is said of a test that the log lacks.
+/// What is said of a test that the log lacks.
 fn lacking(alloc: Global, test: &Test) -> Result<Compared, AllocError>
     ensures name { IfOk result (λ made. string_bytes made.name ≡ test.now.name) }
     ensures text { IfOk result (λ made. string_bytes made.text ≡ lacking_text test.now.name) }
@@ -135,7 +135,7 @@ fn lacking(alloc: Global, test: &Test) -> Result<Compared, AllocError>
     })
 }
 
-// What is said of the test, with these fences.
+/// What is said of the test, with these fences.
 fn compare_test(
     alloc: Global,
     log: &[Block<'_>],

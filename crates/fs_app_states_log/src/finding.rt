@@ -11,7 +11,7 @@ use fs_judge_final_states::State;
 use fs_kinds::List;
 use std::alloc::{AllocError, Global};
 
-// A row of the words, which are copied.
+/// A row of the words, which are copied.
 fn row(alloc: Global, words: &[u32], times: Option<u64>) -> Result<Row, AllocError>
     ensures { IfOk result (λ row. counted row ≡ (words.now, times)) }
 {

@@ -8,7 +8,7 @@ use fs_app_error_messages::shown_name;
 use std::alloc::{AllocError, Global};
 use std::collections::BTreeSet;
 
-// Appends the line of a test.
+/// Appends the line of a test.
 fn push_line(alloc: Global, text: &mut String, name: &str) -> Result<(), AllocError>
     ensures { OnOk result (string_bytes text.new ≡ string_bytes text.old ++ left_line name.now) }
 {

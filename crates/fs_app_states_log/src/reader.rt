@@ -18,14 +18,14 @@ use std::alloc::{AllocError, Global};
 /// How long a log may be.
 pub const MOST_BYTES: usize = 1_073_741_824;
 
-// The line of this index, from 0 on, without the blanks at its ends.
+/// The line of this index, from 0 on, without the blanks at its ends.
 fn line_at<'a>(lines: &[&'a str], index: usize) -> Option<&'a str>
     ensures { option_map (λ line. line.now) result ≡ line_at (map (λ line. line.now) lines.now) index }
 {
     Some(lines.get(index)?.trim())
 }
 
-// The error that something else should stand in this line: where there is no such line, in the last one.
+/// The error that something else should stand in this line: where there is no such line, in the last one.
 fn missing(lines: usize, index: usize, expected: Expected) -> LogError
     ensures { result ≡ missing lines index expected }
 {
@@ -33,7 +33,7 @@ fn missing(lines: usize, index: usize, expected: Expected) -> LogError
     LogError::Line { line, expected }
 }
 
-// Does this line begin a block?
+/// Does this line begin a block?
 fn begins_block(lines: &[&str], index: usize) -> bool
     ensures { result ≡ begins_block (map (λ line. line.now) lines.now) index }
 {
@@ -50,7 +50,7 @@ fn title_in<'a>(lines: &[&'a str], index: usize) -> Option<&'a str>
     title_of(line_at(lines, index)?)
 }
 
-// The name of the test whose block begins in this line.
+/// The name of the test whose block begins in this line.
 fn title_at<'a>(lines: &[&'a str], index: usize) -> Result<&'a str, LogError>
     ensures { result_map_both (λ name. name.now) (λ e. e) result ≡ title_at (map (λ line. line.now) lines.now) index }
 {
@@ -66,7 +66,7 @@ fn count_in(lines: &[&str], index: usize) -> Option<Count>
     count_of(line_at(lines, index)?)
 }
 
-// How many states follow this line.
+/// How many states follow this line.
 fn count_at(lines: &[&str], index: usize) -> Result<Count, LogError>
     ensures { result ≡ count_at (map (λ line. line.now) lines.now) index }
 {
@@ -76,7 +76,7 @@ fn count_at(lines: &[&str], index: usize) -> Result<Count, LogError>
     }
 }
 
-// The state of a line whose number this is, from 1 on.
+/// The state of a line whose number this is, from 1 on.
 fn seen(line: usize, times: Option<u64>, items: Option<List<Item<'_>>>) -> Option<Seen<'_>>
     ensures { option_map read_state result ≡ option_map (seen_so line times) (pairs_now items.entry) }
 {
@@ -84,7 +84,7 @@ fn seen(line: usize, times: Option<u64>, items: Option<List<Item<'_>>>) -> Optio
     Some(Seen { line, times, items })
 }
 
-// The state of a line, where each has a count or none has.
+/// The state of a line, where each has a count or none has.
 fn state_of<'a>(
     alloc: Global,
     number: usize,
@@ -118,7 +118,7 @@ fn state_in<'a>(
     }
 }
 
-// The state that this line is.
+/// The state that this line is.
 fn state_at<'a>(
     alloc: Global,
     lines: &[&'a str],
@@ -135,7 +135,7 @@ fn state_at<'a>(
     }
 }
 
-// So many states from this line on.
+/// So many states from this line on.
 fn states_from<'a>(
     alloc: Global,
     lines: &[&'a str],
@@ -164,7 +164,7 @@ fn outcome_in<'a>(lines: &[&'a str], index: usize) -> Option<&'a str>
     if is_outcome(line) { Some(line) } else { None }
 }
 
-// What should stand behind the last state.
+/// What should stand behind the last state.
 fn outcome_at<'a>(lines: &[&'a str], index: usize) -> Result<&'a str, LogError>
     ensures { result_map_both (λ line. line.now) (λ e. e) result ≡ outcome_at (map (λ line. line.now) lines.now) index }
 {
@@ -174,7 +174,7 @@ fn outcome_at<'a>(lines: &[&'a str], index: usize) -> Result<&'a str, LogError>
     }
 }
 
-// The block that begins in this line.
+/// The block that begins in this line.
 fn read_block<'a>(alloc: Global, lines: &[&'a str], index: usize) -> Result<Block<'a>, LogError>
     requires { index < length lines.now }
     ensures ok { IfOk result (λ block. block_at (map (λ line. line.now) lines.now) index ≡ Ok (read_block block)) }
@@ -191,7 +191,7 @@ fn read_block<'a>(alloc: Global, lines: &[&'a str], index: usize) -> Result<Bloc
     })
 }
 
-// The blocks of the lines, none or more.
+/// The blocks of the lines, none or more.
 fn read_blocks<'a>(alloc: Global, lines: &[&'a str]) -> Result<Vec<Block<'a>>, LogError>
     ensures ok { IfOk result (λ blocks. IsReadFrom (map (λ line. line.now) lines.now) 0 (Ok (map read_block blocks.items))) }
     ensures err { IfErr result (IsBlocksError (map (λ line. line.now) lines.now)) }
@@ -210,7 +210,7 @@ fn read_blocks<'a>(alloc: Global, lines: &[&'a str]) -> Result<Vec<Block<'a>>, L
     Ok(blocks)
 }
 
-// The lines as a log.
+/// The lines as a log.
 fn read_lines<'a>(alloc: Global, lines: &[&'a str]) -> Result<Log<'a>, LogError>
     ensures ok { IfOk result (λ log. IsOfLines (map (λ line. line.now) lines.now) (Ok (map read_block log))) }
     ensures err { IfErr result (IsLinesError (map (λ line. line.now) lines.now)) }
@@ -222,14 +222,14 @@ fn read_lines<'a>(alloc: Global, lines: &[&'a str]) -> Result<Log<'a>, LogError>
     Ok(List::new(blocks))
 }
 
-// The lines of a text, without their ends.
+/// The lines of a text, without their ends.
 fn lines_of<'a>(alloc: Global, text: &'a str) -> Result<Vec<&'a str>, AllocError>
     ensures { IfOk result (λ made. map (λ line. line.now) made.items ≡ lines text.now) }
 {
     text.lines().collect(alloc)
 }
 
-// The text as a log.
+/// The text as a log.
 fn read_text<'a>(alloc: Global, text: &'a str) -> Result<Log<'a>, LogError>
     ensures ok { IfOk result (λ log. IsOfLines (lines text.now) (Ok (map read_block log))) }
     ensures err { IfErr result (IsLinesError (lines text.now)) }

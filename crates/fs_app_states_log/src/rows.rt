@@ -28,7 +28,7 @@ pub(crate) fn is_of(block: &Block<'_>, name: &str) -> bool
     block.name == name
 }
 
-// The error that a state should name the places of the first one, each once.
+/// The error that a state should name the places of the first one, each once.
 fn strange(line: usize) -> LogError {
     LogError::Line {
         line,
@@ -36,14 +36,14 @@ fn strange(line: usize) -> LogError {
     }
 }
 
-// Has a column this place?
+/// Has a column this place?
 fn has_place(columns: &[Column], place: Place) -> bool
     ensures { result ≡ list_any (λ column. is_place column.place place) columns.now }
 {
     columns.iter().any(|column| is_place(column.place, place))
 }
 
-// Is it a place of the test?
+/// Is it a place of the test?
 fn is_place_of(test: &Test, place: Place) -> bool
     ensures { result ≡ true → IsPlaceOf (length test.now.codes) (length test.now.locations) place }
 {
@@ -53,7 +53,7 @@ fn is_place_of(test: &Test, place: Place) -> bool
     }
 }
 
-// The column of the place that the item names, in this line.
+/// The column of the place that the item names, in this line.
 fn column_of(alloc: Global, test: &Test, line: usize, item: &Item<'_>) -> Result<Column, LogError>
     requires { IsBounded test.now }
     ensures { IfOk result (IsColumn test.now item.now) }
@@ -71,7 +71,7 @@ fn column_of(alloc: Global, test: &Test, line: usize, item: &Item<'_>) -> Result
     })
 }
 
-// Appends the column of the place that the item names, in this line.
+/// Appends the column of the place that the item names, in this line.
 fn push_column(
     alloc: Global,
     test: &Test,
@@ -98,7 +98,7 @@ fn push_column(
     Ok(())
 }
 
-// A column for each place that the state names. Their number is at most that of the places of a test.
+/// A column for each place that the state names. Their number is at most that of the places of a test.
 fn columns_of(alloc: Global, test: &Test, first: &Seen<'_>) -> Result<Vec<Column>, LogError>
     requires { IsBounded test.now }
     ensures { IfOk result (λ columns. AreColumns test.now first.now columns.items) }
@@ -131,7 +131,7 @@ pub(crate) fn first_columns(
     Ok(Vec::new(alloc))
 }
 
-// The state, by its words at the places of the columns.
+/// The state, by its words at the places of the columns.
 fn row_of(alloc: Global, test: &Test, columns: &[Column], seen: &Seen<'_>) -> Result<Row, LogError>
     requires { IsBounded test.now }
     ensures { IfOk result (λ row. IsRow test.now columns.now seen.now (counted row)) }
@@ -149,7 +149,7 @@ fn row_of(alloc: Global, test: &Test, columns: &[Column], seen: &Seen<'_>) -> Re
     })
 }
 
-// Appends the states of a block.
+/// Appends the states of a block.
 fn push_rows(
     alloc: Global,
     test: &Test,

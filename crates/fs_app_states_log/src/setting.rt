@@ -52,7 +52,7 @@ pub(crate) fn is_place(place: Place, other: Place) -> bool
     }
 }
 
-// Appends what the item says, in this line.
+/// Appends what the item says, in this line.
 fn push_setting(
     alloc: Global,
     test: &Test,
@@ -96,7 +96,7 @@ pub(crate) fn settings_of(
     Ok(settings)
 }
 
-// What is said of the place.
+/// What is said of the place.
 fn word_at(settings: &[Setting], place: Place) -> Option<u32>
     ensures { result ≡ word_at settings.now place }
 {

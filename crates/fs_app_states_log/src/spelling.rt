@@ -20,63 +20,63 @@ pub(crate) struct Count {
     pub(crate) counted: bool,
 }
 
-// What stands before the first `=`, and behind it.
+/// What stands before the first `=`, and behind it.
 fn cut_equals(text: &str) -> Option<(&str, &str)>
     ensures { pair_now result ≡ cut 61 text.now }
 {
     text.split_once('=')
 }
 
-// What stands before the first blank, and behind it.
+/// What stands before the first blank, and behind it.
 fn cut_blank(text: &str) -> Option<(&str, &str)>
     ensures { pair_now result ≡ cut 32 text.now }
 {
     text.split_once(' ')
 }
 
-// What stands before the first `>`, and behind it.
+/// What stands before the first `>`, and behind it.
 fn cut_arrow(text: &str) -> Option<(&str, &str)>
     ensures { pair_now result ≡ cut 62 text.now }
 {
     text.split_once('>')
 }
 
-// The text without the `:` at its end.
+/// The text without the `:` at its end.
 fn before_colon(text: &str) -> Option<&str>
     ensures { option_map (λ front. front.now) result ≡ before_last 58 text.now }
 {
     text.strip_suffix(':')
 }
 
-// The text without the `*` at its end.
+/// The text without the `*` at its end.
 fn before_star(text: &str) -> Option<&str>
     ensures { option_map (λ front. front.now) result ≡ before_last 42 text.now }
 {
     text.strip_suffix('*')
 }
 
-// The text without the `;` at its end.
+/// The text without the `;` at its end.
 fn before_semicolon(text: &str) -> Option<&str>
     ensures { option_map (λ front. front.now) result ≡ before_last 59 text.now }
 {
     text.strip_suffix(';')
 }
 
-// The text without the `(` at its start.
+/// The text without the `(` at its start.
 fn behind_bracket(text: &str) -> Option<&str>
     ensures { option_map (λ rest. rest.now) result ≡ behind_first 40 text.now }
 {
     text.strip_prefix('(')
 }
 
-// Is each byte a decimal digit?
+/// Is each byte a decimal digit?
 fn are_digits(bytes: &[u8]) -> bool
     ensures { result ≡ list_all is_ascii_digit bytes.now }
 {
     bytes.iter().all(|byte| byte.is_ascii_digit())
 }
 
-// The number that decimal digits write, below 2^64.
+/// The number that decimal digits write, below 2^64.
 fn number_in(digits: &str) -> Option<u64>
     ensures { result ≡ number_in digits.now }
 {
@@ -87,21 +87,21 @@ fn number_in(digits: &str) -> Option<u64>
     }
 }
 
-// Has it a blank?
+/// Has it a blank?
 fn has_blank(bytes: &[u8]) -> bool
     ensures { result ≡ list_any is_ascii_whitespace bytes.now }
 {
     bytes.iter().any(|byte| byte.is_ascii_whitespace())
 }
 
-// Is it some letters without blanks between them?
+/// Is it some letters without blanks between them?
 fn is_word(text: &str) -> bool
     ensures { result ≡ is_word text.now }
 {
     !text.is_empty() && !has_blank(text.as_bytes())
 }
 
-// Is it empty, or begins it with a blank?
+/// Is it empty, or begins it with a blank?
 fn begins_blank(bytes: &[u8]) -> bool
     ensures { result ≡ begins_blank bytes.now }
 {
@@ -111,7 +111,7 @@ fn begins_blank(bytes: &[u8]) -> bool
     }
 }
 
-// What stands behind the word `Test` with which the line begins.
+/// What stands behind the word `Test` with which the line begins.
 fn behind_test(line: &str) -> Option<&str>
     ensures { option_map (λ rest. rest.now) result ≡ behind_test line.now }
 {
@@ -130,7 +130,7 @@ pub(crate) fn begins_title(line: &str) -> bool
     behind_test(line).is_some()
 }
 
-// Does it say what kind of condition the test has?
+/// Does it say what kind of condition the test has?
 fn is_kind(word: &str) -> bool
     ensures { result ≡ is_kind word.now }
 {
@@ -149,7 +149,7 @@ pub(crate) fn title_of(line: &str) -> Option<&str>
     }
 }
 
-// How many states there are, as `(3 states)` says.
+/// How many states there are, as `(3 states)` says.
 fn in_brackets(text: &str) -> Option<u64>
     ensures { result ≡ in_brackets text.now }
 {
@@ -179,7 +179,7 @@ pub(crate) fn count_of(line: &str) -> Option<Count>
     }
 }
 
-// How often, as `499   :` says, or with `*` for `:` where the condition is true of the state.
+/// How often, as `499   :` says, or with `*` for `:` where the condition is true of the state.
 fn times_in(front: &str) -> Option<u64>
     ensures { result ≡ times_in front.now }
 {
@@ -195,7 +195,7 @@ pub(crate) fn times_of(line: &str) -> Option<(u64, &str)>
     Some((times_in(front)?, items.trim()))
 }
 
-// A place, `=` and a value.
+/// A place, `=` and a value.
 fn item_of(text: &str) -> Option<Item<'_>>
     ensures { option_map item_now result ≡ item_of text.now }
 {
@@ -207,14 +207,14 @@ fn item_of(text: &str) -> Option<Item<'_>>
     }
 }
 
-// The pieces between `;`.
+/// The pieces between `;`.
 fn pieces_of<'a>(alloc: Global, text: &'a str) -> Result<Vec<&'a str>, AllocError>
     ensures { IfOk result (λ made. map (λ piece. piece.now) made.items ≡ slice_split (λ b. b == 59) text.now) }
 {
     text.split(';').collect(alloc)
 }
 
-// The items that the pieces are.
+/// The items that the pieces are.
 fn items_in<'a>(alloc: Global, pieces: &[&'a str]) -> Result<Option<List<Item<'a>>>, AllocError>
     ensures { IfOk result (λ made. pairs_now made ≡ items_in (map (λ piece. piece.now) pieces.now)) }
 {
@@ -244,14 +244,14 @@ pub(crate) fn items_of<'a>(
     items_in(alloc, &pieces_of(alloc, inner)?)
 }
 
-// Does it say whether the condition was met?
+/// Does it say whether the condition was met?
 fn is_verdict(word: &str) -> bool
     ensures { result ≡ is_verdict word.now }
 {
     word == "Ok" || word == "No"
 }
 
-// Is it such a word behind `Loop`, which says that herd7 cut runs off?
+/// Is it such a word behind `Loop`, which says that herd7 cut runs off?
 fn is_looped(line: &str) -> bool
     ensures { result ≡ is_looped (cut 32 line.now) }
 {

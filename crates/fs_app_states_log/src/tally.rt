@@ -21,7 +21,7 @@ pub struct Row {
 /// How often each state was seen, by its words.
 pub(crate) type Tally = BTreeMap<Vec<u32>, Option<u64>>;
 
-// So often, and then so often more: no more than 2^64 - 1 times.
+/// So often, and then so often more: no more than 2^64 - 1 times.
 fn sum_of(before: Option<u64>, times: Option<u64>) -> Option<u64>
     ensures { result ≡ sum_of before times }
 {
@@ -32,7 +32,7 @@ fn sum_of(before: Option<u64>, times: Option<u64>) -> Option<u64>
     }
 }
 
-// Adds that a state of these words was seen so often.
+/// Adds that a state of these words was seen so often.
 fn add(tally: &mut Tally, words: Vec<u32>, times: Option<u64>) -> Result<(), AllocError>
     ensures added { OnOk result (entries_of tally.new ≡ with_row (entries_of tally.old) (words.items, times)) }
     ensures rising { OnOk result (IsStrictlySortedBy (slice_cmp nat_cmp) (keys_of (entries_of tally.new))) }
@@ -42,7 +42,7 @@ fn add(tally: &mut Tally, words: Vec<u32>, times: Option<u64>) -> Result<(), All
     Ok(())
 }
 
-// The same of a state whose words are copied.
+/// The same of a state whose words are copied.
 fn add_row(
     alloc: Global,
     tally: &mut Tally,

@@ -23,7 +23,7 @@ pub(crate) struct Findings {
     pub(crate) not_seen: List<List<u32>>,
 }
 
-// How often a forbidden state was seen, where the log says so.
+/// How often a forbidden state was seen, where the log says so.
 fn times_text(alloc: Global, times: Option<u64>) -> Result<String, AllocError>
     ensures { IfOk result (λ text. string_bytes text ≡ times_text times) }
 {
@@ -33,7 +33,7 @@ fn times_text(alloc: Global, times: Option<u64>) -> Result<String, AllocError>
     }
 }
 
-// What stands before a forbidden state that was seen so often.
+/// What stands before a forbidden state that was seen so often.
 fn forbidden_label(alloc: Global, times: Option<u64>) -> Result<String, AllocError>
     ensures { IfOk result (λ text. string_bytes text ≡ forbidden_label times) }
 {
@@ -41,7 +41,7 @@ fn forbidden_label(alloc: Global, times: Option<u64>) -> Result<String, AllocErr
     format!(in alloc; "  forbidden{}  ", times.as_str())
 }
 
-// Appends the line of a forbidden state.
+/// Appends the line of a forbidden state.
 fn push_forbidden(
     alloc: Global,
     text: &mut String,
@@ -58,7 +58,7 @@ fn push_forbidden(
     push_state(alloc, text, locations, columns, row.words.as_slice())
 }
 
-// Appends the line of a state that wasn't seen.
+/// Appends the line of a state that wasn't seen.
 fn push_not_seen(
     alloc: Global,
     text: &mut String,
@@ -74,7 +74,7 @@ fn push_not_seen(
     push_state(alloc, text, locations, columns, words)
 }
 
-// The lines of the forbidden states.
+/// The lines of the forbidden states.
 fn forbidden_lines(
     alloc: Global,
     locations: &[Location],
@@ -92,7 +92,7 @@ fn forbidden_lines(
     Ok(text)
 }
 
-// The lines of the states that weren't seen.
+/// The lines of the states that weren't seen.
 fn not_seen_lines(
     alloc: Global,
     locations: &[Location],
@@ -132,7 +132,7 @@ pub(crate) fn compared_text(
     )
 }
 
-// The first line of a test.
+/// The first line of a test.
 fn first_line(alloc: Global, name: &str, seen: usize, allowed: usize) -> Result<String, AllocError>
     ensures { IfOk result (λ text. string_bytes text ≡ first_line name.now seen allowed) }
 {

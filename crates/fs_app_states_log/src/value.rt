@@ -11,7 +11,7 @@ use fs_litmus_tokens::number_of;
 use fs_model::{Location, Test};
 use std::alloc::{AllocError, Global};
 
-// The word of a number with a minus before it.
+/// The word of a number with a minus before it.
 fn negative(number: u32) -> Option<u32>
     ensures { result ≡ signed true number }
 {
@@ -22,7 +22,7 @@ fn negative(number: u32) -> Option<u32>
     }
 }
 
-// The word of a number, with a minus before it or without.
+/// The word of a number, with a minus before it or without.
 #[tactic(auto, unfolding(crate::specs::Rows::number_in))]
 fn number_in(text: &str) -> Option<u32>
     ensures { result ≡ number_in text.now }
@@ -33,7 +33,7 @@ fn number_in(text: &str) -> Option<u32>
     }
 }
 
-// The address of the location that the text names.
+/// The address of the location that the text names.
 fn address_in(alloc: Global, test: &Test, text: &str) -> Result<Option<u32>, AllocError>
     requires { IsBounded test.now }
     ensures { IfOk result (λ found. IfSome found (IsAddress test.now text.now)) }

@@ -10,7 +10,7 @@ const SB: &str =
 
 const W_R: &str = "P0:1=w,r P1:1=w,r";
 
-// The words.
+/// The words.
 fn words(alloc: Global, text: &str) -> Result<Vec<String>, AllocError> {
     let mut words = Vec::new(alloc);
     for word in text.split_whitespace() {
@@ -19,7 +19,7 @@ fn words(alloc: Global, text: &str) -> Result<Vec<String>, AllocError> {
     Ok(words)
 }
 
-// What is said of store buffering with these fences, and the status; or the line of the error.
+/// What is said of store buffering with these fences, and the status; or the line of the error.
 fn said(alloc: Global, log: &str, fences: &str) -> Result<String, AllocError> {
     let fences = words(alloc, fences)?;
     let log = match read_log(alloc, log.as_bytes()) {
@@ -108,7 +108,7 @@ fn tests_are_held_against_logs(rt: HostRuntime) -> Result<(), AllocError> {
     Ok(())
 }
 
-// The tests of the log that are none of these.
+/// The tests of the log that are none of these.
 fn left(alloc: Global, log: &str, names: &str) -> Result<String, AllocError> {
     let names = words(alloc, names)?;
     match read_log(alloc, log.as_bytes()) {

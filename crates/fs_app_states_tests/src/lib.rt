@@ -1,5 +1,5 @@
-//! Tests of the lists of final states, on litmus tests as text; and of logs: what is read of them, and what is said of a test that is held
-//! against them.
+//! Tests of the lists of final states, on litmus tests as text; and of logs: what is read of them, and what is said of
+//! a test that is held against them.
 #![tactic(auto)]
 
 #[cfg(test)]

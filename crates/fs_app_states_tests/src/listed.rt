@@ -33,7 +33,8 @@ fn listed(alloc: Global, text: &str, fences: &str) -> Result<String, Fault> {
 
 /// Tests, fences, and the words of each state with a point behind it.
 const ROWS: [(&str, &str, &str); 18] = [
-    // Each load may come before the other hart's store, unless a fence keeps it behind the own one: then one of them comes last.
+    // Each load may come before the other hart's store, unless a fence keeps it behind the own one: then one of them
+    // comes last.
     (SB, "", " 0 0. 0 1. 1 0. 1 1."),
     (SB, "P0:2=w,r P1:2=w,r", " 0 1. 1 0. 1 1."),
     (SB, "P0:2=w,r", " 0 0. 0 1. 1 0. 1 1."),

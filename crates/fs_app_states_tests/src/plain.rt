@@ -114,7 +114,8 @@ fn steps_of(alloc: Global, traces: &[Trace]) -> Result<Vec<Steps>, AllocError> {
     Ok(runs)
 }
 
-/// Marks the states in which these runs end, in all orders of their operations that make an execution with the placement's fences.
+/// Marks the states in which these runs end, in all orders of their operations that make an execution with the
+/// placement's fences.
 fn mark_orders(
     alloc: Global,
     test: &Test,

@@ -3,7 +3,7 @@
 use fs_app_states_log::{Log, Seen, read_log};
 use std::alloc::{AllocError, Global};
 
-// How often a state was seen, where the log says so.
+/// How often a state was seen, where the log says so.
 fn push_times(text: &mut String, times: Option<u64>) -> Result<(), AllocError> {
     match times {
         Some(times) => write!(text, "{times}"),
@@ -11,7 +11,7 @@ fn push_times(text: &mut String, times: Option<u64>) -> Result<(), AllocError> {
     }
 }
 
-// A state: its line, how often it was seen, and its items.
+/// A state: its line, how often it was seen, and its items.
 fn push_seen(text: &mut String, seen: &Seen) -> Result<(), AllocError> {
     write!(text, " [{} ", seen.line)?;
     push_times(text, seen.times)?;
@@ -21,7 +21,7 @@ fn push_seen(text: &mut String, seen: &Seen) -> Result<(), AllocError> {
     text.push_str("]")
 }
 
-// The blocks: each with its name and its states.
+/// The blocks: each with its name and its states.
 fn log_text(alloc: Global, log: &Log) -> Result<String, AllocError> {
     let mut text = String::new(alloc);
     for block in log {
@@ -34,7 +34,7 @@ fn log_text(alloc: Global, log: &Log) -> Result<String, AllocError> {
     Ok(text)
 }
 
-// What is read of a log, or the line of its error.
+/// What is read of a log, or the line of its error.
 fn read(alloc: Global, log: &str) -> Result<String, AllocError> {
     match read_log(alloc, log.as_bytes()) {
         Ok(log) => log_text(alloc, &log),

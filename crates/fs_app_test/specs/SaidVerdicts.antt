@@ -31,8 +31,8 @@ abbrev pub IsSettled : Test → (settled : Bool) → Type 0
 IsSettled t true = IsVacuous t → ⊥
 IsSettled t false = HasManyRuns t
 
--- These cycles, or this refutation, show that it is forbidden. Which of those that do are spoken of is left open. Where it is open whether
--- the test is vacuous they have a contradiction.
+-- These cycles, or this refutation, show that it is forbidden. Which of those that do are spoken of is left open. Where
+-- it is open whether the test is vacuous they have a contradiction.
 pub record SaysForbidden (t : Test) (why : List ℕ) : Type 0 where
   pub forbidden : IsForbidden t
   pub cycles : Cycles
@@ -74,8 +74,8 @@ pub record IsTestedAs (t : Test) (said : Kind) (why : List ℕ) (witness : Optio
   pub listed : HasNoRunFault t
   pub says : Says t said why witness
 
--- The outcome is forbidden, and it isn't known whether the test is vacuous: it has so many runs that this may be left open, and what was
--- found to show that it is forbidden has no contradiction.
+-- The outcome is forbidden, and it isn't known whether the test is vacuous: it has so many runs that this may be left
+-- open, and what was found to show that it is forbidden has no contradiction.
 pub record IsLeftOpen (t : Test) : Type 0 where
   pub many : HasManyRuns t
   pub forbidden : IsForbidden t
@@ -83,7 +83,7 @@ pub record IsLeftOpen (t : Test) : Type 0 where
   pub shows : Forbid t (no_fences t) cycles
   pub none : contradictions_in cycles ≡ 0
 
--- The fault of a test: of its runs; or else, where it isn't vacuous or that may be left open, of its candidates; or that it is left open,
--- which counts as too many candidates.
+-- The fault of a test: of its runs; or else, where it isn't vacuous or that may be left open, of its candidates; or
+-- that it is left open, which counts as too many candidates.
 abbrev pub IsFaultOf : Test → Fault → Type 0
 IsFaultOf t f = IsRunFault t f ⊎ ((MayBeSerious t × IsCandidateFault t f) ⊎ ((f ≡ TooManyCandidates) × IsLeftOpen t))

@@ -22,8 +22,8 @@ pub record IsTested (test : List ℕ) (said : Kind) (why : List ℕ) (witness : 
   pub listed : HasNoRunFault the_test
   pub says : Says the_test said why witness
 
--- The first fault: of the test, else of its runs, else, where it isn't vacuous or that may be left open, of its candidates; or it is left
--- open. Want of memory may come in place of any answer.
+-- The first fault: of the test, else of its runs, else, where it isn't vacuous or that may be left open, of its
+-- candidates; or it is left open. Want of memory may come in place of any answer.
 pub data IsFirstTestFault (test : List ℕ) : Fault → Type 0 where
   of_test : {fault : Fault} → IsTestFault test fault → IsFirstTestFault test fault
   of_runs : {fault : Fault} (t : Test) → Reads test t → IsRunFault t fault → IsFirstTestFault test fault

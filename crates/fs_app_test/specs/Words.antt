@@ -36,8 +36,8 @@ abbrev pub contradictions_in : Cycles → ℕ
 contradictions_in (Listed cycles) = length cycles
 contradictions_in (Inferred inferences) = count_by is_contradiction inferences
 
--- Where there are none: a list without cycles is of no candidates, and a refutation without contradictions takes each run away, as some
--- load has no store to return from.
+-- Where there are none: a list without cycles is of no candidates, and a refutation without contradictions takes each
+-- run away, as some load has no store to return from.
 abbrev pub no_contradictions : Cycles → List ℕ
 no_contradictions (Listed cycles) = codes "no candidate shows it"
 no_contradictions (Inferred inferences) = codes "no sources for its loads"
@@ -55,8 +55,8 @@ overtaken name later = find (λ at. list_any (same_name (record { hart = name.ha
 abbrev pub pair_at : Name → ℕ → Name × Name
 pair_at name at = (name, record { hart = name.hart; at = at })
 
--- The first operation of an order that stands before one which is earlier in its hart's code, and the earliest such one. Branches go
--- forward, so what is earlier in the code is earlier in program order.
+-- The first operation of an order that stands before one which is earlier in its hart's code, and the earliest such
+-- one. Branches go forward, so what is earlier in the code is earlier in program order.
 abbrev pub overtaking : List Name → Option (Name × Name)
 overtaking [] = None
 overtaking (name ∷ later) = option_or (option_map (pair_at name) (overtaken name later)) (overtaking later)
@@ -86,8 +86,8 @@ module _ (t : Test) (runs : ℕ → List (List Step)) where
   abbrev pub can_have : (location word : ℕ) → Bool
   can_have location word = is_same (slice_get (initial_words t) location) (Some word) || is_stored location word
 
-  -- The first atom in the order of the text that is to be true, where the condition is to have this truth value, and that nothing makes
-  -- true.
+  -- The first atom in the order of the text that is to be true, where the condition is to have this truth value, and
+  -- that nothing makes true.
   abbrev pub first_never : Condition → Bool → Option Condition
   first_never (RegisterIs hart reg word) v =
       if v && not (ends_as hart reg word) then Some (RegisterIs hart reg word) else None

@@ -8,7 +8,7 @@ use crate::words::counted;
 use fs_cert_evidence::{Cycles, Inference};
 use std::alloc::{AllocError, Global};
 
-// Does the inference end candidates by a contradiction?
+/// Does the inference end candidates by a contradiction?
 fn is_contradiction(inference: &Inference) -> bool
     ensures { result ≡ is_contradiction (inference_of inference.now) }
 {
@@ -25,7 +25,7 @@ fn is_contradiction(inference: &Inference) -> bool
     }
 }
 
-// How many of the inferences do?
+/// How many of the inferences do?
 fn count_contradictions(inferences: &[Inference]) -> usize
     ensures { result ≡ count_by is_contradiction (map inference_of inferences.now) }
 {
@@ -45,7 +45,7 @@ pub(crate) fn contradictions_in(cycles: &Cycles) -> usize
     }
 }
 
-// The words where there are none.
+/// The words where there are none.
 fn no_contradictions(cycles: &Cycles) -> &'static str
     ensures { result.now ≡ no_contradictions (cycles_of cycles.now) }
 {

@@ -40,10 +40,10 @@ pub(crate) fn shared(alloc: Global, test: Test) -> Result<Arc<Test>, AllocError>
 
 /// What is said of a test as it is written, with no fence placed: whether it can show its outcome, and why.
 ///
-/// The first fault in this order: `TooManyTraces` and `Astray`; `TooManyCandidates`, which doesn't come where the test is found to be
-/// vacuous. It comes also where it is left open whether the test is vacuous, and what forbids the outcome has no contradiction. `Memory` may
-/// come in place of any answer. The cost is that of `Basis::new`, of `is_vacuous` of fs_judge_vacuous_outcomes, and of `Problem::new` and `Judge::verdict`
-/// of fs_judge.
+/// The first fault in this order: `TooManyTraces` and `Astray`; `TooManyCandidates`, which doesn't come where the test
+/// is found to be vacuous. It comes also where it is left open whether the test is vacuous, and what forbids the
+/// outcome has no contradiction. `Memory` may come in place of any answer. The cost is that of `Basis::new`, of
+/// `is_vacuous` of fs_judge_vacuous_outcomes, and of `Problem::new` and `Judge::verdict` of fs_judge.
 pub fn judge_test(alloc: Global, test: &Arc<Test>) -> Result<Said, Fault>
     requires bounded { IsBounded (arc_value test.now) }
     requires starts { All IsStart (arc_value test.now).starts }
@@ -58,7 +58,7 @@ pub fn judge_test(alloc: Global, test: &Arc<Test>) -> Result<Said, Fault>
     }
 }
 
-// The same of a test that isn't vacuous, or of which that isn't settled.
+/// The same of a test that isn't vacuous, or of which that isn't settled.
 fn judge_serious(alloc: Global, test: &Arc<Test>, is_settled: bool) -> Result<Said, Fault>
     requires bounded { IsBounded (arc_value test.now) }
     requires starts { All IsStart (arc_value test.now).starts }
@@ -72,7 +72,7 @@ fn judge_serious(alloc: Global, test: &Arc<Test>, is_settled: bool) -> Result<Sa
     said_of(alloc, verdict, is_settled)
 }
 
-// Prices, as they have to be in a question.
+/// Prices, as they have to be in a question.
 fn prices(alloc: Global) -> Result<Prices, Fault>
     ensures { IsOkUnless result Memory }
 {
@@ -82,7 +82,7 @@ fn prices(alloc: Global) -> Result<Prices, Fault>
     }
 }
 
-// The question of the test.
+/// The question of the test.
 fn question(alloc: Global, test: &Arc<Test>) -> Result<Arc<Question>, Fault>
     ensures ok { IfOk result (λ question. (arc_value question).test ≡ arc_value test.now) }
     ensures err { IsOkUnless result Memory }
@@ -92,7 +92,7 @@ fn question(alloc: Global, test: &Arc<Test>) -> Result<Arc<Question>, Fault>
     Ok(Arc::new(alloc, Question { test, prices })?)
 }
 
-// No fence in any slot of the test.
+/// No fence in any slot of the test.
 fn no_fences(alloc: Global, test: &Test) -> Result<Placement, Fault>
     requires { IsBounded test.now }
     ensures ok { IfOk result (λ placement. placement ≡ no_fences test.now) }
@@ -102,7 +102,7 @@ fn no_fences(alloc: Global, test: &Test) -> Result<Placement, Fault>
     Placement::bottom(alloc, &slots)
 }
 
-// The verdict on the test with no fence in any slot.
+/// The verdict on the test with no fence in any slot.
 fn verdict(alloc: Global, test: &Arc<Test>) -> Result<Verdict, Fault>
     requires bounded { IsBounded (arc_value test.now) }
     requires starts { All IsStart (arc_value test.now).starts }

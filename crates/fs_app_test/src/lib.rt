@@ -1,5 +1,5 @@
-//! What the command `test` answers, from the names and bytes of its files to the text that is printed: whether a test, as it is written,
-//! can show its outcome, and why. And the note that `solve` gives of a test that is vacuous.
+//! What the command `test` answers, from the names and bytes of its files to the text that is printed: whether a test,
+//! as it is written, can show its outcome, and why. And the note that `solve` gives of a test that is vacuous.
 #![tactic(auto)]
 
 mod contradictions;

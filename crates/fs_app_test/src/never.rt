@@ -22,7 +22,7 @@ use fs_region_refutation::Basis;
 use fs_region_runs::Lone;
 use std::alloc::{AllocError, Global};
 
-// Does the step store the word at the location?
+/// Does the step store the word at the location?
 fn stores_word(step: &Step, location: u8, word: u32) -> bool
     ensures { result ≡ stores_word location word step.now }
 {
@@ -31,7 +31,7 @@ fn stores_word(step: &Step, location: u8, word: u32) -> bool
         && step.stored.is_some_and(|stored| stored == word)
 }
 
-// Does the run?
+/// Does the run?
 fn run_stores(run: &Lone, location: u8, word: u32) -> bool
     ensures { result ≡ list_any (stores_word location word) run.now.steps }
 {
@@ -40,14 +40,14 @@ fn run_stores(run: &Lone, location: u8, word: u32) -> bool
         .any(|step| stores_word(step, location, word))
 }
 
-// Does one of the runs?
+/// Does one of the runs?
 fn some_stores(runs: &[Lone], location: u8, word: u32) -> bool
     ensures { result ≡ list_any (list_any (stores_word location word)) (map (λ run. run.steps) runs.now) }
 {
     runs.iter().any(|run| run_stores(run, location, word))
 }
 
-// The runs of the hart; none where it is no hart.
+/// The runs of the hart; none where it is no hart.
 fn runs_of(listed: &[List<Lone>], hart: u8) -> &[Lone]
     ensures { result.now ≡ slice_index_or listed.now hart [] }
 {
@@ -58,14 +58,14 @@ fn runs_of(listed: &[List<Lone>], hart: u8) -> &[Lone]
     }
 }
 
-// Does some run of the hart store the word at the location?
+/// Does some run of the hart store the word at the location?
 fn hart_stores(listed: &[List<Lone>], hart: u8, location: u8, word: u32) -> bool
     ensures { result ≡ list_any (list_any (stores_word location word)) (runs_over listed.now hart) }
 {
     some_stores(runs_of(listed, hart), location, word)
 }
 
-// Does some run of some hart?
+/// Does some run of some hart?
 fn is_stored(basis: &Basis, listed: &[List<Lone>], location: u8, word: u32) -> bool
     ensures { result ≡ is_stored basis.now (runs_over listed.now) location word }
 {
@@ -73,7 +73,7 @@ fn is_stored(basis: &Basis, listed: &[List<Lone>], location: u8, word: u32) -> b
     (0..harts).any(|hart| hart_stores(listed, hart, location, word))
 }
 
-// Does the location begin with the word?
+/// Does the location begin with the word?
 fn begins_as(basis: &Basis, location: u8, word: u32) -> bool
     ensures { result ≡ is_same (slice_get (initial_words basis.now) location) (Some word) }
 {
@@ -83,21 +83,21 @@ fn begins_as(basis: &Basis, location: u8, word: u32) -> bool
     }
 }
 
-// Does it, or does some run store it there?
+/// Does it, or does some run store it there?
 fn can_have(basis: &Basis, listed: &[List<Lone>], location: u8, word: u32) -> bool
     ensures { result ≡ can_have basis.now (runs_over listed.now) location word }
 {
     begins_as(basis, location, word) || is_stored(basis, listed, location, word)
 }
 
-// Does one of the runs end with the word in the register?
+/// Does one of the runs end with the word in the register?
 fn some_ends(runs: &[Lone], register: Reg, word: u32) -> bool
     ensures { result ≡ list_any (ends_with register word) runs.now }
 {
     runs.iter().any(|run| run.final_register(register) == word)
 }
 
-// Does some run of the hart?
+/// Does some run of the hart?
 fn ends_as(basis: &Basis, listed: &[List<Lone>], hart: u8, register: Reg, word: u32) -> bool
     requires { AreOfEach basis.now listed.now }
     ensures { result ≡ ends_as basis.now (runs_over listed.now) hart register word }
@@ -106,8 +106,8 @@ fn ends_as(basis: &Basis, listed: &[List<Lone>], hart: u8, register: Reg, word: 
     some_ends(runs_of(listed, hart), register, word)
 }
 
-// The first atom that is to be true, where the condition is to have this truth value, and that nothing makes true. Its depth is bounded by
-// that of the test's condition.
+/// The first atom that is to be true, where the condition is to have this truth value, and that nothing makes true. Its
+/// depth is bounded by that of the test's condition.
 fn first_never<'a>(
     basis: &Basis,
     listed: &[List<Lone>],
@@ -144,14 +144,14 @@ fn first_never<'a>(
     }
 }
 
-// The atom, where something is so.
+/// The atom, where something is so.
 fn where_so(is_so: bool, atom: &Outcome) -> Option<&Outcome>
     ensures { option_map (λ atom. condition_of atom.now) result ≡ (if is_so then Some (condition_of atom.now) else None) }
 {
     if is_so { Some(atom) } else { None }
 }
 
-// The first atom that the outcome needs to be true, and that nothing makes true.
+/// The first atom that the outcome needs to be true, and that nothing makes true.
 fn never_in_outcome<'a>(basis: &'a Basis, listed: &[List<Lone>]) -> Option<&'a Outcome>
     requires { AreOfEach basis.now listed.now }
     ensures { option_map (λ atom. condition_of atom.now) result ≡ never_in_outcome basis.now (runs_over listed.now) }
@@ -160,7 +160,7 @@ fn never_in_outcome<'a>(basis: &'a Basis, listed: &[List<Lone>]) -> Option<&'a O
     first_never(basis, listed, &test.condition, is_outcome(test.quantifier))
 }
 
-// Is it the condition that is to be true, and not its denial?
+/// Is it the condition that is to be true, and not its denial?
 fn is_outcome(quantifier: Quantifier) -> bool
     ensures { result ≡ is_outcome quantifier true }
 {
@@ -170,7 +170,7 @@ fn is_outcome(quantifier: Quantifier) -> bool
     }
 }
 
-// The name of the location.
+/// The name of the location.
 fn name_of(locations: &[Location], location: u8) -> &str
     ensures { result.now ≡ name_of locations.now location }
 {
@@ -180,7 +180,7 @@ fn name_of(locations: &[Location], location: u8) -> &str
     }
 }
 
-// That nothing stores the word at the location.
+/// That nothing stores the word at the location.
 fn stored_text(
     alloc: Global,
     locations: &[Location],
@@ -199,7 +199,7 @@ fn stored_text(
     )
 }
 
-// That the register never ends as the word.
+/// That the register never ends as the word.
 fn ending_text(
     alloc: Global,
     locations: &[Location],
@@ -220,7 +220,7 @@ fn ending_text(
     )
 }
 
-// The words for the atom that nothing makes true, if there is one.
+/// The words for the atom that nothing makes true, if there is one.
 fn never_words(alloc: Global, test: &Test, atom: Option<&Outcome>) -> Result<String, AllocError>
     requires { length test.now.locations ≤ most_locations }
     ensures { IfOk result (λ text.

@@ -17,11 +17,12 @@ use fs_litmus::read_test;
 use fs_model::Test;
 use std::alloc::{AllocError, Global};
 
-/// A line that says of a test file that its test is vacuous, and why, as `test` does. None where it isn't, or where that is left open. The
-/// cost is that of `read_test`, of `Basis::new`, and of `is_vacuous` of fs_judge_vacuous_outcomes.
+/// A line that says of a test file that its test is vacuous, and why, as `test` does. None where it isn't, or where
+/// that is left open. The cost is that of `read_test`, of `Basis::new`, and of `is_vacuous` of
+/// fs_judge_vacuous_outcomes.
 ///
-/// The first fault in this order: those of a test file by number and then line; `TooManyTraces` and `Astray`. `Memory` may come in place of
-/// any answer.
+/// The first fault in this order: those of a test file by number and then line; `TooManyTraces` and `Astray`. `Memory`
+/// may come in place of any answer.
 pub fn vacuous_note(alloc: Global, bytes: &[u8]) -> Result<Option<String>, Fault>
     ensures some { IfOk result (λ found. IfSome found (λ text. IsNoted bytes.now (string_bytes text))) }
     ensures none { IfOk result (λ found. IfNone found (IsSerious bytes.now)) }
@@ -31,7 +32,7 @@ pub fn vacuous_note(alloc: Global, bytes: &[u8]) -> Result<Option<String>, Fault
     note_of(alloc, test)
 }
 
-// The note of the test, where it is vacuous.
+/// The note of the test, where it is vacuous.
 fn note_of(alloc: Global, test: Test) -> Result<Option<String>, Fault>
     requires { IsTest test }
     ensures some { IfOk result (λ found. IfSome found (λ text. Notes test (string_bytes text))) }
@@ -46,7 +47,7 @@ fn note_of(alloc: Global, test: Test) -> Result<Option<String>, Fault>
     }
 }
 
-// What is said of the test as a note.
+/// What is said of the test as a note.
 fn note(alloc: Global, said: &Said) -> Result<String, AllocError>
     ensures { IfOk result (λ text. string_bytes text ≡ note_line (string_bytes said.now.why)) }
 {

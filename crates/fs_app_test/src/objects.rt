@@ -16,8 +16,8 @@ use fs_report::witness_value;
 use serde_json::{Value, json};
 use std::alloc::{AllocError, Global};
 
-/// The same as `test_report` says, but for the last line, as a JSON object a line: compact, with the keys in the order of their bytes,
-/// and with an execution where the outcome is possible. The error is `Memory`.
+/// The same as `test_report` says, but for the last line, as a JSON object a line: compact, with the keys in the order
+/// of their bytes, and with an execution where the outcome is possible. The error is `Memory`.
 pub fn test_objects(alloc: Global, lines: &[Line]) -> Result<Output, Fault>
     ensures text { IfOk result (λ output. string_bytes output.text ≡ json_text lines.now) }
     ensures status { IfOk result (λ output. output.status ≡ report_status lines.now) }
@@ -29,7 +29,7 @@ pub fn test_objects(alloc: Global, lines: &[Line]) -> Result<Output, Fault>
     })
 }
 
-// All objects.
+/// All objects.
 fn objects_text(alloc: Global, lines: &[Line]) -> Result<String, AllocError>
     ensures { IfOk result (λ text. string_bytes text ≡ json_text lines.now) }
 {
@@ -40,7 +40,7 @@ fn objects_text(alloc: Global, lines: &[Line]) -> Result<String, AllocError>
     Ok(text)
 }
 
-// Appends the object of a file, as a line.
+/// Appends the object of a file, as a line.
 fn write_object(alloc: Global, line: &Line, text: &mut String) -> Result<(), AllocError>
     ensures { OnOk result (string_bytes text.new ≡ string_bytes text.old ++ json_line line.now) }
 {
@@ -48,7 +48,7 @@ fn write_object(alloc: Global, line: &Line, text: &mut String) -> Result<(), All
     writeln!(text, "{}", object.as_str())
 }
 
-// The text of the object.
+/// The text of the object.
 fn object_text(alloc: Global, line: &Line) -> Result<String, AllocError>
     ensures { IfOk result (λ text. string_bytes text ≡ compact_text (line_value line.now)) }
 {
@@ -56,7 +56,7 @@ fn object_text(alloc: Global, line: &Line) -> Result<String, AllocError>
     value.to_string(alloc)
 }
 
-// The object of a file.
+/// The object of a file.
 fn line_value(alloc: Global, line: &Line) -> Result<Value, AllocError>
     ensures { IfOk result (λ value. view value ≡ line_value line.now) }
 {
@@ -71,7 +71,7 @@ fn line_value(alloc: Global, line: &Line) -> Result<Value, AllocError>
     }
 }
 
-// The object without a witness.
+/// The object without a witness.
 fn plain_object(alloc: Global, name: &str, kind: Kind, why: &str) -> Result<Value, AllocError>
     ensures { IfOk result (λ value. view value ≡ plain_object name.now (kind_text kind) why.now) }
 {
@@ -79,7 +79,7 @@ fn plain_object(alloc: Global, name: &str, kind: Kind, why: &str) -> Result<Valu
     json!(in alloc; {"file": name, "verdict": verdict, "why": why})
 }
 
-// The object with a witness.
+/// The object with a witness.
 fn witness_object(
     alloc: Global,
     name: &str,

@@ -17,14 +17,14 @@ fn is_same_name(first: OperationName, second: OperationName) -> bool
     first.hart == second.hart && first.at == second.at
 }
 
-// Is the operation among these?
+/// Is the operation among these?
 fn is_among(names: &[OperationName], name: OperationName) -> bool
     ensures { result ≡ list_any (same_name name) names.now }
 {
     names.iter().any(|other| is_same_name(name, *other))
 }
 
-// The least position before the name's in its code whose operation is among these.
+/// The least position before the name's in its code whose operation is among these.
 fn overtaken(name: OperationName, later: &[OperationName]) -> Option<u8>
     ensures { result ≡ overtaken name later.now }
 {

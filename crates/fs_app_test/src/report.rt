@@ -13,8 +13,8 @@ use fs_app_io::Output;
 use fs_kinds::Fault;
 use std::alloc::{AllocError, Global};
 
-/// The lines of the files, a last line that counts them, and the status: 1 where an outcome is possible; else 2 where a file has a fault;
-/// else 4 where an outcome is vacuous; else 0. The error is `Memory`.
+/// The lines of the files, a last line that counts them, and the status: 1 where an outcome is possible; else 2 where a
+/// file has a fault; else 4 where an outcome is vacuous; else 0. The error is `Memory`.
 pub fn test_report(alloc: Global, lines: &[Line]) -> Result<Output, Fault>
     ensures text { IfOk result (λ output. string_bytes output.text ≡ report_text lines.now) }
     ensures status { IfOk result (λ output. output.status ≡ report_status lines.now) }
@@ -29,7 +29,7 @@ pub fn test_report(alloc: Global, lines: &[Line]) -> Result<Output, Fault>
     })
 }
 
-// The characters of the longest name, as it is shown.
+/// The characters of the longest name, as it is shown.
 fn width(alloc: Global, lines: &[Line]) -> Result<usize, AllocError>
     ensures { IfOk result (λ most. most ≡ width lines.now) }
 {
@@ -41,7 +41,7 @@ fn width(alloc: Global, lines: &[Line]) -> Result<usize, AllocError>
     Ok(most)
 }
 
-// All lines but the last one.
+/// All lines but the last one.
 fn lines_text(alloc: Global, lines: &[Line]) -> Result<String, AllocError>
     ensures { IfOk result (λ text. string_bytes text ≡ flat_map (line_text (width lines.now)) lines.now) }
 {
@@ -53,7 +53,7 @@ fn lines_text(alloc: Global, lines: &[Line]) -> Result<String, AllocError>
     Ok(text)
 }
 
-// Appends the line of a file, with its name in so many characters.
+/// Appends the line of a file, with its name in so many characters.
 fn write_line(alloc: Global, width: usize, line: &Line, text: &mut String) -> Result<(), AllocError>
     ensures { OnOk result (string_bytes text.new ≡ string_bytes text.old ++ line_text width line.now) }
 {
@@ -81,7 +81,7 @@ pub fn kind_text(kind: Kind) -> &'static str
     }
 }
 
-// What stands before why.
+/// What stands before why.
 fn label(kind: Kind) -> &'static str
     ensures { result.now ≡ label kind }
 {
@@ -103,7 +103,7 @@ pub fn padded(alloc: Global, width: usize, text: &str) -> Result<String, AllocEr
     Ok(padding)
 }
 
-// How many of the lines are of the kind.
+/// How many of the lines are of the kind.
 fn count_of(kind: Kind, lines: &[Line]) -> usize
     ensures { result ≡ count_of kind lines.now }
 {
@@ -113,7 +113,7 @@ fn count_of(kind: Kind, lines: &[Line]) -> usize
         .count()
 }
 
-// That so many are of the kind.
+/// That so many are of the kind.
 fn count_text(alloc: Global, kind: Kind, count: usize) -> Result<String, AllocError>
     ensures { IfOk result (λ text. string_bytes text ≡ count_text kind count) }
 {
@@ -125,7 +125,7 @@ fn count_text(alloc: Global, kind: Kind, count: usize) -> Result<String, AllocEr
     }
 }
 
-// Appends how many lines are of the kind, if any are.
+/// Appends how many lines are of the kind, if any are.
 fn push_count(
     alloc: Global,
     kind: Kind,
@@ -142,7 +142,7 @@ fn push_count(
     Ok(())
 }
 
-// How many lines are of each kind, of which there are any.
+/// How many lines are of each kind, of which there are any.
 fn pieces(alloc: Global, lines: &[Line]) -> Result<Vec<String>, AllocError>
     ensures { IfOk result (λ made. map string_bytes made.items ≡ pieces lines.now) }
 {
@@ -154,7 +154,7 @@ fn pieces(alloc: Global, lines: &[Line]) -> Result<Vec<String>, AllocError>
     Ok(pieces)
 }
 
-// The same in one text.
+/// The same in one text.
 fn joined_pieces(alloc: Global, lines: &[Line]) -> Result<String, AllocError>
     ensures { IfOk result (λ text. string_bytes text ≡ joined (codes ", ") (pieces lines.now)) }
 {
@@ -162,7 +162,7 @@ fn joined_pieces(alloc: Global, lines: &[Line]) -> Result<String, AllocError>
     pieces.join(alloc, ", ")
 }
 
-// The last line.
+/// The last line.
 fn summary(alloc: Global, lines: &[Line]) -> Result<String, AllocError>
     ensures { IfOk result (λ text. string_bytes text ≡ summary lines.now) }
 {

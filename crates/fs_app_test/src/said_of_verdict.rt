@@ -24,8 +24,8 @@ use fs_kinds::{Fault, Placement};
 use std::alloc::Global;
 use std::sync::Arc;
 
-/// Does the placement forbid the outcome? The fault is that of the test's candidates, or `Memory`. The cost is that of `Problem::new` and
-/// `Problem::verdict` of fs_judge.
+/// Does the placement forbid the outcome? The fault is that of the test's candidates, or `Memory`. The cost is that of
+/// `Problem::new` and `Problem::verdict` of fs_judge.
 pub fn forbids(
     alloc: Global,
     question: &Arc<Question>,
@@ -45,8 +45,9 @@ pub fn forbids(
     }
 }
 
-/// What is said of a test that isn't vacuous, by the verdict on it with no fence placed. Where it isn't settled that it isn't, since it has
-/// too many runs, and what forbids the outcome has no contradiction, the fault is `TooManyCandidates`; else it is `Memory`.
+/// What is said of a test that isn't vacuous, by the verdict on it with no fence placed. Where it isn't settled that it
+/// isn't, since it has too many runs, and what forbids the outcome has no contradiction, the fault is
+/// `TooManyCandidates`; else it is `Memory`.
 pub fn said_of(alloc: Global, verdict: Verdict, is_settled: bool) -> Result<Said, Fault>
     ensures ok { (t : Tests) → IsVerdict t (no_fences t) verdict → IsSettled t is_settled
         → IfOk result (λ said. Says t said.kind (string_bytes said.why) (witness_in said.witness)) }
@@ -63,7 +64,8 @@ pub fn said_of(alloc: Global, verdict: Verdict, is_settled: bool) -> Result<Said
     }
 }
 
-// Is it left open what is to be said? It is where they have no contradiction, and it isn't settled that the test isn't vacuous.
+/// Is it left open what is to be said? It is where they have no contradiction, and it isn't settled that the test isn't
+/// vacuous.
 fn is_left_open(cycles: &Cycles, is_settled: bool) -> bool
     ensures none { result ≡ true → contradictions_in (cycles_of cycles.now) ≡ 0 }
     ensures unsettled { result ≡ true → is_settled ≡ false }
@@ -72,7 +74,7 @@ fn is_left_open(cycles: &Cycles, is_settled: bool) -> bool
     contradictions_in(cycles) == 0 && !is_settled
 }
 
-// The same of a test that these cycles, or this refutation, show to be forbidden.
+/// The same of a test that these cycles, or this refutation, show to be forbidden.
 fn said_forbidden(alloc: Global, cycles: &Cycles, is_settled: bool) -> Result<Said, Fault>
     ensures ok { (t : Tests) → IsForbidden t → Forbid t (no_fences t) (cycles_of cycles.now) → IsSettled t is_settled
         → IfOk result (λ said. Says t said.kind (string_bytes said.why) (witness_in said.witness)) }

@@ -18,14 +18,15 @@ pub fn is_kind(kind: Kind, other: Kind) -> bool
     }
 }
 
-// Is some line of the kind?
+/// Is some line of the kind?
 fn has(kind: Kind, lines: &[Line]) -> bool
     ensures { result ≡ has kind lines.now }
 {
     lines.iter().any(|line| is_kind(kind, line.said.kind))
 }
 
-/// The exit status: 1 where an outcome is possible; else 2 where a file has a fault; else 4 where an outcome is vacuous; else 0.
+/// The exit status: 1 where an outcome is possible; else 2 where a file has a fault; else 4 where an outcome is
+/// vacuous; else 0.
 pub fn status_of(lines: &[Line]) -> Status
     ensures { result ≡ report_status lines.now }
 {

@@ -13,8 +13,8 @@ use fs_kinds::Fault;
 use fs_litmus::read_test;
 use std::alloc::{AllocError, Global};
 
-/// What is said of the file of this name: whether its test, as it is written and with no fence placed, can show its outcome, and why; or
-/// the first fault. The file is its bytes as they were read, or the fault of reading it.
+/// What is said of the file of this name: whether its test, as it is written and with no fence placed, can show its
+/// outcome, and why; or the first fault. The file is its bytes as they were read, or the fault of reading it.
 ///
 /// The first fault of a file in this order: those of a test file by number and then line; `TooManyTraces` and `Astray`;
 /// `TooManyCandidates`, as of `judge_test`. The error is `Memory`. The cost is that of `read_test` and of `judge_test`.
@@ -28,7 +28,7 @@ pub fn test_file(alloc: Global, name: &str, file: Result<Vec<u8>, Fault>) -> Res
     Ok(Line { name, said })
 }
 
-// The same without its name.
+/// The same without its name.
 fn said_of(alloc: Global, file: Result<Vec<u8>, Fault>) -> Result<Said, Fault>
     ensures ok { IfOk result (λ said. SaysOfFile file said.kind (string_bytes said.why) (witness_in said.witness)) }
     ensures err { IsOkUnless result Memory }
@@ -39,7 +39,7 @@ fn said_of(alloc: Global, file: Result<Vec<u8>, Fault>) -> Result<Said, Fault>
     }
 }
 
-// The same of the bytes of a file.
+/// The same of the bytes of a file.
 fn test_bytes(alloc: Global, bytes: &[u8]) -> Result<Said, Fault>
     ensures ok { IfOk result (λ said. SaysOfBytes bytes.now said.kind (string_bytes said.why) (witness_in said.witness)) }
     ensures err { IsOkUnless result Memory }
@@ -50,7 +50,7 @@ fn test_bytes(alloc: Global, bytes: &[u8]) -> Result<Said, Fault>
     }
 }
 
-// What is said of the test that the bytes are, or the first fault.
+/// What is said of the test that the bytes are, or the first fault.
 fn judge_bytes(alloc: Global, bytes: &[u8]) -> Result<Said, Fault>
     ensures ok { IfOk result (λ said. IsTested bytes.now said.kind (string_bytes said.why) (witness_in said.witness)) }
     ensures fault { IfErr result (IsFirstTestFault bytes.now) }
@@ -59,7 +59,7 @@ fn judge_bytes(alloc: Global, bytes: &[u8]) -> Result<Said, Fault>
     judge(alloc, test)
 }
 
-// That it has this fault. Where that is want of memory, so is the error.
+/// That it has this fault. Where that is want of memory, so is the error.
 fn faulty(alloc: Global, fault: Fault) -> Result<Said, Fault>
     ensures ok { IfOk result (λ said. NamesFault fault said.kind (string_bytes said.why) (witness_in said.witness)) }
     ensures err { IsOkUnless result Memory }
@@ -74,7 +74,7 @@ fn faulty(alloc: Global, fault: Fault) -> Result<Said, Fault>
     }
 }
 
-// The line of the fault, without its end.
+/// The line of the fault, without its end.
 fn fault_text(alloc: Global, fault: Fault) -> Result<String, AllocError>
     ensures { IfOk result (λ text. string_bytes text ≡ fault_line fault) }
 {

@@ -5,7 +5,7 @@ ghost use Rattle.fs_app_test.specs.Words.{counted};
 
 use std::alloc::{AllocError, Global};
 
-// What follows a word that so many things have.
+/// What follows a word that so many things have.
 fn ending(count: usize) -> &'static str
     ensures { result.now ≡ (if count == 1 then [] else codes "s") }
 {

@@ -11,15 +11,16 @@ use Rattle.fs_board.specs.declared.event.Reply.{Reply}
 use Rattle.fs_board.specs.declared.event.Reply.TheVariants as reply
 use Rattle.fs_board.specs.Growth.{IsBacked, AreWitnesses}
 
--- what the event brings is made for the question: witnesses with their widths, or a placement that forbids the outcome with its cycles
+-- what the event brings is made for the question: witnesses with their widths, or a placement that forbids the outcome
+-- with its cycles
 abbrev pub IsMade : Question → Event → Type 0
 IsMade q (event.CutWitness k w) = (e : Execution) × IsWitnessFor q.test (arc_value w) e
 IsMade q (event.CutBound k ws) = AreWitnesses q.test (map arc_value ws)
 IsMade q (event.Post k f) = ShowsForbidden q.test (arc_value f) × (Allows q.test (placement_in f) → ⊥)
 IsMade q event = Unit {0}
 
--- The part of a node that is handed out is one of the question. What a peek shows is witnesses with their widths, and a placement with its
--- cycles.
+-- The part of a node that is handed out is one of the question. What a peek shows is witnesses with their widths, and a
+-- placement with its cycles.
 abbrev pub Tells : Question → Reply → Type 0
 Tells q (reply.Node k part) = IsPart q.test q.prices (arc_value part)
 Tells q (reply.Seen bound upto witnesses) = IsBacked q.test (option_map arc_value bound) (map arc_value witnesses)

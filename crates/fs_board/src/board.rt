@@ -32,8 +32,9 @@ use std::alloc::{AllocError, Global};
 use std::marker::Model;
 use std::sync::Arc;
 
-/// The nodes of a search, with the log of all events. The log is a legal history, and leads to the nodes as they are. The bound has what
-/// shows that it forbids the outcome, and each witness is one of an execution of the test, with its widths.
+/// The nodes of a search, with the log of all events. The log is a legal history, and leads to the nodes as they are.
+/// The bound has what shows that it forbids the outcome, and each witness is one of an execution of the test, with its
+/// widths.
 #[derive(Drop)]
 pub struct Board {
     question: Arc<Question>,
@@ -69,8 +70,8 @@ fn push_within<T: Drop>(list: &mut Vec<T>, item: T)
 }
 
 impl Board {
-    /// The board with one open node, which is wholly undecided, and an empty log. No node's number may pass the limit. The error is F19.
-    /// It takes time of slots.
+    /// The board with one open node, which is wholly undecided, and an empty log. No node's number may pass the limit.
+    /// The error is F19. It takes time of slots.
     pub fn new(alloc: Global, question: Arc<Question>, limit: usize) -> Result<Board, Fault>
         requires bounded { IsBounded (arc_value question).test }
         requires limit { limit ≤ 1000000 }
@@ -242,7 +243,8 @@ impl Board {
         Ok(Reply::Closed)
     }
 
-    /// Hands out any open node. Where none is open, `Idle` if some node is held, else `Done`. All calls together look at each node once.
+    /// Hands out any open node. Where none is open, `Idle` if some node is held, else `Done`. All calls together look
+    /// at each node once.
     pub fn take(&mut self, worker: u8) -> Result<Reply, AllocError>
         ensures step { IfOk result (λ r. Answers self.old self.new worker Take (reply_of r)) }
         ensures err { OnErr result (self.new ≡ self.old) }
@@ -281,9 +283,9 @@ impl Board {
         self.hand_out(worker, Event::Adopt(node), node, part)
     }
 
-    /// Splits a node at an undecided slot: one open child for none, and one for each offered kind, in table order. `NotYours`;
-    /// `Decided` where the slot is decided or none of the node's; `Full` where the last child's number would pass the limit. It takes time
-    /// of slots times kinds.
+    /// Splits a node at an undecided slot: one open child for none, and one for each offered kind, in table order.
+    /// `NotYours`; `Decided` where the slot is decided or none of the node's; `Full` where the last child's number
+    /// would pass the limit. It takes time of slots times kinds.
     pub fn split(
         &mut self,
         alloc: Global,
@@ -316,8 +318,8 @@ impl Board {
         Ok(Reply::Children(first, count))
     }
 
-    /// Closes a node whose least placement is no better than the bound. `NotYours`; `Cheaper` where it is better, or there is no bound. It
-    /// takes time of slots.
+    /// Closes a node whose least placement is no better than the bound. `NotYours`; `Cheaper` where it is better, or
+    /// there is no bound. It takes time of slots.
     #[tactic(auto, using(crate::proofs::Bests::pruned_by_cost))]
     pub fn cut_cost(&mut self, alloc: Global, worker: u8, node: usize) -> Result<Reply, AllocError>
         ensures step { IfOk result (λ r. Answers self.old self.new worker (CutCost node) (reply_of r)) }
@@ -334,8 +336,9 @@ impl Board {
         self.close(worker, Event::CutCost(node), node, Status::Costly)
     }
 
-    /// Closes a node by a witness that shows the outcome with `rw,rw` at each undecided slot, and so under each placement below the
-    /// node. `NotYours`; `NotCovered` where it doesn't. The witness must be one of the test, with its widths. It takes time of slots.
+    /// Closes a node by a witness that shows the outcome with `rw,rw` at each undecided slot, and so under each
+    /// placement below the node. `NotYours`; `NotCovered` where it doesn't. The witness must be one of the test, with
+    /// its widths. It takes time of slots.
     pub fn cut_witness(
         &mut self,
         alloc: Global,
@@ -361,10 +364,11 @@ impl Board {
         self.cover(worker, event, node, status, one)
     }
 
-    /// Closes a node by witnesses that show the outcome under its least placement: what forbids the outcome under the node costs no
-    /// less than that placement and breaking each of them, which is no better than the bound. `NotYours`; `NotCovered` where one of
-    /// them doesn't show it; `Cheaper` where two of them can be broken at one slot, or something under the node may be better than
-    /// the bound. The witnesses must be ones of the test, with their widths. It takes time of slots times kinds times witnesses.
+    /// Closes a node by witnesses that show the outcome under its least placement: what forbids the outcome under the
+    /// node costs no less than that placement and breaking each of them, which is no better than the bound. `NotYours`;
+    /// `NotCovered` where one of them doesn't show it; `Cheaper` where two of them can be broken at one slot, or
+    /// something under the node may be better than the bound. The witnesses must be ones of the test, with their
+    /// widths. It takes time of slots times kinds times witnesses.
     pub fn cut_bound(
         &mut self,
         alloc: Global,
@@ -411,7 +415,8 @@ impl Board {
         self.cover(worker, event, node, status, shared)
     }
 
-    /// Do the witnesses break at slots of their own, and is the floor with what breaking them costs no better than the bound?
+    /// Do the witnesses break at slots of their own, and is the floor with what breaking them costs no better than the
+    /// bound?
     fn is_bounded(&self, part: &[Decision], entries: &[Entry], witnesses: &[Arc<Witness>]) -> bool
         requires { entries.now ≡ floor part.now }
         ensures { result ≡ is_bounded self.now.question.prices self.now.board.bound part.now (map widths_in witnesses.now) }
@@ -423,8 +428,8 @@ impl Board {
         self.is_no_better(entries, bound_of(prices, part, entries, witnesses))
     }
 
-    /// Is what costs at least so much, and isn't before these entries of a floor, no better than the bound? So it is where nothing forbids the
-    /// outcome, and then there is no cost.
+    /// Is what costs at least so much, and isn't before these entries of a floor, no better than the bound? So it is
+    /// where nothing forbids the outcome, and then there is no cost.
     fn is_no_better(&self, entries: &[Entry], least: Option<u128>) -> bool
         ensures { (part : PartValue) → entries.now ≡ floor part → result ≡ is_no_better self.now.question.prices self.now.board.bound part least }
     {
@@ -439,8 +444,9 @@ impl Board {
         cost < least || cost == least && !precedes(entries, placement)
     }
 
-    /// Closes a node whose least placement this is, and makes it the bound where it is better. `NotYours`; `Other` where it isn't the
-    /// node's least placement. The placement must forbid the outcome, as its cycles show. It takes time of slots.
+    /// Closes a node whose least placement this is, and makes it the bound where it is better. `NotYours`; `Other`
+    /// where it isn't the node's least placement. The placement must forbid the outcome, as its cycles show. It takes
+    /// time of slots.
     pub fn post(
         &mut self,
         alloc: Global,
@@ -478,8 +484,8 @@ impl Board {
         is_best(&self.question.prices, self.bound(), placement)
     }
 
-    /// Shows the bound with its cycles, how many witnesses there are, and those from this number on with their widths. It takes time of
-    /// those that it shows.
+    /// Shows the bound with its cycles, how many witnesses there are, and those from this number on with their widths.
+    /// It takes time of those that it shows.
     pub fn peek(&mut self, alloc: Global, worker: u8, from: usize) -> Result<Reply, AllocError>
         ensures tells { IfOk result (Tells self.old.question) }
         ensures step { IfOk result (λ r. Answers self.old self.new worker (Peek from) (reply_of r)) }

@@ -41,8 +41,8 @@ fn least_at(prices: &Prices, pairs: Pairs, decision: &Decision) -> Option<u32>
     }
 }
 
-/// What the cheapest fence costs that may still be put at a slot of the part and orders a pair that isn't kept there. It calls itself
-/// once for each slot.
+/// What the cheapest fence costs that may still be put at a slot of the part and orders a pair that isn't kept there.
+/// It calls itself once for each slot.
 pub(crate) fn least_in(prices: &Prices, part: &[Decision], widths: &[Pairs]) -> Option<u32>
     ensures value { result ≡ least_in prices.now part.now widths.now }
     ensures most { IfSome result (λ n. n ≤ 1000000000) }
@@ -100,8 +100,8 @@ fn least_break(prices: &Prices, part: &[Decision], witness: &Witness) -> Option<
     least_in(prices, part, &witness.widths)
 }
 
-/// What the floor costs, and breaking each of the witnesses. Nothing where one of them can't be broken. It takes time of slots times
-/// kinds times witnesses.
+/// What the floor costs, and breaking each of the witnesses. Nothing where one of them can't be broken. It takes time
+/// of slots times kinds times witnesses.
 pub(crate) fn bound_of(
     prices: &Prices,
     part: &[Decision],

@@ -15,8 +15,8 @@ use std::alloc::{AllocError, Global};
 use std::marker::Model;
 use std::sync::Arc;
 
-/// The nodes by their numbers, the bound, the witnesses, and the greatest number that a node may have. It keeps count of its open and
-/// held nodes, and of how many nodes at the front are known not to be open.
+/// The nodes by their numbers, the bound, the witnesses, and the greatest number that a node may have. It keeps count
+/// of its open and held nodes, and of how many nodes at the front are known not to be open.
 #[derive(Drop)]
 pub(crate) struct Tree {
     nodes: Vec<Node>,

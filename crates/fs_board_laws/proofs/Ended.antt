@@ -1,4 +1,5 @@
--- What is closed or split stays so, an event of its holder ends each node once at most, and the bound never becomes worse.
+-- What is closed or split stays so, an event of its holder ends each node once at most, and the bound never becomes
+-- worse.
 use Rattle.std.proofs.Common.{◌≡◌, ◌⊎◌, ℕ, zero, suc, ◌+◌, ◌≤◌, ◌==◌, Bool, true, false, Option, Some, List, [], ◌∷◌, ◌++◌, length, inl, inr, refl, sym, ap, subst, ◌∙◌, arith}
 use Rattle.std.specs.Prelude.{slice_get, slice_set, if◌then◌else◌}
 use Rattle.std.specs.List.{count_by}

@@ -57,8 +57,8 @@ module _ (t : Test) (prices : PriceTable) where
 
   -- ---- sums over the nodes
 
-  -- Such a number of a node stays the same as long as the node isn't split, and is then handed on to its children: so the sum over
-  -- the nodes stays.
+  -- Such a number of a node stays the same as long as the node isn't split, and is then handed on to its children: so
+  -- the sum over the nodes stays.
   pub record IsHandedOn (f : Node → ℕ) : Type 0 where
     pub marked : (part : Part) (x y : Status) → is_split x ≡ false → is_split y ≡ false → f (node_of part x) ≡ f (node_of part y)
     pub split : (part : Part) (x : Status) (slot : Slot) (first : ℕ) → is_split x ≡ false → IsPart t prices part

@@ -1,4 +1,5 @@
--- The parts of a test's tree: each has the test's slots, and deciding a slot parts what lies under it among the children.
+-- The parts of a test's tree: each has the test's slots, and deciding a slot parts what lies under it among the
+-- children.
 use Rattle.std.proofs.Common.{◌≡◌, ℕ, zero, suc, Bool, true, false, ◌&&◌, ◌||◌, Option, None, Some, is_none, unwrap_or, List, [], ◌∷◌, map, refl, sym, ap, ap₂, ◌∙◌, arith}
 use Rattle.std.specs.Prelude.{if◌then◌else◌, slice_get}
 use Rattle.std.specs.List.{list_all}

@@ -16,9 +16,10 @@ use Rattle.fs_cert_evidence.specs.Pruning.{is_pruned}
 use Rattle.fs_cert_evidence.specs.Valid.{Refutes, RefutesBy}
 use Rattle.fs_cert_evidence.specs.Board.{Status, Open, Held, Split, Costly, Witnessed, Bounded, Posted}
 
--- Nothing under a closed node that forbids the outcome is better than the bound: it is pruned by cost alone, as is a node that was
--- posted; or one witness shows the outcome with rw,rw in its undecided slots; or the witnesses from the first on, so many, bound it. A
--- leaf of a certificate's tree says the same of the answer. A node that isn't closed needs no reason.
+-- Nothing under a closed node that forbids the outcome is better than the bound: it is pruned by cost alone, as is a
+-- node that was posted; or one witness shows the outcome with rw,rw in its undecided slots; or the witnesses from the
+-- first on, so many, bound it. A leaf of a certificate's tree says the same of the answer. A node that isn't closed
+-- needs no reason.
 abbrev pub IsClosedFor : Test → PriceTable → (bound : Option (List Entry)) → List Witness → Part → Status → Type 0
 IsClosedFor t prices bound witnesses part Open = Unit {0}
 IsClosedFor t prices bound witnesses part (Held worker) = Unit {0}
@@ -35,7 +36,8 @@ pub record IsForbidden (t : Test) (prices : PriceTable) (p : List Entry) : Type 
   pub placement : IsPlacement t prices p
   pub forbids : Allows t p → ⊥
 
--- the bound is the cheapest placement that forbids the outcome; with no bound, a witness shows the outcome with rw,rw in every slot
+-- the bound is the cheapest placement that forbids the outcome; with no bound, a witness shows the outcome with rw,rw
+-- in every slot
 abbrev pub IsFinalAnswer : Test → PriceTable → List Witness → (bound : Option (List Entry)) → Type 0
 IsFinalAnswer t prices witnesses (Some p) = IsCheapest t prices p
 IsFinalAnswer t prices witnesses None = (j : ℕ) × Refutes t witnesses (all_with (Some RwRw) (slots t)) j

@@ -1,4 +1,5 @@
--- What the laws of the search tree speak of: the leaves of a board's tree, its parts, how much a node may still grow, and what is done with.
+-- What the laws of the search tree speak of: the leaves of a board's tree, its parts, how much a node may still grow,
+-- and what is done with.
 use Rattle.std.specs.Prelude.{◌≡◌, ℕ, ◌+◌, ◌<◌, ◌==◌, Bool, true, false, not, ◌&&◌, Some, is_none, if◌then◌else◌, List, slice_get}
 use Rattle.std.specs.List.{count_by}
 use Rattle.fs_kinds.specs.declared.placement.Entry.{Entry}
@@ -65,8 +66,8 @@ room prices node = if is_split node.status then 0 else tree_size prices (free_sl
 
 -- ---- split nodes
 
--- Node k of these, of this part, was split at the slot: it was undecided, and the children stand behind one another from this number
--- on, each with the slot decided in its way. They come after the node.
+-- Node k of these, of this part, was split at the slot: it was undecided, and the children stand behind one another
+-- from this number on, each with the slot decided in its way. They come after the node.
 pub record IsSplitAt (prices : PriceTable) (nodes : List Node) (k : ℕ) (part : Part) (slot : Slot) (first : ℕ) : Type 0 where
   pub free : is_undecided slot part ≡ true
   pub later : k < first

@@ -10,9 +10,9 @@ ghost use Rattle.fs_cert_evidence.specs.Board.{Board, Node, Event, Reply};
 ghost use Rattle.fs_cert_evidence.specs.Histories.{LogEntry, Steps, Lead, HoldsNode};
 ghost use Rattle.fs_board_laws.specs.Trees.{is_ended, ends_node, IsNode};
 
-/// A law: a node that is closed or split stays as it is, whatever comes after. Where a step closed or split it, the worker of that step
-/// held it; and of the entries that lead from one board to another, one at most closes or splits a given node. The bound never becomes
-/// worse: it stays, or a better placement takes its place.
+/// A law: a node that is closed or split stays as it is, whatever comes after. Where a step closed or split it, the
+/// worker of that step held it; and of the entries that lead from one board to another, one at most closes or splits a
+/// given node. The bound never becomes worse: it stays, or a better placement takes its place.
 pub fn ended_nodes_stay()
     ensures stays { (t : Test) (prices : PriceTable) (old new : Board) (log : List LogEntry) → Lead t prices old log new
         → (k : ℕ) (node : Node) → IsNode old k node → is_ended node.status ≡ true → IsNode new k node }

@@ -15,8 +15,9 @@ ghost use Rattle.fs_cert_evidence.specs.Sizes.{tree_size};
 ghost use Rattle.fs_board_laws.specs.Trees.{IsNode, IsPart, IsSplitAt, HasOneLeaf, room};
 ghost use Rattle.fs_board_laws.specs.Closing.{IsClosedFor, IsForbidden, IsFinalAnswer};
 
-/// A law: after each legal history each node's part is one of the test, and every placement of the test lies under exactly one node
-/// that isn't split. For a node that is split hands on what lies under it to its children, each placement to one.
+/// A law: after each legal history each node's part is one of the test, and every placement of the test lies under
+/// exactly one node that isn't split. For a node that is split hands on what lies under it to its children, each
+/// placement to one.
 pub fn one_leaf()
     ensures parts { (t : Test) (prices : PriceTable) (limit : ℕ) (log : List LogEntry) (board : Board)
         → IsHistory t prices limit log board → (k : ℕ) (node : Node) → IsNode board k node → IsPart t prices node.part }
@@ -30,8 +31,8 @@ pub fn posted_placements_forbid()
         → Steps t prices old worker (Post node p) Closed new → Allows t p → ⊥ }
 {}
 
-/// A law: after each legal history each closed node has its reason, against the bound as it is now and by witnesses of the board; and
-/// the bound forbids the outcome. So a finished board's leaves are those of a certificate.
+/// A law: after each legal history each closed node has its reason, against the bound as it is now and by witnesses of
+/// the board; and the bound forbids the outcome. So a finished board's leaves are those of a certificate.
 pub fn closed_nodes_hold()
     ensures closed { (t : Test) (prices : PriceTable) (limit : ℕ) (log : List LogEntry) (board : Board)
         → IsHistory t prices limit log board → (k : ℕ) (node : Node) → IsNode board k node
@@ -40,18 +41,19 @@ pub fn closed_nodes_hold()
         → IsHistory t prices limit log board → (p : List Entry) → board.bound ≡ Some p → IsForbidden t prices p }
 {}
 
-/// A law: a finished board has the answer. Its bound is the cheapest placement that forbids the outcome. With no bound, even `rw,rw`
-/// in every slot allows the outcome, as one of the board's witnesses shows: the one of the leaf over that placement, or, where the
-/// leaf is bounded by a list, one that no offered kind breaks at a slot which the leaf leaves undecided.
+/// A law: a finished board has the answer. Its bound is the cheapest placement that forbids the outcome. With no bound,
+/// even `rw,rw` in every slot allows the outcome, as one of the board's witnesses shows: the one of the leaf over that
+/// placement, or, where the leaf is bounded by a list, one that no offered kind breaks at a slot which the leaf leaves
+/// undecided.
 pub fn finished_board_answers()
     ensures { (t : Test) (prices : PriceTable) (limit : ℕ) (log : List LogEntry) (board : Board)
         → IsPriceTable prices → IsHistory t prices limit log board → is_finished board ≡ true
         → IsFinalAnswer t prices board.witnesses board.bound }
 {}
 
-/// A law: the nodes of a board but the root, and those that there may be below its leaves, are as many as the tree of all placements
-/// has below its root. A board never has more nodes than its limit and the root. So a split is refused for want of nodes only where
-/// the tree of all placements is larger than the limit.
+/// A law: the nodes of a board but the root, and those that there may be below its leaves, are as many as the tree of
+/// all placements has below its root. A board never has more nodes than its limit and the root. So a split is refused
+/// for want of nodes only where the tree of all placements is larger than the limit.
 pub fn nodes_fit()
     ensures size { (t : Test) (prices : PriceTable) (limit : ℕ) (log : List LogEntry) (board : Board)
         → IsHistory t prices limit log board
@@ -63,8 +65,8 @@ pub fn nodes_fit()
         → Steps t prices board worker (SplitAt k slot) Full new → limit < tree_size prices (length (slots t)) }
 {}
 
-/// A law: a node that is split has its children behind one another, from the number on that its status says, one for each way to
-/// decide the slot. They come after the node, so a walk over the tree ends.
+/// A law: a node that is split has its children behind one another, from the number on that its status says, one for
+/// each way to decide the slot. They come after the node, so a walk over the tree ends.
 pub fn children_stand()
     ensures { (t : Test) (prices : PriceTable) (limit : ℕ) (log : List LogEntry) (board : Board)
         → IsHistory t prices limit log board → (k : ℕ) (part : Part) (slot : Slot) (first : ℕ)

@@ -1,5 +1,5 @@
-//! Theorems on pruned partial placements, on the order of placements, and on the search tree of a board. The functions do nothing: each
-//! stands for the laws that it promises.
+//! Theorems on pruned partial placements, on the order of placements, and on the search tree of a board. The functions
+//! do nothing: each stands for the laws that it promises.
 #![tactic(auto)]
 
 mod endings;

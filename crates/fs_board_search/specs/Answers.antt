@@ -18,8 +18,8 @@ use Rattle.fs_board_search.specs.declared.answer.Answer.{Answer}
 use Rattle.fs_board_search.specs.declared.answer.Answer.TheVariants as answer
 use Rattle.fs_board_search.specs.declared.answer.Solved.{Solved}
 
--- The cheapest placement that forbids the outcome, and of those the first, with its cost, and with what shows that it does; or a
--- witness, with its widths, of an execution that shows the outcome even with rw,rw in every slot.
+-- The cheapest placement that forbids the outcome, and of those the first, with its cost, and with what shows that it
+-- does; or a witness, with its widths, of an execution that shows the outcome even with rw,rw in every slot.
 abbrev pub IsAnswer : Test → PriceTable → Answer → Type 0
 IsAnswer t prices (answer.Fenced f n) =
     IsCheapest t prices (placement_in f) × (n ≡ cost prices (placement_in f)) × ShowsForbidden t (arc_value f)
@@ -34,8 +34,8 @@ placement_of (answer.None w) = None
 abbrev pub IsAtAnEnd : Test → Answer → Type 0
 IsAtAnEnd t a = (placement_of a ≡ None) ⊎ (placement_of a ≡ Some (no_fences t))
 
--- The finished board of a search for this answer, with this limit. Its bound is the answer's placement, and it has no bound where the
--- answer has none.
+-- The finished board of a search for this answer, with this limit. Its bound is the answer's placement, and it has no
+-- bound where the answer has none.
 pub record IsBoardOf (q : Question) (most : ℕ) (a : Answer) (search : Search) : Type 0 where
   pub question : search.question ≡ q
   pub limit : search.board.limit ≡ most
@@ -55,7 +55,8 @@ Rests q limit s = MatchOption s.board (IsAtLimit q limit s.answer) (IsBoardOf q 
 abbrev pub IsSolveFault : Question → (limit : ℕ) → Fault → Type 0
 IsSolveFault q limit f = IsUnanswered q.test q.prices limit f
 
--- the fault of the search of a board: its limit, where the tree of all placements has more nodes below its root, or that of the candidates
+-- the fault of the search of a board: its limit, where the tree of all placements has more nodes below its root, or
+-- that of the candidates
 abbrev pub IsSearchFault : Search → Fault → Type 0
 IsSearchFault s f = ((f ≡ NodeLimit) × (s.board.limit < tree_size s.question.prices (length (slots s.question.test))))
     ⊎ IsCandidateFault s.question.test f

@@ -28,8 +28,8 @@ is_try _ = false
 abbrev pub IsTry : Question → CodeEvent → Type 0
 IsTry q e = IsMade q e × (is_try (event_of e) ≡ true)
 
--- the event splits the node of this part at an undecided slot, closes it by what shows the outcome with the filled part, or posts its
--- least placement
+-- the event splits the node of this part at an undecided slot, closes it by what shows the outcome with the filled
+-- part, or posts its least placement
 abbrev pub IsLast : Test → ℕ → Part → CodeEvent → Type 0
 IsLast t k part (event.Split j slot) = (j ≡ k) × (is_undecided slot part ≡ true)
 IsLast t k part (event.CutWitness j w) = (j ≡ k) × IsShownBy t (filled part) (witness_in w)

@@ -9,7 +9,8 @@ use std::sync::Arc;
 /// The answer to a question.
 #[derive(Drop)]
 pub enum Answer {
-    /// The cheapest placement that forbids the outcome, of several the first, with what shows that it does, and what it costs.
+    /// The cheapest placement that forbids the outcome, of several the first, with what shows that it does, and what it
+    /// costs.
     Fenced {
         forbidden: Arc<Forbidden>,
         cost: u64,
@@ -20,9 +21,9 @@ pub enum Answer {
     },
 }
 
-/// An answer, which has with it what shows it, and the finished board that it was read from. There is no board where the
-/// search came to its limit before it was finished: then the answer is no fence at all, or none by a witness, and was found
-/// by judging the least and the greatest placement.
+/// An answer, which has with it what shows it, and the finished board that it was read from. There is no board where
+/// the search came to its limit before it was finished: then the answer is no fence at all, or none by a witness, and
+/// was found by judging the least and the greatest placement.
 #[derive(Drop)]
 pub struct Solved {
     pub answer: Answer,

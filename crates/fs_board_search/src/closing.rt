@@ -46,7 +46,8 @@ pub(crate) fn try_way(
     Ok(is_end(&reply))
 }
 
-/// Is done with a node in the last way, and puts its children on the stack where it is split. F16 where there is no room for them.
+/// Is done with a node in the last way, and puts its children on the stack where it is split. F16 where there is no
+/// room for them.
 pub(crate) fn close_or_split(
     alloc: Global,
     board: &mut Board,

@@ -1,4 +1,5 @@
-//! What to try at a node, its least placement (the floor) and the one filled with `rw,rw`, apart from the event that tries it.
+//! What to try at a node, its least placement (the floor) and the one filled with `rw,rw`, apart from the event that
+//! tries it.
 
 ghost use Rattle.std.specs.Prelude.{◌≡◌, ◌≢◌, ℕ, Some, IfOk, IfErr, IfSome, IsOkUnless, slice_get};
 ghost use Rattle.std.specs.Arc.{arc_value};
@@ -19,7 +20,8 @@ use fs_kinds::{Fault, Kind, Placement, Slot};
 use std::alloc::{AllocError, Global};
 use std::sync::Arc;
 
-/// What was decided last at the node of this part, whose parent was split at the slot. None of a node whose parent isn't known.
+/// What was decided last at the node of this part, whose parent was split at the slot. None of a node whose parent
+/// isn't known.
 fn newest_decision(part: &Part, slot: Option<Slot>) -> Option<Option<Kind>> {
     let slot = slot?;
     let decision = part
@@ -29,12 +31,14 @@ fn newest_decision(part: &Part, slot: Option<Slot>) -> Option<Option<Kind>> {
     decision.decided
 }
 
-/// Is the least placement worth judging? Where none was decided last, it is the parent's, and allowed: that is known by then.
+/// Is the least placement worth judging? Where none was decided last, it is the parent's, and allowed: that is known by
+/// then.
 pub(crate) fn is_floor_new(part: &Part, slot: Option<Slot>) -> bool {
     newest_decision(part, slot) != Some(None)
 }
 
-/// Is the placement with `rw,rw` in each undecided slot worth judging? Where `rw,rw` was decided last, it is the parent's.
+/// Is the placement with `rw,rw` in each undecided slot worth judging? Where `rw,rw` was decided last, it is the
+/// parent's.
 pub(crate) fn is_filled_new(part: &Part, slot: Option<Slot>) -> bool {
     newest_decision(part, slot) != Some(Some(Kind::RwRw))
 }
@@ -77,8 +81,8 @@ pub(crate) fn look_at_filled(
     Ok(Some(witness))
 }
 
-/// Judges a placement. Where it allows the outcome a witness is stored, which is widened at the first slots before the others. The
-/// decisions of the part are those of any node.
+/// Judges a placement. Where it allows the outcome a witness is stored, which is widened at the first slots before the
+/// others. The decisions of the part are those of any node.
 pub(crate) fn judge_placement(
     alloc: Global,
     judge: &mut Judge,

@@ -1,6 +1,7 @@
-//! The search by one worker for the cheapest placement that forbids a test's outcome: which node of the board is next, what is tried at
-//! it and closes it, where it is split, and the answer of the finished board. Beside it what a search knows: a judge, the executions that
-//! it has met, which of them bound a node together, and the cheapest placement that breaks them all.
+//! The search by one worker for the cheapest placement that forbids a test's outcome: which node of the board is next,
+//! what is tried at it and closes it, where it is split, and the answer of the finished board. Beside it what a search
+//! knows: a judge, the executions that it has met, which of them bound a node together, and the cheapest placement that
+//! breaks them all.
 #![tactic(auto)]
 
 mod answer;

@@ -82,7 +82,8 @@ fn take_any(board: &mut Board) -> Result<Option<Taken>, AllocError>
     }
 }
 
-/// The next node, depth first: the newest child that is still open, else any node that is open or held. None where the board is finished.
+/// The next node, depth first: the newest child that is still open, else any node that is open or held. None where the
+/// board is finished.
 pub(crate) fn next_node(
     board: &mut Board,
     children: &mut Vec<Child>,

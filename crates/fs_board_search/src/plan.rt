@@ -1,6 +1,6 @@
-//! The plan: the cheapest placement that breaks all stored witnesses, of equal cost the first. What it costs is found by branch and
-//! bound, with the least breaks of witnesses that share no breakable slot as lower bound; and then slot by slot the earliest kind with
-//! which so much is still enough.
+//! The plan: the cheapest placement that breaks all stored witnesses, of equal cost the first. What it costs is found
+//! by branch and bound, with the least breaks of witnesses that share no breakable slot as lower bound; and then slot
+//! by slot the earliest kind with which so much is still enough.
 
 ghost use Rattle.std.specs.Prelude.{◌≡◌, IfOk, IfSome};
 ghost use Rattle.fs_kinds.specs.Placement.{slots_of};
@@ -44,7 +44,8 @@ struct Planner<'a> {
     options: &'a [Option<Kind>],
 }
 
-/// What is decided, the least placement that has it, the slots that the walk decided, in this order, and what a placement may cost.
+/// What is decided, the least placement that has it, the slots that the walk decided, in this order, and what a
+/// placement may cost.
 #[derive(Drop)]
 struct Walk {
     decisions: Vec<Decision>,
@@ -86,8 +87,8 @@ impl Walk {
         }
     }
 
-    /// What is known of the placements that have what is decided. At a witness that is breakable at the fewest slots it goes on,
-    /// with the last of them.
+    /// What is known of the placements that have what is decided. At a witness that is breakable at the fewest slots it
+    /// goes on, with the last of them.
     fn outlook(&self, planner: Planner<'_>) -> Result<Outlook, AllocError> {
         let mut sum = Sum::of(cost(planner.prices, &self.floor));
         if sum.passes(&self.limit) {
@@ -115,7 +116,8 @@ impl Walk {
         Ok(Outlook::Open(Level { slot, left }))
     }
 
-    /// Decides the newest slot that has an option left in the next way. False where there is none: all placements were gone through.
+    /// Decides the newest slot that has an option left in the next way. False where there is none: all placements were
+    /// gone through.
     fn go_on(&mut self, options: &[Option<Kind>]) -> bool {
         for _ in 0..self.levels.len() {
             let Some(level) = self.levels.last_mut() else {
@@ -203,8 +205,9 @@ fn all_open(alloc: Global, slots: &[Decision]) -> Result<Vec<Decision>, AllocErr
 }
 
 impl Planner<'_> {
-    /// The options that are worth a try at a slot, a bit for each, where these are the sets of pairs that unbroken witnesses don't keep
-    /// there: none, and each but those of which one option before, no dearer, breaks all that they break.
+    /// The options that are worth a try at a slot, a bit for each, where these are the sets of pairs that unbroken
+    /// witnesses don't keep there: none, and each but those of which one option before, no dearer, breaks all that they
+    /// break.
     fn worth_trying(self, sets: u16) -> u32 {
         let mut worth: u32 = 0;
         let mut bit: u32 = 1;
@@ -243,8 +246,8 @@ impl Planner<'_> {
         Ok(decisions)
     }
 
-    /// A placement that costs no more than this one and breaks all witnesses, is the same at the slots before the one of this number, and
-    /// has an earlier kind there, the earliest that there can be.
+    /// A placement that costs no more than this one and breaks all witnesses, is the same at the slots before the one
+    /// of this number, and has an earlier kind there, the earliest that there can be.
     fn earlier(
         self,
         placement: &[Entry],
@@ -266,8 +269,8 @@ impl Planner<'_> {
         Ok(Walked::Ended(None))
     }
 
-    /// The best placement at these slots: of those that cost the least the first. None where no placement breaks all witnesses, and where
-    /// this isn't found out in so many steps.
+    /// The best placement at these slots: of those that cost the least the first. None where no placement breaks all
+    /// witnesses, and where this isn't found out in so many steps.
     fn best(self, slots: &[Decision], steps: &mut usize) -> Result<Option<Vec<Entry>>, AllocError> {
         let open = all_open(self.alloc, slots)?;
         let cheapest = Walk::new(self.alloc, open, Limit::never())?.run(self, false, steps)?;
@@ -304,8 +307,8 @@ fn put_all(placement: &mut Placement, entries: &[Entry])
     }
 }
 
-/// The cheapest placement at the part's slots that breaks all stored witnesses, of several the first. None where there is none, and
-/// where it isn't found in the steps that are left. What the part decides doesn't matter.
+/// The cheapest placement at the part's slots that breaks all stored witnesses, of several the first. None where there
+/// is none, and where it isn't found in the steps that are left. What the part decides doesn't matter.
 pub fn cheapest_breaking(
     alloc: Global,
     store: &Store,

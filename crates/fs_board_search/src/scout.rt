@@ -71,8 +71,8 @@ const MANY_VERDICTS: usize = 16;
 const NODES_A_VERDICT: usize = 4;
 
 /// A judge of the question, the witnesses that were met, for how many verdicts the plan may still ask, how many steps
-/// it may still take, the planned placement, how many verdicts were made at nodes, and what was seen of the board: the best
-/// placement posted, and where a peek was learned, how many witnesses there were. Contracts see the question.
+/// it may still take, the planned placement, how many verdicts were made at nodes, and what was seen of the board: the
+/// best placement posted, and where a peek was learned, how many witnesses there were. Contracts see the question.
 #[derive(Drop)]
 pub struct Scout {
     judge: Judge,
@@ -194,9 +194,10 @@ impl Scout {
         scout
     }
 
-    /// Makes the plan, where one is still to be made: the cheapest placement that breaks all stored witnesses is judged, and where it
-    /// allows the outcome, a witness is stored, and so on. One that forbids it is the plan. The node is any of the board. There is no
-    /// plan where no placement breaks all witnesses, and where it takes too long. The watch is told of each round.
+    /// Makes the plan, where one is still to be made: the cheapest placement that breaks all stored witnesses is
+    /// judged, and where it allows the outcome, a witness is stored, and so on. One that forbids it is the plan. The
+    /// node is any of the board. There is no plan where no placement breaks all witnesses, and where it takes too long.
+    /// The watch is told of each round.
     pub fn prepare<W: Watch>(
         &mut self,
         alloc: Global,
@@ -281,7 +282,8 @@ impl Scout {
         Ok(Some(Arc::try_clone(planned)?))
     }
 
-    /// The number, among the children of the node that are made by a split at the slot, of that under which the planned placement stands.
+    /// The number, among the children of the node that are made by a split at the slot, of that under which the planned
+    /// placement stands.
     fn planned_child(&self, taken: &Taken, slot: Slot) -> Option<usize> {
         let planned = self.planned.as_ref()?;
         if !is_under(&taken.part, &planned.placement) {
@@ -291,8 +293,8 @@ impl Scout {
         Some(number_of(prices, planned.placement.get(slot)))
     }
 
-    /// Puts the children on the stack that the event made of the node, by what was replied to it: the first one last, but for that under
-    /// which the planned placement stands, which is on top.
+    /// Puts the children on the stack that the event made of the node, by what was replied to it: the first one last,
+    /// but for that under which the planned placement stands, which is on top.
     pub fn keep_children(
         &self,
         children: &mut Vec<Child>,
@@ -306,8 +308,9 @@ impl Scout {
         push_children(children, *slot, reply, self.planned_child(taken, *slot))
     }
 
-    /// Is judging what takes the time, when the scout was at so many nodes? Then other scouts may help: it has asked for many verdicts at
-    /// nodes, beside those of the plan, and for one at every fourth node or more. Where a plan holds, no node asks for any.
+    /// Is judging what takes the time, when the scout was at so many nodes? Then other scouts may help: it has asked
+    /// for many verdicts at nodes, beside those of the plan, and for one at every fourth node or more. Where a plan
+    /// holds, no node asks for any.
     pub fn judges_much(&self, nodes: usize) -> bool {
         self.verdicts >= MANY_VERDICTS && self.verdicts >= nodes / NODES_A_VERDICT
     }
@@ -414,8 +417,8 @@ impl Scout {
         Ok(Some(Event::Post(taken.node, Arc::new(alloc, forbidden)?)))
     }
 
-    /// The slot at which a node of this part is split: the one of `Store::slot_to_split`, where there is one, else the first undecided
-    /// one. None where each slot is decided.
+    /// The slot at which a node of this part is split: the one of `Store::slot_to_split`, where there is one, else the
+    /// first undecided one. None where each slot is decided.
     fn slot_to_split(&self, alloc: Global, part: &Part) -> Result<Option<Slot>, AllocError>
         ensures some { IfOk result (λ found. IfSome found (λ slot. is_undecided slot part.now ≡ true)) }
         ensures none { IfOk result (λ found. IfNone found (list_any (λ d. is_none d.decided) part.now ≡ false)) }
@@ -429,8 +432,8 @@ impl Scout {
         Ok(part.first_undecided())
     }
 
-    /// What is left to try: a split, or a verdict on the one placement. It is done with the node, whoever holds it, unless there is no
-    /// room for the children.
+    /// What is left to try: a split, or a verdict on the one placement. It is done with the node, whoever holds it,
+    /// unless there is no room for the children.
     pub fn last(&mut self, alloc: Global, taken: &Taken) -> Result<Event, Fault>
         requires { slots_in_part (arc_value taken.now.part) ≡ slots self.old.test }
         ensures value { self.new ≡ self.old }

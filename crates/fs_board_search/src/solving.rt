@@ -74,8 +74,8 @@ fn posted_answer(board: &Board) -> Result<Option<Answer>, Fault>
     Ok(Some(answer))
 }
 
-/// The answer of a finished board: its bound, or where it has none the witness for `rw,rw` in every slot. This is the problem's own, and
-/// not that of a judge, so that it is the same whatever was searched before.
+/// The answer of a finished board: its bound, or where it has none the witness for `rw,rw` in every slot. This is the
+/// problem's own, and not that of a judge, so that it is the same whatever was searched before.
 fn answer_of(alloc: Global, problem: &Problem, board: &Board) -> Result<Answer, Fault>
     requires bounded { IsBounded problem.now.test }
     requires prices { IsPriceTable problem.now.prices }
@@ -96,9 +96,8 @@ fn answer_of(alloc: Global, problem: &Problem, board: &Board) -> Result<Answer, 
     }
 }
 
-/// The answer where the search came to its limit: none where `rw,rw` in every slot isn't enough, no fence where none is needed. Else F16,
-/// or the fault of a verdict.
-/// As in `answer_of` the witness of none is the problem's own.
+/// The answer where the search came to its limit: none where `rw,rw` in every slot isn't enough, no fence where none is
+/// needed. Else F16, or the fault of a verdict. As in `answer_of` the witness of none is the problem's own.
 fn answer_by_ends(alloc: Global, problem: &Problem) -> Result<Solved, Fault>
     requires bounded { IsBounded problem.now.test }
     requires prices { IsPriceTable problem.now.prices }
@@ -127,12 +126,13 @@ fn answer_by_ends(alloc: Global, problem: &Problem) -> Result<Solved, Fault>
     }
 }
 
-/// Ends the search of a board, whatever open and held nodes it has, and reads the answer from it: the cheapest placement that forbids the
-/// outcome, of several the first, or a witness that none does. F16 comes only where fences are needed, `rw,rw` in every slot is enough,
-/// and the tree of all placements has more nodes below its root than the board's limit; F13 to F15 where a verdict can't be made for the
-/// candidates; or F19. The witness of none depends on the problem alone, not on what was searched before. What is handed out with the
-/// answer, `solve` says, and a board that is handed out is this one gone on with: its log begins with what was logged before. It takes
-/// what `search` takes, and at most two verdicts more.
+/// Ends the search of a board, whatever open and held nodes it has, and reads the answer from it: the cheapest
+/// placement that forbids the outcome, of several the first, or a witness that none does. F16 comes only where fences
+/// are needed, `rw,rw` in every slot is enough, and the tree of all placements has more nodes below its root than the
+/// board's limit; F13 to F15 where a verdict can't be made for the candidates; or F19. The witness of none depends on
+/// the problem alone, not on what was searched before. What is handed out with the answer, `solve` says, and a board
+/// that is handed out is this one gone on with: its log begins with what was logged before. It takes what `search`
+/// takes, and at most two verdicts more.
 pub fn conclude<W: Watch>(
     alloc: Global,
     problem: Arc<Problem>,
@@ -166,16 +166,17 @@ pub fn conclude<W: Watch>(
     }
 }
 
-/// The answer to a question: the cheapest placement that forbids the outcome, of several the first, or a witness that none does. No node
-/// of the search has a number above the limit. F16 comes only where fences are needed, `rw,rw` in every slot is enough, and the tree of
-/// all placements has more nodes below its root than the limit. F13 to F15 come where the candidates can't be listed; or F19.
+/// The answer to a question: the cheapest placement that forbids the outcome, of several the first, or a witness that
+/// none does. No node of the search has a number above the limit. F16 comes only where fences are needed, `rw,rw` in
+/// every slot is enough, and the tree of all placements has more nodes below its root than the limit. F13 to F15 come
+/// where the candidates can't be listed; or F19.
 ///
-/// The finished board is handed out with the answer, and its bound is the answer's placement. There is none only where the tree of all
-/// placements has more nodes below its root than the limit, and then the answer is none or no fence at all. An answer that
-/// is a placement comes with what shows that it forbids the outcome.
+/// The finished board is handed out with the answer, and its bound is the answer's placement. There is none only where
+/// the tree of all placements has more nodes below its root than the limit, and then the answer is none or no fence at
+/// all. An answer that is a placement comes with what shows that it forbids the outcome.
 ///
-/// To list the candidates takes time by how many lists of runs and how many raw candidates there are, times the square of the
-/// operations. What the search takes after that, `search` says; the watch is told how far it is.
+/// To list the candidates takes time by how many lists of runs and how many raw candidates there are, times the square
+/// of the operations. What the search takes after that, `search` says; the watch is told how far it is.
 pub fn solve<W: Watch>(
     alloc: Global,
     question: Arc<Question>,

@@ -48,8 +48,9 @@ impl Model for Store {
     ghost view = { λ s. s.known.items };
 }
 
-/// A stored witness that shows the outcome under a node's least placement: how many slots of the node are breakable for it, what its
-/// least break lacks to the greatest number, its number, and the breakable slots as bits. The least one is tried first.
+/// A stored witness that shows the outcome under a node's least placement: how many slots of the node are breakable for
+/// it, what its least break lacks to the greatest number, its number, and the breakable slots as bits. The least one is
+/// tried first.
 #[derive(Clone, Copy, PartialEq, Eq, PartialOrd, Ord)]
 pub struct Offer {
     slots: u32,
@@ -105,7 +106,8 @@ fn floor_cost(prices: &Prices, decisions: &[Decision]) -> u64 {
 }
 
 impl Known {
-    /// Whether it is worth an offer at a node: where it shows the outcome under the node's least placement, what breaking it takes.
+    /// Whether it is worth an offer at a node: where it shows the outcome under the node's least placement, what
+    /// breaking it takes.
     fn offer(&self, number: usize, floor: &Codes, decisions: &[Decision]) -> Option<Offer> {
         if !floor.is_within(&self.kept) {
             return None;
@@ -229,8 +231,8 @@ impl Store {
         Ok(())
     }
 
-    /// What the witnesses offer that show the outcome under a node's least placement: those first that are breakable at the fewest slots,
-    /// and of these those whose least break is the highest.
+    /// What the witnesses offer that show the outcome under a node's least placement: those first that are breakable at
+    /// the fewest slots, and of these those whose least break is the highest.
     pub fn offers(
         &self,
         alloc: Global,
@@ -247,8 +249,8 @@ impl Store {
         Ok(offers)
     }
 
-    /// Witnesses that bound the node of this part and cost too much to break together, taken greedily: each that shares no breakable slot
-    /// with those taken. None where that doesn't close the node, with this bound.
+    /// Witnesses that bound the node of this part and cost too much to break together, taken greedily: each that shares
+    /// no breakable slot with those taken. None where that doesn't close the node, with this bound.
     pub fn pick(
         &self,
         alloc: Global,
@@ -273,11 +275,12 @@ impl Store {
         Ok(Vec::new(alloc))
     }
 
-    /// The slot at which a node of this part is best split. Of the witnesses that show the outcome under its least placement those count
-    /// that are breakable at the fewest slots: so few ways are left open. Of each its last slot is taken at which the best placement known
-    /// has a fence, or without one its last: first placements have their fences late, so what has one earlier is closed at equal cost. The
-    /// first of the slots taken it is, since at equal cost nothing is closed before the earlier slots are decided as the best placement has them. None
-    /// where no stored witness shows the outcome there, or no fence breaks it. The cost is that of `pick`.
+    /// The slot at which a node of this part is best split. Of the witnesses that show the outcome under its least
+    /// placement those count that are breakable at the fewest slots: so few ways are left open. Of each its last slot
+    /// is taken at which the best placement known has a fence, or without one its last: first placements have their
+    /// fences late, so what has one earlier is closed at equal cost. The first of the slots taken it is, since at equal
+    /// cost nothing is closed before the earlier slots are decided as the best placement has them. None where no stored
+    /// witness shows the outcome there, or no fence breaks it. The cost is that of `pick`.
     pub fn slot_to_split(
         &self,
         alloc: Global,
@@ -297,7 +300,8 @@ impl Store {
         Ok(decision.map(|decision| decision.slot))
     }
 
-    /// What the offered witnesses don't keep at the slot of this number: a bit for each set of pairs, by the bits of the pairs.
+    /// What the offered witnesses don't keep at the slot of this number: a bit for each set of pairs, by the bits of
+    /// the pairs.
     pub(crate) fn lacks(&self, offers: &[Offer], place: usize) -> u16 {
         let mut lacks: u16 = 0;
         for offer in offers {
@@ -396,8 +400,8 @@ impl Limit {
         }
     }
 
-    /// The limit at a node of these decisions: at equal cost the best placement so far wins where the node's least placement isn't
-    /// before it. Where there is none it is what can't be had at all.
+    /// The limit at a node of these decisions: at equal cost the best placement so far wins where the node's least
+    /// placement isn't before it. Where there is none it is what can't be had at all.
     fn of(prices: &Prices, best: Option<&[Entry]>, decisions: &[Decision]) -> Limit {
         match best {
             None => Limit::never(),

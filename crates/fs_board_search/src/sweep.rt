@@ -51,7 +51,8 @@ fn finish_node<W: Watch>(
     close_or_split(alloc, board, scout, children, taken)
 }
 
-/// Is it time to stop, for a worker that is alone for so many nodes at most? Then it is done with these, or judging takes the time.
+/// Is it time to stop, for a worker that is alone for so many nodes at most? Then it is done with these, or judging
+/// takes the time.
 fn may_stop(scout: &Scout, alone: Option<usize>, nodes: usize) -> bool
     ensures { IfNone alone (result ≡ false) }
 {
@@ -61,8 +62,8 @@ fn may_stop(scout: &Scout, alone: Option<usize>, nodes: usize) -> bool
     }
 }
 
-/// Searches until the board is finished, and then it is true; or, where the worker is alone for so many nodes at most, until it is done with
-/// these, or others may help.
+/// Searches until the board is finished, and then it is true; or, where the worker is alone for so many nodes at most,
+/// until it is done with these, or others may help.
 #[tactic(auto, using(crate::proofs::Stopping::stopped))]
 fn sweep<W: Watch>(
     alloc: Global,
@@ -91,14 +92,15 @@ fn sweep<W: Watch>(
     Ok(false)
 }
 
-/// Searches until the board is finished, whatever open and held nodes it has: a child of its own first, then any open node, then any that
-/// is held, whoever holds it. It works as worker 0, and makes a plan before the first node. F16 where a split is refused for want of
-/// nodes, and then the tree of all placements has more nodes below its root than the limit; F13 to F15 where a verdict can't be made for
-/// the candidates; else F19.
+/// Searches until the board is finished, whatever open and held nodes it has: a child of its own first, then any open
+/// node, then any that is held, whoever holds it. It works as worker 0, and makes a plan before the first node. F16
+/// where a split is refused for want of nodes, and then the tree of all placements has more nodes below its root than
+/// the limit; F13 to F15 where a verdict can't be made for the candidates; else F19.
 ///
-/// There are no more nodes than the board's limit allows. At each one, the stored witnesses are held against it by four bits a slot, and
-/// those that show the outcome under its least placement are sorted. Where they don't close it, the judge is asked for a look, and where
-/// that finds nothing for a verdict, unless the plan has it. The watch is told of each node before it is looked at.
+/// There are no more nodes than the board's limit allows. At each one, the stored witnesses are held against it by four
+/// bits a slot, and those that show the outcome under its least placement are sorted. Where they don't close it, the
+/// judge is asked for a look, and where that finds nothing for a verdict, unless the plan has it. The watch is told of
+/// each node before it is looked at.
 pub fn search<W: Watch>(
     alloc: Global,
     problem: Arc<Problem>,
@@ -115,9 +117,9 @@ pub fn search<W: Watch>(
     Ok(())
 }
 
-/// Searches as `search` does, but stops when it is done with so many nodes, or where judging takes so long that other workers may help:
-/// then no node is held by it, and the witnesses that it has met come back. None where the board is finished. The faults are those of
-/// `search`.
+/// Searches as `search` does, but stops when it is done with so many nodes, or where judging takes so long that other
+/// workers may help: then no node is held by it, and the witnesses that it has met come back. None where the board is
+/// finished. The faults are those of `search`.
 pub fn search_alone<W: Watch>(
     alloc: Global,
     problem: Arc<Problem>,

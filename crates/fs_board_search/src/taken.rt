@@ -20,8 +20,8 @@ pub struct Taken {
     pub slot: Option<Slot>,
 }
 
-/// Puts the children that a reply gives to a node, which was split at the slot, on the stack, the first one last, but for the one that
-/// comes next, which is on top. That one is named by its number among them.
+/// Puts the children that a reply gives to a node, which was split at the slot, on the stack, the first one last, but
+/// for the one that comes next, which is on top. That one is named by its number among them.
 pub(crate) fn push_children(
     children: &mut Vec<Child>,
     slot: Slot,

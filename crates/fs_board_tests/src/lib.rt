@@ -1,5 +1,5 @@
-//! Tests of the search: its answers are those of a plain program that tries all placements; of the search by many workers, and of the
-//! rings that they steal from.
+//! Tests of the search: its answers are those of a plain program that tries all placements; of the search by many
+//! workers, and of the rings that they steal from.
 #![tactic(auto)]
 
 #[cfg(test)]

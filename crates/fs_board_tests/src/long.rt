@@ -51,8 +51,8 @@ lw x10,0(x22) | lw x10,0(x22) ;
 exists (0:x10=0 /\\ 1:x10=0)
 ";
 
-/// Five harts that each add 1 by a pair, all of which store, and one addition is lost. The hunt takes 2,568 inferences, and there are more
-/// candidates than are listed.
+/// Five harts that each add 1 by a pair, all of which store, and one addition is lost. The hunt takes 2,568 inferences,
+/// and there are more candidates than are listed.
 const ADDERS: &str = "RISCV ADDERS
 {
 0:x20=a; 1:x20=a; 2:x20=a; 3:x20=a; 4:x20=a;
@@ -85,8 +85,8 @@ fn are_few(alloc: Global, rows: &[(&str, usize)]) -> Result<bool, Fault> {
     Ok(true)
 }
 
-/// Store buffering needs two fences, and they are posted only at a node where both slots are decided. So 15 nodes are the fewest: the root,
-/// seven that decide one of the slots, since six kinds are offered, and seven below one of these.
+/// Store buffering needs two fences, and they are posted only at a node where both slots are decided. So 15 nodes are
+/// the fewest: the root, seven that decide one of the slots, since six kinds are offered, and seven below one of these.
 #[test]
 fn hunts_and_plans_go_on_for_long(rt: HostRuntime) -> Result<(), Fail> {
     let rows = [(PASSED, 100), (BUFFERED, 100), (ADDERS, 1), (SB, 15)];

@@ -42,7 +42,8 @@ impl Column {
         }
     }
 
-    /// Two cells before a memory instruction: a dependency of x29 on what the instruction before loads, a fence, or nothing.
+    /// Two cells before a memory instruction: a dependency of x29 on what the instruction before loads, a fence, or
+    /// nothing.
     fn prepare(
         &mut self,
         alloc: Global,
@@ -66,8 +67,8 @@ impl Column {
         Ok(())
     }
 
-    /// A memory instruction on the word behind the base register, by digits: a load, a store, either of them with a dependency on
-    /// what the instruction before loads, a store behind fences, or a swap.
+    /// A memory instruction on the word behind the base register, by digits: a load, a store, either of them with a
+    /// dependency on what the instruction before loads, a store behind fences, or a swap.
     fn add(
         &mut self,
         alloc: Global,
@@ -102,7 +103,8 @@ impl Column {
     }
 }
 
-/// A hart of so many memory instructions: hart 0 on x and at last on y, hart 1 on y and at last on x, but one in eight is turned.
+/// A hart of so many memory instructions: hart 0 on x and at last on y, hart 1 on y and at last on x, but one in eight
+/// is turned.
 fn column_of(
     alloc: Global,
     hart: usize,
@@ -151,8 +153,8 @@ fn write_rows(first: &Column, second: &Column, text: &mut String) -> Result<(), 
     Ok(())
 }
 
-/// The test of this number. Its outcome is mostly a cycle of two harts: each one's last access comes before the other's first one. One
-/// in nine has five memory instructions, and the others four.
+/// The test of this number. Its outcome is mostly a cycle of two harts: each one's last access comes before the other's
+/// first one. One in nine has five memory instructions, and the others four.
 pub(crate) fn made_test(alloc: Global, number: usize) -> Result<String, AllocError> {
     let mut digits = Digits {
         rest: scrambled(number),

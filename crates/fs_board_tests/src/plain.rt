@@ -1,4 +1,5 @@
-//! `solve`, compared with a plain program that tries all placements, each by all runs and all orders of their operations.
+//! `solve`, compared with a plain program that tries all placements, each by all runs and all orders of their
+//! operations.
 ghost use Rattle.std.specs.Prelude.{All};
 ghost use Rattle.fs_model.specs.Test.{IsBounded, IsStart};
 
@@ -53,8 +54,8 @@ fn fenced_text(alloc: Global, placement: &Placement, cost: u64) -> Result<String
     Ok(text)
 }
 
-/// The first cheapest placement that forbids the outcome, or `none`: all placements are gone through, and those that cost less than
-/// what was found before are judged.
+/// The first cheapest placement that forbids the outcome, or `none`: all placements are gone through, and those that
+/// cost less than what was found before are judged.
 fn plain_answer(alloc: Global, test: &Test, prices: &Prices) -> Result<String, Fault>
     requires test { IsBounded test.now }
     requires starts { All IsStart test.now.starts }
@@ -130,8 +131,8 @@ fn forwarding_has_the_plain_answer(rt: HostRuntime) -> Result<(), Fail> {
     Ok(())
 }
 
-/// The answer to a made test, at the price list of its number: those of four neighbours are each at another one, and so are those of four
-/// in a row with five memory instructions.
+/// The answer to a made test, at the price list of its number: those of four neighbours are each at another one, and so
+/// are those of four in a row with five memory instructions.
 fn made_answer(alloc: Global, number: usize) -> Result<String, Fault> {
     let text = made_test(alloc, number)?;
     agreed_answer(alloc, text.as_str(), LISTS[number % 4])

@@ -43,8 +43,8 @@ fn act_at(
     act(&mut hands[place], what, given)
 }
 
-/// Hands that make these moves, each by the hand of its number: the numbers that the moves give, and the numbers that are left, both
-/// in rising order.
+/// Hands that make these moves, each by the hand of its number: the numbers that the moves give, and the numbers that
+/// are left, both in rising order.
 fn play(
     alloc: Global,
     workers: u8,

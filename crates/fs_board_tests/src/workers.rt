@@ -10,8 +10,8 @@ use std::sync::atomic::{AtomicU64, AtomicUsize, Ordering};
 use std::test::Fail;
 use std::thread::Threads;
 
-/// After how many nodes of the first worker the others join; how often the workers' board was handed out, with how many entries in its log
-/// at last, and how often it was given up.
+/// After how many nodes of the first worker the others join; how often the workers' board was handed out, with how many
+/// entries in its log at last, and how often it was given up.
 #[derive(Drop)]
 pub(crate) struct Ends {
     alone: usize,
@@ -149,8 +149,8 @@ fn write_doers(log: &[LogEntry], text: &mut String) -> Result<(), AllocError> {
     Ok(())
 }
 
-/// The answer as a line, with what the log shows of who searched for it: so many of its entries came from the workers, and
-/// what follows these is the conclusion.
+/// The answer as a line, with what the log shows of who searched for it: so many of its entries came from the workers,
+/// and what follows these is the conclusion.
 fn line_of_many(alloc: Global, solved: &Solved, logged: usize) -> Result<String, AllocError> {
     let mut text = line_of(alloc, solved)?;
     if let Some(board) = solved.board() {
@@ -161,8 +161,8 @@ fn line_of_many(alloc: Global, solved: &Solved, logged: usize) -> Result<String,
     Ok(text)
 }
 
-/// The answer to SB by two workers as a line, with what the log shows of them; or the line of the fault. The gate counts by
-/// these ends.
+/// The answer to SB by two workers as a line, with what the log shows of them; or the line of the fault. The gate
+/// counts by these ends.
 pub(crate) fn answered_by_two<R: Threads + Wait + Sync, G: Gate + Sync>(
     rt: &R,
     alloc: Global,

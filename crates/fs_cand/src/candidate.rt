@@ -16,8 +16,8 @@ use fs_kinds::Fault;
 use fs_model::{Test, stands_before};
 use std::alloc::Global;
 
-/// A candidate execution: a run of each hart, a source for each load, and an order of each location's stores. It has no global
-/// memory order.
+/// A candidate execution: a run of each hart, a source for each load, and an order of each location's stores. It has no
+/// global memory order.
 ///
 /// Operations go by their numbers: hart by hart in program order, and then the initial stores by location.
 #[derive(Drop)]
@@ -35,8 +35,9 @@ pub struct Candidate {
 }
 
 impl Candidate {
-    /// The candidate of these runs of the test's harts, sources and orders: its operations and dependencies are made of the
-    /// runs, and sources and orders are taken as they are. A run of a bounded test has at most 32 steps. The error is F19.
+    /// The candidate of these runs of the test's harts, sources and orders: its operations and dependencies are made of
+    /// the runs, and sources and orders are taken as they are. A run of a bounded test has at most 32 steps. The error
+    /// is F19.
     pub fn new(
         alloc: Global,
         test: &Test,

@@ -11,7 +11,7 @@ use fs_hart::{Trace, steps_of};
 use fs_kinds::List;
 use fs_model::{Operation, are_paired};
 
-// Are r and w a pair of an lr.w and a later sc.w of its hart?
+/// Are r and w a pair of an lr.w and a later sc.w of its hart?
 fn is_pair(traces: &[Trace], operations: &[Operation], r: usize, w: usize) -> bool
     ensures { result ≡ pair_among (steps_in traces.now) operations.now r w }
 {
@@ -38,7 +38,7 @@ pub(crate) fn any_pair(traces: &[Trace], operations: &[Operation]) -> bool
     (0..operations.len()).any(|r| is_pair_with_any(traces, operations, r))
 }
 
-// Is m of another hart than w, after s and before w?
+/// Is m of another hart than w, after s and before w?
 fn is_foreign_between(
     operations: &[Operation],
     orders: &[List<u8>],
@@ -60,7 +60,7 @@ fn any_foreign_between(operations: &[Operation], orders: &[List<u8>], s: u8, w: 
     (0..operations.len()).any(|m| is_foreign_between(operations, orders, s, w, m))
 }
 
-// Does the source precede w, with no store of another hart between?
+/// Does the source precede w, with no store of another hart between?
 fn follows_closely(
     operations: &[Operation],
     orders: &[List<u8>],

@@ -30,7 +30,7 @@ pub(crate) fn push_sources(
     push_sources(rest, number % count, sources)
 }
 
-// The stores without this one.
+/// The stores without this one.
 fn others(alloc: Global, stores: &[u8], taken: u8) -> Result<Vec<u8>, AllocError>
     ensures { IfOk result (λ rest. rest.items ≡ others stores.now taken) }
 {
@@ -41,7 +41,7 @@ fn others(alloc: Global, stores: &[u8], taken: u8) -> Result<Vec<u8>, AllocError
         .collect(alloc)
 }
 
-// Puts the order of this number of the stores behind the others. The last store changes first.
+/// Puts the order of this number of the stores behind the others. The last store changes first.
 fn push_order(
     alloc: Global,
     stores: &[u8],
@@ -62,7 +62,7 @@ fn push_order(
     push_order(alloc, &others(alloc, stores, next)?, number % count, order)
 }
 
-// The order of this number of a location's stores, behind the initial one.
+/// The order of this number of a location's stores, behind the initial one.
 fn order_of(alloc: Global, first: u8, stores: &[u8], number: u32) -> Result<List<u8>, AllocError>
     requires once { AreOnce stores.now }
     requires few { factorial (length stores.now) ≤ most_candidates }
@@ -74,8 +74,8 @@ fn order_of(alloc: Global, first: u8, stores: &[u8], number: u32) -> Result<List
     Ok(List::new(order))
 }
 
-// Puts the coherence orders of this number behind the others, one of each location's stores, where the initial store of the first
-// location has the number `first`. The last location's order changes first.
+// Puts the coherence orders of this number behind the others, one of each location's stores, where the initial store of
+// the first location has the number `first`. The last location's order changes first.
 pub(crate) fn push_orders(
     alloc: Global,
     first: u8,

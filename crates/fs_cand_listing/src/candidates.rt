@@ -36,7 +36,8 @@ pub fn showing_of(alloc: Global, test: Arc<Test>) -> Result<Showing, Fault>
     Showing::of(alloc, test, &values)
 }
 
-// Checks that there are neither too many candidates of the test nor too many lists of runs, where these are its value sets.
+/// Checks that there are neither too many candidates of the test nor too many lists of runs, where these are its value
+/// sets.
 fn check_over(alloc: Global, test: &Test, values: &Values) -> Result<(), Fault>
     requires test { IsBounded test.now }
     requires starts { All IsStart test.now.starts }
@@ -49,8 +50,8 @@ fn check_over(alloc: Global, test: &Test, values: &Values) -> Result<(), Fault>
     check_few(alloc, test, &lists)
 }
 
-/// Checks that the test's candidates can be listed, without listing them. The faults are those of `showing_of`. The cost is that of
-/// `Values::of`, and for each list of runs, one of each hart, the square of its operations.
+/// Checks that the test's candidates can be listed, without listing them. The faults are those of `showing_of`. The
+/// cost is that of `Values::of`, and for each list of runs, one of each hart, the square of its operations.
 pub fn check_number(alloc: Global, test: &Test) -> Result<(), Fault>
     requires test { IsBounded test.now }
     requires starts { All IsStart test.now.starts }

@@ -12,7 +12,7 @@ use fs_model::{Location, Operation};
 use fs_model_axioms::count_accesses;
 use std::alloc::{AllocError, Global};
 
-// Are both there, and the same word?
+/// Are both there, and the same word?
 fn is_same(word: Option<u32>, other: Option<u32>) -> bool
     ensures { result ≡ is_same word other }
 {
@@ -22,7 +22,7 @@ fn is_same(word: Option<u32>, other: Option<u32>) -> bool
     }
 }
 
-// Is s another operation, which stores what a loads?
+/// Is s another operation, which stores what a loads?
 fn is_source(operations: &[Operation], a: usize, s: usize) -> bool
     ensures { result ≡ is_source_among operations.now a s }
 {
@@ -34,7 +34,7 @@ fn is_source(operations: &[Operation], a: usize, s: usize) -> bool
         && is_same(storing.stored, loading.loaded)
 }
 
-// What operation a may read from among these operations.
+/// What operation a may read from among these operations.
 fn sources_within(
     alloc: Global,
     operations: &[Operation],
@@ -51,8 +51,8 @@ fn sources_within(
         .collect(alloc)
 }
 
-// What operation a may read from, where the first `count` operations are the harts': the initial store first. What is no load has
-// no source.
+/// What operation a may read from, where the first `count` operations are the harts': the initial store first. What is
+/// no load has no source.
 fn sources(
     alloc: Global,
     operations: &[Operation],
@@ -71,7 +71,7 @@ fn sources(
     Ok(sources)
 }
 
-// How many other operations store what a loads.
+/// How many other operations store what a loads.
 fn count_storing(operations: &[Operation], a: usize) -> usize
     ensures { result ≡ length (filter (is_source_among operations.now a) (numbers_below (length operations.now))) }
 {
@@ -91,7 +91,7 @@ pub(crate) fn count_sources(operations: &[Operation], a: usize) -> usize
     }
 }
 
-// Does operation a store to the location?
+/// Does operation a store to the location?
 fn stores_to(operations: &[Operation], location: u8, a: usize) -> bool
     ensures { result ≡ stores_among operations.now location a }
 {
@@ -99,7 +99,7 @@ fn stores_to(operations: &[Operation], location: u8, a: usize) -> bool
     storing.is_store() && is_same(storing.address, Some(Location::address(location)))
 }
 
-// The harts' stores to a location, where the first `count` operations are the harts'.
+/// The harts' stores to a location, where the first `count` operations are the harts'.
 fn own_stores(
     alloc: Global,
     operations: &[Operation],
@@ -124,7 +124,7 @@ pub(crate) fn count_own_stores(operations: &[Operation], count: usize, location:
         .count()
 }
 
-// The sources of all operations.
+/// The sources of all operations.
 fn all_sources(
     alloc: Global,
     operations: &[Operation],
@@ -141,7 +141,7 @@ fn all_sources(
     Ok(lists)
 }
 
-// The harts' stores to all locations.
+/// The harts' stores to all locations.
 fn all_stores(
     alloc: Global,
     operations: &[Operation],

@@ -22,7 +22,7 @@ pub(crate) fn source_in(sources: &[Option<u8>], a: usize) -> Option<u8>
     sources.get(a).copied().flatten()
 }
 
-// Is m a store to the word of a that precedes it in program order?
+/// Is m a store to the word of a that precedes it in program order?
 fn is_older(operations: &[Operation], a: usize, m: usize) -> bool
     ensures { result ≡ older_among operations.now a m }
 {
@@ -31,7 +31,7 @@ fn is_older(operations: &[Operation], a: usize, m: usize) -> bool
     storing.is_store() && storing.is_same_word(&loading) && storing.precedes(&loading)
 }
 
-// Is m such a store, and later than s?
+/// Is m such a store, and later than s?
 fn is_newer(operations: &[Operation], orders: &[List<u8>], a: usize, s: u8, m: usize) -> bool
     ensures { result ≡ newer_among operations.now orders.now a s m }
 {
@@ -44,7 +44,7 @@ fn any_newer(operations: &[Operation], orders: &[List<u8>], a: usize, s: u8) -> 
     (0..operations.len()).any(|m| is_newer(operations, orders, a, s, m))
 }
 
-// May operation a have this source?
+/// May operation a have this source?
 fn is_coherent(operations: &[Operation], orders: &[List<u8>], a: usize, source: Option<u8>) -> bool
     ensures { result ≡ coherent_among operations.now orders.now a source }
 {

@@ -16,7 +16,7 @@ use fs_model_axioms::count_accesses;
 /// How many candidates and lists of runs there may be.
 pub(crate) const MOST_CANDIDATES: u32 = 4_000_000;
 
-// The number, or one more than there may be.
+/// The number, or one more than there may be.
 fn cap(number: u64) -> u32
     ensures exact { result ≡ capped number }
     ensures most { result ≤ most_candidates + 1 }
@@ -92,7 +92,7 @@ impl Choices {
     }
 }
 
-// How many ways there are to choose the sources of these operations, or one more than there may be.
+/// How many ways there are to choose the sources of these operations, or one more than there may be.
 fn count_sources_among(operations: &[Operation]) -> u32
     ensures exact { result ≡ capped (product_by (number_of_sources operations.now) (numbers_below (length operations.now))) }
     ensures most { result ≤ most_candidates + 1 }
@@ -104,8 +104,8 @@ fn count_sources_among(operations: &[Operation]) -> u32
     count
 }
 
-// How many ways there are to order the stores to each location, or one more than there may be, where the first `count` operations are
-// the harts'.
+/// How many ways there are to order the stores to each location, or one more than there may be, where the first `count`
+/// operations are the harts'.
 fn count_orders_among(operations: &[Operation], count: usize, locations: u8) -> u32
     ensures exact { result ≡ capped (product_by (orders_among operations.now count) (numbers_below locations)) }
     ensures most { result ≤ most_candidates + 1 }
@@ -118,8 +118,8 @@ fn count_orders_among(operations: &[Operation], count: usize, locations: u8) -> 
     orders
 }
 
-// How many raw candidates there are with the runs of these operations, in a test with so many locations, or one more than there may
-// be. The square of the operations, and nothing is listed.
+// How many raw candidates there are with the runs of these operations, in a test with so many locations, or one more
+// than there may be. The square of the operations, and nothing is listed.
 pub(crate) fn count_raw(operations: &[Operation], locations: u8) -> u32
     ensures exact { (x : PreExecution) → operations.now ≡ operations_of x
         → result ≡ capped (product_of_lengths (all_sources x) * product_by number_of_orders (map (own_stores x) (numbers_below locations))) }

@@ -22,7 +22,7 @@ use fs_model::Test;
 use std::alloc::{AllocError, Global};
 
 impl Prepared {
-    // The coherence orders of this number.
+    /// The coherence orders of this number.
     fn orders(&self, alloc: Global, test: &Test, number: u32) -> Result<Vec<List<u8>>, AllocError>
         requires prepared { IsPrepared test.now self.now }
         requires few { product_by number_of_orders self.now.choices.stores.items ≤ most_candidates }
@@ -36,7 +36,7 @@ impl Prepared {
         Ok(orders)
     }
 
-    // The sources of this number.
+    /// The sources of this number.
     fn sources(&self, alloc: Global, number: u32) -> Result<Vec<Option<u8>>, AllocError>
         requires few { product_of_lengths self.now.choices.sources.items ≤ most_candidates }
         requires number { number < product_of_lengths self.now.choices.sources.items }
@@ -48,8 +48,8 @@ impl Prepared {
         Ok(sources)
     }
 
-    // Puts the numbers of those raw candidates with the sources of the number `first` that show the outcome behind the
-    // others.
+    /// Puts the numbers of those raw candidates with the sources of the number `first` that show the outcome behind the
+    /// others.
     fn add_with(
         &self,
         alloc: Global,
@@ -76,8 +76,8 @@ impl Prepared {
         Ok(())
     }
 
-    // Puts the numbers of the raw candidates that show the outcome behind the others. Each raw candidate is tried, by tests of each two
-    // operations.
+    // Puts the numbers of the raw candidates that show the outcome behind the others. Each raw candidate is tried, by
+    // tests of each two operations.
     pub(crate) fn add_showing(
         &self,
         alloc: Global,

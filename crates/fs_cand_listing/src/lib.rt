@@ -1,5 +1,5 @@
-//! The candidate executions of a test that show its outcome, each once and in their order: which they are, as one list, and how
-//! many raw ones there are, without listing them.
+//! The candidate executions of a test that show its outcome, each once and in their order: which they are, as one list,
+//! and how many raw ones there are, without listing them.
 #![tactic(auto)]
 
 mod atomicity;

@@ -49,7 +49,7 @@ impl Prepared {
         })
     }
 
-    // Do the runs with these coherence orders show the outcome?
+    /// Do the runs with these coherence orders show the outcome?
     fn has_outcome(&self, test: &Test, orders: &[List<u8>]) -> bool
         requires { IsPrepared test.now self.now }
         ensures { (sources : List (Option ℕ)) → result ≡ has_outcome test.now (candidate (steps_in self.now.traces) sources orders.now) }
@@ -62,7 +62,7 @@ impl Prepared {
         )
     }
 
-    // Does each pair keep atomicity? Where there is no pair, no two operations are looked at.
+    /// Does each pair keep atomicity? Where there is no pair, no two operations are looked at.
     fn is_atomic(&self, sources: &[Option<u8>], orders: &[List<u8>]) -> bool
         requires { self.now.has_pairs ≡ any_pair_among (steps_in self.now.traces) self.now.operations }
         ensures { result ≡ all_atomic_among (steps_in self.now.traces) self.now.operations sources.now orders.now }
@@ -78,7 +78,7 @@ impl Prepared {
         )
     }
 
-    // Are the sources coherent with the coherence orders, and does each pair keep atomicity?
+    /// Are the sources coherent with the coherence orders, and does each pair keep atomicity?
     fn is_consistent(&self, sources: &[Option<u8>], orders: &[List<u8>]) -> bool
         requires { self.now.has_pairs ≡ any_pair_among (steps_in self.now.traces) self.now.operations }
         ensures { result ≡ (all_coherent_among self.now.operations sources.now orders.now

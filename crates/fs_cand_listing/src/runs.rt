@@ -19,7 +19,7 @@ fn copy(alloc: Global, trace: &Trace) -> Result<Trace, AllocError>
     Ok(Trace { steps, registers })
 }
 
-// Puts the runs of this number behind the others, one of each list. The last list's runs change first.
+/// Puts the runs of this number behind the others, one of each list. The last list's runs change first.
 fn push_runs(
     alloc: Global,
     lists: &[List<Trace>],

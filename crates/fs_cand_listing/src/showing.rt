@@ -29,8 +29,8 @@ use std::alloc::Global;
 use std::marker::Model;
 use std::sync::Arc;
 
-/// All candidates of a test that show its outcome, each once and in their order. It keeps the runs of each hart, and eight bytes
-/// for each candidate; the candidate itself is made when it is asked for.
+/// All candidates of a test that show its outcome, each once and in their order. It keeps the runs of each hart, and
+/// eight bytes for each candidate; the candidate itself is made when it is asked for.
 #[derive(Drop)]
 pub struct Showing {
     test: Arc<Test>,
@@ -55,8 +55,8 @@ impl Model for Showing {
     ghost invariant = { λ s. AreKept (arc_value s.test) s.lists.items s.kept.items };
 }
 
-// Puts the numbers of the raw candidates with the runs of this number that show the outcome behind the others. Where the final
-// registers rule the outcome out, nothing more is made of the runs.
+/// Puts the numbers of the raw candidates with the runs of this number that show the outcome behind the others. Where
+/// the final registers rule the outcome out, nothing more is made of the runs.
 fn add_places(
     alloc: Global,
     test: &Test,
@@ -78,7 +78,7 @@ fn add_places(
     Ok(prepared.add_showing(alloc, test, number, kept)?)
 }
 
-// The numbers of all raw candidates that show the outcome.
+/// The numbers of all raw candidates that show the outcome.
 fn places(alloc: Global, test: &Test, lists: &[List<Trace>]) -> Result<Vec<Place>, Fault>
     requires lists { AreListable test.now lists.now }
     requires few { HasTooMany test.now → ⊥ }
@@ -93,11 +93,11 @@ fn places(alloc: Global, test: &Test, lists: &[List<Trace>]) -> Result<Vec<Place
 }
 
 impl Showing {
-    /// The candidates of the test that show its outcome, where these are its value sets and no hart has a fault over them. F15
-    /// where there are more than 4,000,000 lists of runs, one of each hart, or more than 4,000,000 raw candidates, whether they
-    /// show the outcome or not, and then none is tried; F19. The cost: for each list of runs the square of its operations, to count its
-    /// raw candidates; and for each raw candidate of those whose final registers may show the outcome again this square, times the
-    /// stores of a location.
+    /// The candidates of the test that show its outcome, where these are its value sets and no hart has a fault over
+    /// them. F15 where there are more than 4,000,000 lists of runs, one of each hart, or more than 4,000,000 raw
+    /// candidates, whether they show the outcome or not, and then none is tried; F19. The cost: for each list of runs
+    /// the square of its operations, to count its raw candidates; and for each raw candidate of those whose final
+    /// registers may show the outcome again this square, times the stores of a location.
     pub fn of(alloc: Global, test: Arc<Test>, values: &Values) -> Result<Showing, Fault>
         requires test { IsBounded (arc_value test) }
         requires starts { All IsStart (arc_value test).starts }

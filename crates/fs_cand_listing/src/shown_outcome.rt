@@ -18,7 +18,7 @@ use fs_kinds::List;
 use fs_model::{Operation, Outcome, Test};
 use fs_model_axioms::{final_register, is_outcome};
 
-// The order of a location's stores; none where there is no such location.
+/// The order of a location's stores; none where there is no such location.
 fn order_of(orders: &[List<u8>], location: u8) -> &[u8]
     ensures { result.now ≡ slice_index_or orders.now location [] }
 {
@@ -34,7 +34,7 @@ fn last(order: &[u8]) -> Option<u8>
     order.last().copied()
 }
 
-// The word of this store.
+/// The word of this store.
 fn stored(operations: &[Operation], store: Option<u8>) -> u32
     ensures { result ≡ unwrap_or (option_and_then (λ a. (numbered operations.now a).stored) store) 0 }
 {
@@ -46,14 +46,14 @@ fn stored(operations: &[Operation], store: Option<u8>) -> u32
         .unwrap_or(0)
 }
 
-// The word that the location ends with: that of its last store.
+/// The word that the location ends with: that of its last store.
 fn last_word(operations: &[Operation], orders: &[List<u8>], location: u8) -> u32
     ensures { result ≡ word_among operations.now orders.now location }
 {
     stored(operations, last(order_of(orders, location)))
 }
 
-// Is the condition true at the end?
+/// Is the condition true at the end?
 fn holds(
     traces: &[Trace],
     operations: &[Operation],
@@ -77,7 +77,8 @@ fn holds(
     }
 }
 
-/// Do runs with these coherence orders show the outcome? There is a run of each hart, with the registers that its steps end with.
+/// Do runs with these coherence orders show the outcome? There is a run of each hart, with the registers that its steps
+/// end with.
 pub(crate) fn has_outcome(
     test: &Test,
     traces: &[Trace],
@@ -95,7 +96,7 @@ pub(crate) fn has_outcome(
     )
 }
 
-// May the condition come out so, as far as the final registers tell?
+/// May the condition come out so, as far as the final registers tell?
 fn may_be(traces: &[Trace], wanted: bool, condition: &Outcome) -> bool
     ensures { result ≡ may_be (register_in traces.now) wanted (condition_of condition.now) }
 {

@@ -17,7 +17,7 @@ use fs_kinds::{Fault, List};
 use fs_model::Test;
 use std::alloc::Global;
 
-// How many raw candidates there are with the runs of this number, or one more than there may be.
+/// How many raw candidates there are with the runs of this number, or one more than there may be.
 fn count_with(alloc: Global, test: &Test, lists: &[List<Trace>], number: u32) -> Result<u32, Fault>
     requires test { IsBounded test.now }
     requires runs { AreAllRuns test.now (map steps_in lists.now) }
@@ -34,9 +34,10 @@ fn count_with(alloc: Global, test: &Test, lists: &[List<Trace>], number: u32) ->
     Ok(count_raw(operations.as_slice(), locations))
 }
 
-/// Goes over the lists of runs, where these are all runs of each hart over the value sets, and counts the raw candidates, as far as
-/// the limit. The error is F15 where there are more than 4,000,000 lists of runs or raw candidates, or F19. Nothing is listed: it
-/// makes the operations of each list of runs in turn, and multiplies how many choices there are.
+/// Goes over the lists of runs, where these are all runs of each hart over the value sets, and counts the raw
+/// candidates, as far as the limit. The error is F15 where there are more than 4,000,000 lists of runs or raw
+/// candidates, or F19. Nothing is listed: it makes the operations of each list of runs in turn, and multiplies how many
+/// choices there are.
 pub(crate) fn check_few(alloc: Global, test: &Test, lists: &[List<Trace>]) -> Result<(), Fault>
     requires test { IsBounded test.now }
     requires runs { AreAllRuns test.now (map steps_in lists.now) }

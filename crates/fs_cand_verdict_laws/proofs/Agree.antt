@@ -1,4 +1,5 @@
--- An order that respects the judged relation gives each load the candidate's source. Over any relations with these laws.
+-- An order that respects the judged relation gives each load the candidate's source. Over any relations with these
+-- laws.
 use Rattle.std.proofs.Common.{◌≡◌, ℕ, ◌⊎◌, inl, inr, Bool, true, false, ◌&&◌, ◌||◌, Option, None, Some, filter, List, subst}
 use Rattle.std.specs.List.{last_or}
 use Rattle.std.proofs.lemmas.Bool.{cases_Bool, cases_eq, and_parts, and_from, or_cases, or_left, or_right, both_ways}

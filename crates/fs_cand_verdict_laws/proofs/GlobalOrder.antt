@@ -1,5 +1,5 @@
--- The global memory order of an order that has each operation of the harts once: it has all operations, the initial stores
--- before the others.
+-- The global memory order of an order that has each operation of the harts once: it has all operations, the initial
+-- stores before the others.
 use Rattle.std.proofs.Common.{◌≡◌, ℕ, ◌<◌, ◌≤◌, inl, inr, true, List, length, sym, ◌∙◌, arith}
 use Rattle.std.specs.List.{range_with_len}
 use Rattle.std.proofs.lemmas.Bool.{cases_lt, or_cases, or_left, or_right}

@@ -1,4 +1,5 @@
--- A round of the judged relation is a cycle that a certificate can have, and a forbidden outcome has one for each candidate.
+-- A round of the judged relation is a cycle that a certificate can have, and a forbidden outcome has one for each
+-- candidate.
 use Rattle.std.proofs.Common.{◌≡◌, ℕ, suc, ◌<◌, ◌≤◌, inl, inr, true, Option, Some, option_map, option_and_then, unwrap_or, List, [], ◌∷◌, ◌++◌, map, length, refl, sym, ◌∙◌, ap, subst, arith}
 use Rattle.std.specs.Prelude.{slice_get}
 use Rattle.std.specs.List.{AllZip, Contains, list_all, zip}

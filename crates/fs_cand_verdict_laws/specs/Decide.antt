@@ -13,7 +13,8 @@ use Rattle.fs_cert_evidence.specs.Candidates.{Candidate, IsShowing, runs_of, rf}
 use Rattle.fs_cert_evidence.specs.Judged.{is_judged}
 use Rattle.fs_cert_evidence.specs.Cycles.{around}
 
--- The order has each operation of the harts once, and the global memory order goes the way of each edge of the judged relation.
+-- The order has each operation of the harts once, and the global memory order goes the way of each edge of the judged
+-- relation.
 pub record IsOrdered (t : Test) (p : List Entry) (c : Candidate) (order : List ℕ) : Type 0 where
   pub once : lists_each_once (runs_of t c) order ≡ true
   pub respects : (a b : ℕ) → is_judged (runs_of t c) p c a b ≡ true → stands_before (gmo (runs_of t c) order) a b ≡ true
@@ -40,7 +41,8 @@ pub record IsExecuted (t : Test) (p : List Entry) (c : Candidate) (order : List 
   pub sources : (a : ℕ) → is_load (runs_of t c) a ≡ true → source_in (runs_of t c) order a ≡ rf c a
   pub candidate : candidate_of t (ordered_by c order) ≡ c
 
--- a list of all operations, initial stores too, each once, that goes the way of each edge: what sorting the relation gives
+-- a list of all operations, initial stores too, each once, that goes the way of each edge: what sorting the relation
+-- gives
 pub record IsSorted (t : Test) (p : List Entry) (c : Candidate) (sorted : List ℕ) : Type 0 where
   pub long : length sorted ≡ length (operations (runs_of t c))
   pub all : (a : ℕ) → a < length (operations (runs_of t c)) → has_number sorted a ≡ true

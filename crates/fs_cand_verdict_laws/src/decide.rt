@@ -16,10 +16,10 @@ ghost use Rattle.fs_cert_evidence.specs.Cycles.{IsCycle, HasCycles, most_links};
 ghost use Rattle.fs_values.specs.ThinAir.{CanBeListed};
 ghost use Rattle.fs_cand_verdict_laws.specs.Decide.{IsOrdered, IsExecuted, IsSorted, IsRound, IsAcyclic, HasOrdered, HasAcyclic, candidate_of, ordered_by, of_harts};
 
-/// A law: a showing candidate with an order that respects its judged relation is an execution that shows the outcome, by the
-/// candidate's sources and coherence orders. The order of each execution respects the judged relation of its own sources and
-/// coherence orders, and where it shows the outcome they are a showing candidate. So in a test whose runs can be listed the
-/// outcome is allowed exactly where some showing candidate has such an order.
+/// A law: a showing candidate with an order that respects its judged relation is an execution that shows the outcome,
+/// by the candidate's sources and coherence orders. The order of each execution respects the judged relation of its own
+/// sources and coherence orders, and where it shows the outcome they are a showing candidate. So in a test whose runs
+/// can be listed the outcome is allowed exactly where some showing candidate has such an order.
 pub fn candidates_decide()
     ensures executed { (t : Test) (p : List Entry) (c : Candidate) (order : List ℕ) → IsShowing t c → IsOrdered t p c order
         → IsExecuted t p c order }
@@ -31,9 +31,10 @@ pub fn candidates_decide()
     ensures decides { (t : Test) → CanBeListed t → (p : List Entry) → Allows t p ↔ HasOrdered t p }
 {}
 
-/// A law: acyclic equals ordered. The judged relation of a candidate has an order that respects it, or a cycle of no more
-/// operations than there are, and not both. So a showing candidate has an execution, with its sources and coherence orders, exactly
-/// where it has no cycle, and the outcome is allowed exactly where some showing candidate has none.
+/// A law: acyclic equals ordered. The judged relation of a candidate has an order that respects it, or a cycle of no
+/// more operations than there are, and not both. So a showing candidate has an execution, with its sources and
+/// coherence orders, exactly where it has no cycle, and the outcome is allowed exactly where some showing candidate has
+/// none.
 pub fn cycles_decide()
     ensures either { (t : Test) (p : List Entry) (c : Candidate) → IsRaw t c
         → ((order : List ℕ) × IsOrdered t p c order)
@@ -58,8 +59,8 @@ pub fn causes_make_edges()
         → is_judged (runs_of t c) p c a b ≡ list_any (is_edge (runs_of t c) p c a b) all_causes }
 {}
 
-/// A law: no edge of the judged relation enters an initial store. So a list of all operations that goes the way of each edge,
-/// as sorting the relation gives it, is an order once the initial stores are taken out.
+/// A law: no edge of the judged relation enters an initial store. So a list of all operations that goes the way of each
+/// edge, as sorting the relation gives it, is an order once the initial stores are taken out.
 pub fn edges_enter_harts()
     ensures enters { (t : Test) (p : List Entry) (c : Candidate) (a b : ℕ) → IsRaw t c → is_judged (runs_of t c) p c a b ≡ true
         → b < length (accesses (runs_of t c)) }
@@ -67,8 +68,9 @@ pub fn edges_enter_harts()
         → IsOrdered t p c (of_harts t c sorted) }
 {}
 
-/// A law: a cycle of the judged relation excludes every order, and a cycle for each showing candidate forbids the outcome.
-/// Where the outcome is forbidden, and no showing candidate has more than 64 operations, there are such cycles.
+/// A law: a cycle of the judged relation excludes every order, and a cycle for each showing candidate forbids the
+/// outcome. Where the outcome is forbidden, and no showing candidate has more than 64 operations, there are such
+/// cycles.
 pub fn cycles_forbid()
     ensures rounds { (t : Test) (p : List Entry) (c : Candidate) (numbers order : List ℕ) → IsRound (is_judged (runs_of t c) p c) numbers
         → IsOrdered t p c order → ⊥ }

@@ -1,5 +1,5 @@
-//! The laws on which verdicts stand: a placement allows the outcome exactly where a showing candidate has an order that respects
-//! its judged relation. The functions do nothing: each stands for the laws that it promises.
+//! The laws on which verdicts stand: a placement allows the outcome exactly where a showing candidate has an order that
+//! respects its judged relation. The functions do nothing: each stands for the laws that it promises.
 #![tactic(auto)]
 
 mod decide;

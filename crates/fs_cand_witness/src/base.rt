@@ -13,7 +13,7 @@ use crate::judged::is_judged;
 use fs_cand::Candidate;
 use fs_relation::Rows;
 
-// The operations below n to which an edge leads from a.
+/// The operations below n to which an edge leads from a.
 fn row_of(candidate: &Candidate, a: usize, n: usize) -> u64
     requires { n ≤ 64 }
     ensures { OfRuns candidate.now (λ x. (b : ℕ) → has_bit result b ≡ (nat_lt b n && is_judged x [] (candidate_of candidate.now) a b)) }
@@ -28,9 +28,9 @@ fn row_of(candidate: &Candidate, a: usize, n: usize) -> u64
 }
 
 /// The judged relation of a candidate without placed fences, between its operations, of which there are at most 64. The
-/// candidate is made of runs, as `Candidate::new` makes it; of another nothing is promised. A raw candidate has no other edges.
-/// Each two operations are looked at once: two in program order at most linearly in the operations and in the steps of a hart,
-/// others in the stores.
+/// candidate is made of runs, as `Candidate::new` makes it; of another nothing is promised. A raw candidate has no
+/// other edges. Each two operations are looked at once: two in program order at most linearly in the operations and in
+/// the steps of a hart, others in the stores.
 pub fn base_rows(candidate: &Candidate) -> Rows
     requires { length candidate.now.operations ≤ 64 }
     ensures edges { OfRuns candidate.now (λ x. (a b : ℕ) → has_edge result a b

@@ -12,7 +12,7 @@ use fs_instr::Instr;
 use fs_model::{Choice, Step};
 use std::alloc::{AllocError, Global};
 
-// The choice that the step made, where its instruction takes one.
+/// The choice that the step made, where its instruction takes one.
 fn choice(step: &Step) -> Option<Choice>
     ensures { result ≡ choice_by step.now.instr step.now }
 {
@@ -28,7 +28,7 @@ fn choice(step: &Step) -> Option<Choice>
     }
 }
 
-// The choices of a run.
+/// The choices of a run.
 fn choices_of(alloc: Global, steps: &[Step]) -> Result<Choices, AllocError>
     ensures { IfOk result (λ choices. choices ≡ chosen steps.now) }
 {

@@ -1,5 +1,6 @@
-//! From a candidate to a witness: its judged relation and the edges of placed fences, as rows of bits; the names of its operations; and,
-//! where that relation has no cycle, an execution that shows the outcome under a placement, and under as many fences more as it bears.
+//! From a candidate to a witness: its judged relation and the edges of placed fences, as rows of bits; the names of its
+//! operations; and, where that relation has no cycle, an execution that shows the outcome under a placement, and under
+//! as many fences more as it bears.
 #![tactic(auto)]
 
 mod base;

@@ -17,7 +17,8 @@ use fs_kinds::{Fault, Slot};
 use fs_model::Operation;
 use std::alloc::Global;
 
-/// A place in a run where a fence may stand, before a step, with the operations of the hart before it and from it on, as bits.
+/// A place in a run where a fence may stand, before a step, with the operations of the hart before it and from it on,
+/// as bits.
 #[derive(Clone, Copy)]
 pub struct Sides {
     /// The hart, and the instruction of the step.
@@ -72,7 +73,7 @@ fn is_among(operation: &Operation, half: Half, class: Class, hart: u8, place: us
     is_on(operation, half, hart, place) && is_of(operation, class)
 }
 
-// The operations of this half and class, as bits.
+/// The operations of this half and class, as bits.
 fn mask(operations: &[Operation], half: Half, class: Class, hart: u8, place: usize) -> u64
     requires { length operations.now ≤ 64 }
     ensures { (a : ℕ) → has_bit result a
@@ -87,7 +88,7 @@ fn mask(operations: &[Operation], half: Half, class: Class, hart: u8, place: usi
     mask
 }
 
-// The sides of the step at this place of the hart's run.
+/// The sides of the step at this place of the hart's run.
 fn sides_at(candidate: &Candidate, slot: Slot, place: usize) -> Sides
     requires { length candidate.now.operations ≤ 64 }
     ensures slot { result.slot ≡ slot }
@@ -104,7 +105,7 @@ fn sides_at(candidate: &Candidate, slot: Slot, place: usize) -> Sides
     }
 }
 
-// Puts the sides of the hart's steps last.
+/// Puts the sides of the hart's steps last.
 fn push_sides(candidate: &Candidate, hart: u8, sides: &mut Vec<Sides>) -> Result<(), Fault>
     requires { length candidate.now.operations ≤ 64 }
     ensures ok { IfOk result (λ _. OfRuns candidate.now (λ x. (p : List Entry) (a b : ℕ)
@@ -123,8 +124,9 @@ fn push_sides(candidate: &Candidate, hart: u8, sides: &mut Vec<Sides>) -> Result
     Ok(())
 }
 
-/// The sides of each step of the candidate's runs. The candidate is made of runs, as `Candidate::new` makes it; of another nothing
-/// is promised. Candidates with the same runs have the same sides. The steps times the operations. The error is F19.
+/// The sides of each step of the candidate's runs. The candidate is made of runs, as `Candidate::new` makes it; of
+/// another nothing is promised. Candidates with the same runs have the same sides. The steps times the operations. The
+/// error is F19.
 pub fn sides_of(alloc: Global, candidate: &Candidate) -> Result<Vec<Sides>, Fault>
     requires operations { length candidate.now.operations ≤ 64 }
     requires harts { length candidate.now.traces ≤ 8 }

@@ -11,8 +11,9 @@ use crate::widths::are_ordered;
 use fs_kinds::Slot;
 use fs_relation::{Rows, has_order};
 
-// The relation with edges from each of some numbers to each of others, where an order extends it; else the relation. Nothing is
-// tried where they are there already, as at an instruction that accesses no memory, whose pairs are those of the next that does.
+/// The relation with edges from each of some numbers to each of others, where an order extends it; else the relation.
+/// Nothing is tried where they are there already, as at an instruction that accesses no memory, whose pairs are those
+/// of the next that does.
 fn with_edges(rows: Rows, n: usize, from: u64, to: u64) -> Rows
     requires fits { n ≤ 64 }
     requires order { HasOrder rows n }
@@ -29,7 +30,7 @@ fn with_edges(rows: Rows, n: usize, from: u64, to: u64) -> Rows
     if has_order(&wider, n) { wider } else { rows }
 }
 
-// The relation with each pair of classes kept at the place that can be.
+/// The relation with each pair of classes kept at the place that can be.
 fn with_sides(rows: Rows, n: usize, sides: &Sides) -> Rows
     requires fits { n ≤ 64 }
     requires order { HasOrder rows n }
@@ -43,15 +44,15 @@ fn with_sides(rows: Rows, n: usize, sides: &Sides) -> Rows
     with_edges(wider, n, sides.writes_before, sides.writes_after)
 }
 
-// Is the slot among these?
+/// Is the slot among these?
 fn is_among(slots: &[Slot], slot: Slot) -> bool
     ensures { result ≡ list_any (λ s. is_same_slot s slot) slots.now }
 {
     slots.iter().any(|other| *other == slot)
 }
 
-// The relation with each pair of classes kept that can be, at the places of these slots before the others: no other pair can be
-// added, and nothing but pairs is. For each place four times what it takes to judge a relation.
+// The relation with each pair of classes kept that can be, at the places of these slots before the others: no other
+// pair can be added, and nothing but pairs is. For each place four times what it takes to judge a relation.
 pub(crate) fn widened(rows: &Rows, n: usize, sides: &[Sides], first: &[Slot]) -> Rows
     requires fits { n ≤ 64 }
     requires order { HasOrder rows.now n }

@@ -27,7 +27,7 @@ use fs_model::Test;
 use fs_relation::Rows;
 use std::alloc::Global;
 
-// What an order of the candidate's operations says: choices, names and widths.
+/// What an order of the candidate's operations says: choices, names and widths.
 fn read_off(
     alloc: Global,
     test: &Test,
@@ -57,12 +57,12 @@ pub struct Hints<'a> {
     pub first: &'a [Slot],
 }
 
-/// The witness of a showing candidate whose judged relation has no cycle under the placement: an execution that shows the outcome
-/// under it. The rows are the judged relation between the candidate's operations.
+/// The witness of a showing candidate whose judged relation has no cycle under the placement: an execution that shows
+/// the outcome under it. The rows are the judged relation between the candidate's operations.
 ///
-/// To the rows each pair of classes at each of the sides is added where no cycle arises, at the slots in `first` before the others;
-/// then the order is made, and the widths are read off it, which are exact. The witness is true whatever the hints are,
-/// and how many fences it bears is no promise. For each of the sides four times what it takes to judge a
+/// To the rows each pair of classes at each of the sides is added where no cycle arises, at the slots in `first` before
+/// the others; then the order is made, and the widths are read off it, which are exact. The witness is true whatever
+/// the hints are, and how many fences it bears is no promise. For each of the sides four times what it takes to judge a
 /// relation, and the slots of the test times the steps. The error is F19.
 pub fn widest_witness(
     alloc: Global,

@@ -57,15 +57,15 @@ pub(crate) fn are_ordered(rows: &Rows, first: u64, second: u64) -> bool
     true
 }
 
-// Where the place is at the slot: does the order have each operation of the first class before it ahead of each of the second
-// class after it?
+/// Where the place is at the slot: does the order have each operation of the first class before it ahead of each of the
+/// second class after it?
 fn is_kept(order: &Rows, slot: Slot, first: Class, second: Class, side: &Sides) -> bool
     ensures { result ≡ is_kept order.now slot first second side.now }
 {
     slot != side.slot || are_ordered(order, before_in(side, first), after_in(side, second))
 }
 
-// Is it so at each place?
+/// Is it so at each place?
 fn keeps(order: &Rows, sides: &[Sides], slot: Slot, first: Class, second: Class) -> bool
     ensures { result ≡ keeps_all order.now sides.now slot first second }
 {
@@ -74,7 +74,7 @@ fn keeps(order: &Rows, sides: &[Sides], slot: Slot, first: Class, second: Class)
         .all(|side| is_kept(order, slot, first, second, side))
 }
 
-// The pairs that the order keeps at the slot.
+/// The pairs that the order keeps at the slot.
 fn pairs_at(order: &Rows, sides: &[Sides], slot: Slot) -> Pairs
     ensures { result ≡ pairs_at (width_in order.now sides.now) slot }
 {
@@ -86,7 +86,7 @@ fn pairs_at(order: &Rows, sides: &[Sides], slot: Slot) -> Pairs
     }
 }
 
-// The pairs that it keeps at each of these slots.
+/// The pairs that it keeps at each of these slots.
 fn pairs_at_each(
     alloc: Global,
     order: &Rows,

@@ -1,4 +1,5 @@
--- The walk over a finished board: each node is split or closed, and its item with the trees of its children covers its part.
+-- The walk over a finished board: each node is split or closed, and its item with the trees of its children covers its
+-- part.
 use Rattle.std.proofs.Common.{◌≡◌, ◌≢◌, ℕ, zero, suc, ◌+◌, ◌<◌, ◌≤◌, Bool, true, false, cond, ◌&&◌, ◌||◌, not, Option, Some, None, unwrap_or, option_map, List, [], ◌∷◌, ◌++◌, map, length, take, drop, refl, ap, ap₂, sym, subst, ◌∙◌, arith}
 use Rattle.std.specs.Prelude.{slice_get, slice_set, is_none, nat_lt}
 use Rattle.std.specs.List.{AllZip, AllByRecursion, range_with_len, list_any, find, position_or_len}

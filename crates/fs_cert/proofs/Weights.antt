@@ -1,4 +1,5 @@
--- A measure of the nodes that a walk has still to visit: a node weighs more than all its children together, since they come after it.
+-- A measure of the nodes that a walk has still to visit: a node weighs more than all its children together, since they
+-- come after it.
 use Rattle.std.proofs.Common.{◌≡◌, ℕ, zero, suc, ◌+◌, ◌-◌, ◌*◌, ◌^◌, ◌<◌, ◌≤◌, List, [], ◌∷◌, ◌++◌, ap, ◌∙◌, arith}
 use Rattle.std.specs.List.{range_with_len}
 use Rattle.std.proofs.Math.Nat.{one-le-pow, pow-le-pow_right, pow-suc}

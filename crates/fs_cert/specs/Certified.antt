@@ -13,8 +13,9 @@ use Rattle.fs_cert_json.specs.declared.certificate.Certificate.{Certificate}
 use Rattle.fs_cert_json.specs.Kept.{AreInRange, KeepsCertificate}
 use Rattle.fs_cert.specs.Cycles.{BeginsAtLeast, version_for}
 
--- It is a certificate of the version that goes with its cycles, which is valid with this placement as its answer, or with none; no fault is
--- in the way of judging that; a file can say it; and each cycle that it lists begins at its least operation.
+-- It is a certificate of the version that goes with its cycles, which is valid with this placement as its answer, or
+-- with none; no fault is in the way of judging that; a file can say it; and each cycle that it lists begins at its
+-- least operation.
 pub record Certifies (t : Test) (prices : PriceTable) (answer : Option (List Entry)) (kept : Certificate) : Type 0 where
   pub certificate : said.Certificate
   pub keeps : KeepsCertificate kept certificate

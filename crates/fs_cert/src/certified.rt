@@ -46,9 +46,9 @@ fn fenced(
     })
 }
 
-/// The certificate of a finished board's bound: the bound is its answer, the board's tree shows that nothing better forbids the outcome,
-/// and each of the board's witnesses stands in it once. The error is want of memory. It takes time of nodes times slots, and
-/// of witnesses times the different ones among them.
+/// The certificate of a finished board's bound: the bound is its answer, the board's tree shows that nothing better
+/// forbids the outcome, and each of the board's witnesses stands in it once. The error is want of memory. It takes time
+/// of nodes times slots, and of witnesses times the different ones among them.
 pub fn from_board(alloc: Global, board: &Board, bound: &Forbidden) -> Result<Certificate, Fault>
     requires bounded { IsBounded board.now.question.test }
     requires finished { is_finished board.now.board ≡ true }
@@ -67,8 +67,8 @@ pub fn from_board(alloc: Global, board: &Board, bound: &Forbidden) -> Result<Cer
     Ok(fenced(alloc, question, bound, tree, witnesses)?)
 }
 
-/// The certificate of no fence at all, where that is shown to forbid the outcome: nothing is better, whatever the prices. The error is
-/// want of memory.
+/// The certificate of no fence at all, where that is shown to forbid the outcome: nothing is better, whatever the
+/// prices. The error is want of memory.
 pub fn from_least(
     alloc: Global,
     question: &Question,
@@ -89,8 +89,8 @@ pub fn from_least(
     )
 }
 
-/// The certificate of the answer none, by this witness, of a test that shows the outcome even with `rw,rw` in every slot. It is of the
-/// fourth version, as nothing is listed. The error is want of memory.
+/// The certificate of the answer none, by this witness, of a test that shows the outcome even with `rw,rw` in every
+/// slot. It is of the fourth version, as nothing is listed. The error is want of memory.
 pub fn from_witness(alloc: Global, witness: &Witness) -> Result<Certificate, AllocError>
     ensures { IfOk result (λ made. (t : Test) (prices : PriceTable) (e : Execution)
         → HasNoRunFault t → IsWitnessFor t witness.now e → RefutesAll t e → CertifiesNone t prices witness.now.witness made) }

@@ -34,8 +34,8 @@ fn is_before(first: &Link, second: &Link) -> bool
     a.hart < b.hart || (a.hart == b.hart && a.at < b.at)
 }
 
-/// The number of the first link whose operation is the least, 0 where there is no link. Its contract pins where the turned
-/// cycle begins, not which of equal operations that is: a cycle has each once.
+/// The number of the first link whose operation is the least, 0 where there is no link. Its contract pins where the
+/// turned cycle begins, not which of equal operations that is: a cycle has each once.
 fn least_of(links: &[Link]) -> usize
     ensures there { result ≤ length links.now }
     ensures least { BeginsAtLeast (turned result links.now) }

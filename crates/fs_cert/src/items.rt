@@ -72,7 +72,8 @@ pub(crate) fn item_at(
     }
 }
 
-/// What a tree says of a node that so many witnesses bound, from this one on. With no witness it costs too much by itself.
+/// What a tree says of a node that so many witnesses bound, from this one on. With no witness it costs too much by
+/// itself.
 fn bounded(alloc: Global, numbers: &[u64], first: usize, count: usize) -> Result<Item, AllocError>
     requires small { AreSmall numbers.now }
     requires there { HasNumbers (length numbers.now) (status_of (Status.Bounded first count)) }

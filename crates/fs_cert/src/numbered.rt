@@ -85,8 +85,8 @@ fn add(alloc: Global, files: &mut Vec<WitnessFile>, witness: &Witness) -> Result
     Ok(number as u64)
 }
 
-/// The witnesses, each once, in the order in which they come first, and the number of each. It takes time of the witnesses times the
-/// different ones among them.
+/// The witnesses, each once, in the order in which they come first, and the number of each. It takes time of the
+/// witnesses times the different ones among them.
 pub(crate) fn number_all(alloc: Global, witnesses: &[Arc<Witness>]) -> Result<Numbering, AllocError>
     ensures numbers { IfOk result (λ n. IsNumbering n.files.items n.numbers.items (map witness_in witnesses.now)) }
     ensures once { IfOk result (λ n. AreDistinct n.files.items) }

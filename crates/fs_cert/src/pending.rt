@@ -10,8 +10,8 @@ use fs_board::Status;
 use std::alloc::{AllocError, Global};
 use std::marker::Model;
 
-/// Numbers of nodes, of which the next one to be visited is the first. The walk keeps no more of them than the test's slots times the
-/// ways to decide one.
+/// Numbers of nodes, of which the next one to be visited is the first. The walk keeps no more of them than the test's
+/// slots times the ways to decide one.
 #[derive(Drop)]
 pub(crate) struct Pending {
     nodes: Vec<usize>,

@@ -45,8 +45,8 @@ fn status_at(board: &Board, node: usize) -> Status
     }
 }
 
-/// The items of a finished board's tree in preorder, where its witnesses have these numbers in the certificate: each node before those
-/// below it. It takes time of nodes times slots.
+/// The items of a finished board's tree in preorder, where its witnesses have these numbers in the certificate: each
+/// node before those below it. It takes time of nodes times slots.
 pub(crate) fn tree_of(
     alloc: Global,
     board: &Board,

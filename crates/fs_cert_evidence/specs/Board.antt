@@ -1,4 +1,5 @@
--- The search board: a tree of partial placements, which workers take, split and close. Each event of a worker is one step.
+-- The search board: a tree of partial placements, which workers take, split and close. Each event of a worker is one
+-- step.
 use Rattle.std.specs.Prelude.{ℕ, ◌+◌, ◌==◌, nat_lt, Bool, true, false, ◌&&◌, not, Option, None, Some, option_and_then, if◌then◌else◌, List, [], ◌∷◌, ◌++◌, map, length, slice_get, slice_set}
 use Rattle.std.specs.List.{list_any}
 use Rattle.fs_kinds.specs.declared.placement.Entry.{Entry}
@@ -9,9 +10,9 @@ use Rattle.fs_model.specs.Witness.{Witness}
 use Rattle.fs_model.specs.Allows.{is_better}
 use Rattle.fs_cert_evidence.specs.Parts.{Part, undecided, options}
 
--- What became of a node. It was split at a slot, and its children are the nodes from this number on; it is pruned by cost alone, by
--- one witness, or by a list of them, which may be empty; or it was posted. Witnesses go by their numbers in the board's list; a list has
--- those from the first on, so many.
+-- What became of a node. It was split at a slot, and its children are the nodes from this number on; it is pruned by
+-- cost alone, by one witness, or by a list of them, which may be empty; or it was posted. Witnesses go by their numbers
+-- in the board's list; a list has those from the first on, so many.
 pub data Status : Type 0 where
   Open : Status
   Held : (worker : ℕ) → Status
@@ -25,8 +26,8 @@ pub record Node : Type 0 where
   pub part : Part
   pub status : Status
 
--- the nodes by their numbers; the best placement posted, which the field calls the incumbent; what pruned nodes; the greatest number that
--- a node may have
+-- the nodes by their numbers; the best placement posted, which the field calls the incumbent; what pruned nodes; the
+-- greatest number that a node may have
 pub record Board : Type 0 where
   pub nodes : List Node
   pub bound : Option (List Entry)

@@ -21,12 +21,13 @@ abbrev pub IsCandidateFault : Test → Fault → Type 0
 IsCandidateFault t fault.TooManyCandidates = ((f : Fault) → IsRunFault t f → ⊥) × HasTooMany t
 IsCandidateFault t f = IsRunFault t f
 
--- the test's candidate executions can be listed: of the runs whose loads take words of the rounds of value sets none goes astray, and neither
--- a hart's runs, nor the lists of runs, nor the candidates are too many
+-- the test's candidate executions can be listed: of the runs whose loads take words of the rounds of value sets none
+-- goes astray, and neither a hart's runs, nor the lists of runs, nor the candidates are too many
 abbrev pub HasNoCandidateFault : Test → Type 0
 HasNoCandidateFault t = (f : Fault) → IsCandidateFault t f → ⊥
 
--- why a certificate with these cycles isn't judged: a cycle for each candidate needs their list, and a refutation the runs alone
+-- why a certificate with these cycles isn't judged: a cycle for each candidate needs their list, and a refutation the
+-- runs alone
 abbrev pub IsCyclesFault : Cycles → Test → Fault → Type 0
 IsCyclesFault (Listed cycles) t f = IsCandidateFault t f
 IsCyclesFault (Inferred inferences) t f = IsRunFault t f

@@ -1,5 +1,5 @@
--- Candidate executions: runs, a source for each load, and a coherence order of each location's stores. They have no global memory
--- order.
+-- Candidate executions: runs, a source for each load, and a coherence order of each location's stores. They have no
+-- global memory order.
 use Rattle.std.specs.Prelude.{◌≡◌, ℕ, ◌+◌, ◌<◌, ◌==◌, Bool, true, false, ◌&&◌, not, Option, None, Some, option_and_then, unwrap_or, List, [], filter, length, slice_get}
 use Rattle.std.specs.List.{list_any, list_all, last_or, slice_index_or}
 use Rattle.fs_model.specs.declared.test.Test.{Test}
@@ -11,8 +11,8 @@ use Rattle.fs_model.specs.Execution.{pre_execution}
 use Rattle.fs_model.specs.Values.{AreRunsOverValues}
 use Rattle.fs_model.specs.Shows.{is_store_to, holds, is_outcome, final_register}
 
--- For each operation the one that wrote what it loads, where it loads, and for each location its stores, the initial one first.
--- Both go by the operations' numbers.
+-- For each operation the one that wrote what it loads, where it loads, and for each location its stores, the initial
+-- one first. Both go by the operations' numbers.
 pub record Candidate : Type 0 where
   pub traces : List (List Step)
   pub source : List (Option ℕ)
@@ -30,7 +30,8 @@ rf c a = slice_index_or c.source a None
 abbrev pub stores_to : Candidate → ℕ → List ℕ
 stores_to c location = slice_index_or c.store_order location []
 
--- coherence: a stands before b in the coherence order of their location. Of raw candidates both are stores to one location.
+-- coherence: a stands before b in the coherence order of their location. Of raw candidates both are stores to one
+-- location.
 abbrev pub co : Candidate → ℕ → ℕ → Bool
 co c a b = list_any (λ stores. stands_before stores a b) c.store_order
 

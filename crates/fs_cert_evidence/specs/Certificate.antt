@@ -13,8 +13,8 @@ use Rattle.fs_model.specs.Execution.{Execution}
 use Rattle.fs_model.specs.Witness.{Witness}
 use Rattle.fs_cert_evidence.specs.Judged.{Cause}
 
--- In the first version ties are left open, in the second the answer is the first of the cheapest. So it is in the fourth, which has
--- inferences in place of cycles. There is no third.
+-- In the first version ties are left open, in the second the answer is the first of the cheapest. So it is in the
+-- fourth, which has inferences in place of cycles. There is no third.
 pub data Version : Type 0 where
   First : Version
   Second : Version
@@ -46,7 +46,8 @@ pub data Inference : Type 0 where
   Reversed : (load store : Name) → Inference
   Parted : (load store other : Name) → Inference
 
--- what is to show that the answer forbids the outcome: a cycle for each showing candidate, in their order; or the steps of a refutation
+-- what is to show that the answer forbids the outcome: a cycle for each showing candidate, in their order; or the steps
+-- of a refutation
 pub data Cycles : Type 0 where
   Listed : (cycles : List (List Link)) → Cycles
   Inferred : (inferences : List Inference) → Cycles
@@ -60,8 +61,8 @@ abbrev pub listed_in : Cycles → List (List Link)
 listed_in (Listed cycles) = cycles
 listed_in (Inferred inferences) = []
 
--- An item of a tree in preorder: a node that splits at the slot of this number, or a leaf. A leaf costs too much, or the witness of
--- this number refutes it, or the witnesses of these numbers bound it; the last not in the first version.
+-- An item of a tree in preorder: a node that splits at the slot of this number, or a leaf. A leaf costs too much, or
+-- the witness of this number refutes it, or the witnesses of these numbers bound it; the last not in the first version.
 pub data Item : Type 0 where
   SplitAt : (slot : ℕ) → Item
   Costly : Item
@@ -101,8 +102,8 @@ IsBest First = IsLeastCost
 IsBest Second = IsCheapest
 IsBest Fourth = IsCheapest
 
--- what it shows of an answer: the placement is the best one, as the version has it; or none is right, since an execution shows the
--- outcome with rw,rw in every slot
+-- what it shows of an answer: the placement is the best one, as the version has it; or none is right, since an
+-- execution shows the outcome with rw,rw in every slot
 abbrev pub IsRight : Version → Test → PriceTable → Option (List Entry) → Type 0
 IsRight version t prices (Some p) = IsBest version t prices p
 IsRight version t prices None = (e : Execution) × RefutesAll t e

@@ -1,4 +1,5 @@
--- Certificate files: the JSON text (RFC 8259) of an object with the members `answer`, `cycles`, `tree`, `version` and `witnesses`.
+-- Certificate files: the JSON text (RFC 8259) of an object with the members `answer`, `cycles`, `tree`, `version` and
+-- `witnesses`.
 use Rattle.std.specs.Prelude.{◌≡◌, ℕ, ◌<◌, ◌≤◌, ◌^◌, Bool, true, false, Some, option_map, List, [], ◌∷◌, All, length, codes}
 use Rattle.std.specs.List.{list_all}
 use Rattle.std.specs.Str.{IsUtf8}

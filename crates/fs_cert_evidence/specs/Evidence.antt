@@ -54,7 +54,8 @@ pairs_at w slot = record {
 abbrev pub widths_of : Width → List Slot → List Pairs
 widths_of w = map (pairs_at w)
 
--- The witness gives this execution and no other, which shows the outcome without placed fences, and the widths are its widths.
+-- The witness gives this execution and no other, which shows the outcome without placed fences, and the widths are its
+-- widths.
 pub record IsWitnessFor (t : Test) (shown : Shown) (e : Execution) : Type 0 where
   pub shows : ShowsAs t [] shown.witness e
   pub only : (other : Execution) → ShowsAs t [] shown.witness other → other ≡ e

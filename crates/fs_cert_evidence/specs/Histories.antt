@@ -67,8 +67,8 @@ module _ (t : Test) (prices : PriceTable) where
   Steps old w (CutWitness k witness) Closed new =
       (part : Part) × HoldsNode old w k part × IsShownBy t (filled part) witness
       × (new ≡ with_witnesses (Witnessed (length old.witnesses)) k part (witness ∷ []) old)
-  -- Each placement under the node that forbids the outcome is no better than the bound: the witnesses show the outcome under the
-  -- node's least placement, and what breaks them all is no better.
+  -- Each placement under the node that forbids the outcome is no better than the bound: the witnesses show the outcome
+  -- under the node's least placement, and what breaks them all is no better.
   Steps old w (CutBound k witnesses) NotYours new = LacksNode old w k × (new ≡ old)
   Steps old w (CutBound k witnesses) NotCovered new =
       (part : Part) × HoldsNode old w k part × (All (IsShownBy t (floor part)) witnesses → ⊥) × (new ≡ old)
@@ -80,7 +80,8 @@ module _ (t : Test) (prices : PriceTable) where
       (part : Part) × HoldsNode old w k part
       × ((es : List Execution) × AllZip (ShowsAs t (floor part)) witnesses es × (is_pruned prices old.bound part (map (width t) es) ≡ true))
       × (new ≡ with_witnesses (Bounded (length old.witnesses) (length witnesses)) k part witnesses old)
-  -- The node's least placement forbids the outcome. A post of it while it allows the outcome has no reply: callers may not do so.
+  -- The node's least placement forbids the outcome. A post of it while it allows the outcome has no reply: callers may
+  -- not do so.
   Steps old w (Post k p) NotYours new = LacksNode old w k × (new ≡ old)
   Steps old w (Post k p) Other new = (part : Part) × HoldsNode old w k part × (p ≢ floor part) × (new ≡ old)
   Steps old w (Post k p) Closed new =
@@ -96,9 +97,9 @@ module _ (t : Test) (prices : PriceTable) where
   Lead old [] new = new ≡ old
   Lead old (entry ∷ entries) new = (next : Board) × Steps old entry.worker entry.event entry.reply next × Lead next entries new
 
-  -- A legal history, and the board that it leads to. A finished board has an answer, by a law of fs_board_laws, where the price table offers
-  -- rw,rw: else each placement of offered kinds may allow the outcome, while rw,rw in every slot forbids it. Where a finished board has
-  -- no bound, its leaf over rw,rw everywhere is witnessed, or bounded by a list with a witness that no offered kind breaks at a slot that
-  -- the leaf leaves undecided.
+  -- A legal history, and the board that it leads to. A finished board has an answer, by a law of fs_board_laws, where
+  -- the price table offers rw,rw: else each placement of offered kinds may allow the outcome, while rw,rw in every slot
+  -- forbids it. Where a finished board has no bound, its leaf over rw,rw everywhere is witnessed, or bounded by a list
+  -- with a witness that no offered kind breaks at a slot that the leaf leaves undecided.
   abbrev pub IsHistory : (limit : ℕ) → List LogEntry → Board → Type 0
   IsHistory limit entries board = Lead (opening t limit) entries board

@@ -1,6 +1,7 @@
--- The judged relation of a candidate with fences: what a global memory order of it must respect. It is the union of preserved program
--- order, external reads-from, coherence order and from-reads, in the field's letters ppo, rfe, co and fr. Of a showing
--- candidate the memory model has an execution exactly where this union has no cycle (a law of fs_cand_verdict_laws).
+-- The judged relation of a candidate with fences: what a global memory order of it must respect. It is the union of
+-- preserved program order, external reads-from, coherence order and from-reads, in the field's letters ppo, rfe, co and
+-- fr. Of a showing candidate the memory model has an execution exactly where this union has no cycle (a law of
+-- fs_cand_verdict_laws).
 use Rattle.std.specs.Prelude.{ℕ, ◌==◌, Bool, false, ◌&&◌, ◌||◌, not, Option, None, Some, List, [], ◌∷◌, ◌++◌, map}
 use Rattle.fs_kinds.specs.declared.placement.Entry.{Entry}
 use Rattle.fs_model.specs.Numbers.{is_same}
@@ -25,9 +26,9 @@ fr c a b = not (a == b) && is_later c (rf c a) b
 abbrev pub is_judged : PreExecution → List Entry → Candidate → ℕ → ℕ → Bool
 is_judged x p c a b = ppo x p (rf c) a b || (rfe x c a b || (co c a b || fr c a b))
 
--- Why a must come before b: by a rule of preserved program order; b returns what a wrote, and a is of another hart or an initial
--- store (the field's rfe); both store to one location, a earlier in coherence order; or a loads, and b stores later than what a
--- returns.
+-- Why a must come before b: by a rule of preserved program order; b returns what a wrote, and a is of another hart or
+-- an initial store (the field's rfe); both store to one location, a earlier in coherence order; or a loads, and b
+-- stores later than what a returns.
 pub data Cause : Type 0 where
   Preserved : Rule → Cause
   ReadsFrom : Cause

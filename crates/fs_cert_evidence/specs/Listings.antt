@@ -28,7 +28,8 @@ source_key n (Some s) = if nat_lt s n then s + 1 else 0
 abbrev pub key : Test → Candidate → List ℕ
 key t c = map (source_key (length (accesses (runs_of t c)))) c.source ++ flat_map (λ stores. stores) c.store_order
 
--- c is the earlier candidate: by the choices, hart by hart, and where the steps are the same by sources and coherence orders
+-- c is the earlier candidate: by the choices, hart by hart, and where the steps are the same by sources and coherence
+-- orders
 abbrev pub Precedes : Test → Candidate → Candidate → Type 0
 Precedes t c d = AreEarlier c.traces d.traces ⊎ ((c.traces ≡ d.traces) × (is_less (key t c) (key t d) ≡ true))
 

@@ -25,8 +25,8 @@ undecided t = map (λ slot. record { slot = slot; decided = None }) (slots t)
 abbrev pub filled_with : Option Kind → Part → List Entry
 filled_with kind = map (λ d. record { slot = d.slot; kind = unwrap_or d.decided kind })
 
--- The decided slots with none elsewhere: the least completion, since none costs nothing and is before each kind. And the decided
--- slots with rw,rw elsewhere.
+-- The decided slots with none elsewhere: the least completion, since none costs nothing and is before each kind. And
+-- the decided slots with rw,rw elsewhere.
 abbrev pub floor : Part → List Entry
 floor = filled_with None
 

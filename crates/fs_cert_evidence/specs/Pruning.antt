@@ -1,6 +1,7 @@
--- When nothing under a partial placement is better than the best placement so far: the test by which the search prunes, and by which
--- a certificate's leaf is judged. It is the lower bound of branch and bound. A placement that forbids the outcome must break each
--- execution that shows it under the floor; where no slot serves to break two of them, it pays for each.
+-- When nothing under a partial placement is better than the best placement so far: the test by which the search prunes,
+-- and by which a certificate's leaf is judged. It is the lower bound of branch and bound. A placement that forbids the
+-- outcome must break each execution that shows it under the floor; where no slot serves to break two of them, it pays
+-- for each.
 use Rattle.std.specs.Prelude.{ℕ, ◌+◌, ◌==◌, nat_lt, min, Bool, true, false, ◌&&◌, ◌||◌, not, Option, None, Some, option_map, option_and_then, List, [], ◌∷◌, map, filter}
 use Rattle.std.specs.List.{list_any, flat_map}
 use Rattle.fs_kinds.specs.declared.kind.Kind.{Kind}
@@ -61,14 +62,14 @@ abbrev pub lower_bound : PriceTable → Part → List Width → Option ℕ
 lower_bound prices part [] = Some (cost prices (floor part))
 lower_bound prices part (w ∷ ws) = sum_of (least_break prices part w) (lower_bound prices part ws)
 
--- What costs so much, or can't be had at all, is no better than the bound; at equal cost the bound wins where the floor isn't before
--- it, since a part's floor is its first completion.
+-- What costs so much, or can't be had at all, is no better than the bound; at equal cost the bound wins where the floor
+-- isn't before it, since a part's floor is its first completion.
 abbrev pub is_no_better : PriceTable → (bound : Option (List Entry)) → Part → Option ℕ → Bool
 is_no_better prices bound part None = true
 is_no_better prices None part (Some n) = false
 is_no_better prices (Some p) part (Some n) = nat_lt (cost prices p) n || (cost prices p == n) && not (precedes (floor part) p)
 
--- Executions of these widths, which show the outcome under the part's floor, bound what is under the part: nothing that forbids the
--- outcome there is better than the bound. With no execution, the part is pruned by cost alone.
+-- Executions of these widths, which show the outcome under the part's floor, bound what is under the part: nothing that
+-- forbids the outcome there is better than the bound. With no execution, the part is pruned by cost alone.
 abbrev pub is_pruned : PriceTable → (bound : Option (List Entry)) → Part → List Width → Bool
 is_pruned prices bound part widths = are_apart prices part widths && is_no_better prices bound part (lower_bound prices part widths)

@@ -20,8 +20,9 @@ entry_of worker r = record { worker = worker; event = r.event; reply = r.reply }
 abbrev pub IsLogged : List LogEntry → ℕ → Receipt → Type 0
 IsLogged log worker r = slice_get log r.number ≡ Some (entry_of worker r)
 
--- Each receipt is the log's entry of its number, those of a worker stand in the order of the log, and the log has as many entries as
--- there are receipts. Since no two passes are of one worker, each entry is the receipt of exactly one of them.
+-- Each receipt is the log's entry of its number, those of a worker stand in the order of the log, and the log has as
+-- many entries as there are receipts. Since no two passes are of one worker, each entry is the receipt of exactly one
+-- of them.
 pub record IsAgreed (passes : List Pass) (log : List LogEntry) : Type 0 where
   pub workers : AllPairs (λ pass other. pass.worker ≢ other.worker) passes
   pub logged : All (λ pass. All (IsLogged log pass.worker) pass.receipts) passes

@@ -1,5 +1,5 @@
--- Why a certificate is refused: the first reason in the order in which they stand here, and in the tree the first item that
--- fails.
+-- Why a certificate is refused: the first reason in the order in which they stand here, and in the tree the first item
+-- that fails.
 use Rattle.std.specs.Prelude.{◌≡◌, ◌≢◌, ℕ, ◌+◌, ◌⊎◌, Bool, true, false, Option, None, Some, if◌then◌else◌, option_map, unwrap_or, List, [], ◌∷◌, ◌++◌, All, length, take, slice_get}
 use Rattle.std.specs.List.{AllZip}
 use Rattle.fs_kinds.specs.declared.kind.Kind.TheVariants.{RwRw}
@@ -39,8 +39,8 @@ pub record IsFirstBad (t : Test) (p : List Entry) (cs : List Candidate) (cycles 
   pub bad : IsCycle t p candidate links → ⊥
   pub earlier : AllZip (IsCycle t p) (take index cs) (take index cycles)
 
--- The reason against these inferences as a tree of these regions: the first that can't be drawn, where the first of them has the
--- number k in the whole tree; or one is missing or left over.
+-- The reason against these inferences as a tree of these regions: the first that can't be drawn, where the first of
+-- them has the number k in the whole tree; or one is missing or left over.
 abbrev pub first_wrong : Test → List Entry → List Region → List Inference → (k : ℕ) → Option Reason
 first_wrong t p [] [] k = None
 first_wrong t p [] (inference ∷ inferences) k = Some reason.Cycles
@@ -91,7 +91,8 @@ module _ (t : Test) (prices : PriceTable) (c : Certificate) (p : List Entry) whe
   Fails (part ∷ parts) (Refuted j ∷ items) k r =
       ((Refutes t c.witnesses (filled part) j → ⊥) × (r ≡ reason.Witness j))
       ⊎ (Refutes t c.witnesses (filled part) j × Fails parts items (k + 1) r)
-  -- the first witness that isn't there or shows nothing against the leaf's floor; or witnesses that don't bound the leaf
+  -- the first witness that isn't there or shows nothing against the leaf's floor; or witnesses that don't bound the
+  -- leaf
   Fails (part ∷ parts) (Bounded js ∷ items) k r =
       ((j : ℕ) × IsFirstUnshown t c.witnesses (floor part) js j × (r ≡ reason.Witness j))
       ⊎ ((All (Refutes t c.witnesses (floor part)) js × (Bounds t prices c.witnesses p part js → ⊥) × (r ≡ reason.Node k))

@@ -1,5 +1,5 @@
--- What is written: the JSON text of witnesses and certificates, compact and with the keys in the order of their bytes, and the lines of
--- an answer.
+-- What is written: the JSON text of witnesses and certificates, compact and with the keys in the order of their bytes,
+-- and the lines of an answer.
 use Rattle.std.specs.Prelude.{ℕ, true, false, Option, None, Some, List, [], ◌∷◌, ◌++◌, map, codes}
 use Rattle.std.specs.Fmt.{decimal}
 use Rattle.std.specs.List.{flat_map}

@@ -1,5 +1,5 @@
--- Valid certificates: for a placement one cycle for each showing candidate, or a refutation, and a tree that leaves no better
--- placement; for none an execution that shows the outcome with rw,rw in every slot.
+-- Valid certificates: for a placement one cycle for each showing candidate, or a refutation, and a tree that leaves no
+-- better placement; for none an execution that shows the outcome with rw,rw in every slot.
 use Rattle.std.specs.Prelude.{◌≡◌, ℕ, nat_le, Bool, true, Option, None, Some, List, [], ◌∷◌, ◌++◌, map, slice_get}
 use Rattle.std.specs.List.{AllZip}
 use Rattle.fs_kinds.specs.declared.placement.Entry.{Entry}

@@ -1,5 +1,5 @@
--- What fences an execution bears: its width at a slot is the set of pairs that its order keeps there. Fences of the test itself count
--- among what the order keeps; this does no harm, since a placed fence adds nothing to them.
+-- What fences an execution bears: its width at a slot is the set of pairs that its order keeps there. Fences of the
+-- test itself count among what the order keeps; this does no harm, since a placed fence adds nothing to them.
 use Rattle.std.specs.Prelude.{◌≡◌, ◌↔◌, ℕ, Bool, true, ◌&&◌, ◌||◌, not, Some, List, [], ◌∷◌, length}
 use Rattle.std.specs.List.{list_all}
 use Rattle.fs_kinds.specs.declared.kind.Kind.{Kind}

@@ -1,5 +1,5 @@
--- Witness files: the JSON text (RFC 8259) of an object with two members. `choices` is an array with an array of choices for each
--- hart, and `order` an array of operations' names.
+-- Witness files: the JSON text (RFC 8259) of an object with two members. `choices` is an array with an array of choices
+-- for each hart, and `order` an array of operations' names.
 use Rattle.std.specs.Prelude.{◌≡◌, ◌<◌, ℕ, List, [], ◌∷◌, map, length, codes, Bool, true, false, nat_lt, ◌&&◌, if◌then◌else◌, Option, None, Some, option_map, ◌⊎◌}
 use Rattle.std.specs.Str.{IsUtf8}
 use Rattle.serde_json.specs.Data.{Data, Items, no_items, item}

@@ -1,4 +1,5 @@
-//! What breaks a witness: an execution whose order doesn't keep a pair at a slot is ruled out by a fence there that orders it.
+//! What breaks a witness: an execution whose order doesn't keep a pair at a slot is ruled out by a fence there that
+//! orders it.
 
 ghost use Rattle.std.specs.Prelude.{◌≡◌, ℕ, ◌≤◌, IfSome};
 ghost use Rattle.fs_cert_evidence.specs.Breaks.{fits, is_kept, is_break, break_cost, lesser_of, least_of};
@@ -32,8 +33,8 @@ pub fn fits(pairs: Pairs, kind: Option<Kind>) -> bool
     }
 }
 
-/// Does each slot of the part order only what is kept there, where undecided slots have this kind or none? It calls itself once for
-/// each slot, of which a test has 48 at most.
+/// Does each slot of the part order only what is kept there, where undecided slots have this kind or none? It calls
+/// itself once for each slot, of which a test has 48 at most.
 pub fn is_kept(part: &[Decision], widths: &[Pairs], kind: Option<Kind>) -> bool
     ensures { result ≡ is_kept kind part.now widths.now }
 {

@@ -63,8 +63,8 @@ fn rank(kind: Option<Kind>) -> usize
     kind.map_or(0, |kind| 1 + kind.table_index())
 }
 
-/// Is the placement before the other one in the order of those of equal cost? It calls itself once for each slot, of which a test has
-/// 48 at most.
+/// Is the placement before the other one in the order of those of equal cost? It calls itself once for each slot, of
+/// which a test has 48 at most.
 pub fn precedes(placement: &[Entry], other: &[Entry]) -> bool
     ensures { result ≡ precedes placement.now other.now }
 {
@@ -112,8 +112,8 @@ pub fn is_same(placement: &[Entry], other: &[Entry]) -> bool
     *entry == *above && is_same(placement, other)
 }
 
-/// Is the part's floor before the placement in the order of those of equal cost? It calls itself once for each slot, of which a test
-/// has 48 at most.
+/// Is the part's floor before the placement in the order of those of equal cost? It calls itself once for each slot, of
+/// which a test has 48 at most.
 pub fn floor_precedes(part: &[Decision], placement: &[Entry]) -> bool
     ensures { result ≡ precedes (floor part.now) placement.now }
 {

@@ -14,8 +14,8 @@ pub struct Pairs {
     pub write_write: bool,
 }
 
-/// An execution by the choices of each hart and the names of the operations in their order, with the pairs that its order keeps at
-/// each slot of the test.
+/// An execution by the choices of each hart and the names of the operations in their order, with the pairs that its
+/// order keeps at each slot of the test.
 #[derive(Drop)]
 pub struct Witness {
     pub choices: ChoiceLists,
@@ -31,8 +31,8 @@ impl Model for Witness {
     ghost view = { λ w. record { witness = record { choices = w.choices; order = w.order }; widths = w.widths } };
 }
 
-/// Why an operation of a cycle comes before the next one: by a rule of preserved program order, or since the next one reads from it
-/// (rfe), comes later in coherence order (co), or overwrites what it read (fr).
+/// Why an operation of a cycle comes before the next one: by a rule of preserved program order, or since the next one
+/// reads from it (rfe), comes later in coherence order (co), or overwrites what it read (fr).
 #[derive(Clone, Copy, Debug, PartialEq, Eq)]
 pub enum Cause {
     Rule1,

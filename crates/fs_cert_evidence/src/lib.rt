@@ -1,6 +1,7 @@
-//! What a search is asked and what shows its answer: candidate executions and their judged relation, executions with their widths,
-//! cycles, the inferences of a refutation, certificates, witness files; the search board as a machine, with what makes a legal history
-//! of it; and partial placements, with what the board and the checker of certificates both compute of them.
+//! What a search is asked and what shows its answer: candidate executions and their judged relation, executions with
+//! their widths, cycles, the inferences of a refutation, certificates, witness files; the search board as a machine,
+//! with what makes a legal history of it; and partial placements, with what the board and the checker of certificates
+//! both compute of them.
 #![tactic(auto)]
 
 mod breaks;

@@ -7,8 +7,9 @@ ghost use Rattle.fs_cert_evidence.specs.WitnessFile.{in_range};
 
 use fs_kinds::{Fault, OperationName, read_place};
 
-/// The operation of this name: `P`, the hart's number, `:`, the instruction's number, both in decimal without leading zeros and
-/// of any length. It is none where a number passes 255, since no operation has such a name. F17 where the text is no name.
+/// The operation of this name: `P`, the hart's number, `:`, the instruction's number, both in decimal without leading
+/// zeros and of any length. It is none where a number passes 255, since no operation has such a name. F17 where the
+/// text is no name.
 pub fn read_name(text: &str) -> Result<Option<OperationName>, Fault>
     ensures ok { IfOk result (λ found. (name : OperationName) × IsOperationName text.now name × (found ≡ in_range name)) }
     ensures bad { OnErr result ((name : OperationName) → ¬ IsOperationName text.now name) }

@@ -29,10 +29,10 @@ pub struct WitnessFile {
     pub order: Names,
 }
 
-/// Reads a witness for a test with so many harts from the bytes of a JSON object with two members. `choices` has a list for each
-/// hart: a number from 0 to 4294967295 is a loaded word, and true and false are the success and the failure of an sc.w. `order`
-/// has the operations' names, as `P0:2` for instruction 2 of hart 0. F17 where the bytes aren't such an object, F19. Where a key
-/// comes twice, its last value counts.
+/// Reads a witness for a test with so many harts from the bytes of a JSON object with two members. `choices` has a list
+/// for each hart: a number from 0 to 4294967295 is a loaded word, and true and false are the success and the failure of
+/// an sc.w. `order` has the operations' names, as `P0:2` for instruction 2 of hart 0. F17 where the bytes aren't such
+/// an object, F19. Where a key comes twice, its last value counts.
 pub fn read_witness(alloc: Global, harts: usize, bytes: &[u8]) -> Result<WitnessFile, Fault>
     ensures ok { IfOk result (λ file. (w : Witness) × IsWitnessFile harts bytes.now w × KeepsWitness file w) }
     ensures bad { IsErrOf result Fault.BadWitness → (w : Witness) → ¬ IsWitnessFile harts bytes.now w }
@@ -59,8 +59,8 @@ fn read_json(alloc: Global, bytes: &[u8]) -> Result<Value, Fault>
     }
 }
 
-/// The witness that the JSON value says, with choices for any number of harts. F17 where the value isn't an object as in a witness
-/// file, F19.
+/// The witness that the JSON value says, with choices for any number of harts. F17 where the value isn't an object as
+/// in a witness file, F19.
 pub fn witness_of(alloc: Global, value: &Value) -> Result<WitnessFile, Fault>
     ensures ok { IfOk result (λ file. (w : Witness) × IsWitnessValue (view value.now) w × KeepsWitness file w) }
     ensures bad { IsErrOf result Fault.BadWitness → (w : Witness) → ¬ IsWitnessValue (view value.now) w }

@@ -3,8 +3,8 @@
 use fs_cert_evidence::{Cause, Inference, WitnessFile};
 use fs_kinds::{List, OperationName};
 
-/// What a certificate claims: in the first version that no cheaper placement forbids the outcome, in the others that the answer is
-/// the first of the cheapest. The fourth has a refutation in place of a list of cycles.
+/// What a certificate claims: in the first version that no cheaper placement forbids the outcome, in the others that
+/// the answer is the first of the cheapest. The fourth has a refutation in place of a list of cycles.
 #[derive(Clone, Copy, Debug, PartialEq, Eq)]
 pub enum Version {
     First,
@@ -34,8 +34,8 @@ pub enum Item {
     Bounded(List<u64>),
 }
 
-/// One step of a cycle: an operation, and why it comes before the next one. There is no operation where a number of its name
-/// passes 255, since no operation has such a name.
+/// One step of a cycle: an operation, and why it comes before the next one. There is no operation where a number of its
+/// name passes 255, since no operation has such a name.
 #[derive(Drop)]
 pub struct CertificateLink {
     pub operation: Option<OperationName>,

@@ -23,10 +23,10 @@ use serde_json::Value;
 use std::alloc::Global;
 
 impl Certificate {
-    /// Reads a certificate from the bytes of its file, a JSON object with the five keys `answer`, `cycles`, `tree`, `version` and
-    /// `witnesses`. Whether what it says is right is no matter here. F18 where the bytes aren't such an object, F19. Where a key
-    /// comes twice, its last value counts. Memory is linear in the bytes, and so is time but for objects
-    /// of many keys, which are sorted.
+    /// Reads a certificate from the bytes of its file, a JSON object with the five keys `answer`, `cycles`, `tree`,
+    /// `version` and `witnesses`. Whether what it says is right is no matter here. F18 where the bytes aren't such an
+    /// object, F19. Where a key comes twice, its last value counts. Memory is linear in the bytes, and so is time but
+    /// for objects of many keys, which are sorted.
     pub fn from_bytes(alloc: Global, bytes: &[u8]) -> Result<Certificate, Fault>
         ensures ok { IfOk result (λ kept. (c : said.Certificate) × IsCertificateFile bytes.now c × KeepsCertificate kept c) }
         ensures bad { IsErrOf result Fault.BadCertificate → (c : said.Certificate) → ¬ IsCertificateFile bytes.now c }

@@ -18,8 +18,9 @@ use serde_json::{Value, json};
 use std::alloc::{AllocError, Global};
 
 impl Certificate {
-    /// The certificate's JSON text: compact, with the keys in the order of their bytes. An operation that is none, since its name
-    /// is of no operation, is written as `null`, and such a text is no certificate. The error is want of memory.
+    /// The certificate's JSON text: compact, with the keys in the order of their bytes. An operation that is none,
+    /// since its name is of no operation, is written as `null`, and such a text is no certificate. The error is want of
+    /// memory.
     pub fn to_text(&self, alloc: Global) -> Result<String, AllocError>
         ensures text { IfOk result (λ text. (c : said.Certificate) → KeepsCertificate self.now c → AreInRange c
             → string_bytes text ≡ certificate_text c) }

@@ -1,4 +1,5 @@
--- What the first number, or the first two, that a search finds say of the axioms; and what a search says that finds none.
+-- What the first number, or the first two, that a search finds say of the axioms; and what a search says that finds
+-- none.
 use Rattle.std.proofs.Common.{◌≡◌, ℕ, zero, suc, ◌+◌, ◌<◌, ◌≤◌, Bool, true, false, ◌&&◌, ◌||◌, not, Option, None, Some, is_some, option_map, unwrap_or, List, [], ◌∷◌, length, slice_get, refl, sym, inl, inr, arith, ap, subst, ◌∙◌}
 use Rattle.std.specs.List.{find, list_any, range_with_len}
 use Rattle.std.proofs.lemmas.Bool.{and_parts, or_cases, false≢true, cases_lt, cases_Bool, eqb-true, ltb-true, not-false}

@@ -8,9 +8,9 @@ ghost use Rattle.fs_model.specs.Test.{GoesForward};
 ghost use Rattle.fs_model.specs.Witness.{Witness};
 ghost use Rattle.fs_model.specs.Reasons.{IsYes, IsReason};
 
-/// A law: a witness has one verdict at most, in a test whose branches go forward. Where there is a reason against it, it gives
-/// no execution that shows the outcome, and there is no other reason. With a branch that goes back, a run may have an
-/// instruction twice, and then two operations have one name.
+/// A law: a witness has one verdict at most, in a test whose branches go forward. Where there is a reason against it,
+/// it gives no execution that shows the outcome, and there is no other reason. With a branch that goes back, a run may
+/// have an instruction twice, and then two operations have one name.
 pub fn one_verdict()
     ensures apart { (t : Test) (p : List Entry) (w : Witness) (why : Reason) → All GoesForward t.codes
         → IsReason t p w why → IsYes t p w → ⊥ }

@@ -1,5 +1,5 @@
-//! The checker of executions: whether a witness file gives one that RVWMO allows and that shows the outcome, or the first reason why
-//! not.
+//! The checker of executions: whether a witness file gives one that RVWMO allows and that shows the outcome, or the
+//! first reason why not.
 #![tactic(auto)]
 
 pub mod laws;

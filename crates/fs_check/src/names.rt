@@ -37,8 +37,8 @@ pub(crate) fn names(
     Ok(names)
 }
 
-// The numbers of the operations with these names, where each is that of an operation. The list of names is by the operations'
-// numbers.
+// The numbers of the operations with these names, where each is that of an operation. The list of names is by the
+// operations' numbers.
 pub(crate) fn numbers(
     alloc: Global,
     names: &[Option<Name>],
@@ -58,7 +58,7 @@ pub(crate) fn numbers(
     Ok(Some(order))
 }
 
-// The number of the operation with this name.
+/// The number of the operation with this name.
 fn number(names: &[Option<Name>], wanted: &Option<Name>) -> Option<u8>
     requires { length names.now ≤ most_numbered }
     ensures { result ≡ number_of names.now wanted.now }
@@ -73,7 +73,7 @@ fn index_of(names: &[Option<Name>], wanted: &Option<Name>) -> Option<usize>
     names.iter().position(|name| is_same(name, wanted))
 }
 
-// Are both there, and the same?
+/// Are both there, and the same?
 fn is_same(first: &Option<Name>, second: &Option<Name>) -> bool
     ensures { result ≡ is_same_name first.now second.now }
 {

@@ -37,11 +37,12 @@ pub enum OrderVerdict {
     No(Reason),
 }
 
-/// Whether a witness gives an execution, under the memory model RVWMO, of the test with the placement's fences, and one that
-/// shows the outcome of its condition; or the first reason why not. By the law `one_verdict` no other verdict holds of it. The
-/// witness is a file's bytes, as `read_witness` reads them. The cost: linear in the bytes and the steps; for each name of the
-/// witness and each atom of the condition linear in the operations; for each two operations linear in the operations and in the
-/// steps of a hart, the latter times the slots for placed fences. F17 where the bytes are no witness for so many harts, F19.
+/// Whether a witness gives an execution, under the memory model RVWMO, of the test with the placement's fences, and one
+/// that shows the outcome of its condition; or the first reason why not. By the law `one_verdict` no other verdict
+/// holds of it. The witness is a file's bytes, as `read_witness` reads them. The cost: linear in the bytes and the
+/// steps; for each name of the witness and each atom of the condition linear in the operations; for each two operations
+/// linear in the operations and in the steps of a hart, the latter times the slots for placed fences. F17 where the
+/// bytes are no witness for so many harts, F19.
 pub fn check_order(
     alloc: Global,
     test: &Test,
@@ -62,9 +63,10 @@ pub fn check_order(
     }
 }
 
-/// The execution that a witness gives, as its runs and their order, where it is one of the test with the placement's fences that
-/// shows the outcome of its condition; nothing where the witness gives no such execution. A witness with another number of lists of
-/// choices than the test has harts gives none. The cost is that of `check_order` after reading. The error is F19.
+/// The execution that a witness gives, as its runs and their order, where it is one of the test with the placement's
+/// fences that shows the outcome of its condition; nothing where the witness gives no such execution. A witness with
+/// another number of lists of choices than the test has harts gives none. The cost is that of `check_order` after
+/// reading. The error is F19.
 pub fn shown_by(
     alloc: Global,
     test: &Test,
@@ -89,7 +91,7 @@ pub fn shown_by(
     }
 }
 
-// The same of a witness whose choices make these runs.
+/// The same of a witness whose choices make these runs.
 fn shown_in(
     alloc: Global,
     test: &Test,
@@ -115,7 +117,7 @@ fn shown_in(
     }
 }
 
-// What is said of a witness whose choices make these runs.
+/// What is said of a witness whose choices make these runs.
 fn judge_runs(
     alloc: Global,
     test: &Test,
@@ -134,7 +136,7 @@ fn judge_runs(
     }
 }
 
-// The runs with the order that the file names, where it has each operation of the harts once.
+/// The runs with the order that the file names, where it has each operation of the harts once.
 fn ordered_by(
     alloc: Global,
     test: &Test,
@@ -156,7 +158,7 @@ fn ordered_by(
     Ok(Some(arrange(alloc, test, candidate, listed)?))
 }
 
-// The candidate of these runs, before any order.
+/// The candidate of these runs, before any order.
 fn candidate(alloc: Global, test: &Test, traces: Traces) -> Result<Candidate, Fault>
     requires test { IsBounded test.now }
     requires harts { length traces ≤ most_harts }
@@ -170,7 +172,7 @@ fn candidate(alloc: Global, test: &Test, traces: Traces) -> Result<Candidate, Fa
     Candidate::new(alloc, test, traces, source, store_order)
 }
 
-// The numbers of the operations that the file names, where they are each operation of the harts once.
+/// The numbers of the operations that the file names, where they are each operation of the harts once.
 fn listed(
     alloc: Global,
     test: &Test,
@@ -196,7 +198,7 @@ fn listed(
     }
 }
 
-// The order of the candidate's operations.
+/// The order of the candidate's operations.
 fn order_of(alloc: Global, candidate: &Candidate, listed: &[u8]) -> Result<Ordered, Fault>
     requires { length candidate.now.operations ≤ most_numbered }
     ensures ok { IfOk result (λ order. order ≡ record { operations = candidate.now.operations; listed = listed.now }) }
@@ -206,7 +208,7 @@ fn order_of(alloc: Global, candidate: &Candidate, listed: &[u8]) -> Result<Order
     Ordered::new(alloc, operations, listed)
 }
 
-// The sources of the operations in this order.
+/// The sources of the operations in this order.
 fn sources_of(alloc: Global, order: &Ordered) -> Result<Sources, AllocError>
     ensures { IfOk result (λ sources. (x : PreExecution) → order.now.operations ≡ operations_of x
         → sources ≡ map (source_in x order.now.listed) (numbers_below (length order.now.operations))) }
@@ -214,7 +216,7 @@ fn sources_of(alloc: Global, order: &Ordered) -> Result<Sources, AllocError>
     Ok(Sources::new(Vec::from_slice(alloc, order.sources())?))
 }
 
-// The runs with this order of their operations.
+/// The runs with this order of their operations.
 fn arrange(
     alloc: Global,
     test: &Test,
@@ -234,7 +236,7 @@ fn arrange(
     Ok(OrderedCandidate { candidate, order })
 }
 
-// What is said of runs with an order that has each operation once.
+/// What is said of runs with an order that has each operation once.
 fn judge(test: &Test, placement: &Placement, ordered: &OrderedCandidate) -> OrderVerdict
     requires ordered { IsOrdered test.now ordered.now }
     requires last { AreFinal test.now ordered.now.candidate.traces }
@@ -259,7 +261,7 @@ fn judge(test: &Test, placement: &Placement, ordered: &OrderedCandidate) -> Orde
     }
 }
 
-// The name of an operation of the harts.
+/// The name of an operation of the harts.
 fn operation_name(test: &Test, ordered: &OrderedCandidate, a: usize) -> OperationName
     requires ordered { IsOrdered test.now ordered.now }
     requires there { a < length (accesses (runs_in test.now ordered.now)) }
@@ -270,7 +272,7 @@ fn operation_name(test: &Test, ordered: &OrderedCandidate, a: usize) -> Operatio
     name(candidate.traces.as_slice(), operation).unwrap()
 }
 
-// The reason that a load is wrong, where one is.
+/// The reason that a load is wrong, where one is.
 fn load_reason(test: &Test, ordered: &OrderedCandidate) -> Option<Reason>
     requires { IsOrdered test.now ordered.now }
     ensures some { IfSome result (IsLoadReason (runs_in test.now ordered.now) ordered.now.order.listed) }
@@ -282,7 +284,7 @@ fn load_reason(test: &Test, ordered: &OrderedCandidate) -> Option<Reason>
     })
 }
 
-// The reason that a rule is broken, where one is.
+/// The reason that a rule is broken, where one is.
 fn rule_reason(test: &Test, placement: &Placement, ordered: &OrderedCandidate) -> Option<Reason>
     requires { IsOrdered test.now ordered.now }
     ensures some { IfSome result (IsRuleReason (runs_in test.now ordered.now) placement.now ordered.now.order.listed) }
@@ -298,7 +300,7 @@ fn rule_reason(test: &Test, placement: &Placement, ordered: &OrderedCandidate) -
     })
 }
 
-// The reason that atomicity is broken, where it is.
+/// The reason that atomicity is broken, where it is.
 fn atomic_reason(test: &Test, ordered: &OrderedCandidate) -> Option<Reason>
     requires { IsOrdered test.now ordered.now }
     ensures some { IfSome result (IsAtomicReason (runs_in test.now ordered.now) ordered.now.order.listed) }

@@ -25,7 +25,7 @@ pub struct OrderedCandidate {
 }
 
 impl OrderedCandidate {
-    // How many operations the harts have.
+    /// How many operations the harts have.
     fn count(&self, test: &Test) -> usize
         requires { IsOrdered test.now self.now }
         ensures { result ≡ length (accesses (runs_in test.now self.now)) }
@@ -33,7 +33,7 @@ impl OrderedCandidate {
         self.order.count()
     }
 
-    // Is a a load that doesn't return the word of its source?
+    /// Is a a load that doesn't return the word of its source?
     fn is_wrong_load(&self, test: &Test, a: usize) -> bool
         requires { IsOrdered test.now self.now }
         ensures { result ≡ is_wrong_load (runs_in test.now self.now) self.now.order.listed a }
@@ -41,7 +41,7 @@ impl OrderedCandidate {
         !self.order.returns_source(a)
     }
 
-    // Does a come before b by rule n?
+    /// Does a come before b by rule n?
     fn is_before(&self, test: &Test, placement: &Placement, n: u8, a: usize, b: usize) -> bool
         requires { IsOrdered test.now self.now }
         ensures { result ≡ is_before (runs_in test.now self.now) placement.now (rf self.now.candidate) n a b }
@@ -53,7 +53,7 @@ impl OrderedCandidate {
         }
     }
 
-    // Does a come before b by rule n, but not in the order?
+    /// Does a come before b by rule n, but not in the order?
     fn is_against_rule(&self, test: &Test, placement: &Placement, n: u8, a: usize, b: usize) -> bool
         requires { IsOrdered test.now self.now }
         ensures { result ≡ is_against_rule (runs_in test.now self.now) placement.now self.now.order.listed n a b }
@@ -61,7 +61,7 @@ impl OrderedCandidate {
         self.is_before(test, placement, n, a, b) && !self.order.stands_before(a, b)
     }
 
-    // Are r and w paired operations that break atomicity?
+    /// Are r and w paired operations that break atomicity?
     fn is_against_atomicity(&self, test: &Test, r: usize, w: usize) -> bool
         requires { IsOrdered test.now self.now }
         ensures { result ≡ is_against_atomicity (runs_in test.now self.now) self.now.order.listed r w }

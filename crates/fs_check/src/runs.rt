@@ -38,7 +38,7 @@ pub(crate) fn make_runs(alloc: Global, test: &Test, choices: &[Choices]) -> Resu
     Ok(Runs::Whole(Traces::new(traces)))
 }
 
-// The run of the hart, where it is whole; else the reason against its choices.
+/// The run of the hart, where it is whole; else the reason against its choices.
 fn whole(hart: u8, run: Run) -> Result<Trace, Reason>
     ensures ok { IfOk result (λ trace. run ≡ Run.Whole trace) }
     ensures err { IfErr result (λ reason. reason_of hart run ≡ Some reason) }

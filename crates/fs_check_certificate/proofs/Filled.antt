@@ -158,8 +158,8 @@ none_left (x ∷ p) e = absurd (let none : x.slot ∷ slots_of p ≡ [] = e in c
 -- ---- the placement as it grows
 
 module _ (prices : PriceTable) (all : List Slot) (words : List (List ℕ)) where
-  -- The first slots are done, with the first words, and the others have no fence yet. What fills the slots is what is done and what
-  -- fills the rest.
+  -- The first slots are done, with the first words, and the others have no fence yet. What fills the slots is what is
+  -- done and what fills the rest.
   pub record Going (i used : ℕ) (p : List Entry) : Type 0 where
     done : List Entry
     is : p ≡ done ++ all_with None (drop i all)

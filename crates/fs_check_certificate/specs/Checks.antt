@@ -13,7 +13,8 @@ use Rattle.fs_cert_json.specs.Kept.{KeepsCertificate}
 use Rattle.fs_check_certificate.specs.declared.certificate_verdict.CheckVerdict.{CheckVerdict}
 use Rattle.fs_check_certificate.specs.declared.certificate_verdict.CheckVerdict.TheVariants.{Yes, No}
 
--- The certificate is valid for the answer, and so the answer is right; or it isn't, for this reason, which is the first.
+-- The certificate is valid for the answer, and so the answer is right; or it isn't, for this reason, which is the
+-- first.
 abbrev pub IsCheckVerdict : Test → PriceTable → Certificate → CheckVerdict → Type 0
 IsCheckVerdict t prices c (Yes kept answer) = KeepsCertificate kept c × (IsValid t prices c answer × IsRight c.version t prices answer)
 IsCheckVerdict t prices c (No why) = IsRefusal t prices c why
@@ -25,7 +26,8 @@ pub record IsJudged (t : Test) (prices : PriceTable) (bytes : List ℕ) (given :
   pub clean : HasNoCyclesFault certificate.cycles t
   pub verdict : IsCheckVerdict t prices certificate given
 
--- The bytes are no certificate file. Or they are one, whose cycles can't be judged: the candidates or the runs of the test can't be listed.
+-- The bytes are no certificate file. Or they are one, whose cycles can't be judged: the candidates or the runs of the
+-- test can't be listed.
 abbrev pub IsCheckFault : Test → (certificate : List ℕ) → Fault → Type 0
 IsCheckFault t bytes f =
     ((f ≡ BadCertificate) × ((c : Certificate) → IsCertificateFile bytes c → ⊥))

@@ -25,7 +25,8 @@ Decides false P = P → ⊥
 abbrev pub slots_in_part : Part → List Slot
 slots_in_part = map (λ d. d.slot)
 
--- what is kept of a witness: nothing where it doesn't show the outcome even without fences, else its widths, by the test's slots
+-- what is kept of a witness: nothing where it doesn't show the outcome even without fences, else its widths, by the
+-- test's slots
 abbrev pub ShowsWidths : Test → Witness → Option (List Pairs) → Type 0
 ShowsWidths t w None = IsShownBy t [] w → ⊥
 ShowsWidths t w (Some widths) = (e : Execution) × ShowsAs t [] w e × (widths ≡ widths_of (width t e) (slots t))

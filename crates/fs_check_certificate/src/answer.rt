@@ -14,7 +14,7 @@ use fs_kinds::{Fault, Kind, Placement, Prices, Slot, read_fence};
 use fs_model::{Test, slots};
 use std::alloc::Global;
 
-// The kind of the fence that the word names, where it names one at this slot.
+/// The kind of the fence that the word names, where it names one at this slot.
 fn kind_of(word: &str, slot: Slot) -> Option<Kind>
     ensures named { IfSome result (λ kind. word.now ≡ fence_word slot kind) }
     ensures none { IfNone result ((kind : Kind) → word.now ≢ fence_word slot kind) }
@@ -23,7 +23,7 @@ fn kind_of(word: &str, slot: Slot) -> Option<Kind>
     if named == slot { Some(kind) } else { None }
 }
 
-// The kind of the fence that the word of this number names, where it names one at this slot.
+/// The kind of the fence that the word of this number names, where it names one at this slot.
 fn kind_at(words: &[String], number: usize, slot: Slot) -> Option<Kind>
     ensures named { IfSome result (λ kind. slice_get (map string_bytes words.now) number ≡ Some (fence_word slot kind)) }
     ensures low { IfSome result (λ kind. number < length words.now) }
@@ -35,7 +35,8 @@ fn kind_at(words: &[String], number: usize, slot: Slot) -> Option<Kind>
     }
 }
 
-// The placement with the fences that the words name, where they name fences of offered kinds at its slots, in slot order.
+/// The placement with the fences that the words name, where they name fences of offered kinds at its slots, in slot
+/// order.
 fn fill(
     placement: Placement,
     slots: &[Slot],
@@ -67,8 +68,8 @@ fn fill(
     }
 }
 
-/// The placement whose cost this is, and the words of whose fences in slot order these are: over the slots of the test, with offered
-/// kinds. None where there is no such placement. The error is `Memory`. Linear in the words and the slots.
+/// The placement whose cost this is, and the words of whose fences in slot order these are: over the slots of the test,
+/// with offered kinds. None where there is no such placement. The error is `Memory`. Linear in the words and the slots.
 pub(crate) fn answered_placement(
     alloc: Global,
     test: &Test,

@@ -1,6 +1,6 @@
-//! Whether the witnesses that a leaf of the tree names refute its part or bound it, by their widths. A witness is a number in a list
-//! that has for each witness its widths, by the test's slots, or nothing where it doesn't show the outcome. A second list has for each
-//! what it costs at each slot to break it.
+//! Whether the witnesses that a leaf of the tree names refute its part or bound it, by their widths. A witness is a
+//! number in a list that has for each witness its widths, by the test's slots, or nothing where it doesn't show the
+//! outcome. A second list has for each what it costs at each slot to break it.
 
 ghost use Rattle.std.specs.Prelude.{◌≡◌, None, Some, List, not, map};
 ghost use Rattle.std.specs.List.{find};
@@ -46,7 +46,8 @@ fn is_shown_under(
     }
 }
 
-/// Does the witness of this number show the outcome with what the part decides and `rw,rw` elsewhere? Linear in the slots.
+/// Does the witness of this number show the outcome with what the part decides and `rw,rw` elsewhere? Linear in the
+/// slots.
 pub fn refutes(part: &[Decision], shown: &[Option<List<Pairs>>], number: u64) -> bool
     ensures { (t : Test) (ws : List Witness) → IsBounded t → slots_in_part part.now ≡ slots t → AreShown t ws shown.now
         → Decides result (Refutes t ws (filled part.now) number) }
@@ -74,8 +75,8 @@ fn breaks_at(breaks: &[List<Option<u32>>], number: u64) -> &[Option<u32>]
     }
 }
 
-/// What the cheapest fence costs that may still be put at a slot of the part and breaks a witness, by what that costs at each slot. It
-/// calls itself once for each slot.
+/// What the cheapest fence costs that may still be put at a slot of the part and breaks a witness, by what that costs
+/// at each slot. It calls itself once for each slot.
 fn least_in(part: &[Decision], breaks: &[Option<u32>]) -> Option<u32>
     ensures { result ≡ least_in part.now breaks.now }
 {
@@ -117,7 +118,8 @@ fn breaks_one(k: usize, decision: &Decision, breaks: &[List<Option<u32>>], numbe
     count < 2
 }
 
-/// Do no two of the witnesses of these numbers share a breakable slot of the part? It takes time of slots times numbers.
+/// Do no two of the witnesses of these numbers share a breakable slot of the part? It takes time of slots times
+/// numbers.
 fn break_apart(part: &[Decision], breaks: &[List<Option<u32>>], numbers: &[u64]) -> bool
     ensures { result ≡ break_apart is_breakable_at 0 part.now (map (breaks_at breaks.now) numbers.now) }
 {
@@ -126,8 +128,8 @@ fn break_apart(part: &[Decision], breaks: &[List<Option<u32>>], numbers: &[u64])
         .all(|(k, decision)| breaks_one(k, decision, breaks, numbers))
 }
 
-/// What the floor costs, and breaking each of the witnesses of these numbers. Nothing where one of them can't be broken. It takes time
-/// of slots times numbers.
+/// What the floor costs, and breaking each of the witnesses of these numbers. Nothing where one of them can't be
+/// broken. It takes time of slots times numbers.
 fn bound_of(
     prices: &Prices,
     part: &[Decision],
@@ -177,8 +179,8 @@ fn is_bounded(
         )
 }
 
-/// What is said of a leaf that the witnesses of these numbers are to bound, against the answer, by what it costs at each slot to break
-/// each witness. It takes time of slots times numbers.
+/// What is said of a leaf that the witnesses of these numbers are to bound, against the answer, by what it costs at
+/// each slot to break each witness. It takes time of slots times numbers.
 pub fn judge_bounded(
     prices: &Prices,
     answer: &[Entry],

@@ -1,4 +1,5 @@
-//! What it costs to break a witness at a slot: an execution whose order doesn't keep a pair there is ruled out by a fence that orders it.
+//! What it costs to break a witness at a slot: an execution whose order doesn't keep a pair there is ruled out by a
+//! fence that orders it.
 
 ghost use Rattle.std.specs.Prelude.{◌≡◌, ℕ, ◌≤◌, IfOk, IfSome};
 ghost use Rattle.fs_check_certificate.specs.Breaks.{widths_in, break_at, breaks_of, all_breaks};
@@ -40,7 +41,8 @@ fn breaks_of(
         .collect(alloc)
 }
 
-/// The same of each witness: nothing for one that doesn't show the outcome. For each witness it takes time of slots times kinds.
+/// The same of each witness: nothing for one that doesn't show the outcome. For each witness it takes time of slots
+/// times kinds.
 pub(crate) fn all_breaks(
     alloc: Global,
     prices: &Prices,

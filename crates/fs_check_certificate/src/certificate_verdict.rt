@@ -29,11 +29,12 @@ use std::sync::Arc;
 pub enum CheckVerdict {
     /// It is valid, and so its answer is right: this placement, or none.
     Yes(Certificate, Option<Placement>),
-    /// It isn't, for this reason: the first in the order of the reasons, and in the tree that of the first item that fails.
+    /// It isn't, for this reason: the first in the order of the reasons, and in the tree that of the first item that
+    /// fails.
     No(Reason),
 }
 
-// What is said of a certificate whose cycles are held.
+/// What is said of a certificate whose cycles are held.
 fn judge(
     alloc: Global,
     held: &Held<'_>,
@@ -55,7 +56,7 @@ fn judge(
     }
 }
 
-// What is said of a certificate, or why its cycles can't be judged.
+/// What is said of a certificate, or why its cycles can't be judged.
 fn judge_certificate(
     alloc: Global,
     test: Arc<Test>,
@@ -76,7 +77,7 @@ fn judge_certificate(
     judge(alloc, &held, prices, certificate)
 }
 
-// The verdict on a certificate of which this is said.
+/// The verdict on a certificate of which this is said.
 fn verdict_of(certificate: Certificate, judgement: Judgement) -> CheckVerdict
     ensures { (t : Tests) (prices : PriceTable) (c : Said) → CanBeListed t → KeepsCertificate certificate c
         → IsJudgement t prices c judgement → IsCheckVerdict t prices c result }
@@ -88,7 +89,7 @@ fn verdict_of(certificate: Certificate, judgement: Judgement) -> CheckVerdict
     }
 }
 
-// The verdict on a certificate that was read, or why its cycles can't be judged.
+/// The verdict on a certificate that was read, or why its cycles can't be judged.
 fn check_certificate(
     alloc: Global,
     test: Arc<Test>,
@@ -114,9 +115,9 @@ fn check_certificate(
 /// `TooManyCandidates`; or `Memory`. Inferences need no candidates.
 ///
 /// The cost: with a list of cycles that of listing the candidates, and for each link one test of an edge; with
-/// inferences that of `Basis::new` and `reason_against` of fs_region_refutation; for each witness that of `check_order` and of its
-/// widths, and the slots times the kinds; and for each item of the tree the slots times the kinds where it is a split,
-/// and else the slots times the witnesses that it names. Nothing of the search is called.
+/// inferences that of `Basis::new` and `reason_against` of fs_region_refutation; for each witness that of `check_order`
+/// and of its widths, and the slots times the kinds; and for each item of the tree the slots times the kinds where it
+/// is a split, and else the slots times the witnesses that it names. Nothing of the search is called.
 pub fn check(
     alloc: Global,
     test: Arc<Test>,

@@ -26,7 +26,7 @@ use std::alloc::Global;
 /// How many links a cycle may have.
 const MOST_LINKS: usize = 64;
 
-// The name of the operation that this step of a hart's run makes, where there is such a step.
+/// The name of the operation that this step of a hart's run makes, where there is such a step.
 fn step_name(steps: &[Step], hart: u8, place: u8) -> Option<OperationName>
     ensures { result ≡ option_map (step_name hart) (slice_get steps.now place) }
 {
@@ -34,7 +34,7 @@ fn step_name(steps: &[Step], hart: u8, place: u8) -> Option<OperationName>
     Some(OperationName { hart, at: step.at })
 }
 
-// The name of the operation: its hart and the position of its instruction. An initial store has none.
+/// The name of the operation: its hart and the position of its instruction. An initial store has none.
 fn name(traces: &[Trace], operation: &Operation) -> Option<OperationName>
     ensures { result ≡ name_in (steps_in traces.now) operation.now }
 {
@@ -44,7 +44,7 @@ fn name(traces: &[Trace], operation: &Operation) -> Option<OperationName>
     }
 }
 
-// Are both there, and the same?
+/// Are both there, and the same?
 fn is_same(first: Option<OperationName>, second: Option<OperationName>) -> bool
     ensures { result ≡ is_same_name first second }
 {
@@ -54,14 +54,14 @@ fn is_same(first: Option<OperationName>, second: Option<OperationName>) -> bool
     }
 }
 
-// Has the operation this name?
+/// Has the operation this name?
 fn is_named(traces: &[Trace], operation: &Operation, wanted: Option<OperationName>) -> bool
     ensures { result ≡ is_same_name (name_in (steps_in traces.now) operation.now) wanted }
 {
     is_same(name(traces, operation), wanted)
 }
 
-// The place of the first operation with this name.
+/// The place of the first operation with this name.
 fn index_of(
     operations: &[Operation],
     traces: &[Trace],
@@ -74,7 +74,7 @@ fn index_of(
         .position(|operation| is_named(traces, operation, wanted))
 }
 
-// The number of the candidate's operation with this name.
+/// The number of the candidate's operation with this name.
 fn number(candidate: &Candidate, wanted: Option<OperationName>) -> Option<usize>
     ensures { result ≡ number_of (names_in candidate.now) wanted }
 {
@@ -85,7 +85,7 @@ fn number(candidate: &Candidate, wanted: Option<OperationName>) -> Option<usize>
     )
 }
 
-// The numbers of the operations that the links name, where each name is that of an operation.
+/// The numbers of the operations that the links name, where each name is that of an operation.
 fn numbers(
     alloc: Global,
     candidate: &Candidate,
@@ -104,7 +104,7 @@ fn numbers(
     Ok(Some(found))
 }
 
-// The number after the one at this place: the next one, or the first after the last.
+/// The number after the one at this place: the next one, or the first after the last.
 fn follower(numbers: &[usize], place: usize) -> usize
     requires { place < length numbers.now }
     ensures { result ≡ slice_index (followers numbers.now) place }
@@ -116,8 +116,8 @@ fn follower(numbers: &[usize], place: usize) -> usize
     }
 }
 
-// Are there edges for the links' causes between the operations of these numbers, from each to the next one and from the last to the
-// first?
+/// Are there edges for the links' causes between the operations of these numbers, from each to the next one and from
+/// the last to the first?
 fn have_edges(
     candidate: &Candidate,
     placement: &Placement,
@@ -136,8 +136,8 @@ fn have_edges(
     true
 }
 
-// Are the links a cycle of the candidate's judged relation under the placement? For each link linear in the operations, and one test
-// of an edge.
+/// Are the links a cycle of the candidate's judged relation under the placement? For each link linear in the
+/// operations, and one test of an edge.
 fn is_cycle(
     alloc: Global,
     candidate: &Candidate,
@@ -157,8 +157,8 @@ fn is_cycle(
 }
 
 /// The first reason against a list of cycles, where there is one: there isn't one for each candidate that shows the
-/// outcome, or one isn't a cycle of its candidate's judged relation under the placement. The error is `Memory`. Each candidate is made once; for each
-/// link linear in the operations, and one test of an edge.
+/// outcome, or one isn't a cycle of its candidate's judged relation under the placement. The error is `Memory`. Each
+/// candidate is made once; for each link linear in the operations, and one test of an edge.
 pub(crate) fn first_bad_cycle(
     alloc: Global,
     showing: &Showing,

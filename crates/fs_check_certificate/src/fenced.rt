@@ -25,7 +25,7 @@ use std::alloc::Global;
 /// The answer of a valid certificate, a placement or none; or the first reason against one that isn't.
 pub(crate) type Judgement = Result<Option<Placement>, Reason>;
 
-// The first reason against the tree of a certificate that answers this placement.
+/// The first reason against the tree of a certificate that answers this placement.
 fn first_bad_item(
     alloc: Global,
     test: &Test,
@@ -53,7 +53,7 @@ fn first_bad_item(
     Ok(grounds.first_failing(alloc, &certificate.tree)?)
 }
 
-// The first reason against the cycles of a certificate that answers this placement, or else against its tree.
+/// The first reason against the cycles of a certificate that answers this placement, or else against its tree.
 fn first_failure(
     alloc: Global,
     held: &Held<'_>,
@@ -75,7 +75,8 @@ fn first_failure(
     first_bad_item(alloc, held.test(), prices, placement, certificate)
 }
 
-// What is said of a certificate that answers the placement, where this is the first reason against its cycles and its tree.
+/// What is said of a certificate that answers the placement, where this is the first reason against its cycles and its
+/// tree.
 fn judgement_of(placement: Placement, failure: Option<Reason>) -> Judgement
     ensures { (t : Tests) (prices : PriceTable) (c : Said) → IsAnswered t prices c.answer placement
         → IsPlacedVerdict t prices c placement failure → IsJudgement t prices c result }

@@ -1,6 +1,6 @@
-//! The checker of certificates: whether one is valid, and then its answer, or the first reason against it; and, piece by piece, what a
-//! certificate claims: its cycles, its refutation, the executions that a leaf of its tree names. It stands on the definitions and on the
-//! checkers of executions and of refutations, and calls nothing of the search.
+//! The checker of certificates: whether one is valid, and then its answer, or the first reason against it; and, piece
+//! by piece, what a certificate claims: its cycles, its refutation, the executions that a leaf of its tree names. It
+//! stands on the definitions and on the checkers of executions and of refutations, and calls nothing of the search.
 #![tactic(auto)]
 
 mod answer;

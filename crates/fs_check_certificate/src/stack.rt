@@ -46,8 +46,8 @@ fn decide(
     Ok(Part::new(decisions))
 }
 
-/// Parts, of which the next one that an item is to cover is the first. The walk keeps no more of them than the test's slots times
-/// the ways to decide one.
+/// Parts, of which the next one that an item is to cover is the first. The walk keeps no more of them than the test's
+/// slots times the ways to decide one.
 #[derive(Drop)]
 pub(crate) struct Stack {
     parts: Vec<Part>,

@@ -21,7 +21,8 @@ use fs_cert_json::{Item, Version};
 use fs_kinds::{Entry, List, Prices, Reason, Slot};
 use std::alloc::{AllocError, Global};
 
-/// By what the leaves of a tree are judged: the answer's placement, what is kept of the witnesses, and what it costs to break them.
+/// By what the leaves of a tree are judged: the answer's placement, what is kept of the witnesses, and what it costs to
+/// break them.
 #[derive(Clone, Copy)]
 pub(crate) struct Grounds<'a> {
     pub(crate) version: Version,
@@ -145,8 +146,8 @@ impl Grounds<'_> {
         }
     }
 
-    /// Why the items are no tree of the part in which no slot is decided: the reason at the first that fails. None where they cover
-    /// it. Linear in the items, beside what their leaves cost.
+    /// Why the items are no tree of the part in which no slot is decided: the reason at the first that fails. None
+    /// where they cover it. Linear in the items, beside what their leaves cost.
     pub(crate) fn first_failing(
         &self,
         alloc: Global,

@@ -22,7 +22,7 @@ use fs_kinds::{Fault, Kind, Reason};
 use fs_model::{Test, slots};
 use std::alloc::Global;
 
-// Are there no cycles, and no inferences?
+/// Are there no cycles, and no inferences?
 fn is_empty(cycles: &CertifiedCycles) -> bool
     ensures { result ≡ (count_in cycles.now == 0) }
 {
@@ -32,7 +32,7 @@ fn is_empty(cycles: &CertifiedCycles) -> bool
     }
 }
 
-// Has a certificate of none its one witness and nothing else?
+/// Has a certificate of none its one witness and nothing else?
 fn is_bare(certificate: &Certificate) -> bool
     ensures { result ≡ ((count_in certificate.now.cycles == 0 && length certificate.now.tree == 0)
         && length certificate.now.witnesses == 1) }
@@ -40,7 +40,7 @@ fn is_bare(certificate: &Certificate) -> bool
     is_empty(&certificate.cycles) && certificate.tree.is_empty() && certificate.witnesses.len() == 1
 }
 
-// Does the first of the witnesses show the outcome with `rw,rw` in every slot?
+/// Does the first of the witnesses show the outcome with `rw,rw` in every slot?
 fn refutes_all(alloc: Global, test: &Test, certificate: &Certificate) -> Result<bool, Fault>
     requires test { IsBounded test.now }
     requires starts { All IsStart test.now.starts }
@@ -54,8 +54,8 @@ fn refutes_all(alloc: Global, test: &Test, certificate: &Certificate) -> Result<
     Ok(refutes(&part, &shown, 0))
 }
 
-/// What is said of a certificate whose answer is none. It costs what `check_order` costs on its witness, and what its widths cost. The
-/// error is `Memory`.
+/// What is said of a certificate whose answer is none. It costs what `check_order` costs on its witness, and what its
+/// widths cost. The error is `Memory`.
 pub(crate) fn judge_none(
     alloc: Global,
     test: &Test,

@@ -1,5 +1,6 @@
-//! What the witnesses of a certificate show: the execution of each, and the pairs that its order keeps at each slot. A fence of one
-//! pair at one slot asks for an order of some operations; the pair is kept where the execution's order has them so already.
+//! What the witnesses of a certificate show: the execution of each, and the pairs that its order keeps at each slot. A
+//! fence of one pair at one slot asks for an order of some operations; the pair is kept where the execution's order has
+//! them so already.
 
 ghost use Rattle.std.specs.Prelude.{◌≡◌, ◌∷◌, [], All, IfOk, IsOkUnless, List, None, Some};
 ghost use Rattle.std.specs.List.{AllZip, list_all};
@@ -66,7 +67,8 @@ fn turned_after(
         .collect(alloc)
 }
 
-/// Each two operations that the order turns round: of one hart, and against program order. The square of the operations.
+/// Each two operations that the order turns round: of one hart, and against program order. The square of the
+/// operations.
 fn turned(
     alloc: Global,
     test: &Test,
@@ -128,8 +130,8 @@ fn single(alloc: Global, slot: Slot, kind: Kind) -> Result<Placement, Fault>
     Ok(placement)
 }
 
-/// The pairs that the order, which turns these round, keeps at the slot. For each of four fences one look at each two that are turned
-/// round, and at the steps between them. The error is `Memory`.
+/// The pairs that the order, which turns these round, keeps at the slot. For each of four fences one look at each two
+/// that are turned round, and at the steps between them. The error is `Memory`.
 fn pairs_at(
     alloc: Global,
     test: &Test,
@@ -173,8 +175,8 @@ fn widths(
     Ok(widths)
 }
 
-/// What is kept of the witness: nothing where it doesn't show the outcome of the test without fences, else its widths. The error is
-/// `Memory`.
+/// What is kept of the witness: nothing where it doesn't show the outcome of the test without fences, else its widths.
+/// The error is `Memory`.
 fn shown_width(
     alloc: Global,
     test: &Test,
@@ -195,9 +197,10 @@ fn shown_width(
     Ok(Some(List::new(widths(alloc, test, &ordered, all_slots)?)))
 }
 
-/// What is kept of each witness, by its number: nothing where it doesn't show the outcome of the test even without fences, else the
-/// pairs that its execution keeps at each slot of the test. For each witness it costs what `shown_by` costs, the square of the
-/// operations, and for each slot the steps between each two of a hart that the order turns round. The error is `Memory`.
+/// What is kept of each witness, by its number: nothing where it doesn't show the outcome of the test even without
+/// fences, else the pairs that its execution keeps at each slot of the test. For each witness it costs what `shown_by`
+/// costs, the square of the operations, and for each slot the steps between each two of a hart that the order turns
+/// round. The error is `Memory`.
 pub(crate) fn shown_widths(
     alloc: Global,
     test: &Test,

@@ -44,9 +44,9 @@ fn has_bit(mask: u32, k: usize) -> bool
 }
 
 impl Deps {
-    /// The syntactic dependencies between the steps of a run of at most 32 steps (RISC-V Unprivileged ISA 20191213, chapter
-    /// "RVWMO Memory Consistency Model", section "Syntactic Dependencies"). Where memory runs out, the answer is
-    /// `Fault::Memory`.
+    /// The syntactic dependencies between the steps of a run of at most 32 steps (RISC-V Unprivileged ISA 20191213,
+    /// chapter "RVWMO Memory Consistency Model", section "Syntactic Dependencies"). Where memory runs out, the answer
+    /// is `Fault::Memory`.
     pub fn of(alloc: Global, trace: &Trace) -> Result<Deps, Fault>
         requires { length trace.now.steps ≤ most_instructions }
         ensures ok { IfOk result (λ d. IsDepsOf trace.now.steps d) }

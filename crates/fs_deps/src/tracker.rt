@@ -9,7 +9,7 @@ ghost use Rattle.fs_deps.specs.Tracker.{read_mask, IsAnyOf, IsTracked, AreMasks}
 use crate::deps::Masks;
 use fs_instr::{Instr, Reg};
 
-// What the instruction passes on of its sources' steps to its destination.
+/// What the instruction passes on of its sources' steps to its destination.
 fn carried(instr: &Instr, sources: u32) -> u32
     ensures { result ≡ (if carries_of instr.now then sources else 0) }
 {
@@ -36,7 +36,7 @@ impl Tracker {
         }
     }
 
-    // The steps on which a read of the register depends; none for no register.
+    /// The steps on which a read of the register depends; none for no register.
     fn read_mask(&self, register: Option<Reg>) -> u32
         ensures { result ≡ read_mask self.now register }
     {
@@ -46,7 +46,7 @@ impl Tracker {
         }
     }
 
-    // The steps on which a read of the instruction's sources depends.
+    /// The steps on which a read of the instruction's sources depends.
     fn sources_mask(&self, instr: &Instr) -> u32
         ensures { IsAnyOf self.now (sources_of instr.now) result }
     {

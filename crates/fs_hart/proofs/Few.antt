@@ -1,5 +1,5 @@
--- A run of a hart has at most one operation of a kind for each instruction of that kind in its code. So a bounded test's runs have
--- few operations.
+-- A run of a hart has at most one operation of a kind for each instruction of that kind in its code. So a bounded
+-- test's runs have few operations.
 use Rattle.std.proofs.Common.{◌≡◌, ℕ, zero, suc, ◌+◌, ◌<◌, ◌≤◌, Bool, true, false, None, Some, is_some, cond, List, [], ◌∷◌, length, map, refl, ap, arith}
 use Rattle.std.specs.Prelude.{slice_get, filter}
 use Rattle.std.specs.List.{count_by, sum_by, enumerate_from, flat_map, slice_index_or}

@@ -1,5 +1,5 @@
--- The choice lists of a hart in which each load takes a word of its location's set, as far as they end: in a whole run, or at an
--- instruction that accesses no location. They are in choice order.
+-- The choice lists of a hart in which each load takes a word of its location's set, as far as they end: in a whole run,
+-- or at an instruction that accesses no location. They are in choice order.
 use Rattle.std.specs.Prelude.{◌≡◌, ℕ, ◌≤◌, Option, None, Some, List, [], map, length, All}
 use Rattle.std.specs.List.{AllPairs, Contains, slice_index_or}
 use Rattle.fs_kinds.specs.declared.fault.Fault.{Fault}

@@ -17,7 +17,7 @@ use fs_kinds::Fault;
 use fs_model::{Location, Operation, Step, Test};
 use std::alloc::{AllocError, Global};
 
-// The operation of a step of the hart.
+/// The operation of a step of the hart.
 fn access(hart: u8, place: u8, step: &Step) -> Operation
     ensures { result ≡ access_of hart (place, step.now) }
 {
@@ -31,7 +31,7 @@ fn access(hart: u8, place: u8, step: &Step) -> Operation
     }
 }
 
-// The store of a location's initial word.
+/// The store of a location's initial word.
 fn initial_store(location: u8, word: u32) -> Operation
     ensures { result ≡ initial_store (location, word) }
 {
@@ -45,7 +45,7 @@ fn initial_store(location: u8, word: u32) -> Operation
     }
 }
 
-// Puts the operations of a run of the hart behind those that are there.
+/// Puts the operations of a run of the hart behind those that are there.
 fn add_accesses(operations: &mut Vec<Operation>, hart: u8, steps: &[Step]) -> Result<(), AllocError>
     requires { length steps.now ≤ most_instructions }
     ensures { OnOk result (operations.new.items ≡ operations.old.items ++ accesses_of (hart, steps.now)) }
@@ -58,8 +58,8 @@ fn add_accesses(operations: &mut Vec<Operation>, hart: u8, steps: &[Step]) -> Re
     Ok(())
 }
 
-/// The memory operations of runs of the test's harts, from hart 0 on, by their numbers: hart by hart in program order, and then
-/// the initial stores. A run of a bounded test has at most 32 steps. The error is F19.
+/// The memory operations of runs of the test's harts, from hart 0 on, by their numbers: hart by hart in program order,
+/// and then the initial stores. A run of a bounded test has at most 32 steps. The error is F19.
 pub fn operations(alloc: Global, test: &Test, traces: &[Trace]) -> Result<Operations, Fault>
     requires test { IsBounded test.now }
     requires harts { length traces.now ≤ most_harts }

@@ -9,7 +9,7 @@ use fs_instr::Instr;
 use fs_model::{Choice, Hart, Location};
 use std::alloc::{AllocError, Global};
 
-// The words that are offered for the location at the address.
+/// The words that are offered for the location at the address.
 fn set_at(sets: &[Words], address: Option<u32>) -> &[u32]
     ensures { result.now ≡ set_at sets.now address }
 {
@@ -31,8 +31,8 @@ fn word_choices(alloc: Global, words: &[u32]) -> Result<Vec<Option<Choice>>, All
         .collect(alloc)
 }
 
-// The choices that the hart has at the instruction, in choice order; nothing where it goes astray. An instruction that takes no
-// choice has one, which is none.
+// The choices that the hart has at the instruction, in choice order; nothing where it goes astray. An instruction that
+// takes no choice has one, which is none.
 pub(crate) fn options(
     alloc: Global,
     locations: u8,

@@ -18,7 +18,7 @@ use fs_model::{Hart, Test};
 use std::alloc::Global;
 
 impl Walk {
-    // Finds all ends from the state on, to which the path leads.
+    /// Finds all ends from the state on, to which the path leads.
     fn explore(&mut self, test: &Test, hart: u8, sets: &[Words], state: &Hart) -> Result<(), Fault>
         requires test { IsBounded test.now }
         requires hart { hart < length test.now.codes }
@@ -50,10 +50,10 @@ impl Walk {
     }
 }
 
-/// The whole runs of the hart of this number in which each load takes a word of its location's set, in choice order: words rise,
-/// and an sc.w's success comes before its failure. There is a set for each location, with its words rising. F13 where more than
-/// 100,000 choice lists end, in a whole run or astray; else F14 with the instruction at which the first list that goes astray
-/// does so; F19.
+/// The whole runs of the hart of this number in which each load takes a word of its location's set, in choice order:
+/// words rise, and an sc.w's success comes before its failure. There is a set for each location, with its words rising.
+/// F13 where more than 100,000 choice lists end, in a whole run or astray; else F14 with the instruction at which the
+/// first list that goes astray does so; F19.
 pub fn traces_over(
     alloc: Global,
     test: &Test,

@@ -27,7 +27,7 @@ pub(crate) fn is_choosing(instr: &Instr) -> bool
     )
 }
 
-// The choice number `used`, where the instruction takes one.
+/// The choice number `used`, where the instruction takes one.
 fn next_choice(instr: &Instr, choices: &[Choice], used: usize) -> Option<Choice>
     ensures { result ≡ (if is_choosing instr.now then slice_get choices.now used else None) }
 {
@@ -58,7 +58,7 @@ pub(crate) fn registers_of(test: &Test, hart: u8) -> [u32; 32]
     registers
 }
 
-// The run that stops so.
+/// The run that stops so.
 fn stopped(stop: Stop) -> Run
     ensures { result ≡ run_of stop }
 {
@@ -71,8 +71,8 @@ fn stopped(stop: Stop) -> Run
     }
 }
 
-/// What the choices make of the hart of this number: each instruction that loads takes the next choice as its word, and each
-/// sc.w as its success or failure. The error is F19.
+/// What the choices make of the hart of this number: each instruction that loads takes the next choice as its word, and
+/// each sc.w as its success or failure. The error is F19.
 pub fn trace_of(alloc: Global, test: &Test, hart: u8, choices: &[Choice]) -> Result<Run, Fault>
     requires test { IsBounded test.now }
     requires starts { All IsStart test.now.starts }

@@ -30,7 +30,7 @@ pub(crate) struct Walk {
 }
 
 impl Walk {
-    // Counts one end more.
+    /// Counts one end more.
     fn count(&mut self) -> Result<(), Fault>
         ensures path { self.new.path.items ≡ self.old.path.items }
         ensures traces { self.new.traces.items ≡ self.old.traces.items }

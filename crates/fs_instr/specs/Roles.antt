@@ -13,8 +13,8 @@ use Rattle.fs_instr.specs.declared.instr.Roles.{Roles}
 abbrev pub named : ℕ → Option ℕ
 named r = if r == 0 then None else Some r
 
--- the destination, two sources (either of which may be none), which of them gives the address, and which the data, of a memory
--- instruction, and whether the instruction carries dependencies from sources to destination
+-- the destination, two sources (either of which may be none), which of them gives the address, and which the data, of a
+-- memory instruction, and whether the instruction carries dependencies from sources to destination
 abbrev pub roles : Option ℕ → Option ℕ → Option ℕ → Option ℕ → Option ℕ → Bool → Roles
 roles dest first second address word carries = record { dest = dest; sources = first ∷ second ∷ []; address = address; «data» = word; carries = carries }
 

@@ -12,8 +12,8 @@ use crate::operands::Operands;
 use crate::reg::Reg;
 use fs_litmus_tokens::Mark::{CloseParen, Comma, OpenParen};
 
-/// An instruction of the table (RV32I and the A extension of the unprivileged manual, 20191213). Registers hold words of
-/// 32 bits, sums wrap, and all sources are read before the destination is written.
+/// An instruction of the table (RV32I and the A extension of the unprivileged manual, 20191213). Registers hold words
+/// of 32 bits, sums wrap, and all sources are read before the destination is written.
 #[derive(Clone, Copy, Debug, PartialEq, Eq)]
 pub enum Instr {
     /// `add rd,first,second` and its like.
@@ -72,7 +72,8 @@ pub enum Instr {
         value: Reg,
         base: Reg,
     },
-    /// `amoadd.w rd,value,(base)` and its like: writes the word at base to rd, and stores what `op` makes of it and `value`.
+    /// `amoadd.w rd,value,(base)` and its like: writes the word at base to rd, and stores what `op` makes of it and
+    /// `value`.
     Amo {
         op: AmoOp,
         ann: Ann,
@@ -110,9 +111,9 @@ struct Roles {
     carries: bool,
 }
 
-// The instruction table. A row's first line is its text: the row of names that spells the instruction, its operands part by
-// part, and the operands that these fill in. Its second line is the instruction that they make, and its roles. Below stand the
-// pseudo-instructions, each with the instruction that it is short for.
+// The instruction table. A row's first line is its text: the row of names that spells the instruction, its operands
+// part by part, and the operands that these fill in. Its second line is the instruction that they make, and its roles.
+// Below stand the pseudo-instructions, each with the instruction that it is short for.
 macro_rules! table {
     ($column:ident $($subject:ident)*) => {
         $column! {
@@ -234,8 +235,8 @@ impl Instr {
         imm: 0,
     };
 
-    /// The same instruction with this target, where it is a branch or a jump; any other as it is. Targets are positions in
-    /// the hart's code, counted in instructions from 0.
+    /// The same instruction with this target, where it is a branch or a jump; any other as it is. Targets are positions
+    /// in the hart's code, counted in instructions from 0.
     pub fn with_target(self, target: u8) -> Instr
         ensures { result ≡ targeted target self }
     {

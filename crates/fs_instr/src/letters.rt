@@ -1,4 +1,5 @@
-//! The letters of one side of a fence: i, o, r and w, in this order, each at most once (the manual's FENCE instruction).
+//! The letters of one side of a fence: i, o, r and w, in this order, each at most once (the manual's FENCE
+//! instruction).
 
 ghost use Rattle.std.specs.Prelude.{◌≡◌};
 ghost use Rattle.fs_instr.specs.FenceLetters.{letters_of, letters_text};

@@ -1,5 +1,5 @@
-//! Instructions of litmus tests: the table that reads them from tokens or text and prints them, the names in it and the letters of
-//! fences, and the roles of registers.
+//! Instructions of litmus tests: the table that reads them from tokens or text and prints them, the names in it and the
+//! letters of fences, and the roles of registers.
 #![tactic(auto)]
 
 mod instr;

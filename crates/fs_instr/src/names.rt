@@ -1,5 +1,5 @@
-//! The names of the instruction table (RV32I and the A extension of the unprivileged manual, 20191213), with their suffixes
-//! spelled out: a name is one of these texts, letter by letter.
+//! The names of the instruction table (RV32I and the A extension of the unprivileged manual, 20191213), with their
+//! suffixes spelled out: a name is one of these texts, letter by letter.
 
 ghost use Rattle.std.specs.Prelude.{◌≡◌, Some, map};
 ghost use Rattle.fs_instr.specs.Rows.{look_up};
@@ -7,8 +7,8 @@ ghost use Rattle.fs_instr.specs.Names.{register_names, immediate_names, branch_n
 ghost use Rattle.std.specs.List.{IsDistinct};
 ghost use Rattle.std.specs.Str.{bytes_eq};
 
-/// What an instruction of two registers computes: shifts by the low 5 bits of the second (`Sra` keeps the sign); `Slt` and
-/// `Sltu` give 1 where the first is less, signed and unsigned, and else 0.
+/// What an instruction of two registers computes: shifts by the low 5 bits of the second (`Sra` keeps the sign); `Slt`
+/// and `Sltu` give 1 where the first is less, signed and unsigned, and else 0.
 #[derive(Clone, Copy, Debug, PartialEq, Eq)]
 pub enum RegOp {
     Add,
@@ -53,8 +53,8 @@ pub enum BranchOp {
     Bgeu,
 }
 
-/// What an AMO stores, of the word that it read and that of its source: `Swap` the source; `Min` and `Max` compare signed,
-/// `Minu` and `Maxu` unsigned.
+/// What an AMO stores, of the word that it read and that of its source: `Swap` the source; `Min` and `Max` compare
+/// signed, `Minu` and `Maxu` unsigned.
 #[derive(Clone, Copy, Debug, PartialEq, Eq)]
 pub enum AmoOp {
     Swap,
@@ -75,7 +75,8 @@ pub struct Ann {
     pub release: bool,
 }
 
-/// A row of the instruction table: a name, or the two of an annotation with both bits. The last five are short for others.
+/// A row of the instruction table: a name, or the two of an annotation with both bits. The last five are short for
+/// others.
 #[derive(Clone, Copy, Debug, PartialEq, Eq)]
 pub enum Op {
     Register(RegOp),
@@ -242,7 +243,7 @@ macro_rules! find {
     };
 }
 
-// What the first row with this word holds.
+/// What the first row with this word holds.
 fn look_up(rows: &[(&str, Op)], word: &str) -> Option<Op>
     ensures { result ≡ look_up (map (λ row. (row.0.now, row.1)) rows.now) word.now }
 {

@@ -40,7 +40,7 @@ fn is_refused(op: Op) -> bool
     }
 }
 
-// A fence with no letters is a row of its own.
+/// A fence with no letters is a row of its own.
 fn row(op: Op, alone: bool) -> Op
     ensures { result ≡ is_alone op alone }
 {

@@ -25,7 +25,7 @@ impl Model for Reg {
     ghost inverse = { λ n. record { number = n } };
 }
 
-// The register of the first row with this word.
+/// The register of the first row with this word.
 fn look_up(rows: &[(&str, u8)], word: &str) -> Option<Reg>
     requires { list_all (λ row. nat_lt row.1 32) rows.now ≡ true }
     ensures { result ≡ look_up (map (λ row. (row.0.now, row.1)) rows.now) word.now }

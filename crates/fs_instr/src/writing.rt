@@ -76,9 +76,9 @@ fn write_line(instr: &Instr, line: &mut String) -> Result<(), AllocError>
     write_row(op.text(), parts(op), &operands, line)
 }
 
-/// Appends the instruction's printed form: x-numbers, no blanks between operands, decimal numbers, `(x6)` for lr.w, sc.w
-/// and AMOs, `L` and the position for a target, base instructions for pseudo-instructions. Fails only for want of memory,
-/// and then leaves the text as it was.
+/// Appends the instruction's printed form: x-numbers, no blanks between operands, decimal numbers, `(x6)` for lr.w,
+/// sc.w and AMOs, `L` and the position for a target, base instructions for pseudo-instructions. Fails only for want of
+/// memory, and then leaves the text as it was.
 pub fn write_instr(instr: &Instr, text: &mut String) -> Result<(), AllocError>
     ensures ok { OnOk result (string_bytes text.new ≡ string_bytes text.old ++ instr_text instr.now) }
     ensures err { OnErr result (string_bytes text.new ≡ string_bytes text.old) }
@@ -88,8 +88,8 @@ pub fn write_instr(instr: &Instr, text: &mut String) -> Result<(), AllocError>
     text.push_str(line.as_str())
 }
 
-/// A law: the printed form of an instruction of the table reads back as that instruction, with its position as the label.
-/// Its bytes have the tokens of `instr_tokens`, in any text where something other than a letter follows.
+/// A law: the printed form of an instruction of the table reads back as that instruction, with its position as the
+/// label. Its bytes have the tokens of `instr_tokens`, in any text where something other than a letter follows.
 pub fn reads_back(instr: Instr)
     ensures spelled { IsOfTable instr → ReadsBack instr }
     ensures printed { IsOfTable instr → HasPrintedTokens instr }

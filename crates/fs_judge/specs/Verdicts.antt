@@ -12,7 +12,8 @@ use Rattle.fs_judge.specs.declared.verdict.Verdict.TheVariants.{Allowed, Forbids
 abbrev pub IsShownWith : Test → List Entry → Shown → Type 0
 IsShownWith t p witness = (e : Execution) × IsWitnessFor t witness e × Shows t p e
 
--- a witness that the outcome is allowed; or the placement, with what shows that it forbids the outcome, and the outcome is forbidden
+-- a witness that the outcome is allowed; or the placement, with what shows that it forbids the outcome, and the outcome
+-- is forbidden
 abbrev pub IsVerdict : Test → List Entry → Verdict → Type 0
 IsVerdict t p (Allowed witness) = IsShownWith t p witness
 IsVerdict t p (Forbids f) = (f.placement ≡ p) × ShowsForbidden t f × (Allows t p → ⊥)

@@ -16,8 +16,8 @@ use fs_kinds::{Fault, List, Placement};
 use fs_relation::Rows;
 use std::alloc::Global;
 
-/// The judged relation of a candidate without placed fences, the places in its runs where fences may stand, and how many operations
-/// it has.
+/// The judged relation of a candidate without placed fences, the places in its runs where fences may stand, and how
+/// many operations it has.
 #[derive(Drop)]
 pub(crate) struct Base {
     pub(crate) rows: Rows,

@@ -19,7 +19,7 @@ use fs_model::{Location, Operation, Test};
 use fs_model_axioms::source_at;
 use std::alloc::{AllocError, Global};
 
-// Is it the number of a store to the address?
+/// Is it the number of a store to the address?
 fn is_store_at(operations: &[Operation], address: u32, a: u8) -> bool
     ensures { result ≡ stores_at operations.now address a }
 {
@@ -27,7 +27,7 @@ fn is_store_at(operations: &[Operation], address: u32, a: u8) -> bool
     storing.is_store() && storing.address == Some(address)
 }
 
-// The stores to the location, in this order.
+/// The stores to the location, in this order.
 fn stores_in(
     alloc: Global,
     operations: &[Operation],
@@ -45,7 +45,7 @@ fn stores_in(
     Ok(List::new(stores))
 }
 
-// The stores to each location, in this order.
+/// The stores to each location, in this order.
 fn store_order(
     alloc: Global,
     operations: &[Operation],
@@ -62,7 +62,7 @@ fn store_order(
     Ok(List::new(all))
 }
 
-// The source of an operation, where it loads.
+/// The source of an operation, where it loads.
 fn source_of(operations: &[Operation], sources: &[Option<u8>], a: usize) -> Option<u8>
     ensures { result ≡ (if is_some (at operations.now a).loaded then source_at sources.now a else None) }
 {
@@ -73,7 +73,7 @@ fn source_of(operations: &[Operation], sources: &[Option<u8>], a: usize) -> Opti
     }
 }
 
-// The source of each load, and none of the other operations.
+/// The source of each load, and none of the other operations.
 fn sources_of(
     alloc: Global,
     operations: &[Operation],

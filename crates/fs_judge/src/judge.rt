@@ -21,8 +21,9 @@ use std::alloc::Global;
 use std::marker::Model;
 use std::sync::Arc;
 
-/// A problem, which several judges may share, and the candidates that this judge's hunts have found: one of them may have no cycle
-/// with the next placement either. Which witness a judge finds depends on what it judged before. Contracts see the question.
+/// A problem, which several judges may share, and the candidates that this judge's hunts have found: one of them may
+/// have no cycle with the next placement either. Which witness a judge finds depends on what it judged before.
+/// Contracts see the question.
 #[derive(Drop)]
 pub struct Judge {
     problem: Arc<Problem>,
@@ -47,7 +48,7 @@ impl Model for Judge {
     ghost invariant = { λ j. All (IsKnown (arc_value j.problem).test) j.known.items };
 }
 
-// The witness of the newest of these candidates that has no cycle with the placed fences.
+/// The witness of the newest of these candidates that has no cycle with the placed fences.
 fn witness_among(
     alloc: Global,
     test: &Test,
@@ -94,9 +95,10 @@ impl Judge {
         self.problem.question()
     }
 
-    /// A quick look for an execution that shows the outcome with the placed fences, among those that were found before. Its witness is
-    /// widened at the first slots before the others. No witness promises nothing. The cost: for each candidate that was found the steps
-    /// of its runs times the slots, and for the witness that of `widest_witness`. The error is F19.
+    /// A quick look for an execution that shows the outcome with the placed fences, among those that were found before.
+    /// Its witness is widened at the first slots before the others. No witness promises nothing. The cost: for each
+    /// candidate that was found the steps of its runs times the slots, and for the witness that of `widest_witness`.
+    /// The error is F19.
     pub fn look(
         &mut self,
         alloc: Global,
@@ -110,10 +112,10 @@ impl Judge {
         witness_among(alloc, self.problem.test(), &self.known, placement, first)
     }
 
-    /// Whether the placement, one of the test's slots, forbids the outcome: the executions that were found before are tried first, and
-    /// then a hunt finds a refutation or a new execution. Where it gives up, after 1,000,000 inferences, all candidates are judged in
-    /// turn, and F15 comes where they are too many; else the error is F19. The cost is that of `look`, of the hunt, and of checking
-    /// what it finds, as of `Problem::verdict`.
+    /// Whether the placement, one of the test's slots, forbids the outcome: the executions that were found before are
+    /// tried first, and then a hunt finds a refutation or a new execution. Where it gives up, after 1,000,000
+    /// inferences, all candidates are judged in turn, and F15 comes where they are too many; else the error is F19. The
+    /// cost is that of `look`, of the hunt, and of checking what it finds, as of `Problem::verdict`.
     pub fn verdict(
         &mut self,
         alloc: Global,

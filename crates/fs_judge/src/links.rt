@@ -23,7 +23,7 @@ use fs_kinds::{Fault, List, OperationName, Placement};
 use fs_relation::Rows;
 use std::alloc::Global;
 
-// The number after the one at this place of a cycle: the next one, or the first after the last.
+/// The number after the one at this place of a cycle: the next one, or the first after the last.
 fn follower(cycle: &[u8], place: usize) -> u8
     requires { place < length cycle.now }
     ensures { result ≡ slice_index (followers cycle.now) place }
@@ -35,14 +35,14 @@ fn follower(cycle: &[u8], place: usize) -> u8
     }
 }
 
-// The name of an operation of a hart. Of another number nothing is promised.
+/// The name of an operation of a hart. Of another number nothing is promised.
 fn name(candidate: &Candidate, a: usize) -> OperationName
     ensures { OfRuns candidate.now (λ x. a < length (accesses x) → name_of x a ≡ Some result) }
 {
     operation_name(candidate, a).unwrap_or(OperationName { hart: 0, at: 0 })
 }
 
-// The step of a cycle from a to b, where a is an operation of a hart that must come before b.
+/// The step of a cycle from a to b, where a is an operation of a hart that must come before b.
 fn link(candidate: &Candidate, placement: &Placement, a: usize, b: usize) -> Link
     ensures { OfRuns candidate.now (λ x. a < length (accesses x)
         → is_judged x placement.now (candidate_of candidate.now) a b ≡ true

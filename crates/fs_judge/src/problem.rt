@@ -30,8 +30,8 @@ use std::sync::Arc;
 /// How many inferences a hunt may make before it gives up.
 const MOST_INFERENCES: usize = 1_000_000;
 
-/// A test and prices, with all that judging a placement takes: all runs of each hart, and what hunts over them need. No call changes
-/// it, so several workers may share one. Contracts see the question.
+/// A test and prices, with all that judging a placement takes: all runs of each hart, and what hunts over them need. No
+/// call changes it, so several workers may share one. Contracts see the question.
 #[derive(Drop)]
 pub struct Problem {
     question: Arc<Question>,
@@ -55,8 +55,8 @@ impl Model for Problem {
     ghost invariant = { λ p. IsReady (arc_value p.question).test p.basis };
 }
 
-// All runs of the test, made ready, and what hunts over them need. F15 where some location may get 11 stores or more, and there are too
-// many candidates or lists of runs.
+/// All runs of the test, made ready, and what hunts over them need. F15 where some location may get 11 stores or more,
+/// and there are too many candidates or lists of runs.
 fn made_ready(alloc: Global, test: &Arc<Test>) -> Result<(Basis, Hunter), Fault>
     requires test { IsBounded (arc_value test.now) }
     requires starts { All IsStart (arc_value test.now).starts }
@@ -73,10 +73,10 @@ fn made_ready(alloc: Global, test: &Arc<Test>) -> Result<(Basis, Hunter), Fault>
 }
 
 impl Problem {
-    /// Finds all runs of the test's harts, and makes them ready. The test is bounded, and its harts start with whole registers. The
-    /// fault is F13 or F14 where a hart's runs can't be listed; else F15 where some location may get 11 stores or more, and there are
-    /// too many candidates or lists of runs; or F19. The cost is that of `Basis::new` and `Hunter::new`, and where so many stores are
-    /// possible that of `check_number`.
+    /// Finds all runs of the test's harts, and makes them ready. The test is bounded, and its harts start with whole
+    /// registers. The fault is F13 or F14 where a hart's runs can't be listed; else F15 where some location may get 11
+    /// stores or more, and there are too many candidates or lists of runs; or F19. The cost is that of `Basis::new` and
+    /// `Hunter::new`, and where so many stores are possible that of `check_number`.
     pub fn new(alloc: Global, question: Arc<Question>) -> Result<Problem, Fault>
         requires test { IsBounded (arc_value question).test }
         requires starts { All IsStart (arc_value question).test.starts }
@@ -161,8 +161,8 @@ impl Problem {
         }
     }
 
-    // The verdict by the list of all candidates that show the outcome: the last resort, where a hunt gives up, or what it finds
-    // doesn't hold.
+    // The verdict by the list of all candidates that show the outcome: the last resort, where a hunt gives up, or what
+    // it finds doesn't hold.
     pub(crate) fn by_list(
         &self,
         alloc: Global,
@@ -176,11 +176,12 @@ impl Problem {
         verdict_by_list(alloc, &self.question.test, placement, first)
     }
 
-    /// Whether the placement, one of the test's slots, forbids the outcome. A hunt finds a refutation, or of the executions that show
-    /// the outcome the one whose candidate comes first, whose witness is widened at the first slots before the others. What is answered
-    /// doesn't depend on earlier calls, unlike what a `Judge` answers. Where the hunt gives up, after 1,000,000 inferences, all
-    /// candidates are judged in turn, and F15 comes where they are too many; else the error is F19. The cost is that of `Hunter::first`,
-    /// and that of checking what it finds: of `reason_against`, or of `shown_by` and `widest_witness`.
+    /// Whether the placement, one of the test's slots, forbids the outcome. A hunt finds a refutation, or of the
+    /// executions that show the outcome the one whose candidate comes first, whose witness is widened at the first
+    /// slots before the others. What is answered doesn't depend on earlier calls, unlike what a `Judge` answers. Where
+    /// the hunt gives up, after 1,000,000 inferences, all candidates are judged in turn, and F15 comes where they are
+    /// too many; else the error is F19. The cost is that of `Hunter::first`, and that of checking what it finds: of
+    /// `reason_against`, or of `shown_by` and `widest_witness`.
     pub fn verdict(
         &self,
         alloc: Global,

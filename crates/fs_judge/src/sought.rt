@@ -27,7 +27,7 @@ pub(crate) enum Sought {
     Nothing,
 }
 
-// The inferences, where they refute the test.
+/// The inferences, where they refute the test.
 fn refuted(
     alloc: Global,
     basis: &Basis,
@@ -43,14 +43,14 @@ fn refuted(
     }
 }
 
-// The name, which each byte can be part of.
+/// The name, which each byte can be part of.
 fn named(name: OperationName) -> Option<OperationName>
     ensures { result ≡ in_range name }
 {
     Some(name)
 }
 
-// The names, as a witness has them.
+/// The names, as a witness has them.
 fn all_named(
     alloc: Global,
     order: &[OperationName],
@@ -60,7 +60,7 @@ fn all_named(
     order.iter().map(|name| named(*name)).collect(alloc)
 }
 
-// The execution as a witness.
+/// The execution as a witness.
 fn witness_of(alloc: Global, execution: Execution) -> Result<WitnessFile, AllocError>
     ensures { IfOk result (λ file. KeepsWitness file (record { choices = execution.choices; order = execution.order })) }
 {
@@ -71,7 +71,7 @@ fn witness_of(alloc: Global, execution: Execution) -> Result<WitnessFile, AllocE
     })
 }
 
-// The candidate of the execution, where it is one that shows the outcome.
+/// The candidate of the execution, where it is one that shows the outcome.
 fn shown(
     alloc: Global,
     basis: &Basis,
@@ -94,8 +94,8 @@ fn shown(
     }
 }
 
-// What is left of a hunt's finding: the refutation or the execution, where it is one. The cost is that of `reason_against`,
-// or of `shown_by`. The error is F19.
+// What is left of a hunt's finding: the refutation or the execution, where it is one. The cost is that of
+// `reason_against`, or of `shown_by`. The error is F19.
 pub(crate) fn checked(
     alloc: Global,
     basis: &Basis,

@@ -14,7 +14,7 @@ use std::alloc::{AllocError, Global};
 /// The greatest depth of a tree of atoms, which would be 2^60 of them: more than memory has.
 const MOST_DEPTH: u32 = 60;
 
-// The place ends with the word.
+/// The place ends with the word.
 fn ends_with(place: Place, word: u32) -> Outcome
     ensures holds { (r : ℕ → ℕ → ℕ) (w : ℕ → ℕ) → holds r w (condition_of result) ≡ (word_of r w place == word) }
     ensures flat { nesting (condition_of result) ≡ 0 }
@@ -27,7 +27,7 @@ fn ends_with(place: Place, word: u32) -> Outcome
     }
 }
 
-// The place ends with the word, or with another one.
+/// The place ends with the word, or with another one.
 fn atom_condition(
     alloc: Global,
     place: Place,
@@ -48,7 +48,7 @@ fn atom_condition(
     }
 }
 
-// The atom is true.
+/// The atom is true.
 fn one_of(alloc: Global, places: &[Place], atom: &Atom) -> Result<Outcome, AllocError>
     requires { atom.now.index < length places.now }
     ensures holds { IfOk result (λ made. (r : ℕ → ℕ → ℕ) (w : ℕ → ℕ)
@@ -60,7 +60,7 @@ fn one_of(alloc: Global, places: &[Place], atom: &Atom) -> Result<Outcome, Alloc
     atom_condition(alloc, places[atom.index], atom.word, atom.is)
 }
 
-// Both conditions.
+/// Both conditions.
 fn both(alloc: Global, left: Outcome, right: Outcome) -> Result<Outcome, AllocError>
     ensures { IfOk result (λ made. condition_of made ≡ Both (condition_of left) (condition_of right)) }
 {
@@ -69,7 +69,7 @@ fn both(alloc: Global, left: Outcome, right: Outcome) -> Result<Outcome, AllocEr
     Ok(Outcome::Both(left, right))
 }
 
-// All atoms are true, as a tree of this depth at most above the atoms.
+/// All atoms are true, as a tree of this depth at most above the atoms.
 fn all_of(
     alloc: Global,
     places: &[Place],

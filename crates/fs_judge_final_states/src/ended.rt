@@ -24,14 +24,14 @@ use fs_model::Test;
 use fs_model_axioms::final_word;
 use std::alloc::{AllocError, Global};
 
-// The name, which each byte can be part of.
+/// The name, which each byte can be part of.
 fn named(name: OperationName) -> Option<OperationName>
     ensures { result ≡ in_range name }
 {
     Some(name)
 }
 
-// The names, as a witness file has them.
+/// The names, as a witness file has them.
 fn all_named(
     alloc: Global,
     order: &[OperationName],
@@ -41,7 +41,7 @@ fn all_named(
     order.iter().map(|name| named(*name)).collect(alloc)
 }
 
-// The final word of a hart's register, where these choices make its run.
+/// The final word of a hart's register, where these choices make its run.
 fn register_word(
     alloc: Global,
     test: &Test,
@@ -64,7 +64,7 @@ fn register_word(
     }
 }
 
-// The final word of a location.
+/// The final word of a location.
 fn location_word(test: &Test, ordered: &OrderedCandidate, location: u8) -> u32
     requires { IsOrdered test.now ordered.now }
     ensures { result ≡ final_word (pre_execution test.now (execution_in ordered.now).traces)
@@ -75,7 +75,7 @@ fn location_word(test: &Test, ordered: &OrderedCandidate, location: u8) -> u32
     final_word(operations, ordered.order.order(), location)
 }
 
-// The final word at a place.
+/// The final word at a place.
 fn word_at(
     alloc: Global,
     test: &Test,
@@ -97,7 +97,7 @@ fn word_at(
     }
 }
 
-// The final words at the places.
+/// The final words at the places.
 fn words_at(
     alloc: Global,
     test: &Test,
@@ -120,7 +120,7 @@ fn words_at(
     Ok(List::new(words))
 }
 
-// The words at the places in which the execution of the witness ends.
+/// The words at the places in which the execution of the witness ends.
 fn words_of(
     alloc: Global,
     test: &Test,

@@ -37,7 +37,7 @@ struct Listing {
     parts: Vec<Part>,
 }
 
-// All states, before any is known: one part has them all.
+/// All states, before any is known: one part has them all.
 fn begun(alloc: Global) -> Result<Listing, AllocError>
     ensures { (t : Tests) (p : List Entry) (places : List Places)
         → IfOk result (λ l. IsListed t p places (states_in l.known) l.parts.items) }
@@ -49,7 +49,8 @@ fn begun(alloc: Global) -> Result<Listing, AllocError>
     Ok(Listing { known, parts })
 }
 
-// Asks for a state in the part. Where there is one it is known from then on, and what is left of the part beside it is asked later.
+/// Asks for a state in the part. Where there is one it is known from then on, and what is left of the part beside it is
+/// asked later.
 fn advance(
     alloc: Global,
     test: &Test,
@@ -75,7 +76,7 @@ fn advance(
     Ok(())
 }
 
-// Nothing, where the runs of the test's harts can be listed.
+/// Nothing, where the runs of the test's harts can be listed.
 fn check_runs(alloc: Global, test: &Arc<Test>) -> Result<(), Fault>
     requires bounded { IsBounded (arc_value test.now) }
     requires starts { All IsStart (arc_value test.now).starts }

@@ -18,14 +18,14 @@ pub(crate) struct Atom {
 /// The states of which all these are true.
 pub(crate) type Part = List<Atom>;
 
-// Does the atom say which word the place has?
+/// Does the atom say which word the place has?
 fn is_fixing(index: usize, atom: &Atom) -> bool
     ensures { result ≡ is_fixing index atom.now }
 {
     atom.is && atom.index == index
 }
 
-// Does some atom of the part say so?
+/// Does some atom of the part say so?
 fn is_fixed_at(part: &[Atom], index: usize) -> bool
     ensures { result ≡ list_any (is_fixing index) part.now }
 {

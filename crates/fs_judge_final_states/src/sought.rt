@@ -28,7 +28,7 @@ use std::sync::Arc;
 /// Prices, which a question has and no verdict looks at.
 const PRICES: &[u8] = b"{\"rw,rw\":1}";
 
-// Prices, as they have to be in a question.
+/// Prices, as they have to be in a question.
 fn prices(alloc: Global) -> Result<Prices, Fault>
     ensures { IsOkUnless result Memory }
 {
@@ -38,7 +38,7 @@ fn prices(alloc: Global) -> Result<Prices, Fault>
     }
 }
 
-// The question of the test.
+/// The question of the test.
 fn question(alloc: Global, test: &Arc<Test>) -> Result<Arc<Question>, Fault>
     ensures ok { IfOk result (λ question. (arc_value question).test ≡ arc_value test.now) }
     ensures err { IsOkUnless result Memory }
@@ -48,7 +48,7 @@ fn question(alloc: Global, test: &Arc<Test>) -> Result<Arc<Question>, Fault>
     Ok(Arc::new(alloc, Question { test, prices })?)
 }
 
-// The verdict on the test with these fences.
+/// The verdict on the test with these fences.
 fn verdict(alloc: Global, test: &Arc<Test>, placement: &Placement) -> Result<Verdict, Fault>
     requires bounded { IsBounded (arc_value test.now) }
     requires starts { All IsStart (arc_value test.now).starts }
@@ -61,7 +61,7 @@ fn verdict(alloc: Global, test: &Arc<Test>, placement: &Placement) -> Result<Ver
     judge.verdict(alloc, placement, &[])
 }
 
-// A state in which the test shows its outcome with these fences; none where it can't.
+/// A state in which the test shows its outcome with these fences; none where it can't.
 fn shown_state(
     alloc: Global,
     test: &Arc<Test>,
@@ -83,7 +83,7 @@ fn shown_state(
     }
 }
 
-// The test, asking for a state in the part.
+/// The test, asking for a state in the part.
 fn asking(alloc: Global, test: &Test, places: &[Place], part: &[Atom]) -> Result<Arc<Test>, Fault>
     requires bounded { IsBounded test.now }
     requires places { ArePlacesOf test.now places.now }

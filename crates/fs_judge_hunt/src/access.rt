@@ -199,7 +199,8 @@ impl Gathering {
     }
 }
 
-/// What the runs do at each of the names, which are their hart's. It looks at each run once, since many runs are more than a cache holds.
+/// What the runs do at each of the names, which are their hart's. It looks at each run once, since many runs are more
+/// than a cache holds.
 pub fn doings_at(
     alloc: Global,
     test: &Test,

@@ -133,10 +133,10 @@ fn rules(
     Ok((rules, forwarded))
 }
 
-/// What the runs of the hart of this number do. The names are all of the test's, and the nodes those of its condition. The
-/// cost: for each name of the hart the runs times the logarithm of how many different things they do there, and for each two
-/// names of it the rules of preserved program order, once for the runs that execute the same instructions and access the same
-/// locations. The error is F19.
+/// What the runs of the hart of this number do. The names are all of the test's, and the nodes those of its condition.
+/// The cost: for each name of the hart the runs times the logarithm of how many different things they do there, and for
+/// each two names of it the rules of preserved program order, once for the runs that execute the same instructions and
+/// access the same locations. The error is F19.
 pub fn hart_of(
     alloc: Global,
     test: &Test,

@@ -1,6 +1,7 @@
-//! Hunts for what decides a test under a placement of fences: a refutation, or an execution that shows the outcome. What the runs of each
-//! hart do stands in rows of bits, one bit for each run. Both are checked elsewhere (`reason_against` of fs_region_refutation, `shown_by`
-//! of fs_check); of what is here it is proved that it is safe and ends.
+//! Hunts for what decides a test under a placement of fences: a refutation, or an execution that shows the outcome.
+//! What the runs of each hart do stands in rows of bits, one bit for each run. Both are checked elsewhere
+//! (`reason_against` of fs_region_refutation, `shown_by` of fs_check); of what is here it is proved that it is safe and
+//! ends.
 #![tactic(auto)]
 
 mod access;

@@ -1,4 +1,5 @@
-//! The rows of candidates with those of placed fences, compared with the judged relation as a plain program computes it.
+//! The rows of candidates with those of placed fences, compared with the judged relation as a plain program computes
+//! it.
 ghost use Rattle.std.specs.Prelude.{◌≤◌, length};
 
 use fs_cand::Candidate;

@@ -133,8 +133,8 @@ fn compare_orders(
     Ok(())
 }
 
-/// Compares on all these runs, a list for each hart, and all orders of their operations, with the fences that the words name: how many
-/// executions show the outcome, or `usize::MAX` where the two differ on an order.
+/// Compares on all these runs, a list for each hart, and all orders of their operations, with the fences that the words
+/// name: how many executions show the outcome, or `usize::MAX` where the two differ on an order.
 fn compare_runs(
     alloc: Global,
     test: &Test,
@@ -164,8 +164,8 @@ fn compare_runs(
     })
 }
 
-/// How many executions show the outcome where loads take these words, which must rise, with the fences that the words name; and no
-/// such number where the two differ on an order.
+/// How many executions show the outcome where loads take these words, which must rise, with the fences that the words
+/// name; and no such number where the two differ on an order.
 fn showing(alloc: Global, text: &str, loaded: &[u32], words: &str) -> Result<usize, Fault>
     requires { IsStrictlyIncreasing loaded.now }
 {
@@ -174,8 +174,8 @@ fn showing(alloc: Global, text: &str, loaded: &[u32], words: &str) -> Result<usi
     compare_runs(alloc, &test, &runs, words)
 }
 
-/// Of four operations, orders that must have two pairs in their sequence are a quarter of all 24: so many show SB, MP, LB and
-/// 2+2W. A third pair between them leaves one order, and a fourth one none.
+/// Of four operations, orders that must have two pairs in their sequence are a quarter of all 24: so many show SB, MP,
+/// LB and 2+2W. A third pair between them leaves one order, and a fourth one none.
 #[test]
 fn so_many_executions_show_the_outcome(rt: HostRuntime) -> Result<(), Fail> {
     let rows = [
@@ -229,7 +229,8 @@ fn fences_leave_fewer_executions(rt: HostRuntime) -> Result<(), Fail> {
         let found = showing(rt.alloc(), text, &[0, 1, 2], words)?;
         assert_eq!(rt; found, wanted, "{words} in {text}");
     }
-    // A hart may load its own store before others see it, so the two loads of the outcome that return own stores bind nothing.
+    // A hart may load its own store before others see it, so the two loads of the outcome that return own stores bind
+    // nothing.
     let found = showing(rt.alloc(), SBF, &[0, 1], "")?;
     assert_eq!(rt; found, 180);
     Ok(())

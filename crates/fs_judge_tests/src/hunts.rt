@@ -203,9 +203,9 @@ fn others(rt: HostRuntime) -> Result<(), Fail> {
     Ok(())
 }
 
-/// Tests of which the first execution is asked for. It is told by its choices, which are the least that show the outcome, and by its order.
-/// In those below the lock a hunt for any execution finds one that isn't the first: with greater words, another source, or another order
-/// of stores.
+/// Tests of which the first execution is asked for. It is told by its choices, which are the least that show the
+/// outcome, and by its order. In those below the lock a hunt for any execution finds one that isn't the first: with
+/// greater words, another source, or another order of stores.
 const FIRSTS: [(&str, &str); 10] = [
     (MP11, ""),
     (MP11, "P0:3=rw,rw P1:1=rw,rw"),
@@ -250,7 +250,8 @@ fn refuted_by(alloc: Global, text: &str, fences: &str, most: usize) -> Result<us
     }
 }
 
-/// For each of the tests the numbers for a limit of a million inferences, of as many as the refutation then has, and of one less.
+/// For each of the tests the numbers for a limit of a million inferences, of as many as the refutation then has, and of
+/// one less.
 fn write_bounds(alloc: Global, rows: &[(&str, &str)], text: &mut String) -> Result<(), Fault> {
     for (test, fences) in rows {
         let size = refuted_by(alloc, test, fences, ANY.most)?;
@@ -262,8 +263,8 @@ fn write_bounds(alloc: Global, rows: &[(&str, &str)], text: &mut String) -> Resu
     Ok(())
 }
 
-/// Locks of three harts and additions of five, which have more than 4,000,000 candidates: a hunt gives up where the refutation would pass
-/// its limit, and not before.
+/// Locks of three harts and additions of five, which have more than 4,000,000 candidates: a hunt gives up where the
+/// refutation would pass its limit, and not before.
 #[test]
 fn hunts_give_up_at_their_limit(rt: HostRuntime) -> Result<(), Fail> {
     let rows = [(LOCK3, LOCK3_FENCES), (ADDERS, "")];

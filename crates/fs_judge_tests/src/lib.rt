@@ -1,6 +1,6 @@
-//! Tests of what a verdict stands on, on litmus tests as text: relations, rows of candidates, the checker of executions, runs by
-//! themselves, refutations, hunts, and verdicts on placements.
-//! They stand apart, so that no crate is proved twice for the sake of its tests.
+//! Tests of what a verdict stands on, on litmus tests as text: relations, rows of candidates, the checker of
+//! executions, runs by themselves, refutations, hunts, and verdicts on placements. They stand apart, so that no crate
+//! is proved twice for the sake of its tests.
 #![tactic(auto)]
 
 #[cfg(test)]

@@ -1,4 +1,5 @@
--- What the search finds is a choice of ends and of last words that makes the condition as wanted, and it misses no such choice.
+-- What the search finds is a choice of ends and of last words that makes the condition as wanted, and it misses no such
+-- choice.
 use Rattle.std.proofs.Common.{◌≡◌, ℕ, zero, suc, ◌+◌, ◌<◌, ◌==◌, nat_lt, Bool, true, false, Option, None, Some, List, [], ◌∷◌, ◌++◌, length, inl, inr, refl, sym, ◌∙◌, subst, ap, append_assoc, arith}
 use Rattle.std.specs.Prelude.{if◌then◌else◌}
 use Rattle.std.specs.List.{Contains}

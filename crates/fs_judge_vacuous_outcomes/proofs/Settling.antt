@@ -1,4 +1,5 @@
--- What is left of conditions: it is true where they are, settling twice is settling once by both, and where all is known all is settled.
+-- What is left of conditions: it is true where they are, settling twice is settling once by both, and where all is
+-- known all is settled.
 use Rattle.std.proofs.Common.{◌≡◌, ℕ, ◌==◌, Bool, true, false, ◌&&◌, ◌||◌, not, Option, Some, None, refl, sym, ◌∙◌, ap}
 use Rattle.std.specs.Option.{option_or}
 use Rattle.fs_model.specs.Condition.{Condition, Always, Never, RegisterIs, LocationIs, Deny, Both, Either}

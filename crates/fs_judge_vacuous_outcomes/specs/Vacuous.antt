@@ -1,5 +1,5 @@
--- Outcomes that no choice of runs and last words makes true: the memory model isn't needed to rule them out. Which stores loads return
--- from, in which order operations come to memory, and which fences there are plays no part.
+-- Outcomes that no choice of runs and last words makes true: the memory model isn't needed to rule them out. Which
+-- stores loads return from, in which order operations come to memory, and which fences there are plays no part.
 use Rattle.std.specs.Prelude.{◌≡◌, ◌⊎◌, ℕ, zero, suc, ◌*◌, ◌<◌, true, Some, List, length, slice_get}
 use Rattle.fs_model.specs.declared.test.Test.{Test}
 use Rattle.fs_model.specs.declared.step.Step.{Step}
@@ -10,15 +10,16 @@ use Rattle.fs_model.specs.Shows.{final_register, holds, is_outcome}
 use Rattle.fs_model.specs.Values.{AreRunsOverValues, StoresWord}
 use Rattle.fs_cert_evidence.specs.Trees.{AreItsRuns}
 
--- The location may end with the word, as far as these runs tell: one of them stores it there; or it begins with it, and none stores there.
+-- The location may end with the word, as far as these runs tell: one of them stores it there; or it begins with it, and
+-- none stores there.
 abbrev pub MayEnd : Test → List (List Step) → (location word : ℕ) → Type 0
 MayEnd t traces location word =
     ((hart : ℕ) × StoresWord (steps_of traces hart) location word)
     ⊎ ((slice_get (initial_words t) location ≡ Some word)
     × ((hart other : ℕ) → StoresWord (steps_of traces hart) location other → ⊥))
 
--- A way to the outcome: a run of each hart, whose loads take words from the value sets, and a last word for each location that these runs
--- allow, which together make the condition as the outcome asks for.
+-- A way to the outcome: a run of each hart, whose loads take words from the value sets, and a last word for each
+-- location that these runs allow, which together make the condition as the outcome asks for.
 pub record IsWay (t : Test) (traces : List (List Step)) (last : ℕ → ℕ) : Type 0 where
   pub runs : AreRunsOverValues t traces
   pub ends : (location : ℕ) → location < length t.locations → MayEnd t traces location (last location)

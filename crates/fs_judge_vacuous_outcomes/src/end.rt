@@ -33,7 +33,7 @@ pub(crate) struct End {
     pub stored: List<Stored>,
 }
 
-// The register and the word that the run ends with in it.
+/// The register and the word that the run ends with in it.
 fn known_of(run: &Lone, register: Reg) -> Known
     ensures { result ≡ record { register = register; word = final run.now register } }
 {
@@ -43,7 +43,7 @@ fn known_of(run: &Lone, register: Reg) -> Known
     }
 }
 
-// Appends the register with its word, unless it is there.
+/// Appends the register with its word, unless it is there.
 fn push_known(known: &mut Vec<Known>, run: &Lone, register: Reg) -> Result<(), AllocError>
     ensures { OnOk result (known.new.items ≡ with_known register (final run.now register) known.old.items) }
 {
@@ -53,8 +53,8 @@ fn push_known(known: &mut Vec<Known>, run: &Lone, register: Reg) -> Result<(), A
     Ok(())
 }
 
-// Appends the registers of the hart that the condition names and that aren't there, with the words that they end with in
-// the run. So there are 31 at most.
+/// Appends the registers of the hart that the condition names and that aren't there, with the words that they end with
+/// in the run. So there are 31 at most.
 fn push_named(
     run: &Lone,
     hart: u8,
@@ -83,7 +83,7 @@ fn push_named(
     }
 }
 
-// What the step stores, and where.
+/// What the step stores, and where.
 fn stored_by(step: &Step) -> Option<Stored>
     ensures { result ≡ stored_by step.now }
 {
@@ -93,7 +93,7 @@ fn stored_by(step: &Step) -> Option<Stored>
     }
 }
 
-// What the steps store, in program order.
+/// What the steps store, in program order.
 fn stored_in(alloc: Global, steps: &[Step]) -> Result<Vec<Stored>, AllocError>
     ensures { IfOk result (λ made. made.items ≡ filter_map stored_by steps.now) }
 {

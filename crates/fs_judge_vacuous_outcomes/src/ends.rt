@@ -16,7 +16,7 @@ use std::alloc::{AllocError, Global};
 /// With so many ends each further one is compared, so that most tests have few.
 const MOST_COMPARED: usize = 64;
 
-// Is the end one of these, as far as they are looked at?
+/// Is the end one of these, as far as they are looked at?
 fn is_known(ends: &[End], end: &End) -> bool
     ensures { result ≡ true → Contains ends.now end.now }
 {
@@ -28,8 +28,8 @@ fn is_known(ends: &[End], end: &End) -> bool
     false
 }
 
-// Appends what counts of the run of the hart, unless the condition can't be as wanted with it, or an end is known to be
-// the same.
+/// Appends what counts of the run of the hart, unless the condition can't be as wanted with it, or an end is known to
+/// be the same.
 fn push_end(
     alloc: Global,
     ends: &mut Vec<End>,
@@ -49,7 +49,7 @@ fn push_end(
     Ok(())
 }
 
-// What counts of the runs of a hart.
+/// What counts of the runs of a hart.
 fn ends_of(
     alloc: Global,
     hart: u8,
@@ -77,7 +77,8 @@ pub(crate) fn runs_of(listed: &[List<Lone>], hart: usize) -> &[Lone]
 }
 
 /// What counts of the runs of each hart where the condition is to have this truth value: of runs that don't rule it out
-/// by themselves. The cost is for each run that of `end_of` and of `with_hart`, and 64 times the size of an end at most.
+/// by themselves. The cost is for each run that of `end_of` and of `with_hart`, and 64 times the size of an end at
+/// most.
 pub(crate) fn all_ends(
     alloc: Global,
     harts: usize,

@@ -22,7 +22,7 @@ pub(crate) struct Search {
     bounded: bool,
 }
 
-// The words that are stored at the address.
+/// The words that are stored at the address.
 fn stored_at(alloc: Global, address: u32, stored: &[Stored]) -> Result<Vec<u32>, AllocError>
     ensures { IfOk result (λ words. words.items ≡ stored_at address stored.now) }
 {
@@ -33,7 +33,7 @@ fn stored_at(alloc: Global, address: u32, stored: &[Stored]) -> Result<Vec<u32>,
         .collect(alloc)
 }
 
-// The words that the location may end with, which begins with the first one.
+/// The words that the location may end with, which begins with the first one.
 fn words_for(
     alloc: Global,
     location: u8,
@@ -50,7 +50,7 @@ fn words_for(
     Ok(words)
 }
 
-// What is stored in both, one behind the other.
+/// What is stored in both, one behind the other.
 fn joined(alloc: Global, stored: &[Stored], more: &[Stored]) -> Result<Vec<Stored>, AllocError>
     ensures { IfOk result (λ made. made.items ≡ stored.now ++ more.now) }
 {
@@ -83,7 +83,7 @@ impl Search {
         }
     }
 
-    // Takes a step, where there is one left.
+    /// Takes a step, where there is one left.
     fn may_go_on(&mut self) -> bool
         ensures wanted { self.new.wanted ≡ self.old.wanted }
         ensures bounded { self.new.bounded ≡ self.old.bounded }
@@ -99,8 +99,8 @@ impl Search {
         true
     }
 
-    // Can the locations from this one on, which begin with these words, end so that what is left of the condition is as
-    // wanted? None where the steps are used up.
+    /// Can the locations from this one on, which begin with these words, end so that what is left of the condition is
+    /// as wanted? None where the steps are used up.
     fn can_end(
         &mut self,
         location: u8,

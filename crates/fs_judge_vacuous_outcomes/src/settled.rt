@@ -33,7 +33,7 @@ fn shape_of(condition: &Outcome) -> Shape
     }
 }
 
-// Always true, or never.
+/// Always true, or never.
 fn truth_of(truth: bool) -> Outcome
     ensures { condition_of result ≡ truth_of truth }
 {
@@ -66,7 +66,7 @@ fn denied(alloc: Global, condition: Outcome) -> Result<Outcome, AllocError>
     }
 }
 
-// Both conditions, of which neither is settled.
+/// Both conditions, of which neither is settled.
 fn both_open(alloc: Global, left: Outcome, right: Outcome) -> Result<Outcome, AllocError>
     ensures { IfOk result (λ made. condition_of made ≡ Both (condition_of left) (condition_of right)) }
 {
@@ -75,7 +75,7 @@ fn both_open(alloc: Global, left: Outcome, right: Outcome) -> Result<Outcome, Al
     Ok(Outcome::Both(left, right))
 }
 
-// One of two conditions, of which neither is settled.
+/// One of two conditions, of which neither is settled.
 fn either_open(alloc: Global, left: Outcome, right: Outcome) -> Result<Outcome, AllocError>
     ensures { IfOk result (λ made. condition_of made ≡ Either (condition_of left) (condition_of right)) }
 {
@@ -124,7 +124,7 @@ pub(crate) fn word_in(known: &[Known], register: u8) -> Option<u32>
     }
 }
 
-// What is left of an atom of a register, where this is known of its word.
+/// What is left of an atom of a register, where this is known of its word.
 fn settled_register(hart: u8, reg: Reg, word: u32, known: Option<u32>) -> Outcome
     ensures { condition_of result ≡ settled_atom (RegisterIs hart reg word) word known }
 {
@@ -134,7 +134,7 @@ fn settled_register(hart: u8, reg: Reg, word: u32, known: Option<u32>) -> Outcom
     }
 }
 
-// The same of an atom of a location.
+/// The same of an atom of a location.
 fn settled_location(location: u8, word: u32, known: Option<u32>) -> Outcome
     ensures { condition_of result ≡ settled_atom (LocationIs location word) word known }
 {
@@ -144,7 +144,7 @@ fn settled_location(location: u8, word: u32, known: Option<u32>) -> Outcome
     }
 }
 
-// What is known of a hart's register.
+/// What is known of a hart's register.
 fn by_hart(hart: u8, known: &[Known], other: u8, register: u8) -> Option<u32>
     ensures { result ≡ by_hart hart known.now other register }
 {
@@ -155,7 +155,7 @@ fn by_hart(hart: u8, known: &[Known], other: u8, register: u8) -> Option<u32>
     }
 }
 
-// What is known of a location.
+/// What is known of a location.
 fn by_location(location: u8, word: u32, other: u8) -> Option<u32>
     ensures { result ≡ by_location location word other }
 {

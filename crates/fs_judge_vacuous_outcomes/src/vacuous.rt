@@ -22,7 +22,7 @@ const MOST_LISTS: usize = 10_000;
 /// Else this many steps are taken at most.
 const MOST_STEPS: u32 = 1_000_000;
 
-// Are there more lists of runs, one of each hart, than are looked through whatever it takes?
+/// Are there more lists of runs, one of each hart, than are looked through whatever it takes?
 fn has_many(harts: usize, runs: &[List<Lone>]) -> bool
     ensures { result ≡ true → most_lists < lists_of (runs_over runs.now) harts }
 {
@@ -35,7 +35,7 @@ fn has_many(harts: usize, runs: &[List<Lone>]) -> bool
     lists > MOST_LISTS
 }
 
-// Is it the condition that is to be true, and not its denial?
+/// Is it the condition that is to be true, and not its denial?
 fn is_outcome(quantifier: Quantifier) -> bool
     ensures { result ≡ is_outcome quantifier true }
 {
@@ -45,7 +45,7 @@ fn is_outcome(quantifier: Quantifier) -> bool
     }
 }
 
-// The words that the locations begin with.
+/// The words that the locations begin with.
 fn first_words(alloc: Global, test: &Test) -> Result<Vec<u32>, AllocError>
     ensures { IfOk result (λ words. words.items ≡ initial_words test.now) }
 {
@@ -56,7 +56,7 @@ fn first_words(alloc: Global, test: &Test) -> Result<Vec<u32>, AllocError>
         .collect(alloc)
 }
 
-// Is there a way to the outcome? None where that is left open.
+/// Is there a way to the outcome? None where that is left open.
 fn has_way(alloc: Global, basis: &Basis) -> Result<Option<bool>, AllocError>
     ensures yes { IfOk result (λ has. has ≡ Some true → IsVacuous basis.now → ⊥) }
     ensures no { IfOk result (λ has. has ≡ Some false → IsVacuous basis.now) }
@@ -84,8 +84,8 @@ fn has_way(alloc: Global, basis: &Basis) -> Result<Option<bool>, AllocError>
 ///
 /// The cost: what counts of each run is worked out once, and each further one is compared with 64 others at most; then
 /// it is that of a search over the choices of what counts of the harts' runs and of last words, cut off where the
-/// condition is settled; each step is linear in the condition. Where there are at most 10,000 lists of runs nothing else
-/// bounds the steps; else there are 1,000,000 at most.
+/// condition is settled; each step is linear in the condition. Where there are at most 10,000 lists of runs nothing
+/// else bounds the steps; else there are 1,000,000 at most.
 pub fn is_vacuous(alloc: Global, basis: &Basis) -> Result<Option<bool>, Fault>
     ensures yes { IfOk result (λ is. is ≡ Some true → IsVacuous basis.now) }
     ensures no { IfOk result (λ is. is ≡ Some false → IsVacuous basis.now → ⊥) }

@@ -1,5 +1,5 @@
--- Which of several faults is given: that of the least number, and of that number that of the least line; of passed limits,
--- the first of harts, instructions, accesses, locations and depth.
+-- Which of several faults is given: that of the least number, and of that number that of the least line; of passed
+-- limits, the first of harts, instructions, accesses, locations and depth.
 use Rattle.std.specs.Prelude.{◌≡◌, ℕ, ◌<◌, ◌≤◌, ◌⊎◌, Bool, ◌&&◌, ◌||◌, ◌==◌, nat_lt, Option, Some, None, if◌then◌else◌}
 use Rattle.fs_kinds.specs.FaultLine.{number}
 use Rattle.fs_kinds.specs.declared.fault.Fault.{Fault}

@@ -21,7 +21,8 @@ pub enum Fault {
     BadAnnotation { line: usize },
     /// F6: a branch whose label is missing or not ahead of it, or a label twice in one hart.
     BadLabel { line: usize },
-    /// F7: an initial value of a hart or a register that isn't there, of x0, with a number out of range, or a second one.
+    /// F7: an initial value of a hart or a register that isn't there, of x0, with a number out of range, or a second
+    /// one.
     BadInit { line: usize },
     /// F8: the condition names a hart or a register that isn't there, or a number out of range.
     BadCondition,

@@ -21,7 +21,8 @@ impl Limit {
 }
 
 impl Fault {
-    /// Where the fault stands among those of its number: its line, or the place of its limit, and 0 for a fault with neither.
+    /// Where the fault stands among those of its number: its line, or the place of its limit, and 0 for a fault with
+    /// neither.
     pub fn rank(self) -> usize
         ensures { result ≡ rank_of self }
     {
@@ -44,7 +45,8 @@ impl Fault {
     }
 }
 
-/// The first of two faults, that of the lesser number, and of one number that of the lesser rank; or the one that was found.
+/// The first of two faults, that of the lesser number, and of one number that of the lesser rank; or the one that was
+/// found.
 pub fn earliest(found: Option<Fault>, other: Option<Fault>) -> Option<Fault>
     ensures { result ≡ earliest found other }
 {

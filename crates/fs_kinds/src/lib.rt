@@ -1,4 +1,5 @@
-//! Kinds of fence, slots, prices, placements, and the faults that end a run; and a list of values that is made once and then read.
+//! Kinds of fence, slots, prices, placements, and the faults that end a run; and a list of values that is made once and
+//! then read.
 #![tactic(auto)]
 
 mod fault;

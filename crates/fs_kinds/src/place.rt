@@ -5,8 +5,8 @@ ghost use Rattle.std.specs.List.{list_all};
 ghost use Rattle.fs_kinds.specs.PlaceNames.{is_numeral, is_padded, Writes, IsOperationName, byte_of};
 ghost use Rattle.fs_kinds.specs.declared.reason.OperationName.{OperationName};
 
-/// The numbers of a name such as `P0:3`: `P`, the hart's number, `:`, the instruction's number, both in decimal without leading
-/// zeros and of any length. Each is none where it passes 255. None where the text is no such name.
+/// The numbers of a name such as `P0:3`: `P`, the hart's number, `:`, the instruction's number, both in decimal without
+/// leading zeros and of any length. Each is none where it passes 255. None where the text is no such name.
 pub fn read_place(text: &str) -> Option<(Option<u8>, Option<u8>)>
     ensures some { IfSome result (λ found. (name : OperationName) × IsOperationName text.now name
         × (found.0 ≡ byte_of name.hart) × (found.1 ≡ byte_of name.at)) }
@@ -18,7 +18,8 @@ pub fn read_place(text: &str) -> Option<(Option<u8>, Option<u8>)>
     Some((hart, at))
 }
 
-/// The number that the digits write, without leading zeros: none where it passes 255. None where the text is no such number.
+/// The number that the digits write, without leading zeros: none where it passes 255. None where the text is no such
+/// number.
 fn read_number(digits: &str) -> Option<Option<u8>>
     ensures some { IfSome result (λ found. (n : ℕ) × Writes digits.now n × (found ≡ byte_of n)) }
     ensures none { IfNone result ((n : ℕ) → ¬ Writes digits.now n) }

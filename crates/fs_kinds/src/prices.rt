@@ -69,7 +69,8 @@ impl Prices {
         total
     }
 
-    /// What the fence at the slot costs: price times weight, or nothing where there is no fence. Its kind must be offered.
+    /// What the fence at the slot costs: price times weight, or nothing where there is no fence. Its kind must be
+    /// offered.
     fn entry_cost(&self, entry: Entry) -> u64
         requires { IsTrue (is_offered self.now entry.kind) }
         ensures value { result ≡ entry_cost self.now entry }

@@ -1,5 +1,5 @@
--- The faults of a text before its meaning: of its encoding, its first line and its form. Each comes before those that its
--- form may have.
+-- The faults of a text before its meaning: of its encoding, its first line and its form. Each comes before those that
+-- its form may have.
 use Rattle.std.proofs.Common.{◌≡◌, inl, inr, ℕ, ◌≤◌, List, Bool, true, false, Some, refl, sym, ap, subst, arith, IsUtf8}
 use Rattle.fs_kinds.specs.FaultLine.{number}
 use Rattle.fs_kinds.specs.declared.fault.Fault.{Fault}

@@ -18,7 +18,8 @@ atom_of columns names b = option_map (λ s. atom_at s.holder s.word) (setting_of
 abbrev pub with_both : (Condition → Condition → Condition) → Option Condition → Option Condition → Option Condition
 with_both f a b = option_and_then (λ x. option_map (λ y. f x y) b) a
 
--- the condition that is written, in a test of so many harts and these locations; nothing where an atom names what isn't there or has a number out of range
+-- the condition that is written, in a test of so many harts and these locations; nothing where an atom names what isn't
+-- there or has a number out of range
 abbrev pub condition_in : ℕ → Names → written.Condition → Option Condition
 condition_in columns names (written.Atom t v) = atom_of columns names (t, v)
 condition_in columns names written.True = Some Always

@@ -47,8 +47,8 @@ pub data IsBroken (bytes : List ℕ) : ℕ → Type 0 where
 
 -- ---- what the form means
 
--- An entry that sets nothing that may be set, in the line of its target: a hart or a register that isn't there, a number out of
--- range, x0, or what an earlier entry sets.
+-- An entry that sets nothing that may be set, in the line of its target: a hart or a register that isn't there, a
+-- number out of range, x0, or what an earlier entry sets.
 pub data IsBadEntry (columns : ℕ) (names : Names) (entries : List Entry) : ℕ → Type 0 where
   absent : (before after : List Entry) (e : Entry) → entries ≡ before ++ e ∷ after → setting_of columns names (e.target, e.value) ≡ None → IsBadEntry columns names entries e.line
   zero : (before after : List Entry) (e : Entry) {p : Holder} → entries ≡ before ++ e ∷ after → holder_of columns names e.target ≡ Some p → is_x0 p ≡ true → IsBadEntry columns names entries e.line
@@ -62,8 +62,8 @@ pub data IsPassed (form : Form) (s : grammar.Syntax) : Limit → Type 0 where
   locations : most_locations < length (names_in form s) → IsPassed form s Locations
   depth : most_depth < depth_of s → IsPassed form s Depth
 
--- a fault of what the form and its condition mean: of a cell, a label or a branch; of an initial value; of an atom, with a hart
--- or a register that isn't there or a number out of range; or of the limits
+-- a fault of what the form and its condition mean: of a cell, a label or a branch; of an initial value; of an atom,
+-- with a hart or a register that isn't there or a number out of range; or of the limits
 pub data IsFormFault (form : Form) (s : grammar.Syntax) : Fault → Type 0 where
   code : {f : Fault} → IsFault form.columns (flatten form.rows) f → IsFormFault form s f
   entry : {line : ℕ} → IsBadEntry form.columns (names_in form s) form.entries line → IsFormFault form s (BadInit line)

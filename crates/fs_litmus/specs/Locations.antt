@@ -1,5 +1,5 @@
--- A test's locations: names, declared by first appearance, as a target or a value of the initial values or of the condition
--- (herd7's format of litmus tests).
+-- A test's locations: names, declared by first appearance, as a target or a value of the initial values or of the
+-- condition (herd7's format of litmus tests).
 use Rattle.std.specs.Prelude.{ℕ, List, [], ◌∷◌, ◌++◌, Option, map, position, if◌then◌else◌}
 use Rattle.std.specs.List.{list_any}
 use Rattle.std.specs.Str.{bytes_eq}

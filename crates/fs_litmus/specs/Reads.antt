@@ -24,8 +24,8 @@ use Rattle.fs_litmus.specs.Starts.{starts_of, AreLocations}
 use Rattle.fs_litmus.specs.Atoms.{condition_in}
 use Rattle.fs_litmus.specs.declared.settings.Setting.{Setting}
 
--- Below the first line there is doc text, up to the block of initial values, and from there these are the tokens; closed says
--- that no comment is open at the end.
+-- Below the first line there is doc text, up to the block of initial values, and from there these are the tokens;
+-- closed says that no comment is open at the end.
 pub record HasTokens (bytes : List ℕ) (tokens : List Lined) (closed : Bool) : Type 0 where
   pub doc : List ℕ
   pub after_title : after_line bytes ≡ Some doc
@@ -34,7 +34,8 @@ pub record HasTokens (bytes : List ℕ) (tokens : List Lined) (closed : Bool) : 
   pub is_body : IsBody doc 2 body line
   pub are_tokens : AreTokens body line tokens closed
 
--- The text below its first line has this form: its tokens are the sections and then the condition, and no comment is left open.
+-- The text below its first line has this form: its tokens are the sections and then the condition, and no comment is
+-- left open.
 pub record HasForm (bytes : List ℕ) (form : Form) (s : Syntax) : Type 0 where
   pub tokens : List Lined
   pub has_tokens : HasTokens bytes tokens true

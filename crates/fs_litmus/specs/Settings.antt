@@ -28,7 +28,8 @@ word_of names (Address w) = option_map address_word (number_of_location names w)
 abbrev pub register_holder : ℕ → ℕ → ℕ → Option Holder
 register_holder columns h r = if nat_lt h columns then Some (holder.Register h r) else None
 
--- the register or location that a target means, in a test of so many harts; nothing for a hart or register that isn't there
+-- the register or location that a target means, in a test of so many harts; nothing for a hart or register that isn't
+-- there
 abbrev pub holder_of : ℕ → Names → Target → Option Holder
 holder_of columns names (Register h r) = option_and_then (λ n. option_and_then (register_holder columns n) (register_of r)) (number_of h)
 holder_of columns names (Location w) = option_map (λ k. holder.Location k) (number_of_location names w)

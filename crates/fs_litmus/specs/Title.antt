@@ -52,7 +52,8 @@ pub record HasTitle (bytes name : List ℕ) : Type 0 where
   pub trimmed : IsTrimmed words name
   pub some : name ≢ []
 
--- The text from this line on is dropped up to the first line whose first character past blanks is {. The body begins with it.
+-- The text from this line on is dropped up to the first line whose first character past blanks is {. The body begins
+-- with it.
 pub data IsBody : List ℕ → ℕ → List ℕ → ℕ → Type 0 where
   here : {bs : List ℕ} {line : ℕ} → begins 123 (unindented bs) ≡ true → IsBody bs line (unindented bs) line
   later : {bs rest body : List ℕ} {line at : ℕ} → begins 123 (unindented bs) ≡ false → after_line bs ≡ Some rest → IsBody rest (line + 1) body at → IsBody bs line body at

@@ -14,7 +14,7 @@ use fs_litmus_syntax::Tree;
 use fs_model::Outcome;
 use std::alloc::{AllocError, Global};
 
-// The register or location has the word at the end.
+/// The register or location has the word at the end.
 fn outcome_at(columns: usize, names: &Names, holder: Holder, word: u32) -> Outcome
     requires harts { columns ≤ most_harts }
     requires locations { length names.now ≤ most_locations }
@@ -35,7 +35,7 @@ fn outcome_at(columns: usize, names: &Names, holder: Holder, word: u32) -> Outco
     }
 }
 
-// Each of the two in a box.
+/// Each of the two in a box.
 fn boxed(
     alloc: Global,
     left: Outcome,
@@ -47,8 +47,8 @@ fn boxed(
     Ok((left, Box::new(alloc, right)?))
 }
 
-/// The condition that a tree is, in a test of harts and locations within the limits; nothing where an atom names what isn't
-/// there. Recursion goes as deep as the tree, whose depth is within the limit.
+/// The condition that a tree is, in a test of harts and locations within the limits; nothing where an atom names what
+/// isn't there. Recursion goes as deep as the tree, whose depth is within the limit.
 pub fn outcome_of(
     alloc: Global,
     columns: usize,

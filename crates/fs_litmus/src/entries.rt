@@ -24,7 +24,7 @@ fn is_x0(holder: Holder) -> bool
     }
 }
 
-// Is the holder new? It is among those that were seen from then on.
+/// Is the holder new? It is among those that were seen from then on.
 fn see(seen: &mut IndexSet<Holder>, holder: Holder) -> Result<bool, AllocError>
     ensures added { IfOk result (λ new. new ≡ not (list_any (same_holder holder) seen.old.keys)) }
     ensures keys { IfOk result (λ new. IsTrue new → seen.new.keys ≡ seen.old.keys ++ holder ∷ []) }
@@ -32,7 +32,7 @@ fn see(seen: &mut IndexSet<Holder>, holder: Holder) -> Result<bool, AllocError>
     Ok(seen.insert(holder)?)
 }
 
-// The setting, unless it is of x0 or of a holder that was seen. Its holder is among those that were seen from then on.
+/// The setting, unless it is of x0 or of a holder that was seen. Its holder is among those that were seen from then on.
 fn fresh(seen: &mut IndexSet<Holder>, found: Option<Setting>) -> Result<Option<Setting>, AllocError>
     ensures value { IfOk result (λ s. s ≡ option_and_then (fresh seen.old.keys) found) }
     ensures keys { IfOk result (λ r. IfSome r (λ s. seen.new.keys ≡ seen.old.keys ++ s.holder ∷ [])) }
@@ -50,9 +50,9 @@ fn fresh(seen: &mut IndexSet<Holder>, found: Option<Setting>) -> Result<Option<S
     }
 }
 
-/// What the entries of the block of initial values set. F7, with the line of the first token of the entry's target, at the
-/// first entry with a hart that has no column, an unknown register, x0, a number out of range, or a target a second time;
-/// F19. Linear in the entries.
+/// What the entries of the block of initial values set. F7, with the line of the first token of the entry's target, at
+/// the first entry with a hart that has no column, an unknown register, x0, a number out of range, or a target a second
+/// time; F19. Linear in the entries.
 pub fn read_settings(
     alloc: Global,
     columns: usize,

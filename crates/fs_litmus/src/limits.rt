@@ -15,7 +15,7 @@ use fs_litmus_syntax::HartCode;
 use fs_model::Code;
 use std::alloc::{AllocError, Global};
 
-// The code that is kept; nothing where it has too many instructions.
+/// The code that is kept; nothing where it has too many instructions.
 fn kept_code(alloc: Global, kept: &HartCode) -> Result<Option<Code>, AllocError>
     ensures { IfOk result (λ o. MatchOption o (is_short kept.now ≡ false) (λ c. (c ≡ instrs_of kept.now) × (is_short kept.now ≡ true))) }
 {
@@ -25,7 +25,7 @@ fn kept_code(alloc: Global, kept: &HartCode) -> Result<Option<Code>, AllocError>
     }
 }
 
-// The code of each hart; nothing where one has too many instructions.
+/// The code of each hart; nothing where one has too many instructions.
 fn kept_codes(alloc: Global, kept: &[HartCode]) -> Result<Option<Vec<Code>>, AllocError>
     ensures some { IfOk result (λ o. IfSome o (λ v. (v.items ≡ map instrs_of kept.now) × (list_all is_short kept.now ≡ true))) }
     ensures none { IfOk result (λ o. IfNone o (list_all is_short kept.now ≡ false)) }

@@ -10,8 +10,8 @@ use fs_kinds::{Fault, List};
 use fs_litmus_tokens::tokens;
 use std::alloc::Global;
 
-/// The lines in which the instructions of each hart stand, of a file that `read_test` reads: of each the line of its mnemonic, the first
-/// line being line 1. F3 where the bytes aren't of the form; or F19. Linear in the bytes.
+/// The lines in which the instructions of each hart stand, of a file that `read_test` reads: of each the line of its
+/// mnemonic, the first line being line 1. F3 where the bytes aren't of the form; or F19. Linear in the bytes.
 pub fn read_lines(alloc: Global, bytes: &[u8]) -> Result<Vec<List<usize>>, Fault>
     ensures ok { IfOk result (λ lines. StandIn bytes.now lines.items) }
     ensures err { IfErr result (λ f. f ≢ Fault.Memory → (line : ℕ) × IsBroken bytes.now line) }

@@ -43,7 +43,7 @@ fn quantifier_of(asked: fs_litmus_syntax::Quantifier) -> Quantifier
     }
 }
 
-// Does each atom speak of a hart and a register that are there, with a number in range?
+/// Does each atom speak of a hart and a register that are there, with a number in range?
 fn atoms_are_there(columns: usize, names: &Names, atoms: &[Atom]) -> bool
     ensures { result ≡ are_there columns names.now (map atom_of atoms.now) }
 {
@@ -62,7 +62,7 @@ struct Bindings<'a> {
     settings: &'a [Setting],
 }
 
-// The test of a form with these codes, bindings and condition.
+/// The test of a form with these codes, bindings and condition.
 fn build(
     alloc: Global,
     title: &str,
@@ -89,7 +89,7 @@ fn build(
     })
 }
 
-// The codes of a form, where they are within the limits.
+/// The codes of a form, where they are within the limits.
 fn read_short_codes(alloc: Global, kept: &[HartCode]) -> Result<Vec<Code>, Fault>
     ensures codes { IfOk result (λ v. (codes : List (List Instr)) → AreKept codes kept.now → v.items ≡ codes) }
     ensures within { IfOk result (λ v. (codes : List (List Instr)) → AreKept codes kept.now → All (λ code. length code ≤ most_instructions) codes) }
@@ -110,7 +110,7 @@ fn read_short_codes(alloc: Global, kept: &[HartCode]) -> Result<Vec<Code>, Fault
     Ok(codes)
 }
 
-// The locations of a form and its condition.
+/// The locations of a form and its condition.
 fn read_names<'a>(
     alloc: Global,
     form: &Form<'_, 'a>,
@@ -121,7 +121,7 @@ fn read_names<'a>(
     Ok(declared_names(alloc, &form.entries, &condition.atoms)?)
 }
 
-// The settings of a form whose atoms are all of what is there.
+/// The settings of a form whose atoms are all of what is there.
 fn read_bindings(
     alloc: Global,
     names: &Names,
@@ -144,7 +144,7 @@ fn read_bindings(
     Ok(settings)
 }
 
-// The condition, where it isn't too deep.
+/// The condition, where it isn't too deep.
 fn read_outcome(
     alloc: Global,
     columns: usize,
@@ -167,7 +167,7 @@ fn read_outcome(
     }
 }
 
-// The harts' codes, as the form's cells mean them.
+/// The harts' codes, as the form's cells mean them.
 fn read_kept(alloc: Global, form: &Form) -> Result<Vec<HartCode>, Fault>
     requires { cells_of form.now.cells.items ≡ flatten (form_of form.now).rows }
     ensures codes { IfOk result (λ kept. (codes : List (List Instr))
@@ -180,7 +180,7 @@ fn read_kept(alloc: Global, form: &Form) -> Result<Vec<HartCode>, Fault>
     read_codes(alloc, form.columns, &form.cells)
 }
 
-// The test of what was read, where it is within the limits.
+/// The test of what was read, where it is within the limits.
 fn within_limits(
     alloc: Global,
     title: &str,

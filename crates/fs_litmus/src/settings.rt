@@ -57,8 +57,8 @@ fn register_holder(columns: usize, hart: u32, register: Reg) -> Option<Holder>
     }
 }
 
-/// The register or location that a target means; nothing for a hart without a column, for an unknown register, and for a
-/// name that isn't declared.
+/// The register or location that a target means; nothing for a hart without a column, for an unknown register, and for
+/// a name that isn't declared.
 pub fn holder_of(columns: usize, names: &Names, target: Target) -> Option<Holder>
     ensures value { result ≡ holder_of columns names.now (target_of target.entry) }
     ensures within { IfSome result (λ p. IsThere columns (length names.now) p) }

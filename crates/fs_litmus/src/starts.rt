@@ -28,7 +28,7 @@ fn is_location(holder: Holder, location: usize) -> bool
     }
 }
 
-// The word that is set for a register, and 0 where none is.
+/// The word that is set for a register, and 0 where none is.
 fn register_word(settings: &[Setting], hart: u32, register: u8) -> u32
     ensures { result ≡ word_at settings.now (Holder.Register hart register) }
 {
@@ -40,7 +40,7 @@ fn register_word(settings: &[Setting], hart: u32, register: u8) -> u32
     0
 }
 
-// The word that is set for a location, and 0 where none is.
+/// The word that is set for a location, and 0 where none is.
 fn location_word(settings: &[Setting], location: usize) -> u32
     ensures { result ≡ word_at settings.now (Holder.Location location) }
 {
@@ -52,7 +52,7 @@ fn location_word(settings: &[Setting], location: usize) -> u32
     0
 }
 
-// The words of the hart's registers below a number.
+/// The words of the hart's registers below a number.
 fn words_of(
     alloc: Global,
     settings: &[Setting],

@@ -18,7 +18,7 @@ fn is_blank(byte: u8) -> bool
     byte == b' ' || byte == b'\t' || byte == b'\r'
 }
 
-// How many bytes stand before the first LF.
+/// How many bytes stand before the first LF.
 fn line_len(bytes: &[u8]) -> usize
     ensures value { result ≡ prefix_len is_within_line bytes.now }
     ensures within { result ≤ length bytes.now }
@@ -31,14 +31,14 @@ fn line_len(bytes: &[u8]) -> usize
     bytes.len()
 }
 
-// The bytes of the first line, without its LF.
+/// The bytes of the first line, without its LF.
 fn line_of(bytes: &[u8]) -> &[u8]
     ensures { result.now ≡ line_of bytes.now }
 {
     &bytes[..line_len(bytes)]
 }
 
-// What comes after the first line; nothing where there is no LF.
+/// What comes after the first line; nothing where there is no LF.
 fn after_line(bytes: &[u8]) -> Option<&[u8]>
     ensures value { option_map (λ x. x.now) result ≡ after_line bytes.now }
     ensures shorter { IfSome result (λ x. length x.now < length bytes.now) }
@@ -53,7 +53,7 @@ fn after_line(bytes: &[u8]) -> Option<&[u8]>
     None
 }
 
-// How many blanks stand at the front.
+/// How many blanks stand at the front.
 fn blanks(bytes: &[u8]) -> usize
     ensures value { result ≡ prefix_len is_blank bytes.now }
     ensures within { result ≤ length bytes.now }
@@ -66,7 +66,7 @@ fn blanks(bytes: &[u8]) -> usize
     bytes.len()
 }
 
-// Without the blanks at the front.
+/// Without the blanks at the front.
 fn unindented(bytes: &[u8]) -> &[u8]
     ensures value { result.now ≡ unindented bytes.now }
     ensures shorter { length result.now ≤ length bytes.now }
@@ -74,7 +74,7 @@ fn unindented(bytes: &[u8]) -> &[u8]
     &bytes[blanks(bytes)..]
 }
 
-// Without the blanks at both ends.
+/// Without the blanks at both ends.
 fn trimmed(line: &[u8]) -> &[u8]
     ensures { IsTrimmed line.now result.now }
 {
@@ -97,7 +97,7 @@ fn begins_with_brace(bytes: &[u8]) -> bool
     }
 }
 
-// The test's name, as bytes.
+/// The test's name, as bytes.
 fn title_of(bytes: &[u8]) -> Option<&[u8]>
     ensures named { IfSome result (λ name. HasTitle bytes.now name.now) }
     ensures absent { IsNone result → (name : List ℕ) → ¬ HasTitle bytes.now name }
@@ -141,8 +141,8 @@ pub fn find_body(bytes: &[u8], line: usize) -> Option<Body<'_>>
     }
 }
 
-/// The block of initial values and what comes after it, in a text whose first line is the title; nothing where no later line
-/// begins with `{` past its blanks.
+/// The block of initial values and what comes after it, in a text whose first line is the title; nothing where no later
+/// line begins with `{` past its blanks.
 pub fn skip_title(bytes: &[u8]) -> Option<Body<'_>>
     ensures value { IfSome result (λ b. (doc : List ℕ) × (after_line bytes.now ≡ Some doc) × IsBody doc 2 b.text.now b.line) }
     ensures absent { IsNone result → (doc body : List ℕ) → (at : ℕ) → after_line bytes.now ≡ Some doc → ¬ IsBody doc 2 body at }

@@ -1,4 +1,5 @@
--- The items of a printed code mean the code: each label stands once, and each branch goes ahead to the position of its label.
+-- The items of a printed code mean the code: each label stands once, and each branch goes ahead to the position of its
+-- label.
 use Rattle.std.proofs.Common.{◌≡◌, ℕ, ◌+◌, ◌<◌, ◌≤◌, ◌^◌, zero, suc, List, [], ◌∷◌, drop, length, slice_get, Bool, true, false, ◌||◌, eqb, Some, Option, option_and_then, refl, sym, ap, ◌∙◌, subst, arith, add-one}
 use Rattle.std.proofs.lemmas.Bool.Decides.{nat_tests}
 use Rattle.std.proofs.lemmas.Fmt.{decimal_injective}

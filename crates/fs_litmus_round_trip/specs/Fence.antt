@@ -23,8 +23,8 @@ pub data IsFenceFault (t : Test) (p : List Entry) : Fault → Type 0 where
   other_slots : slots_of p ≢ slots t → IsFenceFault t p BadFence
   long : slots_of p ≡ slots t → ¬ IsShort (fenced t p) → IsFenceFault t p (TooBig Instructions)
 
--- The printed form of the fenced test reads as the fenced test, which is a test in all its parts; or, where a hart has more
--- instructions than the limit with its fences, it has that fault.
+-- The printed form of the fenced test reads as the fenced test, which is a test in all its parts; or, where a hart has
+-- more instructions than the limit with its fences, it has that fault.
 pub record ReadsBack (t : Test) (p : List Entry) : Type 0 where
   pub test : IsShort (fenced t p) → IsTest (fenced t p)
   pub reads : IsShort (fenced t p) → Reads (printed (fenced t p)) (fenced t p)

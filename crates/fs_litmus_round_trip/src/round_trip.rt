@@ -14,8 +14,8 @@ use fs_litmus::read_test;
 use fs_model::{Test, write_fenced};
 use std::alloc::Global;
 
-/// A law: the printed form of a test reads as that test, and that of a fenced test as the fenced test; where a hart has too
-/// many instructions with its fences, that is the fault of the printed form.
+/// A law: the printed form of a test reads as that test, and that of a fenced test as the fenced test; where a hart has
+/// too many instructions with its fences, that is the fault of the printed form.
 pub fn reads_back(test: &Test, placement: &Placement)
     ensures plain { IsTest test.now → Reads (printed test.now) test.now }
     ensures fenced { IsTest test.now → ReadsBack test.now placement.now }

@@ -320,7 +320,8 @@ stray_step code hart xs i d y n where_is o h at e same f =
     let whole : IsFirstOf (IsStray hart (seen ++ x ∷ [])) (earliest o (stray_at hart seen x)) = first_join (IsStray hart seen) (λ g. stray_at hart seen x ≡ Some g) (IsStray hart (seen ++ x ∷ [])) (λ g k. stray_kept x k) (λ g k. stray_new hart seen x g k) (λ g k. stray_before hart seen x g k) o (stray_at hart seen x) f (this_first (stray_at hart seen x)) in
     subst (λ l. IsFirstOf (IsStray hart l) (earliest o (stray_of where_is n x))) (sym (items_more code xs i d y h at)) (subst (λ r. IsFirstOf (IsStray hart (seen ++ x ∷ [])) (earliest o r)) (sym found) whole)
 
--- what is known of the labels and instructions of these items: how many instructions, where each label stands first, and the first that stands twice
+-- what is known of the labels and instructions of these items: how many instructions, where each label stands first,
+-- and the first that stands twice
 pub record LabelsRead (xs : List Item) (n : ℕ) (where_is : List ℕ → Option ℕ) (o : Option Fault) : Type 0 where
   pub count : n ≡ instruction_count xs
   pub positions : (w : List ℕ) → where_is w ≡ position w xs

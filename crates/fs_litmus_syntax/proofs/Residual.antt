@@ -72,7 +72,8 @@ pub data IsEmpty : List Lined → Type 0 where
 pub data IsClosing : List Lined → List Lined → Type 0 where
   closing : {k : ℕ} {rest : List Lined} → IsClosing ((Sign CloseParen, k) ∷ rest) rest
 
--- With a disjunction and a conjunction read so far inside a frame, the tokens complete the frame to a value and leave a rest, of which K holds.
+-- With a disjunction and a conjunction read so far inside a frame, the tokens complete the frame to a value and leave a
+-- rest, of which K holds.
 pub record Inside (K : List Lined → Syntax → Type 0) (before : Option Syntax) (read : Syntax) (ts : List Lined) : Type 0 where
   product : Syntax
   value : Syntax

@@ -15,7 +15,8 @@ pub record Means (c : conditions.Condition) (s : Syntax) : Type 0 where
   pub atoms : map atom_of c.atoms.items ≡ atoms_of s
   pub tree : option_map tree_of c.tree ≡ (if nat_le (depth_of s) most_depth then Some (condition_of s) else None)
 
--- unless memory was refused, the first token of the rest is the first with which the tokens so far begin no condition; where the rest is empty they end too soon
+-- unless memory was refused, the first token of the rest is the first with which the tokens so far begin no condition;
+-- where the rest is empty they end too soon
 abbrev pub StopsAt : List Lined → Stop → Type 0
 StopsAt ts Memory = Unit {0}
 StopsAt ts (At rest) = StopsText IsCondition ts (views rest.now)

@@ -94,7 +94,8 @@ rows_from n left r [] = []
 rows_from n zero r (c ∷ cs) = (r ++ c ∷ []) ∷ rows_from n n [] cs
 rows_from n (suc left) r (c ∷ cs) = rows_from n left (r ++ c ∷ []) cs
 
--- the rows, of as many cells each as there are columns, that these cells make; cells of a last row that isn't whole are left out
+-- the rows, of as many cells each as there are columns, that these cells make; cells of a last row that isn't whole are
+-- left out
 abbrev pub rows_of : {X : Type 0} → ℕ → List X → List (List X)
 rows_of columns cs = rows_from (columns - 1) (columns - 1) [] cs
 

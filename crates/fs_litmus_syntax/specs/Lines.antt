@@ -11,7 +11,8 @@ lines_of [] = []
 lines_of (Label w line ∷ xs) = lines_of xs
 lines_of (Instruction i target line ∷ xs) = line ∷ lines_of xs
 
--- of rows of this many cells each, written one after the other, the lines of the instructions of each column whose cells are of the form
+-- of rows of this many cells each, written one after the other, the lines of the instructions of each column whose
+-- cells are of the form
 pub record AreLines (columns : ℕ) (cells : List (List Lined)) (lines : List (List ℕ)) : Type 0 where
   pub count : length lines ≡ columns
   pub each : (number : ℕ) (items : List Item) → number < columns → AreCells (column columns number cells) items

@@ -31,7 +31,7 @@ pub enum AtomStep<'a> {
     Bad,
 }
 
-// A mark of an atom.
+/// A mark of an atom.
 fn mark_step<'a>(place: AtomPlace<'a>, mark: Mark) -> AtomStep<'a>
     ensures { atom_step_of result ≡ machine.next_atom (atom_place_of place.entry) (kind_of (Kind.Sign mark)) }
 {
@@ -50,7 +50,7 @@ fn mark_step<'a>(place: AtomPlace<'a>, mark: Mark) -> AtomStep<'a>
     }
 }
 
-// An atom with a number.
+/// An atom with a number.
 fn number<'a>(target: Target<'a>, negative: bool, digits: &'a str) -> AtomStep<'a>
     ensures { atom_step_of result ≡ Finish (target_of target.entry, values.Number negative digits.entry.now) }
 {
@@ -60,7 +60,7 @@ fn number<'a>(target: Target<'a>, negative: bool, digits: &'a str) -> AtomStep<'
     })
 }
 
-// A word of an atom.
+/// A word of an atom.
 fn word_step<'a>(place: AtomPlace<'a>, class: Class, word: &'a str) -> AtomStep<'a>
     ensures { atom_step_of result ≡ machine.next_atom (atom_place_of place.entry) (kind_of (Kind.Word class word.entry)) }
 {

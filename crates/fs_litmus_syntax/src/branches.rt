@@ -15,7 +15,7 @@ use fs_kinds::{Fault, earliest};
 use indexmap::IndexMap;
 use std::alloc::{AllocError, Global};
 
-// Does the label stand ahead of the instruction of this number?
+/// Does the label stand ahead of the instruction of this number?
 fn is_ahead(name: &str, number: usize, positions: &IndexMap<&str, usize>) -> bool
     ensures { result ≡ is_ahead number (get_by (λ k. bytes_eq name.now k.now) positions.now) }
 {
@@ -25,7 +25,7 @@ fn is_ahead(name: &str, number: usize, positions: &IndexMap<&str, usize>) -> boo
     }
 }
 
-// The fault of a mark, which stands after this many instructions.
+/// The fault of a mark, which stands after this many instructions.
 fn stray_of(mark: Mark<'_>, number: usize, positions: &IndexMap<&str, usize>) -> Option<Fault>
     ensures { (code : List Instr) → result ≡ stray_of (λ w. get_by (λ k. bytes_eq w k.now) positions.now) number (item_at code mark.entry) }
 {
@@ -45,7 +45,7 @@ fn stray_of(mark: Mark<'_>, number: usize, positions: &IndexMap<&str, usize>) ->
     }
 }
 
-// One more where the mark is an instruction.
+/// One more where the mark is an instruction.
 fn number_after(mark: Mark<'_>, number: usize) -> usize
     requires { number + 1 < 2 ^ 64 }
     ensures { (code : List Instr) → result ≡ number_after number (item_at code mark.entry) }
@@ -81,7 +81,7 @@ pub(crate) fn instruction_count(listing: &Listing<'_>) -> usize
     number
 }
 
-// With the position of its label as target.
+/// With the position of its label as target.
 fn with_label(
     instr: Instr,
     target: Option<&str>,

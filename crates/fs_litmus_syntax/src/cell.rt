@@ -11,14 +11,14 @@ use fs_kinds::Fault;
 use fs_litmus_tokens::{Kind, Mark, Token};
 use std::alloc::AllocError;
 
-// Is it a colon?
+/// Is it a colon?
 fn is_colon(token: &Token<'_>) -> bool
     ensures { result ≡ is_colon (view token.now) }
 {
     matches!(token.kind, Kind::Sign(Mark::Colon))
 }
 
-// The label at the front, and its line.
+/// The label at the front, and its line.
 fn front_label<'a>(tokens: &[Token<'a>]) -> Option<(&'a str, usize)>
     ensures value { option_map (λ x. (x.0.now, x.1)) result ≡ front_label (views tokens.now) }
     ensures room { IfSome result (λ x. 2 ≤ length tokens.now) }
@@ -37,7 +37,7 @@ fn front_label<'a>(tokens: &[Token<'a>]) -> Option<(&'a str, usize)>
     }
 }
 
-// Appends the labels at the front of a cell to the hart's listing; how many tokens they are.
+/// Appends the labels at the front of a cell to the hart's listing; how many tokens they are.
 fn read_labels<'a>(cell: &[Token<'a>], listing: &mut Listing<'a>) -> Result<usize, AllocError>
     ensures room { IfOk result (λ taken. taken ≤ length cell.now) }
     ensures labels { IfOk result (λ taken. AddsLabels (views cell.now) listing.old listing.new (views (drop taken cell.now))) }
@@ -50,8 +50,8 @@ fn read_labels<'a>(cell: &[Token<'a>], listing: &mut Listing<'a>) -> Result<usiz
     Ok(taken)
 }
 
-/// Appends what stands in a cell to the hart's listing; or the cell's fault, and then the listing is of no use. Linear in the
-/// tokens. Fails only for want of memory.
+/// Appends what stands in a cell to the hart's listing; or the cell's fault, and then the listing is of no use. Linear
+/// in the tokens. Fails only for want of memory.
 pub(crate) fn read_cell<'a>(
     cell: &[Token<'a>],
     listing: &mut Listing<'a>,

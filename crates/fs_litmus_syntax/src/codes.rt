@@ -13,7 +13,7 @@ use fs_kinds::{Fault, earliest};
 use fs_litmus_tokens::Token;
 use std::alloc::{AllocError, Global};
 
-// The code of each hart whose code is right, and the first fault.
+/// The code of each hart whose code is right, and the first fault.
 fn read_harts(
     alloc: Global,
     columns: usize,
@@ -32,19 +32,21 @@ fn read_harts(
     Ok((codes, first))
 }
 
-/// The code of each hart of a litmus test, in herd7's format. The cells are its rows, one after the other, each of as many
-/// cells as there are columns; column number h, from 0 on, is that of hart h. A cell is any number of labels, each a name and
-/// `:`, and then an instruction or nothing. A label stands before its hart's next instruction, or at the end of its code. The
-/// instructions of a hart count from 0, labels don't; a branch has as its target the number of its label's instruction, or the
-/// number of instructions where the label stands at the end.
+/// The code of each hart of a litmus test, in herd7's format. The cells are its rows, one after the other, each of as
+/// many cells as there are columns; column number h, from 0 on, is that of hart h. A cell is any number of labels, each
+/// a name and `:`, and then an instruction or nothing. A label stands before its hart's next instruction, or at the end
+/// of its code. The instructions of a hart count from 0, labels don't; a branch has as its target the number of its
+/// label's instruction, or the number of instructions where the label stands at the end.
 ///
-/// The faults: `Syntax`, a cell of another form, or an instruction of the table with operands of another shape or range, in the
-/// line of the cell's first token; `UnknownInstr`, a mnemonic that the table lacks, and `BadAnnotation`, `lr.w.rl` or `sc.w.aq`,
-/// in the line of the mnemonic; `BadLabel`, a branch to a label that its hart doesn't have or that stands at or before it, in the
-/// line of the branch's mnemonic, or a label that stands twice in a hart, in the line of the second. Of all these the one of the
-/// least number is given, and of that number the one of the least line. `Memory` where memory was refused.
+/// The faults: `Syntax`, a cell of another form, or an instruction of the table with operands of another shape or
+/// range, in the line of the cell's first token; `UnknownInstr`, a mnemonic that the table lacks, and `BadAnnotation`,
+/// `lr.w.rl` or `sc.w.aq`, in the line of the mnemonic; `BadLabel`, a branch to a label that its hart doesn't have or
+/// that stands at or before it, in the line of the branch's mnemonic, or a label that stands twice in a hart, in the
+/// line of the second. Of all these the one of the least number is given, and of that number the one of the least line.
+/// `Memory` where memory was refused.
 ///
-/// Linear in the tokens and the columns; beside the codes it keeps less than 150 bytes for each label and instruction of one hart.
+/// Linear in the tokens and the columns; beside the codes it keeps less than 150 bytes for each label and instruction
+/// of one hart.
 pub fn read_codes(
     alloc: Global,
     columns: usize,

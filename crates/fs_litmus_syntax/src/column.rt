@@ -11,8 +11,9 @@ use fs_kinds::{Fault, earliest};
 use fs_litmus_tokens::Token;
 use std::alloc::{AllocError, Global};
 
-/// What stands in each cell of a hart, whose cells are the first of these, and then each that is as many further on as there are
-/// columns; and the first fault of its cells, where the listing is of no use. Linear in the tokens. Fails only for want of memory.
+/// What stands in each cell of a hart, whose cells are the first of these, and then each that is as many further on as
+/// there are columns; and the first fault of its cells, where the listing is of no use. Linear in the tokens. Fails
+/// only for want of memory.
 pub(crate) fn read_column<'a>(
     alloc: Global,
     columns: usize,

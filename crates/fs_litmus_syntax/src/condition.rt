@@ -21,7 +21,8 @@ pub enum Tree<'a> {
     Either(Box<Tree<'a>>, Box<Tree<'a>>),
 }
 
-/// A condition: its atoms in order of appearance, and its tree, which isn't there where the condition is deeper than `MOST_DEPTH`.
+/// A condition: its atoms in order of appearance, and its tree, which isn't there where the condition is deeper than
+/// `MOST_DEPTH`.
 #[derive(Drop)]
 pub struct Condition<'a> {
     pub atoms: Vec<Atom<'a>>,

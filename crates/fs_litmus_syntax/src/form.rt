@@ -13,8 +13,8 @@ use crate::rows::{Quantifier, read_body};
 use fs_litmus_tokens::{Stop, Token};
 use std::alloc::{AllocError, Global};
 
-/// A test file below its first line and before its condition: the initial values, the number of columns (one a hart), the
-/// cells row after row, and the quantifier.
+/// A test file below its first line and before its condition: the initial values, the number of columns (one a hart),
+/// the cells row after row, and the quantifier.
 #[derive(Drop)]
 pub struct Form<'b, 'a> {
     pub entries: Vec<Entry<'a>>,
@@ -24,8 +24,8 @@ pub struct Form<'b, 'a> {
 }
 
 impl<'b, 'a> Form<'b, 'a> {
-    /// The cells of a column, counted from 0, from the first row to the last: what a hart runs. Linear in the rows; 16 bytes
-    /// of memory a row. Fails only for want of memory.
+    /// The cells of a column, counted from 0, from the first row to the last: what a hart runs. Linear in the rows; 16
+    /// bytes of memory a row. Fails only for want of memory.
     pub fn column(&self, alloc: Global, number: usize) -> Result<Vec<&'b [Token<'a>]>, AllocError>
         requires within { number < self.now.columns }
         requires whole { cells_of self.now.cells.items ≡ flatten (form_of self.now).rows }
@@ -41,8 +41,9 @@ impl<'b, 'a> Form<'b, 'a> {
     }
 }
 
-/// The sections at the front of the tokens, from the initial values to the quantifier, and the tokens after them, where the
-/// condition begins. Linear in the tokens; fails for want of memory, or at the first token with which no such form begins.
+/// The sections at the front of the tokens, from the initial values to the quantifier, and the tokens after them, where
+/// the condition begins. Linear in the tokens; fails for want of memory, or at the first token with which no such form
+/// begins.
 pub fn read_form<'b, 'a>(
     alloc: Global,
     tokens: &'b [Token<'a>],

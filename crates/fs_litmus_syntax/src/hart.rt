@@ -16,14 +16,14 @@ use std::alloc::{AllocError, Global};
 /// The code of a hart: its instructions, or how many they are where they are too many.
 #[derive(Debug, Drop)]
 pub enum HartCode {
-    /// At most `MOST_INSTRUCTIONS`, each branch with the number of the instruction that it goes to as its target, or how many
-    /// instructions there are where it goes to the end.
+    /// At most `MOST_INSTRUCTIONS`, each branch with the number of the instruction that it goes to as its target, or
+    /// how many instructions there are where it goes to the end.
     Short(Vec<Instr>),
     /// More than these: how many.
     Long(usize),
 }
 
-// The code of a hart from what stands in its cells, or the first fault of its labels and branches.
+/// The code of a hart from what stands in its cells, or the first fault of its labels and branches.
 fn read_listing(alloc: Global, listing: &Listing<'_>) -> Result<Result<HartCode, Fault>, AllocError>
     ensures { IfOk result (λ read. ReadsListing listing.now read) }
 {

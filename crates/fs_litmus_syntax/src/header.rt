@@ -24,7 +24,7 @@ pub enum Transition {
     Bad,
 }
 
-// Is this the column's word, P and its number?
+/// Is this the column's word, P and its number?
 fn is_column(alloc: Global, column: usize, word: &str) -> Result<bool, AllocError>
     ensures { IfOk result (λ b. b ≡ is_column column word.now) }
 {
@@ -32,7 +32,7 @@ fn is_column(alloc: Global, column: usize, word: &str) -> Result<bool, AllocErro
     Ok(word == expected.as_str())
 }
 
-// One more token.
+/// One more token.
 fn take(alloc: Global, position: Position, token: Kind) -> Result<Transition, AllocError>
     requires { column_of position + 1 < 2 ^ 64 }
     ensures value { IfOk result (λ s. move_of s ≡ next_in position (kind_of token.entry)) }
@@ -57,9 +57,9 @@ fn take(alloc: Global, position: Position, token: Kind) -> Result<Transition, Al
     }
 }
 
-/// How many columns the header row `P0 | P1 | .. ;` at the front of the tokens has, at least one, and the tokens after it.
-/// The numbers have no leading zeros. Linear in the tokens; fails for want of memory, or at the first token with which no
-/// such row begins.
+/// How many columns the header row `P0 | P1 | .. ;` at the front of the tokens has, at least one, and the tokens after
+/// it. The numbers have no leading zeros. Linear in the tokens; fails for want of memory, or at the first token with
+/// which no such row begins.
 pub fn read_header<'b, 'a>(
     alloc: Global,
     tokens: &'b [Token<'a>],

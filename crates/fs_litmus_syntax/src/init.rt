@@ -42,7 +42,7 @@ pub enum Transition<'a> {
     Bad,
 }
 
-// The first token of a target.
+/// The first token of a target.
 fn begin_target<'a>(token: Token<'a>) -> Transition<'a>
     ensures { turn_of result ≡ target_begun (view token.entry) }
 {
@@ -58,7 +58,7 @@ fn begin_target<'a>(token: Token<'a>) -> Transition<'a>
     }
 }
 
-// The first token of an entry, or the brace after the last.
+/// The first token of an entry, or the brace after the last.
 fn begin_entry<'a>(token: Token<'a>) -> Transition<'a>
     ensures { turn_of result ≡ entry_begun (view token.entry) }
 {
@@ -69,7 +69,7 @@ fn begin_entry<'a>(token: Token<'a>) -> Transition<'a>
     }
 }
 
-// The token after a type's word, which is the target itself where `=` follows.
+/// The token after a type's word, which is the target itself where `=` follows.
 fn follow_type<'a>(line: usize, word: &'a str, token: Token<'a>) -> Transition<'a>
     ensures { turn_of result ≡ type_followed line word.now (view token.entry) }
 {
@@ -82,7 +82,7 @@ fn follow_type<'a>(line: usize, word: &'a str, token: Token<'a>) -> Transition<'
     }
 }
 
-// A token within a target.
+/// A token within a target.
 fn follow_target<'a>(position: Position<'a>, token: Kind<'a>) -> Transition<'a>
     ensures { turn_of result ≡ target_followed (position_of position.entry) (kind_of token.entry) }
 {
@@ -126,7 +126,7 @@ fn valued<'a>(line: usize, target: Target<'a>, value: Value<'a>) -> Transition<'
     }))
 }
 
-// The first token of a value.
+/// The first token of a value.
 fn begin_value<'a>(line: usize, target: Target<'a>, token: Kind<'a>) -> Transition<'a>
     ensures { turn_of result ≡ value_begun line (target_of target.entry) (kind_of token.entry) }
 {
@@ -146,7 +146,7 @@ fn begin_value<'a>(line: usize, target: Target<'a>, token: Kind<'a>) -> Transiti
     }
 }
 
-// The number after a minus.
+/// The number after a minus.
 fn follow_minus<'a>(line: usize, target: Target<'a>, token: Kind<'a>) -> Transition<'a>
     ensures { turn_of result ≡ minus_followed line (target_of target.entry) (kind_of token.entry) }
 {
@@ -163,7 +163,7 @@ fn follow_minus<'a>(line: usize, target: Target<'a>, token: Kind<'a>) -> Transit
     }
 }
 
-// The token after an entry.
+/// The token after an entry.
 fn end_entry<'a>(
     entry: Entry<'a>,
     entries: &mut Vec<Entry<'a>>,
@@ -185,7 +185,7 @@ fn end_entry<'a>(
     }
 }
 
-// One more token.
+/// One more token.
 fn take<'a>(
     position: Position<'a>,
     entries: &mut Vec<Entry<'a>>,
@@ -208,9 +208,10 @@ fn take<'a>(
     }
 }
 
-/// The initial values, in braces, at the front of the tokens, and the tokens after them: entries ended by `;`, of which the
-/// last may be missing. An entry is a target, `=` and a value; before the target may stand int, int32_t or uint32_t, which
-/// changes nothing. Linear in the tokens; fails for want of memory, or at the first token with which no such block begins.
+/// The initial values, in braces, at the front of the tokens, and the tokens after them: entries ended by `;`, of which
+/// the last may be missing. An entry is a target, `=` and a value; before the target may stand int, int32_t or
+/// uint32_t, which changes nothing. Linear in the tokens; fails for want of memory, or at the first token with which no
+/// such block begins.
 pub fn read_init<'b, 'a>(
     alloc: Global,
     tokens: &'b [Token<'a>],

@@ -11,8 +11,8 @@ use fs_kinds::{Fault, earliest};
 use indexmap::IndexMap;
 use std::alloc::{AllocError, Global};
 
-/// The position of each label of a hart, the first where it stands twice: how many instructions stand before it; and the first
-/// fault of a label that stands twice. Fails only for want of memory.
+/// The position of each label of a hart, the first where it stands twice: how many instructions stand before it; and
+/// the first fault of a label that stands twice. Fails only for want of memory.
 pub(crate) fn read_positions<'a>(
     alloc: Global,
     listing: &Listing<'a>,

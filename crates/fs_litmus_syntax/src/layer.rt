@@ -19,7 +19,7 @@ pub struct Layer<'a> {
     pub denials: usize,
 }
 
-// So many denials of a unit.
+/// So many denials of a unit.
 fn denied<'a>(
     alloc: Global,
     denials: usize,
@@ -34,7 +34,7 @@ fn denied<'a>(
     Ok(subformula)
 }
 
-// The units that `/\` joins, with the last of them.
+/// The units that `/\` joins, with the last of them.
 fn product<'a>(
     alloc: Global,
     before: Option<Subformula<'a>>,

@@ -1,5 +1,6 @@
-//! The syntax of a test file (herd7's format of litmus tests), over its tokens: its sections from initial values to the quantifier; from
-//! the cells of its rows each hart's code, with labels, instructions and branch targets; and the condition as a tree.
+//! The syntax of a test file (herd7's format of litmus tests), over its tokens: its sections from initial values to the
+//! quantifier; from the cells of its rows each hart's code, with labels, instructions and branch targets; and the
+//! condition as a tree.
 #![tactic(auto)]
 
 mod atom;

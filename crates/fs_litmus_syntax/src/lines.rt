@@ -12,8 +12,9 @@ use fs_kinds::List;
 use fs_litmus_tokens::Token;
 use std::alloc::{AllocError, Global};
 
-/// The lines in which the instructions of each hart stand: of each the line of its mnemonic. The cells are those that `read_codes` takes;
-/// of a hart with a cell that isn't of the form nothing is said. Linear in the tokens and the columns. Fails only for want of memory.
+/// The lines in which the instructions of each hart stand: of each the line of its mnemonic. The cells are those that
+/// `read_codes` takes; of a hart with a cell that isn't of the form nothing is said. Linear in the tokens and the
+/// columns. Fails only for want of memory.
 pub fn read_lines(
     alloc: Global,
     columns: usize,
@@ -28,7 +29,8 @@ pub fn read_lines(
     Ok(lines)
 }
 
-// The lines of the hart whose cells are the first of these, and then each that is as many further on as there are columns.
+/// The lines of the hart whose cells are the first of these, and then each that is as many further on as there are
+/// columns.
 fn hart_lines(
     alloc: Global,
     columns: usize,
@@ -41,7 +43,7 @@ fn hart_lines(
     Ok(List::new(lines_of(alloc, &listing)?))
 }
 
-// The lines of the instructions.
+/// The lines of the instructions.
 fn lines_of(alloc: Global, listing: &Listing<'_>) -> Result<Vec<usize>, AllocError>
     ensures { IfOk result (λ lines. lines.items ≡ lines_of listing.now) }
 {

@@ -15,7 +15,8 @@ use crate::subformula::Subformula;
 use fs_litmus_tokens::{Class, Kind, Mark, Stop, Target, Token};
 use std::alloc::{AllocError, Global};
 
-/// What was read last. After one of the words `not`, `true` and `false` the next token decides whether it names a location.
+/// What was read last. After one of the words `not`, `true` and `false` the next token decides whether it names a
+/// location.
 #[derive(Drop)]
 enum Place<'a> {
     Begin,
@@ -26,7 +27,8 @@ enum Place<'a> {
     AfterUnit(Subformula<'a>),
 }
 
-/// What is read so far of a condition, but for its atoms: the layers of the parentheses that are open, the innermost apart.
+/// What is read so far of a condition, but for its atoms: the layers of the parentheses that are open, the innermost
+/// apart.
 #[derive(Drop)]
 struct Reader<'a> {
     place: Place<'a>,
@@ -34,7 +36,7 @@ struct Reader<'a> {
     below: Vec<Layer<'a>>,
 }
 
-// Before a unit.
+/// Before a unit.
 fn begin<'a>(
     layer: Layer<'a>,
     mut below: Vec<Layer<'a>>,
@@ -83,7 +85,7 @@ fn begin<'a>(
     }))
 }
 
-// A closing parenthesis after a unit.
+/// A closing parenthesis after a unit.
 fn close<'a>(
     alloc: Global,
     unit: Subformula<'a>,
@@ -106,7 +108,7 @@ fn close<'a>(
     }
 }
 
-// After a unit.
+/// After a unit.
 fn after<'a>(
     alloc: Global,
     unit: Subformula<'a>,
@@ -144,7 +146,7 @@ fn after<'a>(
     }
 }
 
-// A word that names a location, and then `=`.
+/// A word that names a location, and then `=`.
 fn named<'a>(word: &'a str, layer: Layer<'a>, below: Vec<Layer<'a>>) -> Reader<'a>
     ensures { Some (reader_of result) ≡ named word.entry.now (layer_of layer.entry) (below_of below.entry.items []) }
 {
@@ -155,7 +157,7 @@ fn named<'a>(word: &'a str, layer: Layer<'a>, below: Vec<Layer<'a>>) -> Reader<'
     }
 }
 
-// In an atom.
+/// In an atom.
 fn in_atom<'a>(
     alloc: Global,
     atoms: &mut Vec<Atom<'a>>,
@@ -178,7 +180,7 @@ fn in_atom<'a>(
     }
 }
 
-// One more token, or that it can't stand there.
+/// One more token, or that it can't stand there.
 fn step<'a>(
     alloc: Global,
     atoms: &mut Vec<Atom<'a>>,
@@ -228,7 +230,7 @@ fn step<'a>(
     }
 }
 
-// The last unit, where the text may end.
+/// The last unit, where the text may end.
 fn last_unit<'a>(alloc: Global, place: Place<'a>) -> Result<Option<Subformula<'a>>, AllocError>
     ensures { IfOk result (λ u. option_map subformula_of u ≡ last_unit limited (place_of place.entry)) }
 {
@@ -240,7 +242,7 @@ fn last_unit<'a>(alloc: Global, place: Place<'a>) -> Result<Option<Subformula<'a
     }
 }
 
-// The whole, where the text may end.
+/// The whole, where the text may end.
 fn finish<'a>(alloc: Global, reader: Reader<'a>) -> Result<Option<Subformula<'a>>, AllocError>
     ensures { IfOk result (λ p. option_map subformula_of p ≡ end_of limited (reader_of reader.entry)) }
 {
@@ -258,7 +260,7 @@ fn finish<'a>(alloc: Global, reader: Reader<'a>) -> Result<Option<Subformula<'a>
     }
 }
 
-// What the machine reads.
+/// What the machine reads.
 fn read_all<'b, 'a>(alloc: Global, tokens: &'b [Token<'a>]) -> Result<Condition<'a>, Stop<'b, 'a>>
     ensures { Gives result (read limited start [] (views tokens.now)) }
 {
@@ -284,10 +286,10 @@ fn read_all<'b, 'a>(alloc: Global, tokens: &'b [Token<'a>]) -> Result<Condition<
 }
 
 /// The condition that the tokens are, all of them, in herd7's format: units joined by `/\`, and these joined by `\/`; a
-/// unit is `~` or the word `not` and a unit, a condition in parentheses, `true`, `false`, or an atom: a target, `=` and a
-/// value. No word is reserved: where `=` comes after `not`, `true` or `false`, the word names a location. Stops at the first
-/// token with which the tokens so far begin no condition. Linear in the tokens; at most 56 bytes of memory an open
-/// parenthesis, a few words an atom, and no recursion.
+/// unit is `~` or the word `not` and a unit, a condition in parentheses, `true`, `false`, or an atom: a target, `=` and
+/// a value. No word is reserved: where `=` comes after `not`, `true` or `false`, the word names a location. Stops at
+/// the first token with which the tokens so far begin no condition. Linear in the tokens; at most 56 bytes of memory an
+/// open parenthesis, a few words an atom, and no recursion.
 pub fn read_condition<'b, 'a>(
     alloc: Global,
     tokens: &'b [Token<'a>],

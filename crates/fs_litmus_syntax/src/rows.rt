@@ -79,7 +79,7 @@ fn cell_token_of(token: Kind) -> CellToken
     }
 }
 
-// The first token of the quantifier.
+/// The first token of the quantifier.
 fn begin_quantifier(token: Kind) -> Turn
     ensures { turn_of result ≡ quantifier_begun (kind_of token.entry) }
 {
@@ -91,7 +91,7 @@ fn begin_quantifier(token: Kind) -> Turn
     }
 }
 
-// What a token does that stops the rows.
+/// What a token does that stops the rows.
 fn stop_rows(token: Kind) -> Option<Turn>
     ensures { option_map turn_of result ≡ rows_stopped (kind_of token.entry) }
 {
@@ -104,7 +104,7 @@ fn stop_rows(token: Kind) -> Option<Turn>
     }
 }
 
-// A token after the rows.
+/// A token after the rows.
 fn take_after(tail: Tail, token: Kind) -> Turn
     ensures { turn_of result ≡ after_rows tail (kind_of token.entry) }
 {
@@ -126,7 +126,7 @@ fn take_after(tail: Tail, token: Kind) -> Turn
     }
 }
 
-// A token at an index, in a cell that begins at start.
+/// A token at an index, in a cell that begins at start.
 fn take_in_cell<'b, 'a>(
     cells: &mut Vec<&'b [Token<'a>]>,
     tokens: &'b [Token<'a>],
@@ -177,7 +177,7 @@ impl From<Turn> for Transition {
     }
 }
 
-// A token at an index.
+/// A token at an index.
 fn take<'b, 'a>(
     cells: &mut Vec<&'b [Token<'a>]>,
     tokens: &'b [Token<'a>],
@@ -205,10 +205,10 @@ fn take<'b, 'a>(
 }
 
 /// The rows at the front of the tokens, each of as many cells as there are columns, and the quantifier; then the tokens
-/// after it. Cells are split by `|`, a row ends with `;`, and a cell is any tokens but these and characters of no token.
-/// Rows stop where one would begin with locations, exists, forall or `~`. Before the quantifier may stand the word
-/// locations and any tokens in brackets, which are skipped. Linear in the tokens; 16 bytes of memory a cell; fails for want
-/// of memory, or at the first token with which no such rows and quantifier begin.
+/// after it. Cells are split by `|`, a row ends with `;`, and a cell is any tokens but these and characters of no
+/// token. Rows stop where one would begin with locations, exists, forall or `~`. Before the quantifier may stand the
+/// word locations and any tokens in brackets, which are skipped. Linear in the tokens; 16 bytes of memory a cell; fails
+/// for want of memory, or at the first token with which no such rows and quantifier begin.
 pub fn read_body<'b, 'a>(
     alloc: Global,
     tokens: &'b [Token<'a>],

@@ -26,8 +26,8 @@ impl Connective {
     }
 }
 
-/// A subformula of a condition: too deep already, or with its tree; the greatest number, around an atom, `true` or `false`, of
-/// parentheses and denials that are written in it; and that of connectives and denials in the tree.
+/// A subformula of a condition: too deep already, or with its tree; the greatest number, around an atom, `true` or
+/// `false`, of parentheses and denials that are written in it; and that of connectives and denials in the tree.
 #[derive(Drop)]
 pub enum Subformula<'a> {
     TooDeep,

@@ -1,4 +1,5 @@
-//! The rules of preserved program order and the dependencies, compared with a plain program that computes their definitions.
+//! The rules of preserved program order and the dependencies, compared with a plain program that computes their
+//! definitions.
 ghost use Rattle.std.specs.Prelude.{◌<◌, ◌≤◌};
 ghost use Rattle.std.specs.List.Sorted.{IsStrictlyIncreasing};
 ghost use Rattle.fs_model.specs.Test.{IsBounded};
@@ -22,8 +23,8 @@ use std::test::Fail;
 struct Comparison {
     /// The rules that have had a case, each as the bit of its number.
     seen: u32,
-    /// The first rule and pair of operations on which the two differ; with 0 in place of a rule, the first pair of steps whose
-    /// dependencies do.
+    /// The first rule and pair of operations on which the two differ; with 0 in place of a rule, the first pair of
+    /// steps whose dependencies do.
     difference: Option<(u8, usize, usize)>,
 }
 
@@ -150,7 +151,8 @@ fn compare_sources(
     Ok(true)
 }
 
-/// Compares on these runs, a list for each hart: the dependencies in each, and the rules on each choice of one for each hart.
+/// Compares on these runs, a list for each hart: the dependencies in each, and the rules on each choice of one for each
+/// hart.
 fn compare_runs(
     alloc: Global,
     test: &Test,

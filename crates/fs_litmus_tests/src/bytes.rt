@@ -63,7 +63,8 @@ impl Write for FailingWriter {
     }
 }
 
-/// How many of five bytes are read of which `limit` may come, where the read of this number fails by this kind of error.
+/// How many of five bytes are read of which `limit` may come, where the read of this number fails by this kind of
+/// error.
 fn read_length(
     alloc: Global,
     fails_at: usize,

@@ -21,14 +21,14 @@ pub(crate) fn value_parts<'a>(value: Value<'a>) -> (&'a str, &'a str) {
     }
 }
 
-// Writes an atom, with a space behind it.
+/// Writes an atom, with a space behind it.
 fn push_atom(out: &mut String, atom: &Atom) -> Result<(), AllocError> {
     let (hart, colon, name) = target_parts(atom.target);
     let (sign, word) = value_parts(atom.value);
     write!(out, "{hart}{colon}{name}={sign}{word} ")
 }
 
-// Writes the tree, each connective before what it joins: `&`, `|` and `~`. True and false are T and F.
+/// Writes the tree, each connective before what it joins: `&`, `|` and `~`. True and false are T and F.
 fn push_tree(out: &mut String, tree: &Tree) -> Result<(), AllocError> {
     match tree {
         Tree::Atom(atom) => push_atom(out, atom),
@@ -47,7 +47,7 @@ fn push_tree(out: &mut String, tree: &Tree) -> Result<(), AllocError> {
     }
 }
 
-// Writes the targets of the atoms.
+/// Writes the targets of the atoms.
 fn push_targets(out: &mut String, atoms: &[Atom]) -> Result<(), AllocError> {
     out.push_str(";")?;
     for atom in atoms {
@@ -57,7 +57,7 @@ fn push_targets(out: &mut String, atoms: &[Atom]) -> Result<(), AllocError> {
     Ok(())
 }
 
-// The tree, or that it is too deep, and then the targets of the atoms; or how many tokens are left where it stops.
+/// The tree, or that it is too deep, and then the targets of the atoms; or how many tokens are left where it stops.
 fn shown(alloc: Global, text: &str) -> Result<String, AllocError> {
     let (tokens, _) = tokens(alloc, text.as_bytes(), 0)?;
     match read_condition(alloc, &tokens) {
@@ -75,7 +75,7 @@ fn shown(alloc: Global, text: &str) -> Result<String, AllocError> {
     }
 }
 
-// The condition `x=1` with so many of these before and after it.
+/// The condition `x=1` with so many of these before and after it.
 fn shown_around(alloc: Global, before: &str, after: &str, n: usize) -> Result<String, AllocError> {
     let mut text = String::new(alloc);
     for _ in 0..n {

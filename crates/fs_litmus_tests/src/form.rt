@@ -9,7 +9,7 @@ use std::test::Fail;
 const MP: &str =
     "{\n0:x6=x; 0:x8=y;\n1:x6=y; 1:x8=x;\n}\n P0 | P1 ;\n ori x5,x0,1 | lw x5,0(x6) ;\n sw x5,0(x6) | ;\nexists (1:x5=1)\n";
 
-// Writes the entries with their lines, and then the quantifier.
+/// Writes the entries with their lines, and then the quantifier.
 fn push_entries(out: &mut String, form: &Form) -> Result<(), AllocError> {
     for entry in &form.entries {
         let (hart, colon, name) = target_parts(entry.target);
@@ -23,8 +23,8 @@ fn push_entries(out: &mut String, form: &Form) -> Result<(), AllocError> {
     })
 }
 
-// What becomes of a text whose first line is 1: its entries, how many columns and cells there are and how many tokens come after
-// them; or the line of the first bad token.
+/// What becomes of a text whose first line is 1: its entries, how many columns and cells there are and how many tokens
+/// come after them; or the line of the first bad token.
 fn shown(alloc: Global, text: &str) -> Result<String, AllocError> {
     let (all, _) = tokens(alloc, text.as_bytes(), 1)?;
     let mut out = String::new(alloc);

@@ -2,7 +2,8 @@
 
 use fs_instr::{Reg, read_instr};
 
-// Are these the register that the instruction writes, and the sources of its address and of its word? An empty name stands for none.
+/// Are these the register that the instruction writes, and the sources of its address and of its word? An empty name
+/// stands for none.
 fn has_roles(text: &str, dest: &str, address: &str, data: &str) -> bool {
     match read_instr(text) {
         Ok(parsed) => {

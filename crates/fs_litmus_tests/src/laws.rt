@@ -11,8 +11,8 @@ ghost use Rattle.fs_cand_verdict_laws.specs.Decide.{HasAcyclic};
 use fs_cand_verdict_laws::cycles_decide;
 use fs_values::nothing_out_of_thin_air;
 
-/// In a test whose runs can be listed an outcome is forbidden where no showing candidate is acyclic, and no value of an execution is
-/// out of thin air.
+/// In a test whose runs can be listed an outcome is forbidden where no showing candidate is acyclic, and no value of an
+/// execution is out of thin air.
 fn verdicts_rest_on_candidates()
     ensures forbidden { (t : Test) → CanBeListed t → (p : List Entry) → (HasAcyclic t p → ⊥) → Allows t p → ⊥ }
     ensures grounded { (t : Test) → CanBeListed t → (p : List Entry) (e : Execution) → IsExecution t p e → IsGrounded t e }

@@ -18,7 +18,8 @@ const LOADED: &str = "RISCV Loaded
 exists (0:x7=0)
 ";
 
-/// Writes the words that the steps load, and behind `=` those that the others store; `-0` for a step that does neither, and `|` at the end.
+/// Writes the words that the steps load, and behind `=` those that the others store; `-0` for a step that does neither,
+/// and `|` at the end.
 fn write_words(trace: &Trace, text: &mut String) -> Result<(), AllocError> {
     for step in trace.steps() {
         let (sign, word) = match (step.loaded, step.stored) {
@@ -31,8 +32,8 @@ fn write_words(trace: &Trace, text: &mut String) -> Result<(), AllocError> {
     text.push_str("| ")
 }
 
-/// Writes the dependencies between the first six steps, where there are as many: `03:4` for an address dependency of step 3 on step 0,
-/// 2 in place of 4 for one of data and 1 for one of control, and the sum where there are several.
+/// Writes the dependencies between the first six steps, where there are as many: `03:4` for an address dependency of
+/// step 3 on step 0, 2 in place of 4 for one of data and 1 for one of control, and the sum where there are several.
 fn write_dependencies(deps: &Deps, text: &mut String) -> Result<(), AllocError> {
     for pair in 0..36usize {
         let (from, to) = (pair / 6, pair % 6);
@@ -157,8 +158,8 @@ fn write_runs(
     write!(written, "{line}/ ")
 }
 
-/// Words rise and success comes before failure; what can't be is left out; a loaded address leads on, or astray. x and y have the
-/// addresses 4096 and 4112.
+/// Words rise and success comes before failure; what can't be is left out; a loaded address leads on, or astray. x and
+/// y have the addresses 4096 and 4112.
 #[test]
 fn runs_come_in_order(rt: HostRuntime) -> Result<(), Fail> {
     let mut found = String::new(rt.alloc());

@@ -44,7 +44,8 @@ fn answer_text(alloc: Global, values: &Values, is_allowed: bool) -> Result<Strin
     Ok(text)
 }
 
-/// The value sets of the test that the text reads as, and whether it allows its outcome where loads take words of these.
+/// The value sets of the test that the text reads as, and whether it allows its outcome where loads take words of
+/// these.
 fn values_text(alloc: Global, text: &str) -> Result<String, Fault> {
     let test = read_test(alloc, text.as_bytes())?;
     let values = Values::of(alloc, &test)?;

@@ -58,7 +58,8 @@ abbrev pub IsDeadText : {T B : Type 0} → (List T → B → Type 0) → List T 
 IsDeadText {T = T} {B = B} K front [] = (b : B) → K front b → ⊥
 IsDeadText K front (t ∷ rest) = BeginsText K (front ++ t ∷ []) → ⊥
 
--- The first token of rest is the first with which the tokens so far begin no text; where rest is empty the text ends too soon.
+-- The first token of rest is the first with which the tokens so far begin no text; where rest is empty the text ends
+-- too soon.
 pub record StopsText {T B : Type 0} (K : List T → B → Type 0) (ts rest : List T) : Type 0 where
   pub front : List T
   pub split : ts ≡ front ++ rest

@@ -47,7 +47,8 @@ mark_of b =
     else (if b == 45 then Some mark.Minus
     else None))))))))))))
 
--- what stands at the front of a text: something to skip, with the bytes after it and their line; a token, with the bytes after it; or a comment that isn't closed
+-- what stands at the front of a text: something to skip, with the bytes after it and their line; a token, with the
+-- bytes after it; or a comment that isn't closed
 pub data Front : Type 0 where
   Skip : List ℕ → ℕ → Front
   Take : Tok → List ℕ → Front

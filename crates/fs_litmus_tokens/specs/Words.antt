@@ -6,7 +6,8 @@ use Rattle.std.specs.Str.{bytes_eq}
 use Rattle.fs_litmus_tokens.specs.declared.word.Class.{Class}
 use Rattle.fs_litmus_tokens.specs.declared.word.Class.TheVariants.{Number, TypeWord, LocationsWord, ExistsWord, ForallWord, NotWord, TrueWord, FalseWord, Name, Other}
 
--- a word of this class is a name: it may stand for a location or a label (numbers and the words of class Other are none)
+-- a word of this class is a name: it may stand for a location or a label (numbers and the words of class Other are
+-- none)
 abbrev pub is_name : Class → Bool
 is_name Number = false
 is_name Other = false

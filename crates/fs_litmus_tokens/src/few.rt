@@ -6,8 +6,8 @@ ghost use Rattle.fs_litmus_tokens.specs.Few.{IsFew, is_plain};
 
 use crate::token::{Kind, Piece, Token, front};
 
-/// The first tokens of a text; how many it has, up to a comment that isn't closed; whether there is no such comment; and
-/// whether each of its tokens, also past the first ones, is a word or a mark.
+/// The first tokens of a text; how many it has, up to a comment that isn't closed; whether there is no such comment;
+/// and whether each of its tokens, also past the first ones, is a word or a mark.
 #[derive(Clone, Copy)]
 pub struct Few<'a> {
     pub tokens: [Token<'a>; 20],
@@ -16,7 +16,7 @@ pub struct Few<'a> {
     pub plain: bool,
 }
 
-// A word or a mark.
+/// A word or a mark.
 fn is_plain(kind: Kind<'_>) -> bool
     ensures { result ≡ is_plain (kind_of kind.entry) }
 {

@@ -84,7 +84,7 @@ fn mark_of(b: u8) -> Option<Mark>
     }
 }
 
-// How many bytes at the front are letters.
+/// How many bytes at the front are letters.
 fn run_len(b: &[u8]) -> usize
     ensures value { result ≡ prefix_len is_letter b.now }
     ensures within { result ≤ length b.now }
@@ -98,7 +98,7 @@ fn run_len(b: &[u8]) -> usize
     b.len()
 }
 
-// What comes after the first `*)`, and its line.
+/// What comes after the first `*)`, and its line.
 fn comment_end(bytes: &[u8], line: usize) -> Option<(&[u8], usize)>
     requires { line + length bytes.now < 2 ^ 64 }
     ensures value { option_map (λ x. (x.0.now, x.1)) result ≡ comment_end bytes.now line }

@@ -10,16 +10,16 @@ pub enum Target<'a> {
     Location(&'a str),
 }
 
-/// A value as written: the word of a number, with a minus before it or without, or the name of a location, which means its
-/// address.
+/// A value as written: the word of a number, with a minus before it or without, or the name of a location, which means
+/// its address.
 #[derive(Clone, Copy, Debug)]
 pub enum Value<'a> {
     Number { negative: bool, digits: &'a str },
     Address(&'a str),
 }
 
-/// Why nothing was read: memory was refused, or the tokens stop being of the form. Then these are the tokens from the first
-/// on that can't stand where it stands, and none where the tokens end too soon.
+/// Why nothing was read: memory was refused, or the tokens stop being of the form. Then these are the tokens from the
+/// first on that can't stand where it stands, and none where the tokens end too soon.
 #[derive(Clone, Copy, Debug)]
 pub enum Stop<'b, 'a> {
     Memory,

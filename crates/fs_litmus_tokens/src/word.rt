@@ -6,7 +6,8 @@ ghost use Rattle.std.specs.List.{list_all};
 ghost use Rattle.fs_litmus_tokens.specs.Words.{is_digits, is_hexadecimal, is_number, is_name, begins_name, has_dot, keyword_of, class_of};
 
 /// What a word may be read as, by its spelling alone (herd7's format of litmus tests). Each class but `Number` and
-/// `Other` has names only: a word that begins with a letter or `_` and has no `.`, so a keyword may name a location too.
+/// `Other` has names only: a word that begins with a letter or `_` and has no `.`, so a keyword may name a location
+/// too.
 #[derive(Clone, Copy, Debug, PartialEq, Eq)]
 pub enum Class {
     /// Decimal digits, or `0x` and hexadecimal digits.

@@ -1,4 +1,5 @@
--- A list that is as long as another one, which has each number once, and has all its numbers, is that list in some order.
+-- A list that is as long as another one, which has each number once, and has all its numbers, is that list in some
+-- order.
 use Rattle.std.proofs.Common.{◌≡◌, ℕ, ◌≤◌, inl, inr, true, List, [], ◌∷◌, ◌++◌, length, refl, sym, ap, subst, ◌∙◌, arith, append_assoc}
 use Rattle.std.proofs.lemmas.Bool.{false≢true, cases_Bool, cases_eq, or_cases, or_left, or_right}
 use Rattle.std.proofs.lemmas.List.{length-append}

@@ -1,4 +1,5 @@
--- What a test keeps when it is fenced: its branches go forward, its instructions are of the table, its accesses are as many.
+-- What a test keeps when it is fenced: its branches go forward, its instructions are of the table, its accesses are as
+-- many.
 use Rattle.std.proofs.Common.{◌≡◌, ℕ, zero, suc, ◌+◌, ◌-◌, ◌*◌, ◌<◌, ◌≤◌, List, [], ◌∷◌, ◌++◌, length, map, cond, Bool, Option, None, Some, refl, ap, sym, ◌∙◌, subst, arith, All}
 use Rattle.std.specs.Prelude.{slice_get, is_some, option_and_then, sum_by, count_by}
 use Rattle.std.specs.List.{enumerate_from, range_with_len}

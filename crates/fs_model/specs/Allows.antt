@@ -32,8 +32,8 @@ full_fences t = all_with (Some RwRw) (slots t)
 abbrev pub IsPlacement : Test → PriceTable → List Entry → Type 0
 IsPlacement t prices p = answers.IsPlacement (program_of t) prices p
 
--- p forbids the outcome, and every better placement allows it: the answer is the first of the cheapest. It says little of a test
--- with runs that go astray, since these are no executions.
+-- p forbids the outcome, and every better placement allows it: the answer is the first of the cheapest. It says little
+-- of a test with runs that go astray, since these are no executions.
 pub record IsCheapest (t : Test) (prices : PriceTable) (p : List Entry) : Type 0 where
   pub placement : IsPlacement t prices p
   pub forbids : Allows t p → ⊥

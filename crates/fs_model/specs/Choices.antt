@@ -1,5 +1,5 @@
--- The choices of a run: which word each load returns, and whether an sc.w succeeds (RISC-V Unprivileged ISA 20191213, chapter
--- "“A” Standard Extension for Atomic Instructions", section "Load-Reserved/Store-Conditional Instructions").
+-- The choices of a run: which word each load returns, and whether an sc.w succeeds (RISC-V Unprivileged ISA 20191213,
+-- chapter "“A” Standard Extension for Atomic Instructions", section "Load-Reserved/Store-Conditional Instructions").
 use Rattle.std.specs.Prelude.{Option, None, option_map, is_some, if◌then◌else◌, ◌≡◌, ◌≢◌, ℕ, ◌<◌, ◌≤◌, ◌⊎◌, Bool, true, false, ◌||◌, not, ◌&&◌, Some, List, [], ◌∷◌, ◌++◌, length, slice_get}
 use Rattle.std.specs.Option.{option_to_list}
 use Rattle.std.specs.List.{flat_map}

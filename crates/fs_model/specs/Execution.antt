@@ -1,6 +1,7 @@
--- Executions under a placement of fences (RISC-V Unprivileged ISA 20191213, chapter "RVWMO Memory Consistency Model", section
--- "Memory Model Axioms"). An execution of a test with a placement of fences is runs of the unfenced test, one for each hart, and an
--- order; rule 4 knows the placed fences. With no placement these are the executions of its program (`Executions`).
+-- Executions under a placement of fences (RISC-V Unprivileged ISA 20191213, chapter "RVWMO Memory Consistency Model",
+-- section "Memory Model Axioms"). An execution of a test with a placement of fences is runs of the unfenced test, one
+-- for each hart, and an order; rule 4 knows the placed fences. With no placement these are the executions of its
+-- program (`Executions`).
 use Rattle.std.specs.Prelude.{◌≡◌, ℕ, ◌<◌, true, List, length}
 use Rattle.fs_kinds.specs.declared.placement.Entry.{Entry}
 use Rattle.fs_model.specs.declared.test.Test.{Test}

@@ -1,6 +1,6 @@
 -- 6. Executions and what they show (RISC-V Unprivileged ISA 20191213, chapter "RVWMO Memory Consistency Model", section "Memory Model
--- Axioms"). An execution of a program is a run of each hart, and a global memory order that obeys the axioms. The progress axiom holds
--- of each, since runs are finite.
+-- Axioms"). An execution of a program is a run of each hart, and a global memory order that obeys the axioms. The
+-- progress axiom holds of each, since runs are finite.
 use Rattle.std.specs.Prelude.{◌≡◌, ℕ, ◌<◌, ◌==◌, Bool, true, false, ◌&&◌, ◌||◌, not, Option, None, Some, List, [], ◌∷◌, ◌++◌, filter, map, length, option_and_then, unwrap_or, if◌then◌else◌}
 use Rattle.std.specs.List.{range_with_len, last_or, list_all}
 use Rattle.fs_model.specs.declared.step.Step.{Step}

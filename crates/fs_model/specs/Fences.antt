@@ -1,5 +1,6 @@
--- Which operations fences order, where some are placed: FENCEs of the test, as in rule 4, and those of a placement (RISC-V
--- Unprivileged ISA 20191213, chapter "RV32I Base Integer Instruction Set", section "Memory Ordering Instructions").
+-- Which operations fences order, where some are placed: FENCEs of the test, as in rule 4, and those of a placement
+-- (RISC-V Unprivileged ISA 20191213, chapter "RV32I Base Integer Instruction Set", section "Memory Ordering
+-- Instructions").
 use Rattle.std.specs.Prelude.{ℕ, ◌+◌, Bool, false, ◌||◌, Option, None, Some, option_and_then, List, slice_get}
 use Rattle.std.specs.List.{list_any}
 use Rattle.fs_kinds.specs.declared.kind.Classes.{Classes}

@@ -1,5 +1,5 @@
--- Which instructions load, store, and are annotated or paired (RISC-V Unprivileged ISA 20191213, chapter "“A” Standard Extension
--- for Atomic Instructions").
+-- Which instructions load, store, and are annotated or paired (RISC-V Unprivileged ISA 20191213, chapter "“A” Standard
+-- Extension for Atomic Instructions").
 use Rattle.std.specs.Prelude.{Bool, true, false}
 pub use Rattle.fs_instr.specs.Roles.{is_lr, is_sc, is_amo, annotation}
 use Rattle.fs_instr.specs.declared.instr.Instr.{Instr}

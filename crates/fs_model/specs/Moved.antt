@@ -14,7 +14,8 @@ use Rattle.fs_model.specs.Slots.{slot_at, slots}
 use Rattle.fs_model.specs.Fenced.{is_filled, position}
 use Rattle.fs_model.specs.declared.test.Test.{Test}
 
--- the number of instruction `at` of the hart in the fenced code: each fence before it or before an earlier instruction moves it by one
+-- the number of instruction `at` of the hart in the fenced code: each fence before it or before an earlier instruction
+-- moves it by one
 abbrev pub place : List Entry → (hart at : ℕ) → ℕ
 place p hart at = at + length (filter (is_filled p hart) (range_with_len 0 (at + 1)))
 
@@ -40,7 +41,8 @@ pub record IsFencedCode (p : List Entry) (hart : ℕ) (code out : List Instr) : 
 abbrev pub moved_slot : List Entry → Slot → Slot
 moved_slot p s = slot_at s.hart (place p s.hart s.at)
 
--- The fenced test: the test with the fenced code of each hart. Its slots are those of the test, moved with their instructions.
+-- The fenced test: the test with the fenced code of each hart. Its slots are those of the test, moved with their
+-- instructions.
 pub record IsMovedTest (t : Test) (p : List Entry) (u : Test) : Type 0 where
   pub harts : length u.codes ≡ length t.codes
   pub codes : (hart : ℕ) (code : List Instr) → slice_get t.codes hart ≡ Some code → (out : List Instr) × (slice_get u.codes hart ≡ Some out) × IsFencedCode p hart code out

@@ -1,7 +1,8 @@
 -- 4. Memory operations, program order and syntactic dependencies (RISC-V Unprivileged ISA 20191213, chapter "RVWMO Memory Consistency
--- Model", sections "Memory Model Primitives" and "Syntactic Dependencies"). An operation is known by its number: hart by hart in
--- program order, and then the initial stores, location by location, which are of no hart. An AMO is one operation, which loads and stores.
--- All accesses are of aligned words, so two overlap where their addresses are the same.
+-- Model", sections "Memory Model Primitives" and "Syntactic Dependencies"). An operation is known by its number: hart
+-- by hart in program order, and then the initial stores, location by location, which are of no hart. An AMO is one
+-- operation, which loads and stores. All accesses are of aligned words, so two overlap where their addresses are the
+-- same.
 use Rattle.std.specs.Prelude.{ℕ, zero, suc, ◌+◌, ◌-◌, ◌==◌, false, nat_lt, Bool, Option, ◌&&◌, ◌||◌, not, None, Some, is_some, option_map, unwrap_or, List, [], ◌++◌, map, filter, length, slice_get}
 use Rattle.std.specs.List.{enumerate_from, flat_map, list_any, range_with_len, slice_index_or}
 use Rattle.fs_kinds.specs.declared.kind.Classes.{Classes}
@@ -127,8 +128,9 @@ paired x a b = are_paired (trace_of x a) (place x a) (place x b)
 abbrev pub writes : List Step → ℕ → Option ℕ → Bool
 writes steps i register = is_same (dest_of (instr_at steps i)) register
 
--- For i before j: step j depends on step i through its source `register`, where they are at most so far apart. i writes the
--- register and no step between does, or a step m between depends on i through a source from which it carries, and j depends on m.
+-- For i before j: step j depends on step i through its source `register`, where they are at most so far apart. i writes
+-- the register and no step between does, or a step m between depends on i through a source from which it carries, and j
+-- depends on m.
 abbrev pub depends_within : ℕ → List Step → ℕ → ℕ → Option ℕ → Bool
 depends_within zero steps i j register = false
 depends_within (suc d) steps i j register =

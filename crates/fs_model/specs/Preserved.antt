@@ -1,5 +1,5 @@
--- Preserved program order with placed fences: rule 4 knows these too (RISC-V Unprivileged ISA 20191213, chapter "RVWMO Memory
--- Consistency Model", section "Preserved Program Order").
+-- Preserved program order with placed fences: rule 4 knows these too (RISC-V Unprivileged ISA 20191213, chapter "RVWMO
+-- Memory Consistency Model", section "Preserved Program Order").
 use Rattle.std.specs.Prelude.{ℕ, Bool, ◌&&◌, Option, List}
 use Rattle.std.specs.List.{list_any}
 use Rattle.fs_kinds.specs.declared.placement.Entry.{Entry}

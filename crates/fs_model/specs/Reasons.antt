@@ -1,7 +1,7 @@
--- What is said of a witness with a list of choices for each hart: yes, or the first reason against it. Their order is: choices or
--- astray, of the first hart that makes no run; order; load; rule; atomic; outcome. One that names an operation names it by its
--- hart and instruction. Nothing is meant to be said of a witness with another number of lists than harts: it is never a yes, and
--- a file with such a witness is refused before, by the fault F17.
+-- What is said of a witness with a list of choices for each hart: yes, or the first reason against it. Their order is:
+-- choices or astray, of the first hart that makes no run; order; load; rule; atomic; outcome. One that names an
+-- operation names it by its hart and instruction. Nothing is meant to be said of a witness with another number of lists
+-- than harts: it is never a yes, and a file with such a witness is refused before, by the fault F17.
 use Rattle.std.specs.Prelude.{◌≡◌, ℕ, zero, suc, ◌<◌, ◌==◌, nat_lt, Bool, true, false, ◌&&◌, ◌||◌, not, Some, option_map, unwrap_or, List, [], map, length, slice_get}
 use Rattle.std.specs.List.{slice_index_or}
 use Rattle.fs_kinds.specs.declared.placement.Entry.{Entry}
@@ -109,7 +109,8 @@ module _ (x : PreExecution) (p : List Entry) (order : List ℕ) where
   abbrev pub KeepsRules : Type 0
   KeepsRules = Respects (gmo x order) (λ a b. ppo x p (source_in x order) a b ≡ true)
 
-  -- this is the least rule that the order goes against, and the least pair of operations at which it does has these names
+  -- this is the least rule that the order goes against, and the least pair of operations at which it does has these
+  -- names
   pub record IsFirstBrokenRule (n : ℕ) (first second : Name) : Type 0 where
     pub kept : (m : ℕ) → m < n → (a b : ℕ) → is_against_rule m a b ≡ false
     pub a : ℕ

@@ -1,5 +1,6 @@
 -- 5. Fences, and preserved program order (RISC-V Unprivileged ISA 20191213, chapter "RVWMO Memory Consistency Model", section "Preserved
--- Program Order"; for what a FENCE orders chapter "RV32I Base Integer Instruction Set", section "Memory Ordering Instructions").
+-- Program Order"; for what a FENCE orders chapter "RV32I Base Integer Instruction Set", section "Memory Ordering
+-- Instructions").
 use Rattle.std.specs.Prelude.{ℕ, Bool, false, ◌&&◌, ◌||◌, not, Option, Some, List, [], ◌∷◌}
 use Rattle.std.specs.List.{list_any}
 use Rattle.fs_instr.specs.declared.instr.Instr.{Instr}
@@ -28,7 +29,8 @@ pub data Rule : Type 0 where
 abbrev pub all_rules : List Rule
 all_rules = Rule1 ∷ Rule2 ∷ Rule3 ∷ Rule4 ∷ Rule5 ∷ Rule6 ∷ Rule7 ∷ Rule8 ∷ Rule9 ∷ Rule10 ∷ Rule11 ∷ Rule12 ∷ Rule13 ∷ []
 
--- For operations a and b. rf goes from a load to its source, the operation that wrote what it returns; in cat it goes the other way.
+-- For operations a and b. rf goes from a load to its source, the operation that wrote what it returns; in cat it goes
+-- the other way.
 module _ (x : PreExecution) (rf : ℕ → Option ℕ) (a b : ℕ) where
   -- what each rule asks besides program order
   abbrev pub case_of : Rule → Bool
@@ -57,7 +59,8 @@ module _ (x : PreExecution) (rf : ℕ → Option ℕ) (a b : ℕ) where
   case_of Rule10 = data_dependency x a b
   -- the store b has a control dependency on a:                                           [M];ctrl;[W]
   case_of Rule11 = is_store x b && control_dependency x a b
-  -- Pipeline dependencies. b returns what a store m between stored, whose address or data depends on a: [M];(addr|data);[W];rfi;[R]
+  -- Pipeline dependencies. b returns what a store m between stored, whose address or data depends on a:
+  -- [M];(addr|data);[W];rfi;[R]
   case_of Rule12 =
       is_load x b && any_between x (λ m. is_store x m && (address_dependency x a m || data_dependency x a m) && is_same (rf b) (Some m)) a b
   -- b is a store, and the address of an instruction between depends on a:                [M];addr;[M];po;[W]

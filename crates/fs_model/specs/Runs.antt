@@ -1,7 +1,8 @@
 -- 3. Programs, and runs of one hart (RISC-V Unprivileged ISA 20191213, chapter "RV32I Base Integer Instruction Set", and for lr.w and
--- sc.w chapter "“A” Standard Extension for Atomic Instructions"). A load may return any word here, and an sc.w may fail. A `Hart` is the
--- state between two instructions: the position `at` of the next, the registers, and the address `paired` that an sc.w might succeed at. A
--- `Step` is an executed instruction with its position, the address that it accesses, and the words that it loads and stores there.
+-- sc.w chapter "“A” Standard Extension for Atomic Instructions"). A load may return any word here, and an sc.w may
+-- fail. A `Hart` is the state between two instructions: the position `at` of the next, the registers, and the address
+-- `paired` that an sc.w might succeed at. A `Step` is an executed instruction with its position, the address that it
+-- accesses, and the words that it loads and stores there.
 use Rattle.std.specs.Prelude.{◌≡◌, ℕ, ◌+◌, ◌*◌, ◌^◌, ◌<◌, ◌≤◌, ◌⊎◌, Option, None, Some, List, [], ◌∷◌, length, slice_get}
 use Rattle.std.specs.List.{slice_index_or}
 use Rattle.fs_instr.specs.declared.instr.Instr.{Instr}
@@ -12,7 +13,8 @@ use Rattle.fs_model.specs.declared.test.Location.{Location}
 use Rattle.fs_model.specs.Instructions.{address_in, stored_in, result_in, written, next_after}
 use Rattle.fs_instr.specs.Roles.{dest_of}
 
--- The code of each hart, the 32 words that its registers begin with, and the locations, each with the word that it begins with.
+-- The code of each hart, the 32 words that its registers begin with, and the locations, each with the word that it
+-- begins with.
 pub record Program : Type 0 where
   pub codes : List (List Instr)
   pub starts : List (List ℕ)

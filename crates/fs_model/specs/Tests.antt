@@ -16,8 +16,8 @@ abbrev pub comes_between : PreExecution → List ℕ → (s w m : ℕ) → Bool
 comes_between x order s w m =
     is_store x m && same_word x m w && not (same_hart x m w) && stands_before order s m && stands_before order m w
 
--- The source precedes w, and no such store comes between. A load without a source can't break atomicity; there is none in an
--- order that returns sources.
+-- The source precedes w, and no such store comes between. A load without a source can't break atomicity; there is none
+-- in an order that returns sources.
 abbrev pub follows_closely : PreExecution → List ℕ → Option ℕ → ℕ → Bool
 follows_closely x order None w = true
 follows_closely x order (Some s) w =

@@ -1,6 +1,6 @@
--- Which words a location can come to hold, counted in rounds: a run whose loads take words of one round adds what it stores to
--- the next. They bound which runs are listed. That each execution keeps to them, where no run over them goes astray, is a law of
--- the memory model, and no part of what an execution is.
+-- Which words a location can come to hold, counted in rounds: a run whose loads take words of one round adds what it
+-- stores to the next. They bound which runs are listed. That each execution keeps to them, where no run over them goes
+-- astray, is a law of the memory model, and no part of what an execution is.
 use Rattle.std.specs.Prelude.{◌≡◌, ◌↔◌, ℕ, zero, suc, ◌<◌, ◌⊎◌, Some, List, [], ◌∷◌, All, length, slice_get, sum_by, count_by}
 use Rattle.std.specs.List.{AllPairs, Contains}
 use Rattle.fs_model.specs.declared.test.Test.{Test}

@@ -1,4 +1,5 @@
--- Witnesses: an execution as a file gives it, by the choices of each hart and the names of the operations in their order.
+-- Witnesses: an execution as a file gives it, by the choices of each hart and the names of the operations in their
+-- order.
 use Rattle.std.specs.Prelude.{◌≡◌, ℕ, ◌<◌, Option, Some, option_map, option_and_then, List, [], map, length, slice_get}
 use Rattle.std.specs.List.{slice_index_or}
 use Rattle.fs_kinds.specs.declared.reason.OperationName.{OperationName as Name}

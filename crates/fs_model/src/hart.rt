@@ -13,7 +13,7 @@ use crate::step::{Choice, Step, Stop};
 use crate::test::Location;
 use fs_instr::Instr;
 
-// Is it the address of one of the first so many locations?
+/// Is it the address of one of the first so many locations?
 fn is_declared(locations: u8, address: u32) -> bool
     ensures { IsTrue result ↔ IsDeclared locations (Some address) }
 {
@@ -28,10 +28,11 @@ fn is_declared(locations: u8, address: u32) -> bool
 pub struct Hart {
     /// The position of the next instruction in the hart's code.
     pub at: u8,
-    /// The words of its registers. A test starts x0 with 0, and no step writes it; of a hart that starts otherwise x0 keeps the
-    /// word that it was given.
+    /// The words of its registers. A test starts x0 with 0, and no step writes it; of a hart that starts otherwise x0
+    /// keeps the word that it was given.
     pub registers: [u32; 32],
-    /// The address of the lr.w that an sc.w here would be paired with: the lr.w before it with no other lr.w or sc.w between.
+    /// The address of the lr.w that an sc.w here would be paired with: the lr.w before it with no other lr.w or sc.w
+    /// between.
     pub paired: Option<u32>,
 }
 
@@ -47,7 +48,7 @@ impl Hart {
         }
     }
 
-    // The address that the instruction accesses, where that is a location's.
+    /// The address that the instruction accesses, where that is a location's.
     fn located(&self, locations: u8, instr: &Instr) -> Option<u32>
         ensures address { IfSome result (λ a. address_in self.now.registers instr.now ≡ Some a) }
         ensures declared { IfSome result (λ a. IsDeclared locations (Some a)) }
@@ -61,7 +62,7 @@ impl Hart {
         }
     }
 
-    // The step of an instruction that accesses nothing, or of an sc.w that fails.
+    /// The step of an instruction that accesses nothing, or of an sc.w that fails.
     fn quiet(&self, instr: &Instr) -> Step
         ensures { result ≡ record { at = self.now.at; instr = instr.now; address = None; loaded = None; stored = None } }
     {
@@ -142,8 +143,8 @@ impl Hart {
         }
     }
 
-    /// The step that the hart makes of an instruction here, with the next choice where the instruction takes one, in a test
-    /// with so many locations; or why it makes none. The instruction is the one at `at` in the hart's code.
+    /// The step that the hart makes of an instruction here, with the next choice where the instruction takes one, in a
+    /// test with so many locations; or why it makes none. The instruction is the one at `at` in the hart's code.
     pub fn step(&self, locations: u8, instr: &Instr, choice: Option<Choice>) -> Result<Step, Stop>
         ensures ok { IfOk result (Makes locations self.now instr.now choice) }
         ensures err { IfErr result (StopsAt locations self.now instr.now (option_to_list choice)) }

@@ -1,5 +1,5 @@
-//! A litmus test as a value, with its slots and the fenced test in print; and the memory model RVWMO on it: the definitions, the steps
-//! of one hart, and what is asked of single operations and of steps.
+//! A litmus test as a value, with its slots and the fenced test in print; and the memory model RVWMO on it: the
+//! definitions, the steps of one hart, and what is asked of single operations and of steps.
 #![tactic(auto)]
 
 mod accesses;

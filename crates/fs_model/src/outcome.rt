@@ -5,9 +5,9 @@ ghost use Rattle.fs_model.specs.Condition.{condition_of, RegisterIs};
 
 use fs_instr::Reg;
 
-/// A condition on the final registers and the final words of a run, as it was read. It isn't yet the outcome to rule out, which with
-/// `forall` is its denial (`is_outcome` of fs_model). At most 64
-/// connectives and denials stand around an atom of a test's condition.
+/// A condition on the final registers and the final words of a run, as it was read. It isn't yet the outcome to rule
+/// out, which with `forall` is its denial (`is_outcome` of fs_model). At most 64 connectives and denials stand around
+/// an atom of a test's condition.
 #[derive(Drop)]
 pub enum Outcome {
     /// `true`

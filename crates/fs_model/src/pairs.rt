@@ -1,4 +1,5 @@
-//! Pairs of an lr.w and an sc.w (RISC-V Unprivileged ISA 20191213, section "Load-Reserved/Store-Conditional Instructions").
+//! Pairs of an lr.w and an sc.w (RISC-V Unprivileged ISA 20191213, section "Load-Reserved/Store-Conditional
+//! Instructions").
 
 ghost use Rattle.std.specs.Prelude.{◌≡◌, ◌<◌, ◌||◌};
 ghost use Rattle.std.specs.List.{list_any};
@@ -25,7 +26,7 @@ fn is_sc(steps: &[Step], at: usize) -> bool
         .is_some_and(|step| matches!(step.instr, Instr::Sc { .. }))
 }
 
-// Is an lr.w or an sc.w between them?
+/// Is an lr.w or an sc.w between them?
 fn has_either_between(steps: &[Step], i: usize, j: usize) -> bool
     requires { i < j }
     ensures { result ≡ list_any (λ k. is_lr (instr_at steps.now k) || is_sc (instr_at steps.now k)) (between i j) }

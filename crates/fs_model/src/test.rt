@@ -29,8 +29,8 @@ impl Location {
         FIRST_ADDRESS + ADDRESS_STEP * u32::from(location)
     }
 
-    /// The address of the location of this number as a word of 32 bits, for a text that names more locations than a test may
-    /// have: past 2^32 it wraps.
+    /// The address of the location of this number as a word of 32 bits, for a text that names more locations than a
+    /// test may have: past 2^32 it wraps.
     pub fn address_word(location: usize) -> u32
         ensures { result ≡ address_of location % 2 ^ 32 }
     {

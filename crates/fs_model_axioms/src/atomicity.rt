@@ -12,7 +12,7 @@ use crate::global_order::GlobalOrder;
 use fs_hart::{Trace, steps_of};
 use fs_model::{Operation, are_paired};
 
-// Is m a store of another hart to the word of w, after s and before w in the order?
+/// Is m a store of another hart to the word of w, after s and before w in the order?
 fn comes_between(operations: &[Operation], order: &GlobalOrder, s: u8, w: usize, m: usize) -> bool
     ensures { result ≡ comes_between operations.now order.now s w m }
 {
@@ -25,14 +25,14 @@ fn comes_between(operations: &[Operation], order: &GlobalOrder, s: u8, w: usize,
         && order.stands_before(m, w)
 }
 
-// Is such a store among the operations?
+/// Is such a store among the operations?
 fn any_comes_between(operations: &[Operation], order: &GlobalOrder, s: u8, w: usize) -> bool
     ensures { result ≡ list_any (comes_between operations.now order.now s w) (numbers_below (length operations.now)) }
 {
     (0..operations.len()).any(|m| comes_between(operations, order, s, w, m))
 }
 
-// Does the source precede w, with no such store between?
+/// Does the source precede w, with no such store between?
 fn follows_closely(
     operations: &[Operation],
     order: &GlobalOrder,
@@ -47,7 +47,8 @@ fn follows_closely(
     order.stands_before(usize::from(s), w) && !any_comes_between(operations, order, s, w)
 }
 
-// Do r, which has this source, and w keep the atomicity axiom? They do where they aren't a pair of an lr.w and a later sc.w.
+// Do r, which has this source, and w keep the atomicity axiom? They do where they aren't a pair of an lr.w and a later
+// sc.w.
 pub(crate) fn keeps_atomicity(
     traces: &[Trace],
     operations: &[Operation],

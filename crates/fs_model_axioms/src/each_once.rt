@@ -10,7 +10,8 @@ fn are_all_true(flags: &[bool]) -> bool
     flags.iter().all(|flag| *flag)
 }
 
-/// Does the order list each number below `count` once, and nothing else? Those are the numbers of the harts' operations.
+/// Does the order list each number below `count` once, and nothing else? Those are the numbers of the harts'
+/// operations.
 pub fn lists_each_once(count: usize, order: &[u8]) -> bool
     ensures { result ≡ ((length order.now == count) && list_all (has_number order.now) (numbers_below count)) }
 {

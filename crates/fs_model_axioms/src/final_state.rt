@@ -22,7 +22,7 @@ fn stores_at(operations: &[Operation], address: u32, a: u8) -> bool
     storing.is_store() && storing.address == Some(address)
 }
 
-// The last store to the address.
+/// The last store to the address.
 fn last_store(operations: &[Operation], order: &GlobalOrder, address: u32) -> Option<u8>
     ensures { result ≡ last_store operations.now order.now address }
 {
@@ -62,7 +62,7 @@ pub fn final_register(traces: &[Trace], hart: u8, register: Reg) -> u32
     }
 }
 
-// Is the condition true at the end?
+/// Is the condition true at the end?
 fn holds(
     traces: &[Trace],
     operations: &[Operation],
@@ -96,8 +96,8 @@ pub fn is_outcome(quantifier: Quantifier, condition: bool) -> bool
     }
 }
 
-/// Do the runs show the outcome that the test asks for, in this global memory order? There is a run of each hart, with the
-/// registers that its steps end with.
+/// Do the runs show the outcome that the test asks for, in this global memory order? There is a run of each hart, with
+/// the registers that its steps end with.
 pub fn has_outcome(
     test: &Test,
     traces: &[Trace],

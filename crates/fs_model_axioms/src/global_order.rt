@@ -15,7 +15,8 @@ use fs_model::{Operation, stands_before};
 use std::alloc::{AllocError, Global};
 use std::marker::Model;
 
-/// A global memory order: the initial stores by location, and then the harts' operations in some order, by their numbers.
+/// A global memory order: the initial stores by location, and then the harts' operations in some order, by their
+/// numbers.
 #[derive(Drop)]
 pub struct GlobalOrder {
     listed: Vec<u8>,
@@ -35,7 +36,8 @@ impl Model for GlobalOrder {
 }
 
 impl GlobalOrder {
-    /// The global memory order in which the harts' operations come in this order, of at most 256 operations. The error is F19.
+    /// The global memory order in which the harts' operations come in this order, of at most 256 operations. The error
+    /// is F19.
     pub fn new(alloc: Global, operations: &[Operation], order: &[u8]) -> Result<GlobalOrder, Fault>
         requires { length operations.now ≤ most_numbered }
         ensures ok { (x : PreExecution) → operations.now ≡ operations_of x → IfOk result (λ made. made ≡ gmo x order.now) }
@@ -65,7 +67,7 @@ impl GlobalOrder {
     }
 }
 
-// The numbers from `count` up to `total`, and then the order.
+/// The numbers from `count` up to `total`, and then the order.
 fn list(alloc: Global, count: usize, total: usize, order: &[u8]) -> Result<Vec<u8>, AllocError>
     requires from { count ≤ total }
     requires to { total ≤ most_numbered }
@@ -86,7 +88,7 @@ fn has_bit(mask: u64, number: u8) -> bool
     mask >> number & 1 == 1
 }
 
-// For each number below 64 those that stand before it.
+/// For each number below 64 those that stand before it.
 fn earlier(listed: &[u8]) -> [u64; 64]
     ensures { AreEarlier listed.now result }
 {

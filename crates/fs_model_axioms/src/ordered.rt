@@ -1,4 +1,5 @@
-//! Operations with an order of the harts' own: the sources that it gives, and the axioms as tests of one operation or of two.
+//! Operations with an order of the harts' own: the sources that it gives, and the axioms as tests of one operation or
+//! of two.
 
 ghost use Rattle.std.specs.Prelude.{◌≡◌, ◌≤◌, ℕ, List, length, map, IfOk, IsOkUnless};
 ghost use Rattle.fs_kinds.specs.Limits.{most_numbered};
@@ -120,8 +121,8 @@ impl Ordered {
         returns_source(self.operations(), self.source(a), a)
     }
 
-    /// Do r and w keep the atomicity axiom? They do where they aren't a pair of an lr.w and a later sc.w. The runs are those of
-    /// the operations.
+    /// Do r and w keep the atomicity axiom? They do where they aren't a pair of an lr.w and a later sc.w. The runs are
+    /// those of the operations.
     pub fn keeps_atomicity(&self, traces: &[Trace], r: usize, w: usize) -> bool
         ensures { (x : PreExecution) → self.now.operations ≡ operations_of x → x.traces ≡ steps_in traces.now
             → result ≡ keeps_atomicity x (source_in x self.now.listed) (gmo x self.now.listed) r w }
@@ -144,7 +145,7 @@ pub fn source_at(sources: &[Option<u8>], a: usize) -> Option<u8>
     sources.get(a).copied().flatten()
 }
 
-// The source of each operation in this order.
+/// The source of each operation in this order.
 fn sources(
     alloc: Global,
     operations: &[Operation],

@@ -9,7 +9,7 @@ ghost use Rattle.fs_model.specs.Tests.{returns_source};
 use crate::global_order::GlobalOrder;
 use fs_model::Operation;
 
-// Is s a store to the load's word that precedes it in the global memory order or in program order?
+/// Is s a store to the load's word that precedes it in the global memory order or in program order?
 fn may_return(operations: &[Operation], order: &GlobalOrder, load: usize, s: u8) -> bool
     ensures { result ≡ may_return operations.now order.now load s }
 {
@@ -20,8 +20,8 @@ fn may_return(operations: &[Operation], order: &GlobalOrder, load: usize, s: u8)
         && (order.stands_before(usize::from(s), load) || storing.precedes(&loading))
 }
 
-// The number of the store that the load returns in this global memory order: the latest of the stores to its word that precede
-// it in this order or in program order.
+// The number of the store that the load returns in this global memory order: the latest of the stores to its word that
+// precede it in this order or in program order.
 pub(crate) fn source_in(operations: &[Operation], order: &GlobalOrder, load: usize) -> Option<u8>
     ensures { (x : PreExecution) (listed : List ℕ)
         → operations.now ≡ operations_of x

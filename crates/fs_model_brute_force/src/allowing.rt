@@ -46,7 +46,7 @@ fn copy(alloc: Global, trace: &Trace) -> Result<Trace, AllocError>
     Ok(Trace { steps, registers })
 }
 
-// All runs of each hart over the sets.
+/// All runs of each hart over the sets.
 fn runs_over(alloc: Global, test: &Test, sets: &[Words]) -> Result<Vec<Runs>, Fault>
     requires test { IsBounded test.now }
     requires starts { All IsStart test.now.starts }
@@ -63,7 +63,7 @@ fn runs_over(alloc: Global, test: &Test, sets: &[Words]) -> Result<Vec<Runs>, Fa
     Ok(lists)
 }
 
-// Do these runs, with one out of each list behind them, show the outcome in some order?
+/// Do these runs, with one out of each list behind them, show the outcome in some order?
 fn shows_among(
     alloc: Global,
     test: &Test,
@@ -91,11 +91,11 @@ fn shows_among(
     Ok(false)
 }
 
-/// Does the test with the placement's fences allow its outcome, by an execution whose loads take words of these sets? There is a
-/// set for each location, with its words rising. It is decided by listing: all runs of each hart, all ways to take one of each,
-/// and all orders of their operations. So the time is the product of the numbers of runs, times the factorial of the number of
-/// operations, times that of `obeys_axioms`: for tests of a few instructions. F13 and F14 as `traces_over` of the first hart that
-/// has one; F19.
+/// Does the test with the placement's fences allow its outcome, by an execution whose loads take words of these sets?
+/// There is a set for each location, with its words rising. It is decided by listing: all runs of each hart, all ways
+/// to take one of each, and all orders of their operations. So the time is the product of the numbers of runs, times
+/// the factorial of the number of operations, times that of `obeys_axioms`: for tests of a few instructions. F13 and
+/// F14 as `traces_over` of the first hart that has one; F19.
 pub fn allows_over(
     alloc: Global,
     test: &Test,

@@ -20,7 +20,7 @@ use fs_model::Test;
 use fs_model_axioms::{Ordered, lists_each_once};
 use std::alloc::Global;
 
-// How many operations the harts have.
+/// How many operations the harts have.
 fn count(test: &Test, traces: &[Trace], ordered: &Ordered) -> usize
     requires { ordered.now.operations ≡ operations_of (pre_execution_of test.now traces.now) }
     ensures { result ≡ length (accesses (pre_execution_of test.now traces.now)) }
@@ -28,7 +28,7 @@ fn count(test: &Test, traces: &[Trace], ordered: &Ordered) -> usize
     ordered.count()
 }
 
-// Does a, where it is a load, return the word of its source?
+/// Does a, where it is a load, return the word of its source?
 fn returns_source(test: &Test, traces: &[Trace], ordered: &Ordered, a: usize) -> bool
     requires { ordered.now.operations ≡ operations_of (pre_execution_of test.now traces.now) }
     ensures { let x = pre_execution_of test.now traces.now in result ≡ returns_source x (source_in x ordered.now.listed) a }
@@ -36,7 +36,7 @@ fn returns_source(test: &Test, traces: &[Trace], ordered: &Ordered, a: usize) ->
     ordered.returns_source(a)
 }
 
-// Does a stand before b, where preserved program order has it so?
+/// Does a stand before b, where preserved program order has it so?
 fn goes_forward(
     test: &Test,
     traces: &[Trace],
@@ -58,7 +58,7 @@ fn goes_forward(
     !executed.ppo(a, b) || ordered.stands_before(a, b)
 }
 
-// Do r and w, where they are paired, keep atomicity?
+/// Do r and w, where they are paired, keep atomicity?
 fn keeps_atomicity(test: &Test, traces: &[Trace], ordered: &Ordered, r: usize, w: usize) -> bool
     requires { ordered.now.operations ≡ operations_of (pre_execution_of test.now traces.now) }
     ensures { let x = pre_execution_of test.now traces.now in
@@ -67,7 +67,7 @@ fn keeps_atomicity(test: &Test, traces: &[Trace], ordered: &Ordered, r: usize, w
     ordered.keeps_atomicity(traces, r, w)
 }
 
-// Does each load return the word of its source?
+/// Does each load return the word of its source?
 fn all_return(test: &Test, traces: &[Trace], ordered: &Ordered) -> bool
     requires { ordered.now.operations ≡ operations_of (pre_execution_of test.now traces.now) }
     ensures { let x = pre_execution_of test.now traces.now in
@@ -76,7 +76,7 @@ fn all_return(test: &Test, traces: &[Trace], ordered: &Ordered) -> bool
     (0..count(test, traces, ordered)).all(|a| returns_source(test, traces, ordered, a))
 }
 
-// Does a stand before all operations that preserved program order puts after it?
+/// Does a stand before all operations that preserved program order puts after it?
 fn all_after(
     test: &Test,
     traces: &[Trace],
@@ -92,7 +92,7 @@ fn all_after(
     (0..count(test, traces, ordered)).all(|b| goes_forward(test, traces, placement, ordered, a, b))
 }
 
-// Does the order respect preserved program order?
+/// Does the order respect preserved program order?
 fn all_go_forward(test: &Test, traces: &[Trace], placement: &Placement, ordered: &Ordered) -> bool
     requires { ordered.now.operations ≡ operations_of (pre_execution_of test.now traces.now) }
     ensures { let x = pre_execution_of test.now traces.now in
@@ -102,7 +102,7 @@ fn all_go_forward(test: &Test, traces: &[Trace], placement: &Placement, ordered:
     (0..count(test, traces, ordered)).all(|a| all_after(test, traces, placement, ordered, a))
 }
 
-// Does r keep atomicity with all operations that it is paired with?
+/// Does r keep atomicity with all operations that it is paired with?
 fn all_paired(test: &Test, traces: &[Trace], ordered: &Ordered, r: usize) -> bool
     requires { ordered.now.operations ≡ operations_of (pre_execution_of test.now traces.now) }
     ensures { let x = pre_execution_of test.now traces.now in
@@ -112,7 +112,7 @@ fn all_paired(test: &Test, traces: &[Trace], ordered: &Ordered, r: usize) -> boo
     (0..count(test, traces, ordered)).all(|w| keeps_atomicity(test, traces, ordered, r, w))
 }
 
-// Do all pairs keep atomicity?
+/// Do all pairs keep atomicity?
 fn all_keep_atomicity(test: &Test, traces: &[Trace], ordered: &Ordered) -> bool
     requires { ordered.now.operations ≡ operations_of (pre_execution_of test.now traces.now) }
     ensures { let x = pre_execution_of test.now traces.now in
@@ -122,7 +122,7 @@ fn all_keep_atomicity(test: &Test, traces: &[Trace], ordered: &Ordered) -> bool
     (0..count(test, traces, ordered)).all(|r| all_paired(test, traces, ordered, r))
 }
 
-// Do all operations pass the tests, in an order that lists each once?
+/// Do all operations pass the tests, in an order that lists each once?
 fn all_pass(test: &Test, traces: &[Trace], placement: &Placement, ordered: &Ordered) -> bool
     requires runs { ordered.now.operations ≡ operations_of (pre_execution_of test.now traces.now) }
     requires once { lists_each_once (pre_execution_of test.now traces.now) ordered.now.listed ≡ true }
@@ -137,9 +137,10 @@ fn all_pass(test: &Test, traces: &[Trace], placement: &Placement, ordered: &Orde
     all_keep_atomicity(test, traces, ordered)
 }
 
-/// Do these runs of the test's harts, with this order of their operations, obey the axioms of RVWMO with the placement's fences?
-/// The runs are any short ones, with at most 256 operations. Each two operations are tried, by the definitions as they stand,
-/// and a dependency may take time exponential in the steps between: so it is for small tests. The error is F19.
+/// Do these runs of the test's harts, with this order of their operations, obey the axioms of RVWMO with the
+/// placement's fences? The runs are any short ones, with at most 256 operations. Each two operations are tried, by the
+/// definitions as they stand, and a dependency may take time exponential in the steps between: so it is for small
+/// tests. The error is F19.
 pub fn obeys_axioms(
     alloc: Global,
     test: &Test,

@@ -12,7 +12,7 @@ ghost use Rattle.fs_model_brute_force.specs.inner.Dependencies.{writes_last, lea
 use crate::steps::{address_source, data_source, first_source, instr_at, second_source, writes};
 use fs_model::Step;
 
-// Does a step between i and j write the register?
+/// Does a step between i and j write the register?
 fn is_written_between(steps: &[Step], i: usize, j: usize, register: Option<u8>) -> bool
     requires { i < most_numbered }
     ensures { result ≡ list_any (λ m. writes steps.now m register) (between i j) }
@@ -20,7 +20,7 @@ fn is_written_between(steps: &[Step], i: usize, j: usize, register: Option<u8>) 
     (i + 1..j).any(|m| writes(steps, m, register))
 }
 
-// Does step i write the register, and no step between i and j?
+/// Does step i write the register, and no step between i and j?
 fn writes_last(steps: &[Step], i: usize, j: usize, register: Option<u8>) -> bool
     requires { i < most_numbered }
     ensures { result ≡ writes_last steps.now i j register }
@@ -28,7 +28,8 @@ fn writes_last(steps: &[Step], i: usize, j: usize, register: Option<u8>) -> bool
     writes(steps, i, register) && !is_written_between(steps, i, j, register)
 }
 
-// Does a dependency lead from step i through step m to step j and its source `register`, where each part is at most so long?
+/// Does a dependency lead from step i through step m to step j and its source `register`, where each part is at most so
+/// long?
 #[cycle(within)]
 #[tactic(auto, using(crate::proofs::Between::any_of_two))]
 fn leads_through(
@@ -55,8 +56,8 @@ fn leads_through(
     depends_within(distance, steps, m, j, register)
 }
 
-// Does step j depend on step i through its source `register`, where they are at most so far apart? Either i writes the register
-// and no step between does, or a dependency leads through a step between.
+/// Does step j depend on step i through its source `register`, where they are at most so far apart? Either i writes the
+/// register and no step between does, or a dependency leads through a step between.
 #[cycle(within)]
 fn depends_within(distance: usize, steps: &[Step], i: usize, j: usize, register: Option<u8>) -> bool
     requires first { i < most_numbered }
@@ -77,7 +78,7 @@ fn depends_within(distance: usize, steps: &[Step], i: usize, j: usize, register:
     false
 }
 
-// Does step j depend on step i through its source `register`?
+/// Does step j depend on step i through its source `register`?
 fn depends(steps: &[Step], i: usize, j: usize, register: Option<u8>) -> bool
     requires first { i < most_numbered }
     requires second { j < most_numbered }
@@ -104,7 +105,7 @@ pub fn data_depends(steps: &[Step], i: usize, j: usize) -> bool
     depends(steps, i, j, data_source(steps, j))
 }
 
-// Does step j depend on step i through one of its sources?
+/// Does step j depend on step i through one of its sources?
 fn depends_through_any(steps: &[Step], i: usize, j: usize) -> bool
     requires first { i < most_numbered }
     requires second { j < most_numbered }
@@ -113,8 +114,8 @@ fn depends_through_any(steps: &[Step], i: usize, j: usize) -> bool
     depends(steps, i, j, first_source(steps, j)) || depends(steps, i, j, second_source(steps, j))
 }
 
-/// Has step j a control dependency on step i: does a branch between them depend on i? Steps count from 0. At worst exponential in
-/// the steps between.
+/// Has step j a control dependency on step i: does a branch between them depend on i? Steps count from 0. At worst
+/// exponential in the steps between.
 pub fn control_depends(steps: &[Step], i: usize, j: usize) -> bool
     requires first { i < most_numbered }
     requires second { j < most_numbered }

@@ -19,7 +19,7 @@ use fs_model::{Step, Test};
 use fs_model_axioms::{GlobalOrder, has_outcome};
 use std::alloc::{AllocError, Global};
 
-// The run of these steps, with its registers at the end; nothing where they aren't a run of the hart.
+/// The run of these steps, with its registers at the end; nothing where they aren't a run of the hart.
 fn whole_run(
     alloc: Global,
     test: &Test,
@@ -38,7 +38,7 @@ fn whole_run(
     Ok(Some(Trace { steps, registers }))
 }
 
-// The runs of these steps; nothing where they aren't runs of the test's harts, one for each.
+/// The runs of these steps; nothing where they aren't runs of the test's harts, one for each.
 fn whole_runs(alloc: Global, test: &Test, runs: &[Steps]) -> Result<Option<Vec<Trace>>, AllocError>
     requires test { IsBounded test.now }
     requires starts { All IsStart test.now.starts }
@@ -59,8 +59,8 @@ fn whole_runs(alloc: Global, test: &Test, runs: &[Steps]) -> Result<Option<Vec<T
     Ok(Some(traces))
 }
 
-// Are these whole runs of the test's harts, with this order of their operations, an execution of the test with the placement's
-// fences, and does it show the outcome? It is as slow as `obeys_axioms`.
+// Are these whole runs of the test's harts, with this order of their operations, an execution of the test with the
+// placement's fences, and does it show the outcome? It is as slow as `obeys_axioms`.
 pub(crate) fn traces_show(
     alloc: Global,
     test: &Test,
@@ -83,9 +83,9 @@ pub(crate) fn traces_show(
     Ok(has_outcome(test, traces, operations.as_slice(), &order))
 }
 
-/// Are these steps, hart by hart, runs of the test's harts, and are they with this order of their operations an execution of the
-/// test with the placement's fences that shows the outcome? The time is that of `is_run` for each hart, and then that of
-/// `obeys_axioms`. The error is F19.
+/// Are these steps, hart by hart, runs of the test's harts, and are they with this order of their operations an
+/// execution of the test with the placement's fences that shows the outcome? The time is that of `is_run` for each
+/// hart, and then that of `obeys_axioms`. The error is F19.
 pub fn shows(
     alloc: Global,
     test: &Test,

@@ -13,7 +13,7 @@ use fs_instr::Instr;
 use fs_kinds::{Classes, Kind, Placement, Slot};
 use fs_model::{Operation, Step};
 
-// Does the instruction, a fence of the test, order operations of these classes?
+/// Does the instruction, a fence of the test, order operations of these classes?
 fn instr_orders(first: Classes, second: Classes, instr: Instr) -> bool
     ensures { result ≡ instr_orders first second instr }
 {
@@ -29,7 +29,7 @@ fn instr_orders(first: Classes, second: Classes, instr: Instr) -> bool
     }
 }
 
-// Does a placed fence of this kind, if there is one, order operations of these classes?
+/// Does a placed fence of this kind, if there is one, order operations of these classes?
 fn kind_orders(first: Classes, second: Classes, kind: Option<Kind>) -> bool
     ensures { result ≡ kind_orders first second kind }
 {
@@ -39,7 +39,7 @@ fn kind_orders(first: Classes, second: Classes, kind: Option<Kind>) -> bool
     }
 }
 
-// The placed fence right before step k of a run of the hart.
+/// The placed fence right before step k of a run of the hart.
 fn placed_at(placement: &Placement, hart: Option<u8>, steps: &[Step], k: usize) -> Option<Kind>
     ensures { result ≡ placed_at placement.now hart steps.now k }
 {
@@ -52,7 +52,7 @@ fn placed_at(placement: &Placement, hart: Option<u8>, steps: &[Step], k: usize) 
     }
 }
 
-// Does a fence of the test between steps i and j order operations of these classes?
+/// Does a fence of the test between steps i and j order operations of these classes?
 fn is_written_between(first: Classes, second: Classes, steps: &[Step], i: usize, j: usize) -> bool
     requires { i < most_numbered }
     ensures { result ≡ list_any (λ k. instr_orders first second (instr_at steps.now k)) (between i j) }
@@ -60,7 +60,7 @@ fn is_written_between(first: Classes, second: Classes, steps: &[Step], i: usize,
     (i + 1..j).any(|k| instr_orders(first, second, instr_at(steps, k)))
 }
 
-// Does a fence that is placed before a step after i and before j order them?
+/// Does a fence that is placed before a step after i and before j order them?
 fn is_placed_between(
     placement: &Placement,
     first: &Operation,

@@ -18,14 +18,15 @@ use fs_model::Test;
 use fs_model_axioms::count_accesses;
 use std::alloc::Global;
 
-// Is the number in the list?
+/// Is the number in the list?
 fn has_number(numbers: &[u8], a: u8) -> bool
     ensures { result ≡ list_any (λ number. number == a) numbers.now }
 {
     numbers.iter().any(|number| *number == a)
 }
 
-// Does some order that goes on so show the outcome? It tries each number below `count` that the order doesn't have yet.
+/// Does some order that goes on so show the outcome? It tries each number below `count` that the order doesn't have
+/// yet.
 fn shows_from(
     alloc: Global,
     test: &Test,
@@ -59,8 +60,8 @@ fn shows_from(
     Ok(false)
 }
 
-// Do these runs, one of each hart, show the outcome in some order of their operations? It tries all orders: the time is the
-// factorial of the number of operations, times that of `traces_show`.
+// Do these runs, one of each hart, show the outcome in some order of their operations? It tries all orders: the time is
+// the factorial of the number of operations, times that of `traces_show`.
 pub(crate) fn shows_in_some_order(
     alloc: Global,
     test: &Test,

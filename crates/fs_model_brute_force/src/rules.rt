@@ -25,7 +25,7 @@ fn overlaps(first: &Operation, second: &Operation) -> bool
     second.is_store() && first.is_same_word(second)
 }
 
-// Is m a store to the word of a, between a and b in program order?
+/// Is m a store to the word of a, between a and b in program order?
 fn is_store_between(operations: &[Operation], a: usize, b: usize, m: usize) -> bool
     ensures { result ≡ is_store_between operations.now a b m }
 {
@@ -44,7 +44,7 @@ fn any_store_between(operations: &[Operation], a: usize, b: usize) -> bool
     (0..count_accesses(operations)).any(|m| is_store_between(operations, a, b, m))
 }
 
-// Do a and b load the same word, with no store to it between, and return different stores?
+/// Do a and b load the same word, with no store to it between, and return different stores?
 fn reads_differ(operations: &[Operation], sources: &[Option<u8>], a: usize, b: usize) -> bool
     ensures { result ≡ reads_differ operations.now sources.now a b }
 {
@@ -57,7 +57,7 @@ fn reads_differ(operations: &[Operation], sources: &[Option<u8>], a: usize, b: u
         && !is_same_number(source_at(sources, a), source_at(sources, b))
 }
 
-// Is the first one, of this number, of an AMO or an sc.w, and the source of the second?
+/// Is the first one, of this number, of an AMO or an sc.w, and the source of the second?
 fn returns_amo_or_sc(
     first: &Operation,
     second: &Operation,
@@ -75,7 +75,7 @@ fn is_rcsc(operation: &Operation) -> bool
     operation.annotation().acquire || operation.annotation().release
 }
 
-// Is m a store between a and b that depends on a, and the source?
+/// Is m a store between a and b that depends on a, and the source?
 fn passes_on(
     operations: &[Operation],
     steps: &[Step],
@@ -110,7 +110,7 @@ fn any_passes_on(
     (0..count_accesses(operations)).any(|m| passes_on(operations, steps, source, a, b, m))
 }
 
-// Has an instruction between steps i and j an address dependency on step i?
+/// Has an instruction between steps i and j an address dependency on step i?
 fn any_address_between(steps: &[Step], i: usize, j: usize) -> bool
     requires first { i < most_numbered }
     requires second { j < most_numbered }
@@ -119,7 +119,7 @@ fn any_address_between(steps: &[Step], i: usize, j: usize) -> bool
     (i + 1..j).any(|m| address_depends(steps, i, m))
 }
 
-// Does operation a precede operation b in program order?
+/// Does operation a precede operation b in program order?
 fn precedes(operations: &[Operation], a: usize, b: usize) -> bool
     ensures { result ≡ precedes (at operations.now a) (at operations.now b) }
 {
@@ -137,7 +137,7 @@ pub struct Executed<'a> {
 }
 
 impl Executed<'_> {
-    // What the rule of this number asks besides program order.
+    /// What the rule of this number asks besides program order.
     fn is_case(&self, n: u8, a: usize, b: usize) -> bool
         requires { 1 ≤ n }
         ensures { result ≡ is_case self.now.operations.now (steps_in self.now.traces.now) self.now.placement.now
@@ -167,7 +167,7 @@ impl Executed<'_> {
         }
     }
 
-    // The rule of this number, with program order.
+    /// The rule of this number, with program order.
     fn rule_among(&self, n: u8, a: usize, b: usize) -> bool
         requires { 1 ≤ n }
         ensures { result ≡ rule_among self.now.operations.now (steps_in self.now.traces.now) self.now.placement.now
@@ -188,7 +188,7 @@ impl Executed<'_> {
         self.rule_among(n, a, b)
     }
 
-    // Does some rule put a before b?
+    /// Does some rule put a before b?
     fn any_rule(&self, a: usize, b: usize) -> bool
         ensures { result ≡ any_rule self.now.operations.now (steps_in self.now.traces.now) self.now.placement.now
             self.now.sources.now a b }

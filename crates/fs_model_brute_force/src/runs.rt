@@ -11,7 +11,7 @@ ghost use Rattle.fs_model_brute_force.specs.Whole.{EndsWith};
 use fs_instr::Instr;
 use fs_model::{Choice, Hart, Step, Test};
 
-// The code of the hart.
+/// The code of the hart.
 fn code_of(test: &Test, hart: u8) -> &[Instr]
     requires { hart < length test.now.codes }
     ensures { result.now ≡ code_of test.now hart }
@@ -19,7 +19,7 @@ fn code_of(test: &Test, hart: u8) -> &[Instr]
     test.codes.as_slice()[usize::from(hart)].as_slice()
 }
 
-// The words that the hart's registers begin with.
+/// The words that the hart's registers begin with.
 fn registers_of(test: &Test, hart: u8) -> [u32; 32]
     requires hart { hart < length test.now.starts }
     requires starts { All IsStart test.now.starts }
@@ -30,7 +30,7 @@ fn registers_of(test: &Test, hart: u8) -> [u32; 32]
     registers
 }
 
-// The choice that the step makes, as a step of the instruction.
+/// The choice that the step makes, as a step of the instruction.
 fn choice_by(instr: &Instr, step: &Step) -> Option<Choice>
     ensures { result ≡ choice_by instr.now step.now }
 {
@@ -45,14 +45,14 @@ fn choice_by(instr: &Instr, step: &Step) -> Option<Choice>
     }
 }
 
-// The hart's next instruction; nothing where its code is at its end.
+/// The hart's next instruction; nothing where its code is at its end.
 fn next_instr(code: &[Instr], state: &Hart) -> Option<Instr>
     ensures { result ≡ slice_get code.now state.now.at }
 {
     code.get(usize::from(state.at)).copied()
 }
 
-// Is the step the one that the hart makes of its next instruction, with the step's own choice?
+/// Is the step the one that the hart makes of its next instruction, with the step's own choice?
 fn is_step(locations: u8, code: &[Instr], state: &Hart, step: &Step) -> bool
     ensures { Decides result (IsStep locations code.now state.now step.now) }
 {
@@ -65,8 +65,8 @@ fn is_step(locations: u8, code: &[Instr], state: &Hart, step: &Step) -> bool
     }
 }
 
-/// The hart's registers at the end of these steps; nothing where the steps aren't a run of the hart: each is the one that its
-/// next instruction makes, and the last one ends the code.
+/// The hart's registers at the end of these steps; nothing where the steps aren't a run of the hart: each is the one
+/// that its next instruction makes, and the last one ends the code.
 pub(crate) fn registers_after(test: &Test, hart: u8, steps: &[Step]) -> Option<[u32; 32]>
     requires test { IsBounded test.now }
     requires starts { All IsStart test.now.starts }

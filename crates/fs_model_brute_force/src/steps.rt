@@ -21,7 +21,7 @@ pub(crate) fn instr_at(steps: &[Step], k: usize) -> Instr
     }
 }
 
-// The register's number.
+/// The register's number.
 fn number_of(register: Option<Reg>) -> Option<u8>
     ensures { result ≡ register }
 {

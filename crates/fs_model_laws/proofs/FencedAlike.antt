@@ -1,5 +1,5 @@
--- Two pre-executions with the same operations, up to places and branch targets: what one order obeys in the one, it obeys in
--- the other.
+-- Two pre-executions with the same operations, up to places and branch targets: what one order obeys in the one, it
+-- obeys in the other.
 use Rattle.std.proofs.Common.{◌≡◌, ℕ, ◌==◌, Bool, true, false, ◌&&◌, ◌||◌, not, cond, List, [], ◌∷◌, ◌++◌, filter, length, Option, None, Some, refl, ap, sym, ◌∙◌}
 use Rattle.std.specs.Prelude.{is_some, option_and_then, unwrap_or}
 use Rattle.std.specs.List.{list_any, list_all, last_or, range_with_len}

@@ -1,4 +1,5 @@
--- An execution of a test under a placement of fences, and the execution of the fenced test that has these fences as steps.
+-- An execution of a test under a placement of fences, and the execution of the fenced test that has these fences as
+-- steps.
 use Rattle.std.specs.Prelude.{◌≡◌, ◌↔◌, ℕ, Option, None, Some, List, [], ◌∷◌, ◌++◌, map}
 use Rattle.std.specs.List.{enumerate_from, flat_map}
 use Rattle.fs_kinds.specs.declared.kind.Kind.{Kind}

@@ -9,8 +9,8 @@ use Rattle.fs_model.specs.declared.test.Test.{Test}
 use Rattle.fs_model.specs.Execution.{Execution, IsExecution}
 use Rattle.fs_model.specs.Allows.{Shows, Allows, IsPlacement, IsCheapest, RefutesAll}
 
--- At each slot the fence of p keeps only pairs of operations in order that the fence of q keeps there too. A slot that is not in
--- a list has no fence, so the two need not have the same slots.
+-- At each slot the fence of p keeps only pairs of operations in order that the fence of q keeps there too. A slot that
+-- is not in a list has no fence, so the two need not have the same slots.
 abbrev pub KeepsNoMore : List Entry → List Entry → Type 0
 KeepsNoMore p q = (s : Slot) (pair : Pair) → pairs_kept (kind_at s p) pair ≡ true → pairs_kept (kind_at s q) pair ≡ true
 
@@ -18,8 +18,8 @@ KeepsNoMore p q = (s : Slot) (pair : Pair) → pairs_kept (kind_at s p) pair ≡
 abbrev pub KeepsTheSame : List Entry → List Entry → Type 0
 KeepsTheSame p q = (s : Slot) (pair : Pair) → pairs_kept (kind_at s p) pair ≡ pairs_kept (kind_at s q) pair
 
--- Each execution with the fences q is one with the fences p: the same traces in the same order. So each that shows the outcome
--- with q shows it with p, and an outcome that is allowed with q is allowed with p.
+-- Each execution with the fences q is one with the fences p: the same traces in the same order. So each that shows the
+-- outcome with q shows it with p, and an outcome that is allowed with q is allowed with p.
 pub record AllowsNoLess (t : Test) (p q : List Entry) : Type 0 where
   pub executions : (e : Execution) → IsExecution t q e → IsExecution t p e
   pub shows : (e : Execution) → Shows t q e → Shows t p e

@@ -14,8 +14,8 @@ ghost use Rattle.fs_model.specs.Witness.{Witness, IsOfWitness};
 ghost use Rattle.fs_model_laws.specs.Answers.{none_by, IsByCostAndOrder};
 ghost use Rattle.fs_model_laws.specs.Strength.{HasNoAnswer};
 
-/// A law: a valid certificate for none is right, whatever the prices: no placement is the answer. And there is one for each
-/// execution that shows the outcome with `rw,rw` in every slot, by any witness that gives it.
+/// A law: a valid certificate for none is right, whatever the prices: no placement is the answer. And there is one for
+/// each execution that shows the outcome with `rw,rw` in every slot, by any witness that gives it.
 pub fn one_witness_refutes_all()
     ensures right { (t : Test) (c : Certificate) → IsValidForNone t c → (prices : PriceTable) → HasNoAnswer t prices }
     ensures there { (t : Test) (version : Version) (w : Witness) (e : Execution) → IsOfWitness t w e → RefutesAll t e

@@ -9,10 +9,10 @@ ghost use Rattle.fs_model.specs.Execution.{Execution, IsExecution};
 ghost use Rattle.fs_model_laws.specs.Fenced.{AllowsAlike, AllowsAsRead, ExecutesAlike, KeepsOutcome, ShowsAlike};
 ghost use Rattle.fs_model_laws.specs.Fenced.{KeepsApart, KeepsChoices};
 
-/// A law: the executions of the fenced test, with no fence in its slots, are those of the test under the placement, with the
-/// fences as steps. Two such executions show the outcome together. So the fenced test allows the outcome exactly where the test
-/// does under the placement; and so does each test that is the same as the fenced one, such as the one that is read from its
-/// printed form.
+/// A law: the executions of the fenced test, with no fence in its slots, are those of the test under the placement,
+/// with the fences as steps. Two such executions show the outcome together. So the fenced test allows the outcome
+/// exactly where the test does under the placement; and so does each test that is the same as the fenced one, such as
+/// the one that is read from its printed form.
 pub fn fenced_test_means_placement()
     ensures executions { (t : Test) (p : List Entry) → ExecutesAlike t p }
     ensures outcome { (t : Test) (p : List Entry) → KeepsOutcome t p }

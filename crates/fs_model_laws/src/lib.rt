@@ -1,4 +1,5 @@
-//! Theorems over the definitions of the memory model. The functions do nothing: each stands for the laws that it promises.
+//! Theorems over the definitions of the memory model. The functions do nothing: each stands for the laws that it
+//! promises.
 #![tactic(auto)]
 
 mod answers;

@@ -146,8 +146,8 @@ module _ (p q : Box (Unit {0}) Global) where
   pub both_apart : are_apart prices root (map (width (sb p q)) both) ≡ true
   both_apart = refl
 
-  -- The law of bounded parts takes any list of entries for the bound. This one costs 18, and the floor isn't before it: so the root
-  -- is pruned against it, and whatever costs less than 18 is better.
+  -- The law of bounded parts takes any list of entries for the bound. This one costs 18, and the floor isn't before it:
+  -- so the root is pruned against it, and whatever costs less than 18 is better.
   abbrev longer : List Entry
   longer = floor root ++ fences (Some WR) (Some WR)
 

@@ -43,8 +43,8 @@ loads =
     ∷ record { at = 1; instr = Lw 7 6 (pos 0); address = Some 4096; loaded = Some 0; stored = None }
     ∷ []
 
--- The store is operation 0, the loads are 1 and 2, and the initial store is 3. The first load returns the store's word and the
--- second one the initial word.
+-- The store is operation 0, the loads are 1 and 2, and the initial store is 3. The first load returns the store's word
+-- and the second one the initial word.
 abbrev pub stale : Candidate
 stale = record {
   traces = store ∷ loads ∷ [];

@@ -1,4 +1,5 @@
--- Store buffering with nothing decided yet, and two executions of it that show the outcome: in each one hart reads early.
+-- Store buffering with nothing decided yet, and two executions of it that show the outcome: in each one hart reads
+-- early.
 use Rattle.std.specs.Prelude.{◌≡◌, true, ◌||◌, not, None, [], ◌∷◌}
 use Rattle.fs_kinds.specs.declared.slot.Slot.{Slot}
 use Rattle.fs_kinds.specs.Kind.{Pair, tso_pairs}

@@ -1,6 +1,7 @@
--- Small runs with an order, each to show one of the rules. Not each is an execution: where the order goes against the rule, the
--- axioms refuse it. The harts' operations have the numbers 0, 1, .. in their order here, and the initial stores come after them.
--- Location 0 has address 4096, and location 1 has address 4112; both hold 0 at first, where nothing else is said.
+-- Small runs with an order, each to show one of the rules. Not each is an execution: where the order goes against the
+-- rule, the axioms refuse it. The harts' operations have the numbers 0, 1, .. in their order here, and the initial
+-- stores come after them. Location 0 has address 4096, and location 1 has address 4112; both hold 0 at first, where
+-- nothing else is said.
 use Rattle.std.specs.Prelude.{ℕ, Bool, true, false, Option, None, Some, List, [], ◌∷◌, filter, pos}
 use Rattle.fs_kinds.specs.declared.kind.Kind.{Kind}
 use Rattle.fs_kinds.specs.declared.placement.Entry.{Entry}

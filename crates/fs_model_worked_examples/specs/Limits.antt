@@ -10,8 +10,8 @@ use Rattle.fs_model_worked_examples.specs.Rows.{prices, part, entry}
 use Rattle.std.proofs.Common.{Box}
 use Rattle.std.specs.declared.alloc.Global.{Global}
 
--- The root is split before hart 0's load. Then node 4 can't be split by one who doesn't hold it, nor where it is decided, and
--- before hart 1's load the board is full.
+-- The root is split before hart 0's load. Then node 4 can't be split by one who doesn't hold it, nor where it is
+-- decided, and before hart 1's load the board is full.
 abbrev pub until_full : List LogEntry
 until_full =
     entry 0 Take (Given 0 (part None None))

@@ -1,5 +1,5 @@
--- Message passing: hart 0 stores 1 to x and then to y, and hart 1 loads y and then x. Shown would be 1 and then 0; or 1 twice,
--- which is allowed with any fences.
+-- Message passing: hart 0 stores 1 to x and then to y, and hart 1 loads y and then x. Shown would be 1 and then 0; or 1
+-- twice, which is allowed with any fences.
 use Rattle.std.specs.Prelude.{ℕ, Option, None, Some, List, [], ◌∷◌, pos, codes}
 use Rattle.std.proofs.Common.{Box}
 use Rattle.std.specs.declared.alloc.Global.{Global}
@@ -20,7 +20,8 @@ use Rattle.fs_cert_evidence.specs.Parts.{Part}
 use Rattle.fs_model_worked_examples.specs.StoreBuffering.{registers}
 use Rattle.fs_model_worked_examples.specs.Rows.{named}
 
--- ori x5,x0,1 / sw x5,0(x6) / ori x7,x0,1 / sw x7,0(x8) and lw x5,0(x6) / lw x7,0(x8); the condition is `1:x5=1 /\ 1:x7=word`
+-- ori x5,x0,1 / sw x5,0(x6) / ori x7,x0,1 / sw x7,0(x8) and lw x5,0(x6) / lw x7,0(x8); the condition is `1:x5=1 /\
+-- 1:x7=word`
 abbrev pub passing : (word : ℕ) → Box (Unit {0}) Global → Box (Unit {0}) Global → Test
 passing word p q = record {
   name = codes "MP";

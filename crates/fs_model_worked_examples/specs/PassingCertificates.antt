@@ -1,5 +1,5 @@
--- Certificates of message passing: w,w between the stores and r,r between the loads, with one cycle. And that nothing helps where
--- both loads return 1.
+-- Certificates of message passing: w,w between the stores and r,r between the loads, with one cycle. And that nothing
+-- helps where both loads return 1.
 use Rattle.std.specs.Prelude.{ℕ, Some, List, [], ◌∷◌, codes}
 use Rattle.fs_kinds.specs.declared.kind.Kind.TheVariants.{RR, WW}
 use Rattle.fs_kinds.specs.declared.placement.Entry.{Entry}

@@ -44,8 +44,8 @@ part first second = record { slot = slot_at 0 2; decided = first } ∷ record { 
 abbrev pub entry : ℕ → Event → Reply → LogEntry
 entry worker event reply = record { worker = worker; event = event; reply = reply }
 
--- Two workers find w,r before each load. Node 4 has w,r before hart 0's load and node 6 rw,rw; of node 4's children 11 has w,r
--- before hart 1's load and 13 has rw,rw.
+-- Two workers find w,r before each load. Node 4 has w,r before hart 0's load and node 6 rw,rw; of node 4's children 11
+-- has w,r before hart 1's load and 13 has rw,rw.
 abbrev pub two_workers : List LogEntry
 two_workers =
     entry 0 Take (Given 0 (part None None))

@@ -1,5 +1,5 @@
--- Two harts that each store 2 to one location and then 1 to the other one's: shown would be 2 in both. The board of it where
--- placements cost the same.
+-- Two harts that each store 2 to one location and then 1 to the other one's: shown would be 2 in both. The board of it
+-- where placements cost the same.
 use Rattle.std.specs.Prelude.{Option, None, Some, List, [], ◌∷◌, pos, codes}
 use Rattle.std.proofs.Common.{Box}
 use Rattle.std.specs.declared.alloc.Global.{Global}
@@ -47,7 +47,8 @@ between_stores first second = record { slot = slot_at 0 3; kind = first } ∷ re
 abbrev pub stores_part : (first second : Option (Option Kind)) → Part
 stores_part first second = record { slot = slot_at 0 3; decided = first } ∷ record { slot = slot_at 1 3; decided = second } ∷ []
 
--- Node 3 has w,rw before hart 0's second store. Of its children 5 has none before hart 1's, 6 has w,w, 7 has w,rw and 8 has rw,rw.
+-- Node 3 has w,rw before hart 0's second store. Of its children 5 has none before hart 1's, 6 has w,w, 7 has w,rw and 8
+-- has rw,rw.
 abbrev up_to_its_children : List LogEntry → List LogEntry
 up_to_its_children later =
     entry 0 Take (Given 0 (stores_part None None))
@@ -56,8 +57,8 @@ up_to_its_children later =
     ∷ entry 0 (SplitAt 3 (slot_at 1 3)) (Children 5 4)
     ∷ later
 
--- Node 6 costs as much as what is posted, and is before it: it isn't pruned, and lowers the bound. Node 8 costs more, and node 5
--- less.
+-- Node 6 costs as much as what is posted, and is before it: it isn't pruned, and lowers the bound. Node 8 costs more,
+-- and node 5 less.
 abbrev pub earlier_last : List LogEntry
 earlier_last = up_to_its_children (
     entry 0 (Claim 7) (Given 7 (stores_part (Some (Some WRw)) (Some (Some WRw))))

@@ -18,8 +18,8 @@ closed_root =
     ∷ entry 1 Take Done
     ∷ []
 
--- Nothing closes the root here: the witness doesn't bear rw,rw before each load, and w,r twice isn't the root's floor. Meanwhile
--- another worker finds nothing to do.
+-- Nothing closes the root here: the witness doesn't bear rw,rw before each load, and w,r twice isn't the root's floor.
+-- Meanwhile another worker finds nothing to do.
 abbrev pub held_root : List LogEntry
 held_root =
     entry 0 Take (Given 0 (part None None))

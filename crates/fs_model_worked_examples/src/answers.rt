@@ -18,16 +18,17 @@ ghost use Rattle.fs_cert_evidence.specs.Histories.{IsHistory};
 ghost use Rattle.fs_model_worked_examples.specs.StoreBuffering.{sb, fences};
 ghost use Rattle.fs_model_worked_examples.specs.Rows.{loads_first, against_rule_4, one_choice, prices, two_workers};
 
-/// A law: the witness with both loads first shows store buffering without fences. With `w,r` before the load of hart 0 rule 4
-/// speaks against it, and without a choice for hart 1 its choices do.
+/// A law: the witness with both loads first shows store buffering without fences. With `w,r` before the load of hart 0
+/// rule 4 speaks against it, and without a choice for hart 1 its choices do.
 pub fn reasons()
     ensures unfenced { (p q : Box (Unit {0}) Global) → IsYes (sb p q) (fences None None) loads_first }
     ensures fenced { (p q : Box (Unit {0}) Global) → IsReason (sb p q) (fences (Some WR) None) loads_first against_rule_4 }
     ensures short { (p q : Box (Unit {0}) Global) → IsReason (sb p q) (fences None None) one_choice (Choices 1) }
 {}
 
-/// A law: where `w,r` before both loads forbids store buffering, this history of two workers is a legal one, and they find it: it
-/// costs 18. After that a node with `rw,rw` before one load is still cheaper, and one with `rw,rw` beside `w,r` is closed.
+/// A law: where `w,r` before both loads forbids store buffering, this history of two workers is a legal one, and they
+/// find it: it costs 18. After that a node with `rw,rw` before one load is still cheaper, and one with `rw,rw` beside
+/// `w,r` is closed.
 pub fn board()
     ensures history { (p q : Box (Unit {0}) Global) → (Allows (sb p q) (fences (Some WR) (Some WR)) → ⊥)
         → (board : Board) × IsHistory (sb p q) prices 14 two_workers board × (board.bound ≡ Some (fences (Some WR) (Some WR))) }

@@ -17,15 +17,16 @@ ghost use Rattle.fs_model_worked_examples.specs.CoherentCertificates.{unfenced, 
 ghost use Rattle.fs_model_worked_examples.specs.MessagePassing.{mp, mp11, overtaken, passes};
 ghost use Rattle.fs_model_worked_examples.specs.PassingCertificates.{fenced, seven_leaves, nothing_helps, nothing_inferred};
 
-/// A law: in coherent reads one candidate alone shows a store and then the initial word. The outcome says what the loads return,
-/// and so which stores they return; and the initial store is first in coherence order. The same goes for message passing.
+/// A law: in coherent reads one candidate alone shows a store and then the initial word. The outcome says what the
+/// loads return, and so which stores they return; and the initial store is first in coherence order. The same goes for
+/// message passing.
 pub fn one_candidate()
     ensures listing { (p q : Box (Unit {0}) Global) → IsListing (corr p q) (stale ∷ []) }
     ensures passing { (p q : Box (Unit {0}) Global) → IsListing (mp p q) (overtaken ∷ []) }
 {}
 
-/// A law: certificates that coherent reads need no fence, in both versions. The tree is one leaf, or is split at its slot, with
-/// seven leaves for none and the six kinds.
+/// A law: certificates that coherent reads need no fence, in both versions. The tree is one leaf, or is split at its
+/// slot, with seven leaves for none and the six kinds.
 pub fn valid_certificates()
     ensures first { (p q : Box (Unit {0}) Global) → IsValidFor (corr p q) prices (certificate First 0 (right_circle ∷ []) leaf) unfenced }
     ensures second { (p q : Box (Unit {0}) Global) → IsValidFor (corr p q) prices (certificate Second 0 (right_circle ∷ []) leaf) unfenced }
@@ -33,8 +34,8 @@ pub fn valid_certificates()
     ensures second_split { (p q : Box (Unit {0}) Global) → IsValidFor (corr p q) prices (certificate Second 0 (right_circle ∷ []) (six_leaves 0 leaf)) unfenced }
 {}
 
-/// A law: trees that are refused. A leaf is missing, or is one too many; the slot isn't there; a second tree stands after the
-/// first. A leaf that a witness should refute is refused for the witness, where there is none.
+/// A law: trees that are refused. A leaf is missing, or is one too many; the slot isn't there; a second tree stands
+/// after the first. A leaf that a witness should refute is refused for the witness, where there is none.
 pub fn refused_trees()
     ensures fewer { (p q : Box (Unit {0}) Global) → IsRefusal (corr p q) prices (with_tree (six_leaves 0 [])) Tree }
     ensures more { (p q : Box (Unit {0}) Global) → IsRefusal (corr p q) prices (with_tree (six_leaves 0 (Costly ∷ leaf))) Tree }
@@ -44,8 +45,8 @@ pub fn refused_trees()
     ensures no_witness { (p q : Box (Unit {0}) Global) → IsRefusal (corr p q) prices (with_tree (Refuted 0 ∷ [])) (Witness 0) }
 {}
 
-/// A law: answers and cycles that are refused. An answer without fences doesn't cost 1; there is no cycle for the candidate; or a step
-/// of its cycle has a wrong reason or a wrong name.
+/// A law: answers and cycles that are refused. An answer without fences doesn't cost 1; there is no cycle for the
+/// candidate; or a step of its cycle has a wrong reason or a wrong name.
 pub fn refused_cycles()
     ensures cost { (p q : Box (Unit {0}) Global) → IsRefusal (corr p q) prices (certificate First 1 (right_circle ∷ []) leaf) Answer }
     ensures none { (p q : Box (Unit {0}) Global) → IsRefusal (corr p q) prices (certificate First 0 [] leaf) Cycles }
@@ -54,16 +55,18 @@ pub fn refused_cycles()
     ensures name { (p q : Box (Unit {0}) Global) → IsRefusal (corr p q) prices (certificate First 0 (no_operation ∷ []) leaf) (Cycle 0) }
 {}
 
-/// A law: message passing with `w,w` and `r,r`, which cost 5. The certificate's cycle is one, but a leaf at the root costs 0, and
-/// so does the leaf without a fence between the stores, which is the item after the root. These fences don't cost 6.
+/// A law: message passing with `w,w` and `r,r`, which cost 5. The certificate's cycle is one, but a leaf at the root
+/// costs 0, and so does the leaf without a fence between the stores, which is the item after the root. These fences
+/// don't cost 6.
 pub fn cheap_leaves()
     ensures root { (p q : Box (Unit {0}) Global) → IsRefusal (mp p q) prices (fenced 5 (Costly ∷ [])) (Node 0) }
     ensures first_leaf { (p q : Box (Unit {0}) Global) → IsRefusal (mp p q) prices (fenced 5 seven_leaves) (Node 1) }
     ensures cost { (p q : Box (Unit {0}) Global) → IsRefusal (mp p q) prices (fenced 6 (Costly ∷ [])) Answer }
 {}
 
-/// A law: a certificate that no fences help where both loads of message passing return 1. It has no tree, and its one witness; in
-/// message passing itself that witness shows nothing. In the fourth version it is one too, and has no inference.
+/// A law: a certificate that no fences help where both loads of message passing return 1. It has no tree, and its one
+/// witness; in message passing itself that witness shows nothing. In the fourth version it is one too, and has no
+/// inference.
 pub fn certificates_of_none()
     ensures valid { (p q : Box (Unit {0}) Global) → IsValidForNone (mp11 p q) (nothing_helps [] (passes ∷ [])) }
     ensures no_witness { (p q : Box (Unit {0}) Global) → IsRefusal (mp11 p q) prices (nothing_helps [] []) Answer }
@@ -73,9 +76,9 @@ pub fn certificates_of_none()
     ensures inference { (p q : Box (Unit {0}) Global) → IsRefusal (mp11 p q) prices (nothing_inferred (Filter 0 ∷ [])) Answer }
 {}
 
-/// A law: leaves of store buffering that witnesses are to bound. Where one of two witnesses isn't there, the leaf fails for that
-/// witness and not for its bound. The other one alone leaves a bound of 9, since `w,r` before one load breaks it; that is less
-/// than 18.
+/// A law: leaves of store buffering that witnesses are to bound. Where one of two witnesses isn't there, the leaf fails
+/// for that witness and not for its bound. The other one alone leaves a bound of 9, since `w,r` before one load breaks
+/// it; that is less than 18.
 pub fn bounded_leaves()
     ensures missing { (p q : Box (Unit {0}) Global) → Fails (sb p q) prices (bounded_by (0 ∷ 1 ∷ [])) both_fences (undecided (sb p q) ∷ []) (Bounded (0 ∷ 1 ∷ []) ∷ []) 0 (Witness 1) }
     ensures before_node { (p q : Box (Unit {0}) Global) → Fails (sb p q) prices (bounded_by (0 ∷ 1 ∷ [])) both_fences (undecided (sb p q) ∷ []) (Bounded (0 ∷ 1 ∷ []) ∷ []) 0 (Node 0) → ⊥ }

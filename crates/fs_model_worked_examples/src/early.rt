@@ -14,10 +14,11 @@ ghost use Rattle.fs_model_worked_examples.specs.StoreBuffering.{sb, fences};
 ghost use Rattle.fs_model_worked_examples.specs.Rows.{prices};
 ghost use Rattle.fs_model_worked_examples.specs.EarlyReads.{root, reads_early, keeps_all, first_slot, second_slot, first_early, second_early, KeepsAt};
 
-/// A law: two executions, of which one reads early in hart 0 and one in hart 1, cost 9 each to break. So they bound what has nothing
-/// decided by 18. It is pruned against a placement that costs 17. It isn't against `w,r` twice, which costs as much and comes after
-/// the floor, and not as long as there is no placement. Two executions that are broken at the same slot are not apart. One that keeps
-/// all pairs can't be broken, and so gives no lower bound: it prunes even then.
+/// A law: two executions, of which one reads early in hart 0 and one in hart 1, cost 9 each to break. So they bound
+/// what has nothing decided by 18. It is pruned against a placement that costs 17. It isn't against `w,r` twice, which
+/// costs as much and comes after the floor, and not as long as there is no placement. Two executions that are broken at
+/// the same slot are not apart. One that keeps all pairs can't be broken, and so gives no lower bound: it prunes even
+/// then.
 pub fn early_widths()
     ensures both { lower_bound prices root (reads_early first_slot ∷ reads_early second_slot ∷ []) ≡ Some 18 }
     ensures dearer { (p : List Entry) → cost prices p ≡ 17
@@ -30,8 +31,8 @@ pub fn early_widths()
     ensures pruned { is_pruned prices None root (keeps_all ∷ []) ≡ true }
 {}
 
-/// A law: store buffering has such executions, and they show the outcome without fences. They are apart and bound what has nothing
-/// decided by 18, so each placement that costs less allows the outcome.
+/// A law: store buffering has such executions, and they show the outcome without fences. They are apart and bound what
+/// has nothing decided by 18, so each placement that costs less allows the outcome.
 pub fn early_reads()
     ensures first_shows { (p q : Box (Unit {0}) Global) → Shows (sb p q) (floor root) first_early }
     ensures second_shows { (p q : Box (Unit {0}) Global) → Shows (sb p q) (floor root) second_early }

@@ -1,7 +1,8 @@
-//! Worked examples of the definitions, by computation: the rules of preserved program order in small runs; what is said of witnesses,
-//! boards, candidates and certificates of small tests; the words that a location can come to hold; and regions: small tests that are
-//! refuted, trees that refute nothing, and what doesn't have to hold in a region. Beside them a theorem on the plain program, which lists
-//! all runs and all orders. The functions do nothing: each stands for the laws that it promises.
+//! Worked examples of the definitions, by computation: the rules of preserved program order in small runs; what is said
+//! of witnesses, boards, candidates and certificates of small tests; the words that a location can come to hold; and
+//! regions: small tests that are refuted, trees that refute nothing, and what doesn't have to hold in a region. Beside
+//! them a theorem on the plain program, which lists all runs and all orders. The functions do nothing: each stands for
+//! the laws that it promises.
 #![tactic(auto)]
 
 mod answers;

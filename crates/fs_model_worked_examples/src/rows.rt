@@ -36,8 +36,8 @@ pub fn right_trees()
 {}
 
 /// A law: the runs given of store buffering, and of a pair with a store between, are all that there are over the value
-/// sets. So the trees refute both tests, under stronger fences too, as `rw,rw` in the place of `w,r`, or any fences where
-/// none is needed. And as the runs can be listed, the outcomes are forbidden.
+/// sets. So the trees refute both tests, under stronger fences too, as `rw,rw` in the place of `w,r`, or any fences
+/// where none is needed. And as the runs can be listed, the outcomes are forbidden.
 pub fn whole_tests()
     ensures store_buffering { (b : Place) → IsRefuted (sb b) (fences WR WR) sb_tree }
     ensures full_fences { (b : Place) → IsRefuted (sb b) (fences RwRw RwRw) sb_tree }
@@ -82,10 +82,10 @@ pub fn wrong_trees()
 {}
 
 /// A law: inferences that don't follow. A choice of an instruction that accesses no memory, or of a hart that isn't
-/// there; sources of no load; an order of stores to two locations, of a store with itself, of one that some run
-/// doesn't make, and of a pair that is decided, either way round; the cases of an atom, and of a condition that isn't
-/// there; a filter of a hart that isn't there; a store behind the load that would miss it, and one of another hart; a
-/// store between a pair whose order isn't decided, one while the source of the pair's load isn't known, one that is this
+/// there; sources of no load; an order of stores to two locations, of a store with itself, of one that some run doesn't
+/// make, and of a pair that is decided, either way round; the cases of an atom, and of a condition that isn't there; a
+/// filter of a hart that isn't there; a store behind the load that would miss it, and one of another hart; a store
+/// between a pair whose order isn't decided, one while the source of the pair's load isn't known, one that is this
 /// source, and one of the pair's own hart; a pair in order as a reversed one.
 pub fn wrong_inferences()
     ensures no_access { (b : Place)

@@ -45,7 +45,8 @@ own_is [] k h d e = absurd (cc)
 own_is (x ∷ xs) zero h d e = let i : x ≡ h = cc in ap (λ (y : Hand). y.own) i
 own_is (x ∷ xs) (suc k) h d e = own_is xs k h d e
 
--- the first hands of a ring: each steals from the deque of the one after it, the last of them from d, and e is the deque of the first
+-- the first hands of a ring: each steals from the deque of the one after it, the last of them from d, and e is the
+-- deque of the first
 pub record AreChained (workers : ℕ) (hs : List Hand) (d e : Deque) : Type 0 where
   pub each : (k : ℕ) (h : Hand) → slice_get hs k ≡ Some h → (h.number ≡ k) × (h.count ≡ workers) × IsFresh h × (h.victim ≡ own_at hs (k + 1) d)
   pub first : own_at hs 0 d ≡ e

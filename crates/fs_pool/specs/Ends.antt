@@ -28,8 +28,9 @@ abbrev pub AllLogged : List LogEntry → List Pass → Type 0
 AllLogged log [] = Unit {0}
 AllLogged log (pass ∷ passes) = AreLogged log pass.worker 0 pass.receipts × AllLogged log passes
 
--- The passes come back as they were, with a board of the question and the limit, whose log since the desk was made doesn't agree with them
--- (that it is the one under the lock, no contract says); or a pass's worker is none of the desk's, or two are of one worker.
+-- The passes come back as they were, with a board of the question and the limit, whose log since the desk was made
+-- doesn't agree with them (that it is the one under the lock, no contract says); or a pass's worker is none of the
+-- desk's, or two are of one worker.
 module _ {A : Type 0} where
   abbrev pub IsUnfinished : Question → (limit : ℕ) → Opened → List Pass → Unfinished A → Type 0
   IsUnfinished q limit desk passes (Unmatched board back) =

@@ -7,7 +7,8 @@ use Rattle.atomic_blocks.specs.Lent.{RowsId}
 abbrev pub Deque : Type 0
 Deque = RowsId × Global
 
--- a hand: its number, how many the ring has, the deque that it owns and the one that it steals from, and what it has pushed, popped and stolen
+-- a hand: its number, how many the ring has, the deque that it owns and the one that it steals from, and what it has
+-- pushed, popped and stolen
 pub record Hand : Type 0 where
   pub number : ℕ
   pub count : ℕ

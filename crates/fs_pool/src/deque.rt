@@ -13,7 +13,8 @@ use std::collections::LinkedList;
 /// How many numbers a deque has room for at first.
 const FIRST_CAPACITY: usize = 64;
 
-/// What a pass allows, and what was pushed, popped and stolen by it. It is there for contracts, and no value of it is made.
+/// What a pass allows, and what was pushed, popped and stolen by it. It is there for contracts, and no value of it is
+/// made.
 pub struct Tally {
     pub owns: bool,
     pub steals: bool,
@@ -156,8 +157,8 @@ pub fn steal(thief: &Thief, right: &mut Right) -> Option<usize>
     }
 }
 
-/// Adds all that is left in a deque, where its owner and its thief have stopped: each number as often as it was pushed, less the times
-/// that it was popped or stolen.
+/// Adds all that is left in a deque, where its owner and its thief have stopped: each number as often as it was pushed,
+/// less the times that it was popped or stolen.
 pub fn drain(mut owner: Owner, right: Right, numbers: &mut Vec<usize>) -> Result<(), AllocError>
     requires owner { ((worker_view owner).owns ≡ true) × (worker_flavor owner ≡ 0) }
     requires thief { IsPassOf (worker_deque owner) right × ((view right).steals ≡ true) }

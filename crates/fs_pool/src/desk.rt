@@ -61,8 +61,8 @@ impl<A: Asked> Model for Desk<A> {
 }
 
 impl<A: Asked> Desk<A> {
-    /// The desk of a board, on which something may be done already, and a pass for each worker, from 0 on. There may be 16 workers. For
-    /// nodes that are held already nobody waits. The error is F19.
+    /// The desk of a board, on which something may be done already, and a pass for each worker, from 0 on. There may be
+    /// 16 workers. For nodes that are held already nobody waits. The error is F19.
     pub fn new(alloc: Global, board: Board, workers: u8) -> Result<(Desk<A>, Vec<Pass<A>>), Fault>
         requires asked { IsAsked board A.question A.limit }
         requires some { 1 ≤ workers }
@@ -110,8 +110,8 @@ impl<A: Asked> Desk<A> {
         Ok((number.saturating_sub(self.since), reply))
     }
 
-    /// Makes the event, as the call of its name does, and adds its receipt to the pass. What it brings must be made for the question.
-    /// `Take` may wait, as `take` does. The error is F19, with the pass as it was.
+    /// Makes the event, as the call of its name does, and adds its receipt to the pass. What it brings must be made for
+    /// the question. `Take` may wait, as `take` does. The error is F19, with the pass as it was.
     pub fn call<R: Wait>(
         &self,
         rt: &R,
@@ -136,8 +136,9 @@ impl<A: Asked> Desk<A> {
         }
     }
 
-    /// Takes any open node. It waits while none is open and another worker that hasn't left holds one. An error is F19, as with each event
-    /// here; then the pass comes back as it was. That the board is unchanged too is the contract of what the lock keeps.
+    /// Takes any open node. It waits while none is open and another worker that hasn't left holds one. An error is F19,
+    /// as with each event here; then the pass comes back as it was. That the board is unchanged too is the contract of
+    /// what the lock keeps.
     pub fn take<R: Wait>(
         &self,
         rt: &R,
@@ -270,8 +271,8 @@ impl<A: Asked> Desk<A> {
         self.call(rt, alloc, pass, Event::Peek(from))
     }
 
-    /// Marks the worker as one that has left, and wakes the others: nobody waits for what it does from now on, even if it calls again. It is
-    /// no event, and needs no memory.
+    /// Marks the worker as one that has left, and wakes the others: nobody waits for what it does from now on, even if
+    /// it calls again. It is no event, and needs no memory.
     pub fn leave<R: Wait>(&self, rt: &R, pass: &Pass<A>) {
         let mut guard = self.shared.lock(rt);
         guard.leave(pass.worker());

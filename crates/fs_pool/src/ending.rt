@@ -141,9 +141,10 @@ fn log_since(log: &[LogEntry], since: usize) -> &[LogEntry]
     }
 }
 
-/// The board, where each entry that its log has got since the desk was made is the receipt of exactly one of the passes, in the order in
-/// which that worker made its calls, and there is no other receipt. F23 where a pass is of a worker that the desk doesn't have, or two are
-/// of one; else F22 where log and receipts don't agree. It needs no memory, and takes time of the log.
+/// The board, where each entry that its log has got since the desk was made is the receipt of exactly one of the
+/// passes, in the order in which that worker made its calls, and there is no other receipt. F23 where a pass is of a
+/// worker that the desk doesn't have, or two are of one; else F22 where log and receipts don't agree. It needs no
+/// memory, and takes time of the log.
 #[tactic(auto, using(crate::proofs::Agreeing::agreed, crate::proofs::Agreeing::agreed_logged))]
 pub fn finish<A: Asked>(desk: Desk<A>, passes: Vec<Pass<A>>) -> Result<Board, Unfinished<A>>
     ensures asked { IfOk result (λ b. IsAsked b A.question A.limit) }

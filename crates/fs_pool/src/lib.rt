@@ -1,5 +1,5 @@
-//! One search board for many workers, under one lock, and the receipts that show what each of them did; and the hands: numbers of open
-//! nodes, kept by each worker in a deque from which one other worker may steal.
+//! One search board for many workers, under one lock, and the receipts that show what each of them did; and the hands:
+//! numbers of open nodes, kept by each worker in a deque from which one other worker may steal.
 #![tactic(auto)]
 
 mod asked;

@@ -10,7 +10,8 @@ use crate::asked::Asked;
 use fs_board::{Event, Reply};
 use std::marker::{Model, PhantomData};
 
-/// A call of a worker: what it asked, what it was answered, and the number of this among the desk's entries in the board's log.
+/// A call of a worker: what it asked, what it was answered, and the number of this among the desk's entries in the
+/// board's log.
 #[derive(Drop)]
 pub struct Receipt<A: Asked> {
     number: usize,
@@ -58,8 +59,8 @@ impl<A: Asked> Receipt<A> {
         &self.event
     }
 
-    /// What was answered. The part of a node that is handed out is one of the question; what a peek shows is witnesses of executions, and a
-    /// placement with its cycles.
+    /// What was answered. The part of a node that is handed out is one of the question; what a peek shows is witnesses
+    /// of executions, and a placement with its cycles.
     pub fn reply(&self) -> &Reply
         ensures value { reply_of result.now ≡ self.now.reply }
         ensures tells { Tells A.question result.now }
@@ -68,7 +69,8 @@ impl<A: Asked> Receipt<A> {
     }
 }
 
-/// Who a worker of a desk is, with the receipts of all its calls. A desk makes one for each worker, and nobody can make another.
+/// Who a worker of a desk is, with the receipts of all its calls. A desk makes one for each worker, and nobody can make
+/// another.
 #[derive(Drop)]
 pub struct Pass<A: Asked> {
     worker: u8,

@@ -9,8 +9,9 @@ use fs_kinds::Fault;
 use std::alloc::{AllocError, Global};
 use std::marker::Model;
 
-/// One worker's deque of numbers of open nodes, with the right to steal from the deque of the next worker. Numbers come out of a deque
-/// in the order in which they were pushed, but no contract says so: that of `gather` says how often each came out, of all hands together.
+/// One worker's deque of numbers of open nodes, with the right to steal from the deque of the next worker. Numbers come
+/// out of a deque in the order in which they were pushed, but no contract says so: that of `gather` says how often each
+/// came out, of all hands together.
 #[derive(Drop)]
 pub struct Hand {
     number: u8,
@@ -86,15 +87,16 @@ impl Hand {
         pop(&mut self.owner)
     }
 
-    /// Is its own deque empty at this moment? It changes nothing, and takes no memory. No contract says that the answer is true.
+    /// Is its own deque empty at this moment? It changes nothing, and takes no memory. No contract says that the answer
+    /// is true.
     pub fn is_empty(&mut self) -> bool
         ensures { self.new ≡ self.old }
     {
         is_empty(&mut self.owner)
     }
 
-    /// Steals a number from the next worker's deque. `None` where there is none, and where another call came between. A single hand
-    /// steals nothing. It takes no memory.
+    /// Steals a number from the next worker's deque. `None` where there is none, and where another call came between. A
+    /// single hand steals nothing. It takes no memory.
     pub fn steal(&mut self) -> Option<usize>
         ensures some { IfSome result (λ x. self.new ≡ record self.old { stolen = self.old.stolen ++ x ∷ [] }) }
         ensures none { IfNone result (self.new ≡ self.old) }
@@ -107,7 +109,8 @@ impl Hand {
     }
 }
 
-/// A hand for each worker: hand i owns deque i and steals from deque i + 1, and the last one steals from deque 0. The error is F19.
+/// A hand for each worker: hand i owns deque i and steals from deque i + 1, and the last one steals from deque 0. The
+/// error is F19.
 pub fn hands(alloc: Global, workers: u8) -> Result<Vec<Hand>, Fault>
     requires { 0 < workers }
     ensures linked { IfOk result (λ hs. AreLinked hs.items) }
@@ -142,9 +145,9 @@ fn are_all(hands: &[Hand]) -> bool
     !hands.is_empty()
 }
 
-/// All that is left in the deques of a ring whose workers have stopped: each number as often as the hands pushed it, less the times
-/// that they popped or stole it. The hands are given up. F23 where hands are missing or not in their order; that they are of one ring is
-/// for the caller to see to. F19.
+/// All that is left in the deques of a ring whose workers have stopped: each number as often as the hands pushed it,
+/// less the times that they popped or stole it. The hands are given up. F23 where hands are missing or not in their
+/// order; that they are of one ring is for the caller to see to. F19.
 pub fn gather(alloc: Global, hands: Vec<Hand>) -> Result<Vec<usize>, Fault>
     requires { AreLinked hands.items }
     ensures left { IfOk result (λ numbers. AreLeft hands.items numbers.items) }

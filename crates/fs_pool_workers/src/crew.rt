@@ -50,8 +50,8 @@ fn side_by_side<A: Asked>(
     Ok(jobs)
 }
 
-/// Each pass goes with a hand to a thread of its own, works there until there is nothing to do, and comes back. Where no thread can be
-/// made they work one after the other.
+/// Each pass goes with a hand to a thread of its own, works there until there is nothing to do, and comes back. Where
+/// no thread can be made they work one after the other.
 fn work_together<A: Asked + Send + Sync, R: Threads + Wait + Sync, G: Gate + Sync>(
     place: &Workplace<'_, A, R, G>,
     problem: &Arc<Problem>,
@@ -87,8 +87,9 @@ fn work_together<A: Asked + Send + Sync, R: Threads + Wait + Sync, G: Gate + Syn
     Ok(came)
 }
 
-/// The board that the workers leave, with nodes that are open or held where they lacked memory or met the limit: its log since the desk was
-/// made agrees with the passes. None where `finish` hands none out: then the lock or the threads didn't do as they should.
+/// The board that the workers leave, with nodes that are open or held where they lacked memory or met the limit: its
+/// log since the desk was made agrees with the passes. None where `finish` hands none out: then the lock or the threads
+/// didn't do as they should.
 fn handed_out<A: Asked>(desk: Desk<A>, passes: Vec<Pass<A>>) -> Option<Board>
     ensures asked { IfSome result (λ b. IsAsked b A.question A.limit) }
     ensures agreed { IfSome result (λ b. IsAgreed passes.items (drop desk.since b.log)) }
@@ -96,8 +97,9 @@ fn handed_out<A: Asked>(desk: Desk<A>, passes: Vec<Pass<A>>) -> Option<Board>
     finish(desk, passes).ok()
 }
 
-/// The answer, from the board that the workers leave, which is searched to its end as by one: the log of the board that comes with the
-/// answer begins with its log, which agrees with their passes. None where they leave none. The gate is told which.
+/// The answer, from the board that the workers leave, which is searched to its end as by one: the log of the board that
+/// comes with the answer begins with its log, which agrees with their passes. None where they leave none. The gate is
+/// told which.
 fn concluded<A: Asked, G: Gate>(
     alloc: Global,
     problem: &Arc<Problem>,
@@ -124,8 +126,9 @@ fn concluded<A: Asked, G: Gate>(
     Ok(Some(solved))
 }
 
-/// The answer by many workers, who go on with the board that one has begun; none where `concluded` gives none. That the passes which it is
-/// given are those of these workers is what the code does and tests see: no contract can name them once they are gone.
+/// The answer by many workers, who go on with the board that one has begun; none where `concluded` gives none. That the
+/// passes which it is given are those of these workers is what the code does and tests see: no contract can name them
+/// once they are gone.
 fn search_together<A: Asked + Send + Sync, R: Threads + Wait + Sync, G: Gate + Sync>(
     rt: &R,
     alloc: Global,
@@ -186,8 +189,8 @@ fn searched_anew(alloc: Global, problem: Arc<Problem>, limit: usize) -> Result<S
     Ok(solved)
 }
 
-/// One worker searches the board alone. Where the others are to join now the witnesses that it has met come back; none where the board is
-/// finished, or has no room left. The faults are those of verdicts, and F19.
+/// One worker searches the board alone. Where the others are to join now the witnesses that it has met come back; none
+/// where the board is finished, or has no room left. The faults are those of verdicts, and F19.
 fn begin<G: Gate>(
     alloc: Global,
     problem: &Arc<Problem>,
@@ -208,10 +211,11 @@ fn begin<G: Gate>(
     }
 }
 
-/// The answer to a question, as `fs_board_search::solve` gives it, searched by up to this many workers. The first one is alone at first, and
-/// needs neither threads nor a desk; where judging takes long all of them search together, and what they leave is searched as by one: all
-/// of it, where the board's log and what they saw of it don't agree. The faults are those of `fs_board_search::solve`. Several workers may make
-/// more nodes, and so come to F16 where one has the answer. A thread that never comes back is waited for without an end.
+/// The answer to a question, as `fs_board_search::solve` gives it, searched by up to this many workers. The first one
+/// is alone at first, and needs neither threads nor a desk; where judging takes long all of them search together, and
+/// what they leave is searched as by one: all of it, where the board's log and what they saw of it don't agree. The
+/// faults are those of `fs_board_search::solve`. Several workers may make more nodes, and so come to F16 where one has
+/// the answer. A thread that never comes back is waited for without an end.
 pub fn solve<R: Threads + Wait + Sync, G: Gate + Sync>(
     rt: &R,
     alloc: Global,

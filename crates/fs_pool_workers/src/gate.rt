@@ -2,19 +2,19 @@
 
 use fs_board_search::Watch;
 
-/// It says how a search begins. It is told how far the first worker is, as long as that is alone; then when a worker calls the desk, but
-/// for `leave`, and when it judges: by several threads at once; and once, when all have stopped, what they left. A call of it that doesn't
-/// return stops the search.
+/// It says how a search begins. It is told how far the first worker is, as long as that is alone; then when a worker
+/// calls the desk, but for `leave`, and when it judges: by several threads at once; and once, when all have stopped,
+/// what they left. A call of it that doesn't return stops the search.
 pub trait Gate {
-    /// How many nodes the first worker is done with at most before the others join. Where they may help they join before; where it is none,
-    /// all begin together.
+    /// How many nodes the first worker is done with at most before the others join. Where they may help they join
+    /// before; where it is none, all begin together.
     fn nodes_alone(&self) -> usize;
 
     /// The first worker is alone, and its plan asks for one more verdict.
     fn planned(&self);
 
-    /// The first worker is alone, and takes one more node. The board has so many, and the cheapest fences posted so far cost this; none
-    /// where none are posted yet.
+    /// The first worker is alone, and takes one more node. The board has so many, and the cheapest fences posted so far
+    /// cost this; none where none are posted yet.
     fn searched(&self, nodes: usize, best: Option<u64>);
 
     /// The worker will call the desk.
@@ -26,8 +26,8 @@ pub trait Gate {
     /// The worker has called the desk.
     fn after(&self, worker: u8);
 
-    /// No worker is at the board: it is handed out with so many entries in its log, none where they didn't begin. Or it is
-    /// given up, since its log and what they saw of it don't agree. Where the others haven't joined it isn't told.
+    /// No worker is at the board: it is handed out with so many entries in its log, none where they didn't begin. Or it
+    /// is given up, since its log and what they saw of it don't agree. Where the others haven't joined it isn't told.
     fn ended(&self, logged: Option<usize>);
 }
 

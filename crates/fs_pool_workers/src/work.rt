@@ -1,4 +1,5 @@
-//! What a worker does: it takes nodes, its own or stolen ones, and is done with each, until there are none or something fails.
+//! What a worker does: it takes nodes, its own or stolen ones, and is done with each, until there are none or something
+//! fails.
 
 ghost use Rattle.std.specs.Prelude.{◌≡◌, IfOk, IfSome, map};
 ghost use Rattle.std.specs.Arc.{arc_value};
@@ -32,7 +33,8 @@ enum Step {
     Leave,
 }
 
-/// The node that the desk handed out last, where it did. An error where its part can't be shared; the worker holds the node all the same.
+/// The node that the desk handed out last, where it did. An error where its part can't be shared; the worker holds the
+/// node all the same.
 fn given<A: Asked>(pass: &Pass<A>, slot: Option<Slot>) -> Result<Option<Taken>, AllocError>
     ensures { IfOk result (λ found. IfSome found (λ t. slots_in_part (arc_value t.part) ≡ slots A.question.test)) }
 {
@@ -57,8 +59,8 @@ fn step_after<A: Asked>(pass: &Pass<A>, is_post: bool) -> Step {
     }
 }
 
-/// Puts the oldest of the worker's own nodes on its hand where that is empty, for another to steal. What can't be put there stays on the
-/// board alone.
+/// Puts the oldest of the worker's own nodes on its hand where that is empty, for another to steal. What can't be put
+/// there stays on the board alone.
 fn offer(hand: &mut Hand, children: &mut Vec<Child>) {
     if children.len() > 1 && hand.is_empty() {
         let oldest = children.remove(0);
@@ -66,7 +68,8 @@ fn offer(hand: &mut Hand, children: &mut Vec<Child>) {
     }
 }
 
-/// The newest of the worker's own nodes, else one of its hand, else one of the next worker's. Any of them may be open no more.
+/// The newest of the worker's own nodes, else one of its hand, else one of the next worker's. Any of them may be open
+/// no more.
 fn own_or_stolen(hand: &mut Hand, children: &mut Vec<Child>) -> Option<(usize, Option<Slot>)> {
     if let Some(child) = children.pop() {
         return Some((child.node, Some(child.slot)));
@@ -93,8 +96,8 @@ fn keep_children<A: Asked>(
         .is_ok()
 }
 
-/// What a worker is lent: where it may wait, what it allocates with, the desk, the gate that is told of its calls, and the witnesses that
-/// were met before all began together.
+/// What a worker is lent: where it may wait, what it allocates with, the desk, the gate that is told of its calls, and
+/// the witnesses that were met before all began together.
 #[derive(Drop)]
 pub(crate) struct Workplace<'a, A: Asked, R, G> {
     pub(crate) rt: &'a R,
@@ -105,8 +108,8 @@ pub(crate) struct Workplace<'a, A: Asked, R, G> {
 }
 
 impl<A: Asked, R: Wait, G: Gate> Workplace<'_, A, R, G> {
-    /// Asks the desk. The pass comes back, and whether there was the memory for it. To take any node waits while another worker may bring
-    /// some.
+    /// Asks the desk. The pass comes back, and whether there was the memory for it. To take any node waits while
+    /// another worker may bring some.
     fn ask(&self, pass: Pass<A>, event: Event) -> (Pass<A>, bool)
         requires { IsMade A.question event }
     {
@@ -120,8 +123,8 @@ impl<A: Asked, R: Wait, G: Gate> Workplace<'_, A, R, G> {
         }
     }
 
-    /// The first of the next `MOST_CLAIMS` nodes of `own_or_stolen` that is still open, else any open node. None where there is none, and
-    /// where memory lacks.
+    /// The first of the next `MOST_CLAIMS` nodes of `own_or_stolen` that is still open, else any open node. None where
+    /// there is none, and where memory lacks.
     fn next_node(
         &self,
         pass: Pass<A>,
@@ -157,7 +160,8 @@ impl<A: Asked, R: Wait, G: Gate> Workplace<'_, A, R, G> {
         (pass, found)
     }
 
-    /// Tries one way to be done with a node. By cost nothing is closed before a posted placement was seen, so the desk isn't asked.
+    /// Tries one way to be done with a node. By cost nothing is closed before a posted placement was seen, so the desk
+    /// isn't asked.
     fn try_way(&self, pass: Pass<A>, scout: &mut Scout, way: Way, taken: &Taken) -> (Pass<A>, Step)
         requires question { scout.old ≡ A.question }
         requires slots { slots_in_part (arc_value taken.now.part) ≡ slots A.question.test }
@@ -217,8 +221,8 @@ impl<A: Asked, R: Wait, G: Gate> Workplace<'_, A, R, G> {
         (pass, is_learned)
     }
 
-    /// Meets the witnesses that were met before, and sees what the others have found, where the worker hasn't yet. False where memory
-    /// lacks.
+    /// Meets the witnesses that were met before, and sees what the others have found, where the worker hasn't yet.
+    /// False where memory lacks.
     fn look_first(&self, pass: Pass<A>, scout: &mut Scout, part: &Part) -> (Pass<A>, bool)
         requires question { scout.old ≡ A.question }
         requires met { AreWitnesses A.question.test (map arc_value self.now.met.now.items) }
@@ -236,8 +240,8 @@ impl<A: Asked, R: Wait, G: Gate> Workplace<'_, A, R, G> {
         self.look_round(pass, scout, part)
     }
 
-    /// Is done with a node, and sees what the others have found where it was split or posted, and before its first node. False where the
-    /// worker has to leave.
+    /// Is done with a node, and sees what the others have found where it was split or posted, and before its first
+    /// node. False where the worker has to leave.
     fn handle(
         &self,
         pass: Pass<A>,

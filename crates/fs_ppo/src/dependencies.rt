@@ -17,7 +17,7 @@ use fs_cand::Candidate;
 use fs_deps::Deps;
 use fs_model::are_paired;
 
-// The dependencies in the run of the hart.
+/// The dependencies in the run of the hart.
 fn deps(candidate: &Candidate, hart: Option<u8>) -> Option<&Deps>
     ensures { option_copied result ≡ option_and_then (slice_get candidate.now.deps) hart }
 {
@@ -34,7 +34,7 @@ pub(crate) fn is_paired(candidate: &Candidate, a: usize, b: usize) -> bool
     )
 }
 
-// Has step j of the run of the hart an address dependency on step i?
+/// Has step j of the run of the hart an address dependency on step i?
 fn has_address(candidate: &Candidate, hart: Option<u8>, i: usize, j: usize) -> bool
     ensures { result ≡ has_address (deps_of candidate.now hart) i j }
 {
@@ -53,7 +53,7 @@ fn has_control(candidate: &Candidate, hart: Option<u8>, i: usize, j: usize) -> b
     deps(candidate, hart).is_some_and(|deps| deps.ctrl(i, j))
 }
 
-// Has a step between i and j an address dependency on step i?
+/// Has a step between i and j an address dependency on step i?
 fn any_address(candidate: &Candidate, hart: Option<u8>, i: usize, j: usize) -> bool
     requires { i < most_numbered }
     ensures { result ≡ list_any (has_address (deps_of candidate.now hart) i) (between i j) }
@@ -113,7 +113,7 @@ pub(crate) fn address_between(candidate: &Candidate, a: usize, b: usize) -> bool
     )
 }
 
-// Does a come before m, and m before b, where m is a store that has an address or a data dependency on a?
+/// Does a come before m, and m before b, where m is a store that has an address or a data dependency on a?
 fn is_dependent_store(candidate: &Candidate, a: usize, m: usize, b: usize) -> bool
     ensures { OfRuns candidate.now (λ x. result
         ≡ (po x a m && po x m b && (is_store x m && (address_dependency x a m || data_dependency x a m)))) }

@@ -13,7 +13,7 @@ use fs_cert_evidence::Cause;
 use fs_kinds::Placement;
 use fs_model::Operation;
 
-// Are both operations of one hart?
+/// Are both operations of one hart?
 fn is_same_hart(candidate: &Candidate, a: usize, b: usize) -> bool
     ensures { OfRuns candidate.now (λ x. result ≡ same_hart x a b) }
 {
@@ -21,17 +21,17 @@ fn is_same_hart(candidate: &Candidate, a: usize, b: usize) -> bool
     Operation::numbered(operations, a).is_same_hart(&Operation::numbered(operations, b))
 }
 
-/// External reads-from: b loads what a stores, and they are not of one hart. The candidate is made of runs, as `Candidate::new` makes
-/// it; of another nothing is promised.
+/// External reads-from: b loads what a stores, and they are not of one hart. The candidate is made of runs, as
+/// `Candidate::new` makes it; of another nothing is promised.
 pub fn is_read_externally(candidate: &Candidate, a: usize, b: usize) -> bool
     ensures { OfRuns candidate.now (λ x. result ≡ rfe x (candidate_of candidate.now) a b) }
 {
     candidate.reads_from(b, a) && !is_same_hart(candidate, a, b)
 }
 
-/// Must operation a come before operation b for this cause, with the placement's fences? The candidate is made of runs, as
-/// `Candidate::new` makes it; of another nothing is promised. At most linear in the operations, the stores, the steps of a hart and
-/// the slots of the placement.
+/// Must operation a come before operation b for this cause, with the placement's fences? The candidate is made of runs,
+/// as `Candidate::new` makes it; of another nothing is promised. At most linear in the operations, the stores, the
+/// steps of a hart and the slots of the placement.
 #[tactic(auto, unfolding(crate::specs::Rules::rule_of))]
 pub fn is_edge(
     candidate: &Candidate,

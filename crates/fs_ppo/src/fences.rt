@@ -33,7 +33,7 @@ impl Pair {
     }
 }
 
-// Does the instruction, a FENCE, order the first before the second? Letters for devices order nothing here.
+/// Does the instruction, a FENCE, order the first before the second? Letters for devices order nothing here.
 fn instr_orders(instr: &Instr, pair: Pair) -> bool
     ensures { result ≡ instr_orders pair.first pair.second instr.now }
 {
@@ -48,7 +48,7 @@ fn instr_orders(instr: &Instr, pair: Pair) -> bool
     }
 }
 
-// Is step k a FENCE that orders them?
+/// Is step k a FENCE that orders them?
 fn step_orders(steps: &[Step], k: usize, pair: Pair) -> bool
     ensures { result ≡ instr_orders pair.first pair.second (instr_at steps.now k) }
 {
@@ -57,7 +57,7 @@ fn step_orders(steps: &[Step], k: usize, pair: Pair) -> bool
         .is_some_and(|step| instr_orders(&step.instr, pair))
 }
 
-// Does a FENCE between steps i and j order them?
+/// Does a FENCE between steps i and j order them?
 fn any_step_orders(steps: &[Step], i: usize, j: usize, pair: Pair) -> bool
     requires { i < most_numbered }
     ensures { result ≡ list_any (λ k. instr_orders pair.first pair.second (instr_at steps.now k)) (between i j) }
@@ -79,7 +79,7 @@ pub(crate) fn is_written_between(candidate: &Candidate, a: usize, b: usize) -> b
     )
 }
 
-// The fence that the placement has right before step k of a run of the hart.
+/// The fence that the placement has right before step k of a run of the hart.
 fn placed_before(steps: &[Step], hart: Option<u8>, k: usize, placement: &Placement) -> Option<Kind>
     ensures { result ≡ placed_at steps.now hart placement.now k }
 {
@@ -94,7 +94,7 @@ fn kind_orders(kind: Option<Kind>, pair: Pair) -> bool
     kind.is_some_and(|kind| kind.orders(pair.first, pair.second))
 }
 
-// Does a placed fence order them that stands before a step after i and up to j?
+/// Does a placed fence order them that stands before a step after i and up to j?
 fn any_placed_orders(
     steps: &[Step],
     hart: Option<u8>,

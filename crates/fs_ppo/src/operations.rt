@@ -13,7 +13,7 @@ use fs_instr::Instr;
 use fs_kinds::Classes;
 use fs_model::{Operation, Step};
 
-// The operation of this number.
+/// The operation of this number.
 fn operation(candidate: &Candidate, a: usize) -> Operation
     ensures { OfRuns candidate.now (λ x. result ≡ operation x a) }
 {
@@ -80,7 +80,7 @@ pub(crate) fn is_same_word(candidate: &Candidate, a: usize, b: usize) -> bool
     operation(candidate, a).is_same_word(&operation(candidate, b))
 }
 
-// Does a store to the first one's word stand between the two?
+/// Does a store to the first one's word stand between the two?
 fn any_store_between(operations: &[Operation], first: &Operation, second: &Operation) -> bool
     ensures { result
         ≡ list_any (λ m. precedes first.now m && precedes m second.now

@@ -11,14 +11,14 @@ use crate::operations::precedes;
 use crate::rules::rule;
 use fs_cand::Candidate;
 
-// Rule 4 for the fences of the test.
+/// Rule 4 for the fences of the test.
 fn is_fenced(candidate: &Candidate, a: usize, b: usize) -> bool
     ensures { OfRuns candidate.now (λ x. result ≡ rule x [] (rf candidate.now) a b Rule4) }
 {
     precedes(candidate, a, b) && is_written_between(candidate, a, b)
 }
 
-// Overlapping addresses.
+/// Overlapping addresses.
 #[tactic(auto, unfolding(crate::specs::Rules::rule_of))]
 fn is_ordered_by_address(candidate: &Candidate, a: usize, b: usize) -> bool
     ensures { OfRuns candidate.now (λ x. result ≡ by_address x (rf candidate.now) a b) }
@@ -26,7 +26,7 @@ fn is_ordered_by_address(candidate: &Candidate, a: usize, b: usize) -> bool
     rule(1, candidate, a, b) || rule(2, candidate, a, b) || rule(3, candidate, a, b)
 }
 
-// Explicit synchronization.
+/// Explicit synchronization.
 #[tactic(auto, unfolding(crate::specs::Rules::rule_of))]
 fn is_synchronized(candidate: &Candidate, a: usize, b: usize) -> bool
     ensures { OfRuns candidate.now (λ x. result ≡ by_synchronization x (rf candidate.now) a b) }
@@ -38,7 +38,7 @@ fn is_synchronized(candidate: &Candidate, a: usize, b: usize) -> bool
         || rule(8, candidate, a, b)
 }
 
-// Syntactic dependencies.
+/// Syntactic dependencies.
 #[tactic(auto, unfolding(crate::specs::Rules::rule_of))]
 fn depends(candidate: &Candidate, a: usize, b: usize) -> bool
     ensures { OfRuns candidate.now (λ x. result ≡ by_dependency x (rf candidate.now) a b) }
@@ -46,7 +46,7 @@ fn depends(candidate: &Candidate, a: usize, b: usize) -> bool
     rule(9, candidate, a, b) || rule(10, candidate, a, b) || rule(11, candidate, a, b)
 }
 
-// Pipeline dependencies.
+/// Pipeline dependencies.
 #[tactic(auto, unfolding(crate::specs::Rules::rule_of))]
 fn depends_by_pipeline(candidate: &Candidate, a: usize, b: usize) -> bool
     ensures { OfRuns candidate.now (λ x. result ≡ by_pipeline x (rf candidate.now) a b) }
@@ -54,7 +54,7 @@ fn depends_by_pipeline(candidate: &Candidate, a: usize, b: usize) -> bool
     rule(12, candidate, a, b) || rule(13, candidate, a, b)
 }
 
-// In one of the manual's groups of rules.
+/// In one of the manual's groups of rules.
 fn is_in_group(candidate: &Candidate, a: usize, b: usize) -> bool
     ensures { OfRuns candidate.now (λ x. result
         ≡ (by_address x (rf candidate.now) a b || (by_synchronization x (rf candidate.now) a b
@@ -66,9 +66,9 @@ fn is_in_group(candidate: &Candidate, a: usize, b: usize) -> bool
         || depends_by_pipeline(candidate, a, b)
 }
 
-/// Is operation a before operation b in preserved program order, with no placed fence? A number that is no operation's, or an
-/// initial store's, is not. The candidate is made of runs, as for `rule`. At most linear in the operations and in the steps of a
-/// hart, for operations in program order; for others at once.
+/// Is operation a before operation b in preserved program order, with no placed fence? A number that is no operation's,
+/// or an initial store's, is not. The candidate is made of runs, as for `rule`. At most linear in the operations and in
+/// the steps of a hart, for operations in program order; for others at once.
 pub fn is_preserved(candidate: &Candidate, a: usize, b: usize) -> bool
     ensures { OfRuns candidate.now (λ x. result ≡ ppo x [] (rf candidate.now) a b) }
 {

@@ -1,4 +1,5 @@
--- The run of a hart by itself: its operations are those of the hart in the candidate, by their names, and rules hold of both alike.
+-- The run of a hart by itself: its operations are those of the hart in the candidate, by their names, and rules hold of
+-- both alike.
 use Rattle.std.proofs.Common.{◌≡◌, ℕ, ◌+◌, ◌<◌, ◌≤◌, ◌==◌, Bool, true, false, not, None, Some, Option, is_some, option_map, option_and_then, unwrap_or, List, [], length, inl, inr, refl, sym, ◌∙◌, ap, subst, arith}
 use Rattle.std.specs.Prelude.{All, if◌then◌else◌}
 use Rattle.std.specs.List.{position_or_len}

@@ -1,4 +1,5 @@
--- A link of a cycle, by a rule that looks at the run alone, is there exactly where the rule holds by names; and a set of runs serves.
+-- A link of a cycle, by a rule that looks at the run alone, is there exactly where the rule holds by names; and a set
+-- of runs serves.
 use Rattle.std.proofs.Common.{◌≡◌, ℕ, zero, suc, ◌==◌, ◌<◌, Bool, true, false, ◌&&◌, not, Option, Some, None, option_map, option_and_then, unwrap_or, List, [], ◌∷◌, length, refl, sym, ◌∙◌, ap, arith}
 use Rattle.std.specs.Prelude.{All, ◌↔◌, slice_get}
 use Rattle.std.specs.List.{Contains, list_all, slice_index_or}

@@ -1,4 +1,5 @@
--- Rules 2, 3 and 12: what they ask of the run, and what of sources. And no rule orders operations of two harts, or an initial store.
+-- Rules 2, 3 and 12: what they ask of the run, and what of sources. And no rule orders operations of two harts, or an
+-- initial store.
 use Rattle.std.proofs.Common.{◌≡◌, ℕ, nat_lt, ◌+◌, ◌-◌, ◌<◌, ◌≤◌, Bool, true, false, ◌&&◌, ◌||◌, not, Option, Some, None, is_some, option_and_then, List, [], length, refl, sym, ◌∙◌, ap, rules, arith}
 use Rattle.std.specs.Prelude.{slice_get}
 use Rattle.std.specs.List.{list_any}

@@ -30,7 +30,7 @@ pub struct Basis {
     names: List<OperationName>,
 }
 
-// The same test.
+/// The same test.
 fn shared(test: &Arc<Test>) -> Result<Arc<Test>, AllocError>
     ensures { IfOk result (λ same. arc_value same ≡ arc_value test.now) }
 {

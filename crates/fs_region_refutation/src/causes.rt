@@ -16,7 +16,7 @@ use fs_cert_evidence::Cause;
 use fs_kinds::{OperationName, Placement};
 use fs_region_runs::{Source, Sourced};
 
-// What is known of the source of the operation.
+/// What is known of the source of the operation.
 fn sourced(region: &Region<'_>, name: OperationName) -> Sourced
     ensures name { result.name ≡ name }
     ensures knows { Knows (region_of region.now) result }
@@ -27,7 +27,7 @@ fn sourced(region: &Region<'_>, name: OperationName) -> Sourced
     }
 }
 
-// Does the rule of this number need sources that are known?
+/// Does the rule of this number need sources that are known?
 fn knows_enough(rule: u8, first: Sourced, second: Sourced) -> bool
     ensures { (t : Test) (region : SpecRegion) (r : Rule) → Knows region first → Knows region second
         → number_of_rule r ≡ rule → result ≡ knows_enough t region r first.name second.name }
@@ -35,7 +35,7 @@ fn knows_enough(rule: u8, first: Sourced, second: Sourced) -> bool
     rule != 2 || (first.source.is_some() && second.source.is_some())
 }
 
-// Must the rule of this number order the first operation before the second?
+/// Must the rule of this number order the first operation before the second?
 fn must_by_rule(
     basis: &Basis,
     placement: &Placement,

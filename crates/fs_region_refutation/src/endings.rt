@@ -29,14 +29,14 @@ struct Ending {
     truth: bool,
 }
 
-// Is what a test gives this truth value?
+/// Is what a test gives this truth value?
 fn has_truth(truth: bool, given: bool) -> bool
     ensures { result ≡ has_truth truth given }
 {
     if truth { given } else { !given }
 }
 
-// Is the word as wanted?
+/// Is the word as wanted?
 fn is_ending(ending: Ending, word: u32) -> bool
     ensures { result ≡ is_ending ending word }
 {
@@ -52,7 +52,7 @@ fn passes(ending: Ending, word: Option<u32>) -> bool
     }
 }
 
-// Does the run store such a word at the location?
+/// Does the run store such a word at the location?
 fn stores_such(run: &Lone, name: OperationName, location: u8, ending: Ending) -> bool
     ensures { result ≡ stores_such location (is_ending ending) name run.now.steps }
 {
@@ -61,7 +61,7 @@ fn stores_such(run: &Lone, name: OperationName, location: u8, ending: Ending) ->
         && passes(ending, run.stored_at(name.at))
 }
 
-// Does one of the runs?
+/// Does one of the runs?
 fn any_stores_such(runs: &[&Lone], name: OperationName, location: u8, ending: Ending) -> bool
     ensures { result ≡ list_any (stores_such location (is_ending ending) name)
         (runs_of runs.now) }
@@ -70,7 +70,7 @@ fn any_stores_such(runs: &[&Lone], name: OperationName, location: u8, ending: En
         .any(|run| stores_such(run, name, location, ending))
 }
 
-// The word that the location begins with.
+/// The word that the location begins with.
 fn initial_word(basis: &Basis, location: u8) -> u32
     ensures { result ≡ unwrap_or (slice_get (initial_words basis.now) location) 0 }
 {
@@ -80,14 +80,14 @@ fn initial_word(basis: &Basis, location: u8) -> u32
     }
 }
 
-// Must something be stored at the location under one of the names?
+/// Must something be stored at the location under one of the names?
 fn must_be_stored(basis: &Basis, region: &Region<'_>, names: &[OperationName], location: u8) -> bool
     ensures { result ≡ list_any (λ a. must_be basis.now (region_of region.now) stored_at a location) names.now }
 {
     names.iter().any(|name| must_be(basis, region, Access::Store, *name, location))
 }
 
-// May the location keep such a word from its beginning, whatever is stored under other names than these?
+/// May the location keep such a word from its beginning, whatever is stored under other names than these?
 fn may_stay(
     basis: &Basis,
     region: &Region<'_>,
@@ -102,7 +102,7 @@ fn may_stay(
         && !must_be_stored(basis, region, names, location)
 }
 
-// May such a word be stored at the location under one of the names?
+/// May such a word be stored at the location under one of the names?
 fn may_be_stored(region: &Region<'_>, names: &[OperationName], location: u8, ending: Ending) -> bool
     ensures { result ≡ list_any (λ a. list_any (stores_such location (is_ending ending) a)
         ((region_of region.now).runs a.hart)) names.now }
@@ -110,14 +110,14 @@ fn may_be_stored(region: &Region<'_>, names: &[OperationName], location: u8, end
     names.iter().any(|name| any_stores_such(region.runs(name.hart), *name, location, ending))
 }
 
-// Does the run store at the location under the name, which is a hart's?
+/// Does the run store at the location under the name, which is a hart's?
 fn stores_under(basis: &Basis, run: &Lone, name: OperationName, location: u8) -> bool
     ensures { result ≡ stores_under basis.now location run.now.steps name }
 {
     basis.is_hart(name.hart) && accesses(run, Access::Store, name.at, location)
 }
 
-// Does it under one of the names?
+/// Does it under one of the names?
 fn stores_at(basis: &Basis, run: &Lone, names: &[OperationName], location: u8) -> bool
     ensures { result ≡ list_any (stores_under basis.now location run.now.steps) names.now }
 {
@@ -126,7 +126,7 @@ fn stores_at(basis: &Basis, run: &Lone, names: &[OperationName], location: u8) -
         .any(|name| stores_under(basis, run, *name, location))
 }
 
-// Does it store such a word there under one of the names?
+/// Does it store such a word there under one of the names?
 fn stores_some(run: &Lone, names: &[OperationName], location: u8, ending: Ending) -> bool
     ensures { result ≡ list_any (λ a. stores_such location (is_ending ending) a run.now.steps) names.now }
 {
@@ -135,7 +135,7 @@ fn stores_some(run: &Lone, names: &[OperationName], location: u8, ending: Ending
         .any(|name| stores_such(run, *name, location, ending))
 }
 
-// May the location end with such a word by what the run does?
+/// May the location end with such a word by what the run does?
 fn ends_with(
     basis: &Basis,
     names: &Names,
@@ -150,14 +150,14 @@ fn ends_with(
         || stores_some(run, names.last.own.as_slice(), location, ending)
 }
 
-// The same for each of the runs.
+/// The same for each of the runs.
 fn same_each(alloc: Global, runs: &[&Lone], mark: bool) -> Result<Vec<bool>, AllocError>
     ensures { IfOk result (λ marks. marks.items ≡ map (λ run. mark) runs.now) }
 {
     runs.iter().map(|_run| mark).collect(alloc)
 }
 
-// With which runs of the hart may the location end with such a word?
+/// With which runs of the hart may the location end with such a word?
 fn ends_each(
     alloc: Global,
     basis: &Basis,
@@ -184,7 +184,7 @@ fn ends_each(
     Ok(marks)
 }
 
-// May the register end with such a word in one of the runs, which are of the hart?
+/// May the register end with such a word in one of the runs, which are of the hart?
 fn may_end_register(runs: &[&Lone], register: Reg, ending: Ending) -> bool
     ensures { EndsSome register ending runs.now result }
 {
@@ -192,7 +192,7 @@ fn may_end_register(runs: &[&Lone], register: Reg, ending: Ending) -> bool
         .any(|run| is_ending(ending, run.final_register(register)))
 }
 
-// With which of the runs does it?
+/// With which of the runs does it?
 fn register_each(
     alloc: Global,
     runs: &[&Lone],
@@ -206,7 +206,7 @@ fn register_each(
         .collect(alloc)
 }
 
-// With which runs of the hart may a register of this or of another one end with such a word?
+/// With which runs of the hart may a register of this or of another one end with such a word?
 fn registers_each(
     alloc: Global,
     region: &Region<'_>,
@@ -238,7 +238,7 @@ fn joins(at_once: bool, first: bool, second: bool) -> bool
     }
 }
 
-// For each run both at once, or one or the other.
+/// For each run both at once, or one or the other.
 fn joined(
     alloc: Global,
     first: &[bool],
@@ -255,8 +255,8 @@ fn joined(
         .collect(alloc)
 }
 
-// With which runs of the hart may the condition have this truth value? Its depth is bounded by that of the test's
-// condition. An atom takes the runs of a hart times its names, for each of the harts once.
+/// With which runs of the hart may the condition have this truth value? Its depth is bounded by that of the test's
+/// condition. An atom takes the runs of a hart times its names, for each of the harts once.
 fn may_each(
     alloc: Global,
     basis: &Basis,

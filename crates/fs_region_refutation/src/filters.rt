@@ -51,7 +51,7 @@ pub(crate) fn not_loading<'a>(
     Ok(List::new(kept))
 }
 
-// Both are there, and the same.
+/// Both are there, and the same.
 fn is_same(word: Option<u32>, other: Option<u32>) -> bool
     ensures { result ≡ is_same word other }
 {
@@ -61,7 +61,7 @@ fn is_same(word: Option<u32>, other: Option<u32>) -> bool
     }
 }
 
-// Does the run load this word from the location?
+/// Does the run load this word from the location?
 fn loads_from(run: &Lone, load: OperationName, location: u8, word: u32) -> bool
     ensures { result ≡ (is_same (address_at run.now.steps load.at) (Some (address_of location))
         && is_same (loaded_at run.now.steps load.at) (Some word)) }
@@ -70,7 +70,7 @@ fn loads_from(run: &Lone, load: OperationName, location: u8, word: u32) -> bool
         && is_same(run.loaded_at(load.at), Some(word))
 }
 
-// Does the run load the word that its location begins with?
+/// Does the run load the word that its location begins with?
 fn agrees_initially(basis: &Basis, load: OperationName, run: &Lone) -> bool
     ensures { result ≡ agrees_initially basis.now load run.now.steps }
 {
@@ -99,7 +99,7 @@ pub(crate) fn loading_initial<'a>(
     Ok(List::new(kept))
 }
 
-// Does the load of one run have the address and the word of the store of the other?
+/// Does the load of one run have the address and the word of the store of the other?
 fn agree(run: &Lone, load: OperationName, other: &Lone, store: OperationName) -> bool
     ensures { result ≡ agree run.now.steps load other.now.steps store }
 {
@@ -107,21 +107,21 @@ fn agree(run: &Lone, load: OperationName, other: &Lone, store: OperationName) ->
         && is_same(run.loaded_at(load.at), other.stored_at(store.at))
 }
 
-// An address and a word, if both are there.
+/// An address and a word, if both are there.
 fn both(address: Option<u32>, word: Option<u32>) -> Option<(u32, u32)>
     ensures { result ≡ both address word }
 {
     Some((address?, word?))
 }
 
-// The address and the word of the run's access at the position.
+/// The address and the word of the run's access at the position.
 fn pair_at(run: &Lone, access: Access, at: u8) -> Option<(u32, u32)>
     ensures { result ≡ pair_at access at run.now.steps }
 {
     both(run.address_at(at), accessed(run, access, at))
 }
 
-// The addresses and words of the runs' accesses at the position.
+/// The addresses and words of the runs' accesses at the position.
 fn listed(
     alloc: Global,
     runs: &[&Lone],
@@ -135,7 +135,7 @@ fn listed(
         .collect(alloc)
 }
 
-// The same, each once and in order.
+/// The same, each once and in order.
 fn pairs(
     alloc: Global,
     runs: &[&Lone],
@@ -152,7 +152,7 @@ fn pairs(
     Ok(pairs)
 }
 
-// Is the pair there, and among these? By halving.
+/// Is the pair there, and among these? By halving.
 fn is_among(pairs: &[(u32, u32)], pair: Option<(u32, u32)>) -> bool
     ensures { IsSorted by_pair pairs.now → result ≡ is_among pairs.now pair }
 {
@@ -162,7 +162,7 @@ fn is_among(pairs: &[(u32, u32)], pair: Option<(u32, u32)>) -> bool
     }
 }
 
-// Those whose access at the position has one of the pairs.
+/// Those whose access at the position has one of the pairs.
 fn keep_among<'a>(
     alloc: Global,
     runs: &[&'a Lone],

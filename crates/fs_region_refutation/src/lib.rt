@@ -1,5 +1,6 @@
-//! Regions of candidates: what all of a test are over, what must hold in one, and how one is split into smaller ones. And the checker of a
-//! refutation, a tree of inferences over regions: each inference is looked at once, and nothing is searched for.
+//! Regions of candidates: what all of a test are over, what must hold in one, and how one is split into smaller ones.
+//! And the checker of a refutation, a tree of inferences over regions: each inference is looked at once, and nothing is
+//! searched for.
 #![tactic(auto)]
 
 mod basis;

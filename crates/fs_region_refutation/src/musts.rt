@@ -41,7 +41,7 @@ pub(crate) fn accesses(run: &Lone, access: Access, at: u8, location: u8) -> bool
             .is_some_and(|address| address == Location::address(location))
 }
 
-// Does each of the runs?
+/// Does each of the runs?
 fn all_access(runs: &[&Lone], access: Access, at: u8, location: u8) -> bool
     ensures { result ≡ list_all (accesses_at (access_of access) at location) (runs_of runs.now) }
 {
@@ -88,7 +88,7 @@ pub fn is_before_source(region: &Region<'_>, store: OperationName, source: Optio
     }
 }
 
-// Must the store be later in coherence order than this source of the load?
+/// Must the store be later in coherence order than this source of the load?
 fn is_later_than(
     basis: &Basis,
     region: &Region<'_>,
@@ -149,7 +149,7 @@ pub fn is_same_name(name: OperationName, other: OperationName) -> bool
     name.hart == other.hart && name.at == other.at
 }
 
-// Is each of the runs one in which the two are a pair?
+/// Is each of the runs one in which the two are a pair?
 fn all_pair(load: OperationName, store: OperationName, runs: &[&Lone]) -> bool
     ensures { PairsAll load store runs.now result }
 {

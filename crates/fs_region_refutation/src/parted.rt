@@ -26,7 +26,7 @@ pub(crate) struct Names {
     pub(crate) last: Parted,
 }
 
-// Those of the hart.
+/// Those of the hart.
 fn of_hart(
     alloc: Global,
     names: &[OperationName],
@@ -42,7 +42,7 @@ fn of_hart(
     Ok(List::new(own))
 }
 
-// Those of the other harts.
+/// Those of the other harts.
 fn of_others(
     alloc: Global,
     names: &[OperationName],
@@ -67,7 +67,7 @@ fn split(alloc: Global, names: &[OperationName], hart: u8) -> Result<Parted, All
     })
 }
 
-// Does the store come before another?
+/// Does the store come before another?
 fn is_overtaken(basis: &Basis, region: &Region<'_>, name: OperationName) -> bool
     ensures { result ≡ list_any ((region_of region.now).before name) (names basis.now) }
 {
@@ -77,7 +77,7 @@ fn is_overtaken(basis: &Basis, region: &Region<'_>, name: OperationName) -> bool
         .any(|other| region.is_before(name, *other))
 }
 
-// Those that come before no other.
+/// Those that come before no other.
 fn last_names(
     alloc: Global,
     basis: &Basis,

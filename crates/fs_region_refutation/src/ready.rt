@@ -22,7 +22,7 @@ fn copy(alloc: Global, trace: &Trace) -> Result<Trace, AllocError>
     Ok(Trace { steps, registers })
 }
 
-// A run of the hart.
+/// A run of the hart.
 fn lone(alloc: Global, test: &Arc<Test>, hart: u8, trace: &Trace) -> Result<Lone, Fault>
     requires bounded { IsBounded (arc_value test.now) }
     requires run { IsRun (arc_value test.now) hart trace.now }
@@ -33,7 +33,7 @@ fn lone(alloc: Global, test: &Arc<Test>, hart: u8, trace: &Trace) -> Result<Lone
     Lone::new(alloc, test, hart, trace)
 }
 
-// Runs of the hart, in their order.
+/// Runs of the hart, in their order.
 fn ready(alloc: Global, test: &Arc<Test>, hart: u8, traces: &[Trace]) -> Result<List<Lone>, Fault>
     requires bounded { IsBounded (arc_value test.now) }
     requires runs { All (IsRun (arc_value test.now) hart) traces.now }

@@ -175,7 +175,7 @@ impl<'a> Region<'a> {
     }
 }
 
-// The same lists, shared.
+/// The same lists, shared.
 fn share<'a>(alloc: Global, runs: &[Arc<Runs<'a>>]) -> Result<Vec<Arc<Runs<'a>>>, AllocError>
     ensures { IfOk result (λ shared. lists_in shared.items ≡ lists_in runs.now) }
 {
@@ -186,7 +186,7 @@ fn share<'a>(alloc: Global, runs: &[Arc<Runs<'a>>]) -> Result<Vec<Arc<Runs<'a>>>
     Ok(shared)
 }
 
-// Puts the list in the place of the hart's, where it is a hart.
+/// Puts the list in the place of the hart's, where it is a hart.
 fn set<'a>(lists: &mut Vec<Arc<Runs<'a>>>, hart: u8, runs: Arc<Runs<'a>>)
     ensures { lists.new.items ≡ slice_set lists.old.items hart runs.entry }
 {
@@ -195,7 +195,7 @@ fn set<'a>(lists: &mut Vec<Arc<Runs<'a>>>, hart: u8, runs: Arc<Runs<'a>>)
     }
 }
 
-// The sources with this one of the load, in the place of another one.
+/// The sources with this one of the load, in the place of another one.
 fn put(
     alloc: Global,
     sources: &[Sourced],

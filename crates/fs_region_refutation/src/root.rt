@@ -15,7 +15,7 @@ use fs_region_runs::Lone;
 use std::alloc::{AllocError, Global};
 use std::sync::Arc;
 
-// All of the runs.
+/// All of the runs.
 fn all_of<'a>(alloc: Global, runs: &'a [Lone]) -> Result<Runs<'a>, AllocError>
     ensures { IfOk result (λ all. values_in all ≡ runs.now) }
 {
@@ -23,7 +23,7 @@ fn all_of<'a>(alloc: Global, runs: &'a [Lone]) -> Result<Runs<'a>, AllocError>
     Ok(List::new(all))
 }
 
-// For each hart all of its runs.
+/// For each hart all of its runs.
 fn all_runs<'a>(alloc: Global, listed: &'a [List<Lone>]) -> Result<Vec<Arc<Runs<'a>>>, AllocError>
     ensures { IfOk result (λ runs. map values_in (lists_in runs.items) ≡ listed.now) }
 {
@@ -34,7 +34,7 @@ fn all_runs<'a>(alloc: Global, listed: &'a [List<Lone>]) -> Result<Vec<Arc<Runs<
     Ok(runs)
 }
 
-// The condition with the truth value that the outcome has.
+/// The condition with the truth value that the outcome has.
 fn outcome<'a>(alloc: Global, basis: &'a Basis, truth: bool) -> Result<List<Wanted<'a>>, AllocError>
     ensures { IfOk result (λ wanted. all_wanted wanted ≡ (condition_of basis.now.condition, truth) ∷ []) }
 {
@@ -44,7 +44,7 @@ fn outcome<'a>(alloc: Global, basis: &'a Basis, truth: bool) -> Result<List<Want
     Ok(List::new(wanted))
 }
 
-// All candidates with the outcome that is to be ruled out: where the condition has this truth value.
+/// All candidates with the outcome that is to be ruled out: where the condition has this truth value.
 fn root<'a>(alloc: Global, basis: &'a Basis, truth: bool) -> Result<Region<'a>, AllocError>
     requires { truth ≡ is_outcome basis.now.quantifier true }
     ensures region { IfOk result (λ region. IsRoot basis.now (region_of region)) }

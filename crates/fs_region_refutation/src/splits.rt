@@ -23,7 +23,7 @@ use fs_model::Outcome;
 use fs_region_runs::{Lone, Source};
 use std::alloc::{AllocError, Global};
 
-// The region with these of the hart's runs.
+/// The region with these of the hart's runs.
 fn keep<'a>(
     alloc: Global,
     region: &Region<'a>,
@@ -40,7 +40,7 @@ fn keep<'a>(
     Ok(smaller)
 }
 
-// Does each hart have a run left?
+/// Does each hart have a run left?
 fn is_open(basis: &Basis, region: &Region<'_>) -> bool
     ensures { result ≡ is_open basis.now (region_of region.now) }
 {
@@ -71,14 +71,14 @@ pub(crate) fn add_open<'a>(
     Ok(())
 }
 
-// The number of what each run chooses at the position.
+/// The number of what each run chooses at the position.
 fn chosen(alloc: Global, runs: &[&Lone], at: u8) -> Result<Vec<u64>, AllocError>
     ensures { IfOk result (λ numbers. numbers.items ≡ map (λ run. chosen_at at run.now.steps) runs.now) }
 {
     runs.iter().map(|run| run.chosen_at(at)).collect(alloc)
 }
 
-// The numbers of what the runs choose at the position, each once and rising.
+/// The numbers of what the runs choose at the position, each once and rising.
 fn choices(alloc: Global, runs: &[&Lone], at: u8) -> Result<Vec<u64>, AllocError>
     ensures { IfOk result (λ numbers. numbers.items ≡ rising (map (chosen_at at) (runs_of runs.now))) }
 {
@@ -110,7 +110,7 @@ pub fn by_choice<'a>(
     Ok(left)
 }
 
-// The runs in which the load agrees with a store of its own hart.
+/// The runs in which the load agrees with a store of its own hart.
 fn keep_within<'a>(
     alloc: Global,
     load: OperationName,
@@ -126,7 +126,7 @@ fn keep_within<'a>(
     Ok(smaller)
 }
 
-// The runs of both harts in which the load agrees with the store in some run of the other.
+/// The runs of both harts in which the load agrees with the store in some run of the other.
 fn keep_between<'a>(
     alloc: Global,
     load: OperationName,
@@ -149,7 +149,7 @@ fn keep_between<'a>(
     Ok(smallest)
 }
 
-// The runs in which the load agrees with the store.
+/// The runs in which the load agrees with the store.
 fn keep_agreeing<'a>(
     alloc: Global,
     load: OperationName,
@@ -169,7 +169,7 @@ fn keep_agreeing<'a>(
     }
 }
 
-// The load returns from this store.
+/// The load returns from this store.
 fn from_store<'a>(
     alloc: Global,
     load: OperationName,
@@ -184,7 +184,7 @@ fn from_store<'a>(
     Ok(sourced)
 }
 
-// The load returns from the initial store of its location.
+/// The load returns from the initial store of its location.
 fn from_initial<'a>(
     alloc: Global,
     basis: &Basis,
@@ -200,7 +200,7 @@ fn from_initial<'a>(
     Ok(sourced)
 }
 
-// The load isn't executed.
+/// The load isn't executed.
 fn from_nothing<'a>(
     alloc: Global,
     load: OperationName,
@@ -241,7 +241,7 @@ fn is_same_source(source: Source, other: Source) -> bool
     }
 }
 
-// Is the source the one that is known, if one is?
+/// Is the source the one that is known, if one is?
 fn is_left(known: Option<Source>, source: Source) -> bool
     ensures { result ≡ is_left (known_source known) (source_of source) }
 {
@@ -251,14 +251,14 @@ fn is_left(known: Option<Source>, source: Source) -> bool
     }
 }
 
-// Is the store of another hart, or before the load?
+/// Is the store of another hart, or before the load?
 fn can_be_source(load: OperationName, store: OperationName) -> bool
     ensures { result ≡ can_be_source load store }
 {
     store.hart != load.hart || store.at < load.at
 }
 
-// Puts the source behind those that are there, if it may be the load's.
+/// Puts the source behind those that are there, if it may be the load's.
 fn add_left(
     sources: &mut Vec<Source>,
     known: Option<Source>,
@@ -273,7 +273,7 @@ fn add_left(
     Ok(())
 }
 
-// Puts the store behind those that are there, if it may be the load's source.
+/// Puts the store behind those that are there, if it may be the load's source.
 fn add_store(
     sources: &mut Vec<Source>,
     load: OperationName,
@@ -289,7 +289,7 @@ fn add_store(
     Ok(())
 }
 
-// The sources from which the load may return.
+/// The sources from which the load may return.
 fn sources_for(
     alloc: Global,
     basis: &Basis,
@@ -350,7 +350,7 @@ pub fn by_order<'a>(
     Ok(left)
 }
 
-// Has the condition parts?
+/// Has the condition parts?
 fn has_parts(condition: &Outcome, truth: bool) -> bool
     ensures { result ≡ nat_lt 0 (length (ways (condition_of condition.now) truth)) }
 {
@@ -373,7 +373,7 @@ pub fn has_cases(region: &Region<'_>, number: usize) -> bool
     }
 }
 
-// Wanted conditions, one or two.
+/// Wanted conditions, one or two.
 fn one<'a>(
     alloc: Global,
     condition: &'a Outcome,
@@ -407,7 +407,7 @@ fn two<'a>(
     Ok(List::new(way))
 }
 
-// The ways of two parts: both at once, or one or the other.
+/// The ways of two parts: both at once, or one or the other.
 fn ways_of_two<'a>(
     alloc: Global,
     left: &'a Outcome,
@@ -429,7 +429,7 @@ fn ways_of_two<'a>(
     Ok(found)
 }
 
-// The ways in which its parts give the condition this truth value.
+/// The ways in which its parts give the condition this truth value.
 fn ways<'a>(
     alloc: Global,
     condition: &'a Outcome,
@@ -457,7 +457,7 @@ fn ways_of_one<'a>(
     Ok(found)
 }
 
-// The wanted conditions with these in the place of the one of this number.
+/// The wanted conditions with these in the place of the one of this number.
 fn replace<'a>(
     alloc: Global,
     wanted: &[Wanted<'a>],
@@ -498,7 +498,7 @@ pub fn by_cases<'a>(
     Ok(left)
 }
 
-// Puts the run behind those that are there, if it passes.
+/// Puts the run behind those that are there, if it passes.
 fn push_if<'a>(runs: &mut Vec<&'a Lone>, run: &&'a Lone, passes: bool) -> Result<(), AllocError>
     ensures { OnOk result (runs.new.items ≡ runs.old.items ++ (if passes then run.now ∷ [] else [])) }
 {
@@ -508,14 +508,14 @@ fn push_if<'a>(runs: &mut Vec<&'a Lone>, run: &&'a Lone, passes: bool) -> Result
     Ok(())
 }
 
-// Is the run of this number marked?
+/// Is the run of this number marked?
 fn mark_at(marks: &[bool], number: usize) -> bool
     ensures { result ≡ unwrap_or (slice_get marks.now number) false }
 {
     marks.get(number).copied().unwrap_or(false)
 }
 
-// Those of the runs that are marked.
+/// Those of the runs that are marked.
 fn marked<'a>(alloc: Global, runs: &[&'a Lone], marks: &[bool]) -> Result<Runs<'a>, AllocError>
     ensures { (test : List Step → Bool) → marks.now ≡ map test (runs_of runs.now)
         → IfOk result (λ kept. kept ≡ filter (λ run. test run.now.steps) runs.now) }

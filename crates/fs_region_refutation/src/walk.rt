@@ -29,7 +29,7 @@ use std::alloc::{AllocError, Global};
 // The greatest number of links of a cycle.
 const MOST_LINKS: usize = 64;
 
-// Must the first link come before the second?
+/// Must the first link come before the second?
 fn is_linked(
     basis: &Basis,
     placement: &Placement,
@@ -51,7 +51,7 @@ fn is_linked(
     )
 }
 
-// Must each link come before the next one, and the last before this one?
+/// Must each link come before the next one, and the last before this one?
 fn is_chain(
     basis: &Basis,
     placement: &Placement,
@@ -73,7 +73,7 @@ fn is_chain(
     true
 }
 
-// Must each link come before the next one, and the last before the first?
+/// Must each link come before the next one, and the last before the first?
 fn must_be_cycle(basis: &Basis, placement: &Placement, region: &Region<'_>, links: &[Link]) -> bool
     requires { IsOf basis.now region.now }
     ensures { result ≡ must_be_cycle basis.now placement.now (region_of region.now) links.now }
@@ -84,7 +84,7 @@ fn must_be_cycle(basis: &Basis, placement: &Placement, region: &Region<'_>, link
     links.len() <= MOST_LINKS && is_chain(basis, placement, region, links, first)
 }
 
-// May the two stores be put in an order?
+/// May the two stores be put in an order?
 fn may_order(
     basis: &Basis,
     region: &Region<'_>,
@@ -102,7 +102,7 @@ fn may_order(
         && (!region.is_before(first, second) && !region.is_before(second, first)))
 }
 
-// Can the inference be drawn from the region?
+/// Can the inference be drawn from the region?
 fn follows(basis: &Basis, placement: &Placement, region: &Region<'_>, inference: &Inference) -> bool
     requires { IsOf basis.now region.now }
     ensures { result ≡ follows basis.now placement.now (region_of region.now) (inference_of inference.now) }
@@ -130,7 +130,7 @@ fn follows(basis: &Basis, placement: &Placement, region: &Region<'_>, inference:
     }
 }
 
-// The regions that the inference leaves open.
+/// The regions that the inference leaves open.
 fn left_after<'a>(
     alloc: Global,
     basis: &Basis,
@@ -152,7 +152,7 @@ fn left_after<'a>(
     }
 }
 
-// Puts the regions on the stack, the first one on top.
+/// Puts the regions on the stack, the first one on top.
 fn push_all<'a>(stack: &mut Vec<Region<'a>>, mut left: Vec<Region<'a>>) -> Result<(), AllocError>
     ensures regions { OnOk result (stacked stack.new.items ≡ regions_of left.entry.items ++ stacked stack.old.items) }
     ensures of { (t : Test) → OnOk result (AreOf t left.entry.items → AreOf t stack.old.items
@@ -164,7 +164,7 @@ fn push_all<'a>(stack: &mut Vec<Region<'a>>, mut left: Vec<Region<'a>>) -> Resul
     Ok(())
 }
 
-// The truth value that the condition has in the outcome.
+/// The truth value that the condition has in the outcome.
 fn is_outcome(quantifier: Quantifier) -> bool
     ensures { result ≡ is_outcome quantifier true }
 {

@@ -7,7 +7,7 @@ ghost use Rattle.fs_cert_evidence.specs.Splits.{choice_number, step_number};
 use fs_hart::Step;
 use fs_instr::Instr;
 
-// One more than the word; 1 where there is none.
+/// One more than the word; 1 where there is none.
 fn word_number(word: Option<u32>) -> u64
     ensures { result ≡ choice_number (option_map Word word) }
 {

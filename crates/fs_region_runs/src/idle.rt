@@ -25,7 +25,7 @@ pub(crate) fn code_of(test: &Test, hart: u8) -> &[Instr]
     test.codes.as_slice()[usize::from(hart)].as_slice()
 }
 
-// A run of no steps.
+/// A run of no steps.
 fn idle(alloc: Global) -> Trace
     ensures { result.steps ≡ [] }
 {
@@ -35,7 +35,7 @@ fn idle(alloc: Global) -> Trace
     }
 }
 
-// So many runs of no steps.
+/// So many runs of no steps.
 fn idle_traces(alloc: Global, harts: usize) -> Result<Vec<Trace>, AllocError>
     ensures { IfOk result (λ idle. steps_in idle.items ≡ map (λ h. []) (numbers_below harts)) }
 {
@@ -46,7 +46,7 @@ fn idle_traces(alloc: Global, harts: usize) -> Result<Vec<Trace>, AllocError>
     Ok(traces)
 }
 
-// The run of the hart, and runs of no steps of the others.
+/// The run of the hart, and runs of no steps of the others.
 fn traces(alloc: Global, test: &Test, hart: u8, trace: Trace) -> Result<Traces, AllocError>
     requires { hart < length test.now.codes }
     ensures steps { IfOk result (λ traces. steps_in traces ≡ traces_of test.now hart trace.steps) }

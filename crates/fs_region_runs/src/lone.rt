@@ -46,7 +46,7 @@ pub struct Lone {
     numbers: Table,
 }
 
-// The same test.
+/// The same test.
 fn shared(test: &Arc<Test>) -> Result<Arc<Test>, AllocError>
     ensures { IfOk result (λ same. arc_value same ≡ arc_value test.now) }
 {
@@ -114,7 +114,7 @@ impl Lone {
         steps_of(self.candidate.traces.as_slice(), Some(self.hart))
     }
 
-    // The step that executes the instruction at this position of the code.
+    /// The step that executes the instruction at this position of the code.
     fn step_at(&self, at: u8) -> Option<&Step>
         ensures { option_copied result ≡ step_at self.now.steps at }
     {
@@ -171,7 +171,7 @@ impl Lone {
         }
     }
 
-    // The number of the operation of this name, where the run executes it.
+    /// The number of the operation of this name, where the run executes it.
     fn number_of(&self, name: OperationName) -> Option<u8>
         ensures { result ≡ number_of (execution_of self.now) name }
     {
@@ -182,7 +182,7 @@ impl Lone {
         }
     }
 
-    // Is the source a name that neither the run nor the test has?
+    /// Is the source a name that neither the run nor the test has?
     fn is_unnamed(&self, source: Source) -> bool
         ensures { result ≡ is_unnamed self.now source }
     {
@@ -192,14 +192,14 @@ impl Lone {
         }
     }
 
-    // Are they the same? Names that neither the run nor the test has count as one.
+    /// Are they the same? Names that neither the run nor the test has count as one.
     fn count_as_one(&self, first: Source, second: Source) -> bool
         ensures { result ≡ count_as_one self.now first second }
     {
         is_same_source(first, second) || self.is_unnamed(first) && self.is_unnamed(second)
     }
 
-    // Are both sources known, and do they count as one?
+    /// Are both sources known, and do they count as one?
     fn are_same(&self, first: Option<Source>, second: Option<Source>) -> bool
         ensures { (region : Region) → result
             ≡ is_same (number_from self.now region first) (number_from self.now region second) }
@@ -210,7 +210,7 @@ impl Lone {
         }
     }
 
-    // The number of the source, where it is known and is an operation of the run.
+    /// The number of the source, where it is known and is an operation of the run.
     fn own_store(&self, source: Option<Source>) -> Option<u8>
         ensures { (region : Region) → IsOwn (execution_of self.now) (number_from self.now region source) result }
     {

@@ -28,7 +28,7 @@ pub fn names(alloc: Global, test: &Test) -> Result<Vec<OperationName>, Fault>
     Ok(found)
 }
 
-// The names of one hart's.
+/// The names of one hart's.
 fn names_in(alloc: Global, hart: u8, code: &[Instr]) -> Result<Vec<OperationName>, AllocError>
     requires { length code.now < most_numbered }
     ensures { IfOk result (λ found. found.items ≡ names_in (hart, code.now)) }
@@ -39,7 +39,7 @@ fn names_in(alloc: Global, hart: u8, code: &[Instr]) -> Result<Vec<OperationName
         .collect(alloc)
 }
 
-// Is the instruction there a memory instruction?
+/// Is the instruction there a memory instruction?
 fn is_memory_at(code: &[Instr], at: u8) -> bool
     ensures { result ≡ is_memory_at code.now at }
 {

@@ -22,14 +22,14 @@ pub(crate) struct Returned {
     pub store: Option<u8>,
 }
 
-// The operation of this number.
+/// The operation of this number.
 fn operation(candidate: &Candidate, a: usize) -> Operation
     ensures { OfRuns candidate.now (λ x. result ≡ operation x a) }
 {
     Operation::numbered(candidate.operations.as_slice(), a)
 }
 
-// Is a an AMO or an sc.w, and b a later load? These may be a case of rule 3.
+/// Is a an AMO or an sc.w, and b a later load? These may be a case of rule 3.
 fn loads_after_amo_or_sc(candidate: &Candidate, a: usize, b: usize) -> bool
     ensures { OfRuns candidate.now (λ x. result ≡ loads_after_amo_or_sc x a b) }
 {
@@ -39,7 +39,7 @@ fn loads_after_amo_or_sc(candidate: &Candidate, a: usize, b: usize) -> bool
         && second.is_load()
 }
 
-// Does the load b come after m, and the store m after a, on which it depends? Where b returns from m this is rule 12.
+/// Does the load b come after m, and the store m after a, on which it depends? Where b returns from m this is rule 12.
 fn passes_through(candidate: &Candidate, a: usize, m: usize, b: usize) -> bool
     ensures { OfRuns candidate.now (λ x. result ≡ passes_through x (rf candidate.now) a m b) }
 {

@@ -29,7 +29,7 @@ pub(crate) fn step_of(steps: &[Step], place: Option<u8>) -> Option<&Step>
     steps.get(usize::from(place?))
 }
 
-// The place of the first step that executes the instruction there.
+/// The place of the first step that executes the instruction there.
 fn first_at(steps: &[Step], at: usize) -> Option<usize>
     ensures { result ≡ place_of steps.now at }
 {
@@ -52,7 +52,7 @@ pub(crate) fn places(alloc: Global, positions: usize, steps: &[Step]) -> Result<
     (0..positions).map(|at| place_of(steps, at)).collect(alloc)
 }
 
-// Is it the operation of the hart that executes the instruction there? These are the steps of the hart's run.
+/// Is it the operation of the hart that executes the instruction there? These are the steps of the hart's run.
 fn is_at(hart: u8, steps: &[Step], at: usize, operation: &Operation) -> bool
     ensures { result ≡ is_at hart steps.now at operation.now }
 {
@@ -62,7 +62,7 @@ fn is_at(hart: u8, steps: &[Step], at: usize, operation: &Operation) -> bool
             .is_some_and(|step| usize::from(step.at) == at)
 }
 
-// The number of the first operation of the hart that executes the instruction there.
+/// The number of the first operation of the hart that executes the instruction there.
 fn index_of(hart: u8, steps: &[Step], at: usize, operations: &[Operation]) -> Option<usize>
     ensures { result ≡ position (is_at hart steps.now at) operations.now }
 {

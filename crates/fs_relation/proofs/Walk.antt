@@ -18,7 +18,8 @@ OnPath path len x = (i : ℕ) × (i < len) × (slice_index path i ≡ x)
 abbrev pub IsDone : List ℕ → ℕ → ℕ → ℕ → Type 0
 IsDone order left n x = (i : ℕ) × (left ≤ i) × (i < n) × (slice_index order i ≡ x)
 
--- `white` has the numbers that are not visited yet, `grey` those on the path; from `left` on the order has those that are done.
+-- `white` has the numbers that are not visited yet, `grey` those on the path; from `left` on the order has those that
+-- are done.
 pub record IsWalk (rows order path : List ℕ) (n left len white grey : ℕ) : Type 0 where
   pub ordered : length order ≡ 64
   pub laid : length path ≡ 64

@@ -14,8 +14,8 @@ pub enum Judged {
     Cycle([u8; 64], usize),
 }
 
-/// An order of the numbers below n that extends the relation, or a cycle of it, by a walk in depth first. Edges of other numbers
-/// don't count. Each number is visited once: at most 2n steps, each of some words.
+/// An order of the numbers below n that extends the relation, or a cycle of it, by a walk in depth first. Edges of
+/// other numbers don't count. Each number is visited once: at most 2n steps, each of some words.
 pub fn judge(rows: &Rows, n: usize) -> Judged
     requires { n ≤ 64 }
     ensures { IsJudged rows.now n result }
@@ -59,7 +59,8 @@ pub fn judge(rows: &Rows, n: usize) -> Judged
     Judged::Order(order)
 }
 
-/// Has the relation on the numbers below n an order that extends it? Otherwise it has a cycle. As `judge`, and a little faster.
+/// Has the relation on the numbers below n an order that extends it? Otherwise it has a cycle. As `judge`, and a little
+/// faster.
 pub fn has_order(rows: &Rows, n: usize) -> bool
     requires { n ≤ 64 }
     ensures ordered { result ≡ true → (numbers : List ℕ) × IsOrderBelow (has_edge rows.now) n numbers }
@@ -100,7 +101,7 @@ pub fn has_order(rows: &Rows, n: usize) -> bool
     true
 }
 
-// The numbers below n, as bits.
+/// The numbers below n, as bits.
 fn ones_below(n: usize) -> u64
     requires { n ≤ 64 }
     ensures { result ≡ 2 ^ n - 1 }
@@ -108,7 +109,7 @@ fn ones_below(n: usize) -> u64
     if n < 64 { (1 << n) - 1 } else { u64::MAX }
 }
 
-// The end of a path from whose last number an edge leads back to it.
+/// The end of a path from whose last number an edge leads back to it.
 fn cycle(rows: &Rows, path: &[u8; 64], len: usize) -> Judged
     requires { IsTrail rows.now path.now len }
     ensures { (n : ℕ) → len ≤ n → ((i : ℕ) → i < len → slice_index path.now i < n) → IsJudged rows.now n result }
@@ -121,7 +122,7 @@ fn cycle(rows: &Rows, path: &[u8; 64], len: usize) -> Judged
     Judged::Cycle(cut(path, start, len), len - start)
 }
 
-// What stands from `from` up to `to`, at the front.
+/// What stands from `from` up to `to`, at the front.
 fn cut(path: &[u8; 64], from: usize, to: usize) -> [u8; 64]
     requires from { from ≤ to }
     requires to { to ≤ 64 }

@@ -7,8 +7,8 @@ ghost use Rattle.fs_cert_evidence.specs.Texts.{fence_line, fenced_lines};
 use fs_kinds::{Entry, Placement};
 use std::alloc::{AllocError, Global};
 
-/// The line `fenced` with the cost, and below it a line for each filled slot in slot order, as `fence P0 2 w,r` for a fence
-/// before instruction 2 of hart 0. The error is want of memory.
+/// The line `fenced` with the cost, and below it a line for each filled slot in slot order, as `fence P0 2 w,r` for a
+/// fence before instruction 2 of hart 0. The error is want of memory.
 pub fn fenced_text(alloc: Global, placement: &Placement, cost: u64) -> Result<String, AllocError>
     ensures { IfOk result (λ text. string_bytes text ≡ fenced_lines cost placement.now) }
 {

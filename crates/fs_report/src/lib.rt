@@ -1,4 +1,5 @@
-//! An answer in print: the lines of a placement with its cost, and those of a witness that shows the outcome; and both as JSON.
+//! An answer in print: the lines of a placement with its cost, and those of a witness that shows the outcome; and both
+//! as JSON.
 #![tactic(auto)]
 
 mod fences;

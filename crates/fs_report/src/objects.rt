@@ -14,7 +14,8 @@ use fs_kinds::{Entry, Kind, List, OperationName, Placement, Slot};
 use serde_json::{Value, json};
 use std::alloc::{AllocError, Global};
 
-/// The object of a placement: that it is an answer, its cost, and the fence of each filled slot in slot order. The error is want of memory.
+/// The object of a placement: that it is an answer, its cost, and the fence of each filled slot in slot order. The
+/// error is want of memory.
 pub fn fenced_value(alloc: Global, placement: &Placement, cost: u64) -> Result<Value, AllocError>
     ensures { IfOk result (λ value. view value ≡ fenced_value cost placement.now) }
 {

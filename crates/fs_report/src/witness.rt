@@ -28,8 +28,8 @@ pub fn none_text(
     format!(in alloc; "none\n{}\n", witness.as_str())
 }
 
-/// The JSON text of the witness with these choices of each hart and this order: compact, with `choices` before `order`. The file
-/// that has this text says this witness. The error is want of memory.
+/// The JSON text of the witness with these choices of each hart and this order: compact, with `choices` before `order`.
+/// The file that has this text says this witness. The error is want of memory.
 pub fn witness_text(
     alloc: Global,
     choices: &ChoiceLists,
@@ -43,7 +43,8 @@ pub fn witness_text(
     value.to_string(alloc)
 }
 
-/// The JSON object of the witness with these choices of each hart and this order, as `witness_text` writes it. The error is want of memory.
+/// The JSON object of the witness with these choices of each hart and this order, as `witness_text` writes it. The
+/// error is want of memory.
 pub fn witness_value(
     alloc: Global,
     choices: &ChoiceLists,

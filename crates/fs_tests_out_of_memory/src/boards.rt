@@ -106,7 +106,8 @@ fn ask_again<R: Print>(
     ask(alloc, problem, board, worker, request)
 }
 
-/// Prints the reply, and how the board is now: its log, its nodes, which of these are open, its witnesses and its bound.
+/// Prints the reply, and how the board is now: its log, its nodes, which of these are open, its witnesses and its
+/// bound.
 fn print_board<R: Print>(rt: &R, reply: &Reply, board: &Board) {
     print_reply(rt, reply);
     let state = State::of(board);
@@ -186,8 +187,8 @@ const fn slot(hart: u8) -> Slot {
     Slot { hart, at: 2 }
 }
 
-/// Two workers on a board of store buffering, with all replies but those of the other boards; and the first calls on a board that is
-/// full by one node sooner.
+/// Two workers on a board of store buffering, with all replies but those of the other boards; and the first calls on a
+/// board that is full by one node sooner.
 fn make_first<R: Print>(rt: &R, alloc: Global) -> Result<(), Fault> {
     let asks = [
         (0, Request::Take),
@@ -241,8 +242,8 @@ fn make_third<R: Print>(rt: &R, alloc: Global) -> Result<(), Fault> {
     make_board(rt, alloc, SB, PRICES, 1, &asks)
 }
 
-/// A board of 2+2W, of whose placements that cost as much the bound is the first: `w,w` stands before `w,rw`. Node 8 has `rw,rw` at
-/// P1:3, and so costs 5; node 5 has no fence there, and costs 2.
+/// A board of 2+2W, of whose placements that cost as much the bound is the first: `w,w` stands before `w,rw`. Node 8
+/// has `rw,rw` at P1:3, and so costs 5; node 5 has no fence there, and costs 2.
 fn make_fourth<R: Print>(rt: &R, alloc: Global) -> Result<(), Fault> {
     let prices = r#"{"w,w":2,"w,rw":2,"rw,rw":3}"#;
     let first = Slot { hart: 0, at: 3 };

@@ -161,8 +161,8 @@ fn certify<R: Print>(rt: &R, alloc: Global, text: &str, is_printed: bool) -> Res
     check_written(rt, alloc, &question, &certificate, is_printed)
 }
 
-/// Certificates of two loads of a word, of store buffering where each hart loads its own store first, and of message passing in order,
-/// which no fences forbid.
+/// Certificates of two loads of a word, of store buffering where each hart loads its own store first, and of message
+/// passing in order, which no fences forbid.
 pub(crate) fn make<R: Print + AllocGlobal>(rt: &R) -> Result<(), Fault> {
     certify(rt, rt.alloc(), CO_RR, true)?;
     certify(rt, rt.alloc(), SBF, false)?;

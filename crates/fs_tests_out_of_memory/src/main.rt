@@ -1,5 +1,5 @@
-//! A program that makes the calls which may want memory, and makes each again where memory was refused. What it prints is the same
-//! whichever request for memory is refused, but for two lines that say so.
+//! A program that makes the calls which may want memory, and makes each again where memory was refused. What it prints
+//! is the same whichever request for memory is refused, but for two lines that say so.
 #![tactic(auto)]
 
 /// The answer of the call; where that is want of memory, this is said, and the call is made again.

@@ -61,7 +61,8 @@ pub(crate) fn witnesses_on(
     Ok(List::new(witnesses))
 }
 
-/// That the placement that the words name forbids the outcome, with what shows it. `BadFence` where it allows the outcome.
+/// That the placement that the words name forbids the outcome, with what shows it. `BadFence` where it allows the
+/// outcome.
 pub(crate) fn forbidden_on(
     alloc: Global,
     problem: &Problem,

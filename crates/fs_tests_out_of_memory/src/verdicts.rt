@@ -1,4 +1,5 @@
-//! A question that is made ready, and verdicts on placements: of the problem, and of a judge, who keeps what it found last.
+//! A question that is made ready, and verdicts on placements: of the problem, and of a judge, who keeps what it found
+//! last.
 ghost use Rattle.std.specs.Prelude.{◌≡◌, IfOk};
 ghost use Rattle.std.specs.Arc.{arc_value};
 ghost use Rattle.fs_model.specs.Test.{IsBounded, IsTest};

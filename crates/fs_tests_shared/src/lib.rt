@@ -1,5 +1,5 @@
-//! What tests of several crates share: litmus tests as text, questions and answers as text, and all runs, placements and orders of a
-//! test by number.
+//! What tests of several crates share: litmus tests as text, questions and answers as text, and all runs, placements
+//! and orders of a test by number.
 #![tactic(auto)]
 
 mod listing;

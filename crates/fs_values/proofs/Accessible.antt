@@ -76,7 +76,8 @@ module _ (x : PreExecution) (p : List Entry) (order : List ℕ) (axioms : ObeysA
   wider : (test : ℕ → Bool) (i j k : ℕ) → j ≤ k → list_any test (between i j) ≡ true → list_any test (between i k) ≡ true
   wider test i j k low h = let m = any_between_from test i j h in any_between_to test i k m.0 m.1 (let q = m.2 in omega (arith, low, q)) m.3
 
-  -- Store u is s, or is before s in program order and is no AMO; the loads on which its address and its word depend precede s.
+  -- Store u is s, or is before s in program order and is no AMO; the loads on which its address and its word depend
+  -- precede s.
   record Below (s u : ℕ) : Type 0 where
     own : (u ≡ s) ⊎ ((po x u s ≡ true) × (is_load x u ≡ false))
     early : (a : ℕ) → is_load x a ≡ true → po x a u ≡ true → (address_dependency x a u || data_dependency x a u) ≡ true → at a < at s

@@ -1,4 +1,5 @@
--- Operations level by level: on the first the initial stores, and on each further one what rests on sources of the one before.
+-- Operations level by level: on the first the initial stores, and on each further one what rests on sources of the one
+-- before.
 use Rattle.std.proofs.Common.{◌≡◌, ◌⊎◌, ◌||◌, not, ℕ, zero, suc, ◌<◌, length, Bool, true, false, Option, Some, None, is_some, refl, ap, subst, inl, inr}
 use Rattle.std.specs.List.{list_all}
 use Rattle.std.proofs.lemmas.Bool.{cases_Bool, both_ways, or_cases, or_left, or_right, not_from_false, not-true}

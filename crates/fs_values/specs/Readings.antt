@@ -1,5 +1,5 @@
--- What a test allows, said of grounded executions alone: each word that is loaded is a value of its location. The two readings, with
--- the word and without, are one in a test whose runs can be listed.
+-- What a test allows, said of grounded executions alone: each word that is loaded is a value of its location. The two
+-- readings, with the word and without, are one in a test whose runs can be listed.
 use Rattle.std.specs.Prelude.{◌≡◌, ◌↔◌, true, Some, List}
 use Rattle.fs_kinds.specs.declared.kind.Kind.TheVariants.{RwRw}
 use Rattle.fs_kinds.specs.declared.placement.Entry.{Entry}

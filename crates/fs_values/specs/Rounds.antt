@@ -1,4 +1,5 @@
--- The rounds in which values are found, and the faults that are met in them. V says which words a load may take at each location.
+-- The rounds in which values are found, and the faults that are met in them. V says which words a load may take at each
+-- location.
 use Rattle.std.specs.Prelude.{◌↔◌, ◌⊎◌, ℕ, suc, ◌<◌, List, length}
 use Rattle.fs_kinds.specs.declared.fault.Fault.{Fault}
 use Rattle.fs_model.specs.declared.test.Test.{Test}

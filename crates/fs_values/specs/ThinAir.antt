@@ -17,8 +17,8 @@ use Rattle.fs_model.specs.TooMany.{EndsAstray, IsRunFault}
 
 -- ---- what a store rests on
 
--- Step j rests on step i: it is step j itself, or before it, and step j's address, word or path, or the address of a step between
--- them, depends on it.
+-- Step j rests on step i: it is step j itself, or before it, and step j's address, word or path, or the address of a
+-- step between them, depends on it.
 abbrev pub rests_on : List Step → ℕ → ℕ → Bool
 rests_on steps j i =
     (i == j) || (address_depends steps i j || (data_depends steps i j || (control_depends steps i j
@@ -38,7 +38,8 @@ BeginsWithWords t = All (λ x. x.word < 2 ^ 32) t.locations
 abbrev pub NoneAstray : Test → (ℕ → ℕ → Type 0) → ℕ → Type 0
 NoneAstray t V hart = (choices : List Choice) (at : ℕ) → EndsAstray t V hart choices at → ⊥
 
--- Where a run stores a word and the loads on which the store rests take words of V, a run all of whose loads do so stores it too.
+-- Where a run stores a word and the loads on which the store rests take words of V, a run all of whose loads do so
+-- stores it too.
 abbrev pub KeepsStores : Test → (ℕ → ℕ → Type 0) → Type 0
 KeepsStores t V =
     ((k word : ℕ) → IsValueAfter t 0 k word → V k word)
@@ -65,8 +66,8 @@ pub record CanBeListed (t : Test) : Type 0 where
 
 -- ---- executions
 
--- What holds of each store if it holds of the sources of all the loads on which it rests, holds of all stores of the execution: so
--- nothing rests on itself in the end.
+-- What holds of each store if it holds of the sources of all the loads on which it rests, holds of all stores of the
+-- execution: so nothing rests on itself in the end.
 abbrev pub HoldsOfStores : Test → Execution → (ℕ → Type 0) → Type 0
 HoldsOfStores t e P =
     ((s : ℕ) → is_store (pre_execution t e.traces) s ≡ true

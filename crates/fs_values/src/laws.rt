@@ -8,8 +8,8 @@ ghost use Rattle.fs_model.specs.TooMany.{IsHartFault};
 ghost use Rattle.fs_hart.specs.Listing.{IsOffered};
 ghost use Rattle.fs_values.specs.Rounds.{AreSameSets, AddsNothing};
 
-/// A law: the faults of a hart depend on which words there are at each location alone. So they are the same over two lists of
-/// sets with the same words, and over the values after some rounds and sets that have these words.
+/// A law: the faults of a hart depend on which words there are at each location alone. So they are the same over two
+/// lists of sets with the same words, and over the values after some rounds and sets that have these words.
 pub fn same_sets_fail_alike()
     ensures sets { (t : Test) (xs ys : List (List ℕ)) → AreSameSets (IsOffered xs) (IsOffered ys)
         → (hart : ℕ) (f : Fault) → IsHartFault t (IsOffered xs) hart f ↔ IsHartFault t (IsOffered ys) hart f }

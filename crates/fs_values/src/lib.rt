@@ -1,5 +1,6 @@
-//! Value sets: which words each location of a test can come to hold; and all runs over them. With the laws that nothing comes out of
-//! thin air: where the listing of runs meets no fault, each loaded word of an execution is in the value set of its location.
+//! Value sets: which words each location of a test can come to hold; and all runs over them. With the laws that nothing
+//! comes out of thin air: where the listing of runs meets no fault, each loaded word of an execution is in the value
+//! set of its location.
 #![tactic(auto)]
 
 pub mod laws;

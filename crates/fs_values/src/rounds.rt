@@ -8,7 +8,7 @@ ghost use Rattle.fs_model.specs.Values.{rounds};
 use fs_instr::Instr;
 use fs_model::Test;
 
-// Can the instruction store a word?
+/// Can the instruction store a word?
 fn is_storing(instr: &Instr) -> bool
     ensures { result ≡ is_storing instr.now }
 {

@@ -35,8 +35,8 @@ pub fn runs_over(alloc: Global, test: &Test, sets: &[Words]) -> Result<Vec<List<
     Ok(lists)
 }
 
-/// For each hart all its runs over the value sets of the test, in choice order. So the test's runs can be listed. The fault and
-/// the cost are those of `Values::of`.
+/// For each hart all its runs over the value sets of the test, in choice order. So the test's runs can be listed. The
+/// fault and the cost are those of `Values::of`.
 pub fn all_runs(alloc: Global, test: &Test) -> Result<Vec<List<Trace>>, Fault>
     requires test { IsBounded test.now }
     requires starts { All IsStart test.now.starts }

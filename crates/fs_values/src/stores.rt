@@ -22,7 +22,7 @@ pub(crate) struct Store {
     pub(crate) word: u32,
 }
 
-// What the step stores.
+/// What the step stores.
 fn store_of(step: &Step) -> Option<Store>
     ensures { result ≡ store_of step.now }
 {
@@ -32,7 +32,7 @@ fn store_of(step: &Step) -> Option<Store>
     }
 }
 
-// Puts the stores of a run behind those that are there.
+/// Puts the stores of a run behind those that are there.
 fn add_stores(stores: &mut Vec<Store>, steps: &[Step]) -> Result<(), AllocError>
     ensures { OnOk result (stores.new.items ≡ stores.old.items ++ stores_of steps.now) }
 {
@@ -44,7 +44,7 @@ fn add_stores(stores: &mut Vec<Store>, steps: &[Step]) -> Result<(), AllocError>
     Ok(())
 }
 
-// Puts the stores of these runs behind those that are there.
+/// Puts the stores of these runs behind those that are there.
 fn add_all_stores(stores: &mut Vec<Store>, traces: &[Trace]) -> Result<(), AllocError>
     ensures { OnOk result (stores.new.items ≡ stores.old.items ++ stores_in traces.now) }
 {

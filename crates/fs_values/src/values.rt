@@ -21,7 +21,8 @@ use fs_model::{Location, Test};
 use std::alloc::{AllocError, Global};
 use std::marker::Model;
 
-/// For each location of a test the words that it can come to hold, as a set whose words rise. Contracts see the list of the sets.
+/// For each location of a test the words that it can come to hold, as a set whose words rise. Contracts see the list of
+/// the sets.
 #[derive(Drop)]
 pub struct Values {
     sets: Vec<Words>,
@@ -36,7 +37,7 @@ impl Model for Values {
 }
 
 impl Values {
-    // The words that the locations begin with.
+    /// The words that the locations begin with.
     fn initial(alloc: Global, test: &Test) -> Result<Values, AllocError>
         ensures sets { IfOk result (AreSets test.now (IsValueAfter test.now 0)) }
         ensures words { OnOk result (BeginsWithWords test.now) }
@@ -49,7 +50,7 @@ impl Values {
         Ok(Values { sets })
     }
 
-    // These words, and those that are stored where loads take these.
+    /// These words, and those that are stored where loads take these.
     fn next(&self, alloc: Global, test: &Test) -> Result<Values, Fault>
         requires test { IsBounded test.now }
         requires starts { All IsStart test.now.starts }
@@ -68,10 +69,11 @@ impl Values {
         Ok(Values { sets })
     }
 
-    /// The value sets of the test, found in rounds: at first the initial words, and in each round also what a run stores whose
-    /// loads take words of the sets before. There are as many rounds as the test has instructions that store, and none after
-    /// one that adds nothing. The fault is the first that is met, round by round and hart by hart: F13 where more than 100,000
-    /// choice lists of the hart end over the sets, else F14; or F19. In a test with these sets every execution is grounded.
+    /// The value sets of the test, found in rounds: at first the initial words, and in each round also what a run
+    /// stores whose loads take words of the sets before. There are as many rounds as the test has instructions that
+    /// store, and none after one that adds nothing. The fault is the first that is met, round by round and hart by
+    /// hart: F13 where more than 100,000 choice lists of the hart end over the sets, else F14; or F19. In a test with
+    /// these sets every execution is grounded.
     pub fn of(alloc: Global, test: &Test) -> Result<Values, Fault>
         requires test { IsBounded test.now }
         requires starts { All IsStart test.now.starts }

@@ -1,4 +1,5 @@
--- What is made of an answer: its lines, a certificate and the text of that. Where the answer is none, each has its witness.
+-- What is made of an answer: its lines, a certificate and the text of that. Where the answer is none, each has its
+-- witness.
 use Rattle.std.specs.Prelude.{◌≡◌, ℕ, Some, List, [], ◌∷◌}
 use Rattle.fs_kinds.specs.PriceTable.{PriceTable}
 use Rattle.fs_model.specs.declared.test.Test.{Test}

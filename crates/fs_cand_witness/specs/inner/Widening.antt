@@ -47,7 +47,8 @@ pub record KeepsAs (rows : List ℕ) (edge : ℕ → ℕ → Bool) (side : Sides
 abbrev pub HasAll : List ℕ → (ℕ → ℕ → Bool) → Type 0
 HasAll rows edge = (a b : ℕ) → has_edge rows a b ≡ true → edge a b ≡ true
 
--- The wider rows are made of the rows and of such edges, if they have them, alone: each relation that has these has all.
+-- The wider rows are made of the rows and of such edges, if they have them, alone: each relation that has these has
+-- all.
 abbrev pub IsMadeBy : List ℕ → (from to : ℕ) → List ℕ → Type 0
 IsMadeBy rows from to wider =
     (edge : ℕ → ℕ → Bool) → HasAll rows edge → (HasEach (has_edge wider) from to → HasEach edge from to) → HasAll wider edge

@@ -17,7 +17,8 @@ use Rattle.fs_cert.specs.inner.Copies.{AreNumbered}
 abbrev pub number_in : List Slot → Slot → ℕ
 number_in ss slot = unwrap_or (position (λ s. is_same_slot s slot) ss) (length ss)
 
--- The item of a node of this status. A node that is bounded by no witness costs too much, and so does one that was posted.
+-- The item of a node of this status. A node that is bounded by no witness costs too much, and so does one that was
+-- posted.
 abbrev pub item_at : List Slot → (numbers : List ℕ) → Status → Item
 item_at ss numbers Open = said.Costly
 item_at ss numbers (Held worker) = said.Costly
@@ -54,7 +55,8 @@ IsSayable item = (is_sayable Second item ≡ true) × AreSmall (numbers_in item)
 abbrev pub AreSayable : List Item → Type 0
 AreSayable = AllByRecursion IsSayable
 
--- the items are a tree for the board's bound, where its witnesses have these numbers in the certificate, in each version but the first
+-- the items are a tree for the board's bound, where its witnesses have these numbers in the certificate, in each
+-- version but the first
 abbrev pub IsTreeOf : Search → (numbers : List ℕ) → List Item → Type 0
 IsTreeOf s numbers items = (c : Certificate) (p : List Entry) → c.version ≢ First → s.board.bound ≡ Some p
     → AreNumbered c.witnesses s.board.witnesses numbers

@@ -1,4 +1,5 @@
--- What fences an order bears, where the runs are those of a candidate with an order: those that let be turned round what it turns.
+-- What fences an order bears, where the runs are those of a candidate with an order: those that let be turned round
+-- what it turns.
 use Rattle.std.specs.Prelude.{ℕ, Bool, ◌&&◌, not, List, map, filter, length}
 use Rattle.std.specs.List.{list_all, flat_map}
 use Rattle.fs_kinds.specs.declared.placement.Entry.{Entry}

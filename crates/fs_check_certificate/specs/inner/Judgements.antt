@@ -9,7 +9,8 @@ use Rattle.fs_cert_evidence.specs.Parts.{undecided}
 use Rattle.fs_cert_evidence.specs.Refusals.{IsRefusal, IsPlacedRefusal}
 use Rattle.fs_cert_evidence.specs.Valid.{Forbid, Covers, IsValid}
 
--- what is said against the cycles and the tree of a certificate that answers the placement: nothing, or the first reason
+-- what is said against the cycles and the tree of a certificate that answers the placement: nothing, or the first
+-- reason
 abbrev pub IsPlacedVerdict : Test → PriceTable → Certificate → List Entry → Option Reason → Type 0
 IsPlacedVerdict t prices c p None = Forbid t p c.cycles × Covers t prices c p (undecided t ∷ []) c.tree
 IsPlacedVerdict t prices c p (Some why) = IsPlacedRefusal t prices c p why

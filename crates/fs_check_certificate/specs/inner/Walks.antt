@@ -22,8 +22,8 @@ abbrev pub AreOfTest : Test → List Part → Type 0
 AreOfTest t [] = Unit {0}
 AreOfTest t (part ∷ parts) = (slots_in_part part ≡ slots t) × AreOfTest t parts
 
--- the version and the slots are those of the certificate and of the test, and this is what is kept of the witnesses, and
--- what it costs to break them
+-- the version and the slots are those of the certificate and of the test, and this is what is kept of the witnesses,
+-- and what it costs to break them
 pub record AreGrounds (t : Test) (prices : PriceTable) (c : Certificate) (version : CodeVersion) (its_slots : List Slot) (shown : List (Option (List Pairs)))
     (breaks : List (List (Option ℕ))) : Type 0 where
   pub bounded : IsBounded t
@@ -32,8 +32,8 @@ pub record AreGrounds (t : Test) (prices : PriceTable) (c : Certificate) (versio
   pub shown_are : AreShown t c.witnesses shown
   pub breaks_are : breaks ≡ all_breaks prices (slots t) shown
 
--- What is left leads to the whole: where the items left cover the parts left, or fail for a reason, so do all items the parts at the
--- beginning. The numbers are those of the first item, and of the first that is left.
+-- What is left leads to the whole: where the items left cover the parts left, or fail for a reason, so do all items the
+-- parts at the beginning. The numbers are those of the first item, and of the first that is left.
 pub record LeadsTo (t : Test) (prices : PriceTable) (c : Certificate) (p : List Entry) (rest : List Part) (left : List Item) (next : ℕ)
     (parts : List Part) (items : List Item) (k : ℕ) : Type 0 where
   pub covers : Covers t prices c p rest left → Covers t prices c p parts items

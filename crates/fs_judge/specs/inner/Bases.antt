@@ -15,7 +15,8 @@ use Rattle.fs_cand_witness.specs.Fencing.{orders_at, is_fenced}
 use Rattle.fs_judge.specs.declared.base.Base.{Base}
 use Rattle.fs_judge.specs.declared.known.Known.{Known}
 
--- its rows are the candidate's judged relation without placed fences, and its sides give the edges of each placement's fences
+-- its rows are the candidate's judged relation without placed fences, and its sides give the edges of each placement's
+-- fences
 pub record IsBase (t : Test) (c : Candidate) (base : Base) : Type 0 where
   pub rows : (a b : ℕ) → has_edge base.rows a b ≡ is_judged (runs_of t c) [] c a b
   pub sides : (p : List Entry) (a b : ℕ) → list_any (orders_at p a b) base.sides ≡ is_fenced (runs_of t c) p a b

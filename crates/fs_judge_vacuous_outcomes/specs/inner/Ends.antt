@@ -51,7 +51,8 @@ words_for location first stored = or_first first (stored_at (address_of location
 
 -- ---- the search
 
--- some last words of the locations from this one on, which begin with these words, make what is left of the condition so
+-- some last words of the locations from this one on, which begin with these words, make what is left of the condition
+-- so
 abbrev pub CanEnd : (location : ℕ) → (firsts : List ℕ) → List Stored → Bool → Condition → Type 0
 CanEnd location [] stored wanted c = c ≡ truth_of wanted
 CanEnd location (first ∷ firsts) stored wanted c =

@@ -43,8 +43,8 @@ end_of c run = record { registers = named (final run) run.hart c []; stored = fi
 
 -- ---- the runs of a hart
 
--- The ends of a hart's runs: each is that of some run, and each run has its own among them but where the condition can't be as wanted
--- with it.
+-- The ends of a hart's runs: each is that of some run, and each run has its own among them but where the condition
+-- can't be as wanted with it.
 pub record AreEnds (wanted : Bool) (c : Condition) (hart : ℕ) (runs : List RunOf) (ends : List End) : Type 0 where
   pub sound : (end : End) → Contains ends end → (run : RunOf) × Contains runs run × (end ≡ end_of c run)
   pub complete :

@@ -1,4 +1,5 @@
--- What was pushed on a deque is what its owner popped, what its thief stole, and what is still inside, number by number.
+-- What was pushed on a deque is what its owner popped, what its thief stole, and what is still inside, number by
+-- number.
 use Rattle.std.specs.Prelude.{◌≡◌, ℕ, ◌+◌, Bool, true, List}
 use mathlib.Core.Option.{some}
 use lib.ListN.{get_elem?}
@@ -8,7 +9,8 @@ use Rattle.fs_pool.specs.declared.deque.Tally.{Tally}
 abbrev pub tally : Bool → Bool → List ℕ → List ℕ → List ℕ → Tally
 tally owns steals pushed popped stolen = record { owns = owns; steals = steals; pushed = pushed; popped = popped; stolen = stolen }
 
--- a pass that owns has the owner's number, and knows what was pushed and popped; one that steals has the thief's, and knows what was stolen
+-- a pass that owns has the owner's number, and knows what was pushed and popped; one that steals has the thief's, and
+-- knows what was stolen
 abbrev pub Fits : ℕ → ℕ → List ℕ → List ℕ → List ℕ → ℕ → Tally → Type 0
 Fits owner thief pushed popped stolen port v =
     (v.owns ≡ true → (port ≡ owner) × (v.pushed ≡ pushed) × (v.popped ≡ popped)) × (v.steals ≡ true → (port ≡ thief) × (v.stolen ≡ stolen))

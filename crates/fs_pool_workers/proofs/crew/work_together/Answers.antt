@@ -5,7 +5,8 @@ use Rattle.fs_board_search.proofs.Problems as problem
 use Rattle.fs_pool_workers.proofs.Crosses.{desk_sync, problem_send, problem_sync, witness_send, witness_sync}
 use Rattle.fs_pool_workers.proofs.crew.work_together.Goals as goal
 
--- the closure lends the threads, the allocator, the desk, the gate, the witnesses and the problem to each job, in this order
+-- the closure lends the threads, the allocator, the desk, the gate, the witnesses and the problem to each job, in this
+-- order
 pub map_vec-requires-sync-F : goal.map_vec-requires-sync-F
 map_vec-requires-sync-F g c κs within =
     let d = desk_sync (param 0 g.row.A) g.A.Asked in
