@@ -16,7 +16,7 @@ import check_certificate as model
 import solve_reference as reference
 from litmus import Maker
 from running import rvfence, written
-from verdicts import YES, atoms_of, is_vacuous, runs_of, stores_of
+from verdicts import YES, is_vacuous, runs_of, stores_of
 
 ONES = b'{"rw,rw":1}'
 AT_ONCE = 200
@@ -49,15 +49,24 @@ def why_vacuous(test):
     names = {address: name for name, address in test.addresses.items()}
     runs = runs_of(test)
     stored = frozenset().union(*[stores_of(run) for run in itertools.chain.from_iterable(runs)])
-    for (form, place, word), value in atoms_of(*test.wanted):
-        shown = names.get(word, word)
-        if value and form == "register":
-            hart, register = place
-            if all(run.registers[register] != word for run in runs[hart]):
-                return f"x{register} of P{hart} never ends as {shown}"
-        if value and form == "word" and test.words[place] != word and (place, word) not in stored:
-            return f"nothing stores {shown} to {names[place]}"
-    return "no runs end so"
+
+    def blamed(condition, wanted):
+        match condition:
+            case "register", (hart, register), word if wanted:
+                if all(run.registers[register] != word for run in runs[hart]):
+                    return f"x{register} of P{hart} never ends as {names.get(word, word)}"
+            case "word", place, word if wanted:
+                if test.words[place] != word and (place, word) not in stored:
+                    return f"nothing stores {names.get(word, word)} to {names[place]}"
+            case "not", part:
+                return blamed(part, not wanted)
+            case ("and" | "or") as joint, *parts:
+                words = [blamed(part, wanted) for part in parts]
+                needs_all = (joint == "and") == wanted
+                return next(filter(None, words), None) if needs_all or all(words) else None
+        return None
+
+    return blamed(*test.wanted) or "no runs end so"
 
 
 def by_reference(data):

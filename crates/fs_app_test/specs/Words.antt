@@ -1,5 +1,5 @@
 -- Why an outcome is forbidden, possible, or vacuous, in a few words.
-use Rattle.std.specs.Prelude.{ℕ, ◌==◌, Bool, true, false, ◌&&◌, ◌||◌, not, Option, None, Some, option_map, List, [], ◌∷◌, ◌++◌, slice_get, length, count_by, codes, if◌then◌else◌}
+use Rattle.std.specs.Prelude.{ℕ, ◌==◌, Bool, true, false, ◌&&◌, ◌||◌, not, Option, None, Some, is_some, option_map, List, [], ◌∷◌, ◌++◌, slice_get, length, count_by, codes, if◌then◌else◌}
 use Rattle.std.specs.Option.{option_or}
 use Rattle.std.specs.Fmt.{decimal}
 use Rattle.std.specs.List.{find, list_any}
@@ -72,6 +72,10 @@ order_words (Some (first, second)) =
 abbrev pub stores_word : ℕ → ℕ → Step → Bool
 stores_word location word s = is_same s.address (Some (address_of location)) && is_same s.stored (Some word)
 
+-- the atom to blame of two parts, both of which are needed or one of which is enough
+abbrev pub of_two : Bool → Option Condition → Option Condition → Option Condition
+of_two both left right = if both then option_or left right else (if is_some right then left else None)
+
 module _ (t : Test) (runs : ℕ → List (List Step)) where
   -- some run of the hart ends with the word in the register
   abbrev pub ends_as : (hart reg word : ℕ) → Bool
@@ -86,16 +90,16 @@ module _ (t : Test) (runs : ℕ → List (List Step)) where
   abbrev pub can_have : (location word : ℕ) → Bool
   can_have location word = is_same (slice_get (initial_words t) location) (Some word) || is_stored location word
 
-  -- The first atom in the order of the text that is to be true, where the condition is to have this truth value, and
-  -- that nothing makes true.
+  -- The first atom in the order of the text that must be true, where the condition is to have this truth value, and
+  -- that nothing makes true. Of two parts one of which is enough it is that of the left one, where both have one.
   abbrev pub first_never : Condition → Bool → Option Condition
   first_never (RegisterIs hart reg word) v =
       if v && not (ends_as hart reg word) then Some (RegisterIs hart reg word) else None
   first_never (LocationIs location word) v =
       if v && not (can_have location word) then Some (LocationIs location word) else None
   first_never (Deny c) v = first_never c (not v)
-  first_never (Both c d) v = option_or (first_never c v) (first_never d v)
-  first_never (Either c d) v = option_or (first_never c v) (first_never d v)
+  first_never (Both c d) v = of_two v (first_never c v) (first_never d v)
+  first_never (Either c d) v = of_two (not v) (first_never c v) (first_never d v)
   first_never _ v = None
 
   -- that of the outcome

@@ -12,7 +12,7 @@ ghost use Rattle.fs_model.specs.Shows.{is_outcome};
 ghost use Rattle.fs_cert_evidence.specs.Trees.{AreItsRuns};
 ghost use Rattle.fs_region_refutation.specs.Runs.{runs_over, AreOfEach};
 ghost use Rattle.fs_app_test.specs.inner.Parts.{ends_with};
-ghost use Rattle.fs_app_test.specs.Words.{stores_word, ends_as, is_stored, can_have, first_never, never_in_outcome, never_words};
+ghost use Rattle.fs_app_test.specs.Words.{stores_word, ends_as, is_stored, can_have, of_two, first_never, never_in_outcome, never_words};
 
 use crate::test_words::value_text;
 use fs_instr::Reg;
@@ -106,7 +106,25 @@ fn ends_as(basis: &Basis, listed: &[List<Lone>], hart: u8, register: Reg, word: 
     some_ends(runs_of(listed, hart), register, word)
 }
 
-/// The first atom that is to be true, where the condition is to have this truth value, and that nothing makes true. Its
+/// The atom to blame of two parts, both of which are needed or one of which is enough.
+fn of_two<'a>(
+    both: bool,
+    left: Option<&'a Outcome>,
+    right: Option<&'a Outcome>,
+) -> Option<&'a Outcome>
+    ensures { option_map (λ atom. condition_of atom.now) result ≡ of_two both
+        (option_map (λ atom. condition_of atom.now) left.entry) (option_map (λ atom. condition_of atom.now) right.entry) }
+{
+    if both {
+        left.or(right)
+    } else if right.is_some() {
+        left
+    } else {
+        None
+    }
+}
+
+/// The first atom that must be true, where the condition is to have this truth value, and that nothing makes true. Its
 /// depth is bounded by that of the test's condition.
 fn first_never<'a>(
     basis: &Basis,
@@ -134,12 +152,14 @@ fn first_never<'a>(
         }
         Outcome::Deny(denied) => first_never(basis, listed, denied, !truth),
         Outcome::Both(left, right) => {
-            let first = first_never(basis, listed, left, truth);
-            first.or(first_never(basis, listed, right, truth))
+            let left = first_never(basis, listed, left, truth);
+            let right = first_never(basis, listed, right, truth);
+            of_two(truth, left, right)
         }
         Outcome::Either(left, right) => {
-            let first = first_never(basis, listed, left, truth);
-            first.or(first_never(basis, listed, right, truth))
+            let left = first_never(basis, listed, left, truth);
+            let right = first_never(basis, listed, right, truth);
+            of_two(!truth, left, right)
         }
     }
 }

@@ -31,7 +31,8 @@ IsText d text = as_str d ≡ Some text
 abbrev pub AreTwo : Data → (first second : Data) → Type 0
 AreTwo d first second = as_array d ≡ Some (item first (item second no_items))
 
--- ---- answers: "none", or an object with a cost and the words of the fences; whether these are FENCE words is no matter of the form
+-- ---- answers: "none", or an object with a cost and the words of the fences; whether these are FENCE words is no
+-- matter of the form
 
 abbrev pub IsAnswerValue : Data → Answer → Type 0
 IsAnswerValue d NoneForbids = IsText d (codes "none")
@@ -68,7 +69,8 @@ IsLink d link =
 abbrev pub IsCycleValue : Data → List Link → Type 0
 IsCycleValue d links = IsArrayOf IsLink d links × (1 ≤ length links) × (length links ≤ most_links)
 
--- ---- inferences of a refutation: an array with a letter and what the inference speaks of; or a cycle. Names and harts are in range.
+-- ---- inferences of a refutation: an array with a letter and what the inference speaks of; or a cycle. Names and harts
+-- are in range.
 
 abbrev pub IsNameInRange : Data → Name → Type 0
 IsNameInRange d name = IsName d name × IsInRange name
@@ -101,7 +103,8 @@ AreCycles Second d (Listed cycles) = IsArrayOf IsCycleValue d cycles
 AreCycles Fourth d (Inferred inferences) = IsArrayOf IsInference d inferences
 AreCycles version d other = ⊥
 
--- ---- trees: the number of a slot; "c"; ["w", a witness's number]; and but for the first version ["b", [witnesses' numbers]]
+-- ---- trees: the number of a slot; "c"; ["w", a witness's number]; and but for the first version ["b", [witnesses'
+-- numbers]]
 
 abbrev pub IsItem : Version → Data → Item → Type 0
 IsItem version d (SplitAt slot) = IsNumber d slot

@@ -28,8 +28,8 @@ EachItem P (item d ds) (x ∷ xs) = P d x × EachItem P ds xs
 abbrev pub IsArrayOf : {A : Type 0} → (Data → A → Type 0) → Data → List A → Type 0
 IsArrayOf P d xs = (ds : Items) × (as_array d ≡ Some ds) × EachItem P ds xs
 
--- ---- choices: a loaded word is a number written as an integer, so 1.0 and 1e2 are none; an sc.w's success is true, and its
--- failure is false
+-- ---- choices: a loaded word is a number written as an integer, so 1.0 and 1e2 are none; an sc.w's success is true,
+-- and its failure is false
 
 abbrev pub most_word : ℕ
 most_word = 4294967295

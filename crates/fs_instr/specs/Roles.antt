@@ -1,5 +1,5 @@
--- 2. What instructions are to the memory model: the roles of their registers (RISC-V Unprivileged ISA 20191213, chapter "RVWMO
--- Memory Consistency Model", section "Source and Destination Register Listings"), and annotations.
+-- 2. What instructions are to the memory model: the roles of their registers (RISC-V Unprivileged ISA 20191213, chapter
+-- "RVWMO Memory Consistency Model", section "Source and Destination Register Listings"), and annotations.
 use Rattle.std.specs.Prelude.{ℕ, List, [], ◌∷◌, Option, Some, None, Bool, true, false, pos, ◌==◌, if◌then◌else◌}
 use Rattle.fs_instr.specs.declared.names.Ann.{Ann}
 use Rattle.fs_instr.specs.declared.names.ImmOp.TheVariants.{Addi}
@@ -14,10 +14,13 @@ abbrev pub named : ℕ → Option ℕ
 named r = if r == 0 then None else Some r
 
 -- the destination, two sources (either of which may be none), which of them gives the address, and which the data, of a
--- memory instruction, and whether the instruction carries dependencies from sources to destination
+-- memory instruction, and whether the instruction carries dependencies from sources to destination. Below a and b are
+-- the first and the second register or the base, v the register that is stored, z, n and t numbers, o the operator.
 abbrev pub roles : Option ℕ → Option ℕ → Option ℕ → Option ℕ → Option ℕ → Bool → Roles
-roles dest first second address word carries = record { dest = dest; sources = first ∷ second ∷ []; address = address; «data» = word; carries = carries }
+roles dest first second address value carries = record { dest = dest; sources = first ∷ second ∷ []; address = address; «data» = value; carries = carries }
 
+-- rd of an sc.w is a destination also where it fails; the manual's table has it where it succeeds. lui and li have no
+-- source to carry from.
 abbrev pub roles_of : Instr → Roles
 roles_of (instr.Register o rd a b) = roles (named rd) (named a) (named b) None None true
 roles_of (instr.Immediate o rd a z) = roles (named rd) (named a) None None None true

@@ -1,5 +1,5 @@
--- 7. Placements of fences, and what they cost. A slot is a place for a fence, right before an instruction of a hart; of which program,
--- section 8 says.
+-- 7. Placements of fences, and what they cost. A slot is a place for a fence, right before an instruction of a hart; of
+-- which program, file 8 says.
 use Rattle.std.specs.Prelude.{ℕ, ◌+◌, ◌*◌, ◌==◌, nat_lt, List, [], ◌∷◌, map, Bool, true, false, ◌&&◌, ◌||◌, Option, None, Some, is_some, unwrap_or, option_and_then, slice_index_or}
 use Rattle.std.specs.Map.{lookup}
 use Rattle.std.specs.List.{find, list_all, sum_by}
@@ -48,7 +48,7 @@ price_of t kind = slice_index_or t.prices (table_index kind) None
 abbrev pub weight_of : PriceTable → Slot → ℕ
 weight_of t s = unwrap_or (lookup (is_same_slot s) t.weights) 1
 
--- none is offered for nothing
+-- no fence is always offered, a kind where it has a price
 abbrev pub is_offered : PriceTable → Option Kind → Bool
 is_offered t None = true
 is_offered t (Some kind) = is_some (price_of t kind)

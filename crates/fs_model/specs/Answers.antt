@@ -1,4 +1,5 @@
--- 8. The fenced program, and what the answers of `solve` mean. t is the program of a test, o the outcome that it asks for.
+-- 8. The fenced program, and what the answers of `solve` mean. t is the program of a test, o the outcome that it asks
+-- for.
 use Rattle.std.specs.Prelude.{◌≡◌, ℕ, ◌+◌, Bool, true, false, ◌&&◌, Option, None, Some, is_some, option_map, unwrap_or, List, [], ◌∷◌, ◌++◌, map, filter, take, length, slice_get}
 use Rattle.std.specs.List.{enumerate_from, flat_map, list_any, range_with_len}
 use Rattle.fs_instr.specs.declared.instr.Instr.{Instr}
@@ -97,7 +98,7 @@ pub record IsPlacement (t : Program) (prices : PriceTable) (p : List Entry) : Ty
   pub slots : slots_of p ≡ slots t
   pub offered : are_offered prices p ≡ true
 
--- with these fences no execution shows the outcome
+-- with these fences no execution shows the outcome (runs that go astray are in none)
 abbrev pub RulesOut : Program → Outcome → List Entry → Type 0
 RulesOut t o p = Allows (fenced t p) o → ⊥
 
@@ -107,6 +108,6 @@ pub record IsCheapest (t : Program) (o : Outcome) (prices : PriceTable) (p : Lis
   pub rules_out : RulesOut t o p
   pub better : (q : List Entry) → IsPlacement t prices q → is_better prices q p ≡ true → Allows (fenced t q) o
 
--- some execution shows the outcome whatever fences stand in the slots
+-- some execution shows the outcome whatever fences stand in the slots (prices offer rw,rw, so this or IsCheapest holds)
 abbrev pub NothingRulesOut : Program → Outcome → Type 0
 NothingRulesOut t o = (q : List Entry) → slots_of q ≡ slots t → Allows (fenced t q) o

@@ -1,6 +1,6 @@
--- 6. Executions and what they show (RISC-V Unprivileged ISA 20191213, chapter "RVWMO Memory Consistency Model", section "Memory Model
--- Axioms"). An execution of a program is a run of each hart, and a global memory order that obeys the axioms. The
--- progress axiom holds of each, since runs are finite.
+-- 6. Executions and what they show (RISC-V Unprivileged ISA 20191213, chapter "RVWMO Memory Consistency Model", section
+-- "Memory Model Axioms"). An execution of a program is a run of each hart, and a global memory order that obeys the
+-- axioms. The progress axiom holds of each, since runs are finite.
 use Rattle.std.specs.Prelude.{◌≡◌, ℕ, ◌<◌, ◌==◌, Bool, true, false, ◌&&◌, ◌||◌, not, Option, None, Some, List, [], ◌∷◌, ◌++◌, filter, map, length, option_and_then, unwrap_or, if◌then◌else◌}
 use Rattle.std.specs.List.{range_with_len, last_or, list_all}
 use Rattle.fs_model.specs.declared.step.Step.{Step}
@@ -32,7 +32,7 @@ gmo x order = range_with_len (length (accesses x)) (length x.words) ++ order
 
 -- ---- load value axiom
 
--- s is a store to the word of the load, and precedes it in the global memory order or in program order
+-- s is a store to the address of the load, and precedes it in the global memory order or in program order
 abbrev pub may_return : PreExecution → List ℕ → ℕ → ℕ → Bool
 may_return x order load s = is_store x s && same_word x s load && (stands_before (gmo x order) s load || po x s load)
 
@@ -46,23 +46,23 @@ ReturnsSources x rf = (a : ℕ) → is_load x a ≡ true → (operation x a).loa
 
 -- ---- atomicity axiom
 
--- no store of another hart to the word of w stands after s and before w in the order
+-- no store of another hart to the address of w stands after s and before w in the global memory order
 abbrev pub HasNoneBetween : PreExecution → List ℕ → ℕ → ℕ → Type 0
-HasNoneBetween x order s w =
+HasNoneBetween x global s w =
     (m : ℕ) → is_store x m ≡ true → same_word x m w ≡ true → same_hart x m w ≡ false
-    → stands_before order s m ≡ true → stands_before order m w ≡ true → ⊥
+    → stands_before global s m ≡ true → stands_before global m w ≡ true → ⊥
 
--- of paired operations r and w, the source of r precedes w, and no other hart stores between
+-- of paired operations r and w, the source of r precedes w, and no other hart stores to their address between
 abbrev pub IsAtomic : PreExecution → (ℕ → Option ℕ) → List ℕ → Type 0
-IsAtomic x rf order =
+IsAtomic x rf global =
     (r w s : ℕ) → po x r w ≡ true → paired x r w ≡ true → rf r ≡ Some s
-    → (stands_before order s w ≡ true) × HasNoneBetween x order s w
+    → (stands_before global s w ≡ true) × HasNoneBetween x global s w
 
 -- ---- executions
 
--- the order respects preserved program order
+-- the global memory order respects preserved program order
 abbrev pub Respects : List ℕ → (ℕ → ℕ → Type 0) → Type 0
-Respects order Before = (a b : ℕ) → Before a b → stands_before order a b ≡ true
+Respects global Before = (a b : ℕ) → Before a b → stands_before global a b ≡ true
 
 -- an order of the harts' operations obeys the axioms
 pub record ObeysAxioms (x : PreExecution) (order : List ℕ) : Type 0 where
@@ -84,7 +84,8 @@ pub record IsExecution (t : Program) (e : Execution) : Type 0 where
   pub runs : (hart : ℕ) → hart < length t.codes → IsTrace t hart (steps_of e.traces hart)
   pub axioms : ObeysAxioms (pre_execution t e.traces) e.order
 
--- ---- final states: the registers at the end of each run, and of each location the word of its last store in the global memory order
+-- ---- final states: the registers at the end of each run, and of each location the word of its last store in the
+-- global memory order
 
 abbrev pub final_register : Program → Execution → (hart reg : ℕ) → ℕ
 final_register t e hart reg = read (hart_after (start_with (registers_of t hart)) (steps_of e.traces hart)).registers reg
@@ -101,6 +102,7 @@ final_word t e location = last_word (pre_execution t e.traces) e.order location
 
 -- ---- the outcome that a test asks for
 
+-- true, false, the two atoms, and ~, /\ and \/
 pub data Condition : Type 0 where
   Always : Condition
   Never : Condition

@@ -1,8 +1,8 @@
--- 4. Memory operations, program order and syntactic dependencies (RISC-V Unprivileged ISA 20191213, chapter "RVWMO Memory Consistency
--- Model", sections "Memory Model Primitives" and "Syntactic Dependencies"). An operation is known by its number: hart
--- by hart in program order, and then the initial stores, location by location, which are of no hart. An AMO is one
--- operation, which loads and stores. All accesses are of aligned words, so two overlap where their addresses are the
--- same.
+-- 4. Memory operations, program order and syntactic dependencies (RISC-V Unprivileged ISA 20191213, chapter "RVWMO
+-- Memory Consistency Model", sections "Memory Model Primitives" and "Syntactic Dependencies"). An operation is known by
+-- its number: hart by hart in program order, and then the initial stores, location by location, which are of no hart.
+-- Its place is its step's in the run, which is not its position in the code. An AMO is one operation, which loads and
+-- stores. All accesses are of aligned words, so two overlap where their addresses are the same.
 use Rattle.std.specs.Prelude.{ℕ, zero, suc, ◌+◌, ◌-◌, ◌==◌, false, nat_lt, Bool, Option, ◌&&◌, ◌||◌, not, None, Some, is_some, option_map, unwrap_or, List, [], ◌++◌, map, filter, length, slice_get}
 use Rattle.std.specs.List.{enumerate_from, flat_map, list_any, range_with_len, slice_index_or}
 use Rattle.fs_kinds.specs.declared.kind.Classes.{Classes}
@@ -29,7 +29,8 @@ is_same None b = false
 
 -- ---- operations
 
--- What an execution has before any order: a run of each hart, and the words that the locations begin with.
+-- What an execution has before any order, x below: a run of each hart, and the words that the locations begin with (a
+-- herd reader's event structure, with its words).
 pub record PreExecution : Type 0 where
   pub traces : List (List Step)
   pub words : List ℕ
@@ -72,6 +73,7 @@ is_store x a = is_some (operation x a).stored
 abbrev pub classes : PreExecution → ℕ → Classes
 classes x a = record { reads = is_load x a; writes = is_store x a }
 
+-- both access the same address (loc in cat), whatever they load or store there
 abbrev pub same_word : PreExecution → ℕ → ℕ → Bool
 same_word x a b = is_same (operation x a).address (operation x b).address
 
@@ -89,7 +91,8 @@ po x a b = precedes (operation x a) (operation x b)
 abbrev pub any_between : PreExecution → (ℕ → Bool) → ℕ → ℕ → Bool
 any_between x test a b = list_any (λ m. po x a m && po x m b && test m) (numbers_below (length (accesses x)))
 
--- annotations: aq acquires and rl releases, and each of them is RCsc
+-- annotations: aq acquires and rl releases, and each of them is RCsc. (In the manual lr.w with rl alone and sc.w with
+-- aq alone have none; no test has these instructions: IsOfTable.)
 abbrev pub is_acquire : PreExecution → ℕ → Bool
 is_acquire x a = (annotation (operation x a).instr).acquire
 
@@ -157,6 +160,7 @@ control_depends steps i j =
 abbrev pub address_dependency : PreExecution → ℕ → ℕ → Bool
 address_dependency x a b = address_depends (trace_of x a) (place x a) (place x b)
 
+-- (the manual asks that b is a store: only stores and AMOs have a data source)
 abbrev pub data_dependency : PreExecution → ℕ → ℕ → Bool
 data_dependency x a b = data_depends (trace_of x a) (place x a) (place x b)
 

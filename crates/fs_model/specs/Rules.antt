@@ -1,6 +1,6 @@
--- 5. Fences, and preserved program order (RISC-V Unprivileged ISA 20191213, chapter "RVWMO Memory Consistency Model", section "Preserved
--- Program Order"; for what a FENCE orders chapter "RV32I Base Integer Instruction Set", section "Memory Ordering
--- Instructions").
+-- 5. Fences, and preserved program order (RISC-V Unprivileged ISA 20191213, chapter "RVWMO Memory Consistency Model",
+-- section "Preserved Program Order"; for what a FENCE orders chapter "RV32I Base Integer Instruction Set", section
+-- "Memory Ordering Instructions").
 use Rattle.std.specs.Prelude.{ℕ, Bool, false, ◌&&◌, ◌||◌, not, Option, Some, List, [], ◌∷◌}
 use Rattle.std.specs.List.{list_any}
 use Rattle.fs_instr.specs.declared.instr.Instr.{Instr}
@@ -11,7 +11,9 @@ use Rattle.fs_model.specs.Operations.{PreExecution, is_load, is_store, same_word
 
 -- ---- fences. The letters i and o, for devices, order no memory operation.
 
--- the instruction is a FENCE that orders operations of the first classes before those of the second
+-- The instruction is a FENCE that orders operations of the first classes before those of the second: where a letter r
+-- or w before the comma is among the first, and one behind it among the second. fence.tso orders a load before all, and
+-- a store before a store. (Sets of pairs of classes are in `Kind` of fs_kinds. By letters: the law rule_4_by_letters.)
 abbrev pub instr_orders : Classes → Classes → Instr → Bool
 instr_orders first second (Fence before after) = pairs_order (product before.reads before.writes after.reads after.writes) first second
 instr_orders first second FenceTso = pairs_order tso_pairs first second
@@ -21,7 +23,8 @@ instr_orders first second _ = false
 abbrev pub fence_between : PreExecution → ℕ → ℕ → Bool
 fence_between x a b = list_any (λ k. instr_orders (classes x a) (classes x b) (instr_at (trace_of x a) k)) (between (place x a) (place x b))
 
--- ---- the manual's rules, by their numbers, and beside each its line in herd7's riscv.cat
+-- ---- the manual's rules, by their numbers, and beside each its line in riscv-defs.cat of the manual's appendix. All
+-- locations are main memory, so what the manual asks of a and b there is left out.
 
 pub data Rule : Type 0 where
   Rule1 Rule2 Rule3 Rule4 Rule5 Rule6 Rule7 Rule8 Rule9 Rule10 Rule11 Rule12 Rule13 : Rule
@@ -34,14 +37,14 @@ all_rules = Rule1 ∷ Rule2 ∷ Rule3 ∷ Rule4 ∷ Rule5 ∷ Rule6 ∷ Rule7 �
 module _ (x : PreExecution) (rf : ℕ → Option ℕ) (a b : ℕ) where
   -- what each rule asks besides program order
   abbrev pub case_of : Rule → Bool
-  -- Overlapping addresses. b is a store to the word of a:                                [M];po-loc;[W]
+  -- Overlapping addresses. b is a store to the address of a:                             [M];po-loc;[W]
   case_of Rule1 = is_store x b && same_word x a b
-  -- loads of one word, with no store to it between, that return different stores:        ([R];po-loc-no-w;[R]) \ rsw
+  -- loads of one address, with no store to it between, that return different stores:     ([R];po-loc-no-w;[R]) \ rsw
   -- (loads without a source would count as such; in an execution each has one. Of an AMO a the own store isn't between)
   case_of Rule2 =
       is_load x a && is_load x b && same_word x a b
       && not (any_between x (λ m. is_store x m && same_word x m a) a b) && not (is_same (rf a) (rf b))
-  -- b returns what the AMO or sc.w a stored:                                             [AMO|X];rfi;[R]
+  -- b returns what the AMO or sc.w a stored:                                             [AMO|StCond];rfi;[R]
   case_of Rule3 = is_amo_or_sc x a && is_load x b && is_same (rf b) (Some a)
   -- Explicit synchronization. A FENCE orders a before b:                                 fence
   case_of Rule4 = fence_between x a b
@@ -51,7 +54,7 @@ module _ (x : PreExecution) (rf : ℕ → Option ℕ) (a b : ℕ) where
   case_of Rule6 = is_release x b
   -- both are annotated, and so RCsc:                                                     [RCsc];po;[RCsc]
   case_of Rule7 = is_rcsc x a && is_rcsc x b
-  -- a is paired with b:                                                                  rmw
+  -- a is paired with b, which is an operation, so the sc.w succeeded:                    rmw
   case_of Rule8 = paired x a b
   -- Syntactic dependencies. b has an address dependency on a:                            [M];addr;[M]
   case_of Rule9 = address_dependency x a b

@@ -1,8 +1,8 @@
--- 3. Programs, and runs of one hart (RISC-V Unprivileged ISA 20191213, chapter "RV32I Base Integer Instruction Set", and for lr.w and
--- sc.w chapter "“A” Standard Extension for Atomic Instructions"). A load may return any word here, and an sc.w may
--- fail. A `Hart` is the state between two instructions: the position `at` of the next, the registers, and the address
--- `paired` that an sc.w might succeed at. A `Step` is an executed instruction with its position, the address that it
--- accesses, and the words that it loads and stores there.
+-- 3. Programs, and runs of one hart (RISC-V Unprivileged ISA 20191213, chapter "RV32I Base Integer Instruction Set",
+-- and for lr.w and sc.w chapter "“A” Standard Extension for Atomic Instructions"). A load may return any word here, and
+-- an sc.w may fail. A `Hart` is the state between two instructions: the position `at` of the next, the registers, and
+-- the address `paired` that an sc.w might succeed at. A `Step` is an executed instruction with its position, the
+-- address that it accesses, and the words that it loads and stores there.
 use Rattle.std.specs.Prelude.{◌≡◌, ℕ, ◌+◌, ◌*◌, ◌^◌, ◌<◌, ◌≤◌, ◌⊎◌, Option, None, Some, List, [], ◌∷◌, length, slice_get}
 use Rattle.std.specs.List.{slice_index_or}
 use Rattle.fs_instr.specs.declared.instr.Instr.{Instr}
@@ -14,7 +14,8 @@ use Rattle.fs_model.specs.Instructions.{address_in, stored_in, result_in, writte
 use Rattle.fs_instr.specs.Roles.{dest_of}
 
 -- The code of each hart, the 32 words that its registers begin with, and the locations, each with the word that it
--- begins with.
+-- begins with. In a test x0 begins with 0, words are below 2^32, and branches go forward (IsTest), which is asked for
+-- nowhere here; a run that doesn't end is none.
 pub record Program : Type 0 where
   pub codes : List (List Instr)
   pub starts : List (List ℕ)
@@ -28,7 +29,7 @@ registers_of t hart = slice_index_or t.starts hart []
 
 -- ---- what a step accesses
 
--- the address of the location of this number
+-- the address of the location of this number (of Roles it is a register)
 abbrev pub address_of : ℕ → ℕ
 address_of location = 4096 + 16 * location
 
@@ -40,7 +41,8 @@ abbrev pub IsWord : Option ℕ → Type 0
 IsWord None = ⊥
 IsWord (Some word) = word < 2 ^ 32
 
--- an access to a declared location, at the address that the instruction has in this state
+-- an access to a declared location, at the address that the instruction has in this state (a run that would go
+-- elsewhere is none; `solve` refuses such a test, F14)
 abbrev pub IsAtLocation : ℕ → Hart → Step → Type 0
 IsAtLocation n h s = (s.address ≡ address_in h.registers s.instr) × IsDeclared n s.address
 
@@ -50,7 +52,7 @@ StoresItsWord h s = s.stored ≡ stored_in h.registers s.loaded s.instr
 abbrev pub AccessesNothing : Step → Type 0
 AccessesNothing s = (s.address ≡ None) × (s.loaded ≡ None) × (s.stored ≡ None)
 
--- an sc.w succeeds only where it is paired with an lr.w of its address
+-- an sc.w succeeds only where it is paired with an lr.w of its address (so that is a location's)
 abbrev pub Succeeds : Hart → Step → Type 0
 Succeeds h s = (s.address ≡ address_in h.registers s.instr) × (s.address ≡ h.paired) × (s.loaded ≡ None) × StoresItsWord h s
 
