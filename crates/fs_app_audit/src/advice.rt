@@ -151,7 +151,7 @@ fn advice_at(
     }
 }
 
-// What is advised of instruction `at`, mostly nothing. The cube of the code's length at most.
+/// What is advised of instruction `at`, mostly nothing. The cube of the code's length at most.
 pub(crate) fn advice_of(
     placement: &Placement,
     hart: u8,
@@ -207,7 +207,7 @@ fn code_of(codes: &[Code], hart: usize) -> &[Instr]
     }
 }
 
-// Is each FENCE needed, and none missing?
+/// Is each FENCE needed, and none missing?
 pub(crate) fn is_right(codes: &[Code], placement: &Placement) -> bool
     requires harts { length codes.now ≤ most_harts }
     requires lengths { All (λ code. length code ≤ most_instructions) codes.now }

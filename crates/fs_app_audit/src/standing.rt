@@ -98,7 +98,7 @@ fn next_stop(code: &[Instr], at: usize) -> Option<usize>
     (0..code.len()).find(|other| at < *other && is_stop(code, *other))
 }
 
-// The access at which a FENCE at `at` stands, if there is one. The square of the code's length at most.
+/// The access at which a FENCE at `at` stands, if there is one. The square of the code's length at most.
 pub(crate) fn access_after(code: &[Instr], at: usize) -> Option<usize>
     ensures { result ≡ access_after code.now at }
 {
@@ -115,14 +115,14 @@ fn stands_at(code: &[Instr], access: usize, at: usize) -> bool
     is_fence_at(code, at) && access_after(code, at).is_some_and(|found| found == access)
 }
 
-// Does an access stand before instruction `at`, and one behind it?
+/// Does an access stand before instruction `at`, and one behind it?
 pub(crate) fn is_between_accesses(code: &[Instr], at: usize) -> bool
     ensures { result ≡ is_between_accesses code.now at }
 {
     has_access(before(code, at)) && has_access(from(code, at))
 }
 
-// Does the FENCE of this kind order all that the first kind orders?
+/// Does the FENCE of this kind order all that the first kind orders?
 pub(crate) fn covers(kind: Kind, own: Option<Kind>) -> bool
     ensures { result ≡ covers kind own }
 {
@@ -132,7 +132,7 @@ pub(crate) fn covers(kind: Kind, own: Option<Kind>) -> bool
     }
 }
 
-// Does it order that and no more?
+/// Does it order that and no more?
 pub(crate) fn is_of(kind: Kind, own: Option<Kind>) -> bool
     ensures { result ≡ is_of kind own }
 {
@@ -182,8 +182,8 @@ fn first(code: &[Instr], access: usize) -> Option<usize>
     (0..access).find(|at| stands_at(code, access, *at))
 }
 
-// Of the FENCEs at the access the first of this kind, or else the first that covers it, or else the first. The cube of
-// the code's length at most.
+/// Of the FENCEs at the access the first of this kind, or else the first that covers it, or else the first. The cube of
+/// the code's length at most.
 pub(crate) fn answering(code: &[Instr], access: usize, kind: Kind) -> Option<usize>
     ensures { result ≡ answering code.now access kind }
 {

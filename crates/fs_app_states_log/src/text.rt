@@ -110,7 +110,7 @@ fn not_seen_lines(
     Ok(text)
 }
 
-// What is printed of a test that the log has.
+/// What is printed of a test that the log has.
 pub(crate) fn compared_text(
     alloc: Global,
     name: &str,

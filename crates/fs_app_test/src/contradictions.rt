@@ -35,7 +35,7 @@ fn count_contradictions(inferences: &[Inference]) -> usize
         .count()
 }
 
-// How many cycles there are, or contradictions of a refutation.
+/// How many cycles there are, or contradictions of a refutation.
 pub(crate) fn contradictions_in(cycles: &Cycles) -> usize
     ensures { result ≡ contradictions_in (cycles_of cycles.now) }
 {
@@ -55,7 +55,7 @@ fn no_contradictions(cycles: &Cycles) -> &'static str
     }
 }
 
-// How many contradictions there are, in words, or that there are none.
+/// How many contradictions there are, in words, or that there are none.
 pub(crate) fn forbidden_words(alloc: Global, cycles: &Cycles) -> Result<String, AllocError>
     ensures { IfOk result (λ text. string_bytes text ≡ forbidden_words (cycles_of cycles.now)) }
 {

@@ -21,7 +21,7 @@ use std::sync::Arc;
 /// Prices, which a question has and no verdict looks at.
 const PRICES: &[u8] = b"{\"rw,rw\":1}";
 
-// What is said of the test, or the fault of its runs or candidates.
+/// What is said of the test, or the fault of its runs or candidates.
 pub(crate) fn judge(alloc: Global, test: Test) -> Result<Said, Fault>
     requires { IsTest test }
     ensures ok { IfOk result (λ said. IsTestedAs test said.kind (string_bytes said.why) (witness_in said.witness)) }
@@ -31,7 +31,7 @@ pub(crate) fn judge(alloc: Global, test: Test) -> Result<Said, Fault>
     judge_test(alloc, &test)
 }
 
-// The test, to be shared.
+/// The test, to be shared.
 pub(crate) fn shared(alloc: Global, test: Test) -> Result<Arc<Test>, AllocError>
     ensures { IfOk result (λ shared. arc_value shared ≡ test) }
 {

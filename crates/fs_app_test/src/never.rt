@@ -258,7 +258,7 @@ fn never_words(alloc: Global, test: &Test, atom: Option<&Outcome>) -> Result<Str
     }
 }
 
-// Why the test is vacuous, as it is.
+/// Why the test is vacuous, as it is.
 pub(crate) fn vacuous_text(alloc: Global, basis: &Basis) -> Result<String, AllocError>
     ensures { IfOk result (λ text. (runs : ℕ → List (List Steps)) × AreItsRuns basis.now runs
         × (string_bytes text ≡ never_words basis.now (never_in_outcome basis.now runs))) }

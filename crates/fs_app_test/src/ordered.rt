@@ -32,7 +32,7 @@ fn overtaken(name: OperationName, later: &[OperationName]) -> Option<u8>
     (0..name.at).find(|at| is_among(later, OperationName { hart, at: *at }))
 }
 
-// The first operation that stands before one which is earlier in its hart's code, and the earliest such one.
+/// The first operation that stands before one which is earlier in its hart's code, and the earliest such one.
 pub(crate) fn overtaking(order: &[OperationName]) -> Option<Pair>
     ensures { result ≡ overtaking order.now }
 {
@@ -51,7 +51,7 @@ fn pair_words(alloc: Global, pair: Pair) -> Result<String, AllocError>
     format!(in alloc; "{} comes to memory before {}", pair.0, pair.1)
 }
 
-// The words for an order in which the first operation overtakes the second, if there is such a pair.
+/// The words for an order in which the first operation overtakes the second, if there is such a pair.
 pub(crate) fn order_words(alloc: Global, found: Option<Pair>) -> Result<String, AllocError>
     ensures { IfOk result (λ text. string_bytes text ≡ order_words found) }
 {

@@ -7,7 +7,7 @@ ghost use Rattle.fs_model.specs.Printed.{value_text};
 use fs_model::Location;
 use std::alloc::{AllocError, Global};
 
-// The name of the location whose address the word is, or else the word in decimal.
+/// The name of the location whose address the word is, or else the word in decimal.
 pub(crate) fn value_text(
     alloc: Global,
     locations: &[Location],

@@ -28,8 +28,8 @@ pub(crate) enum Vacuity {
     Open,
 }
 
-// Whether the test is vacuous, and where it is what is said of it. The fault is that of its runs; or F19. The cost is
-// that of `Basis::new`, and of `is_vacuous` of fs_judge_vacuous_outcomes.
+/// Whether the test is vacuous, and where it is what is said of it. The fault is that of its runs; or F19. The cost is
+/// that of `Basis::new`, and of `is_vacuous` of fs_judge_vacuous_outcomes.
 pub(crate) fn vacuous(alloc: Global, test: &Arc<Test>) -> Result<Vacuity, Fault>
     requires bounded { IsBounded (arc_value test.now) }
     requires starts { All IsStart (arc_value test.now).starts }

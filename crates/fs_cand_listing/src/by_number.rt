@@ -12,7 +12,7 @@ use crate::counting::{count_choices, count_orders, count_store_orders};
 use fs_kinds::List;
 use std::alloc::{AllocError, Global};
 
-// Puts the sources of this number behind the others, one of each list. The last list's sources change first.
+/// Puts the sources of this number behind the others, one of each list. The last list's sources change first.
 pub(crate) fn push_sources(
     lists: &[List<Option<u8>>],
     number: u32,
@@ -74,8 +74,8 @@ fn order_of(alloc: Global, first: u8, stores: &[u8], number: u32) -> Result<List
     Ok(List::new(order))
 }
 
-// Puts the coherence orders of this number behind the others, one of each location's stores, where the initial store of
-// the first location has the number `first`. The last location's order changes first.
+/// Puts the coherence orders of this number behind the others, one of each location's stores, where the initial store
+/// of the first location has the number `first`. The last location's order changes first.
 pub(crate) fn push_orders(
     alloc: Global,
     first: u8,

@@ -80,7 +80,7 @@ fn count_storing(operations: &[Operation], a: usize) -> usize
         .count()
 }
 
-// How many sources operation a may have. What is no load has one way to have none. Linear in the operations.
+/// How many sources operation a may have. What is no load has one way to have none. Linear in the operations.
 pub(crate) fn count_sources(operations: &[Operation], a: usize) -> usize
     ensures { result ≡ number_of_sources operations.now a }
 {
@@ -115,7 +115,7 @@ fn own_stores(
         .collect(alloc)
 }
 
-// How many stores to a location the harts have, where the first `count` operations are the harts'.
+/// How many stores to a location the harts have, where the first `count` operations are the harts'.
 pub(crate) fn count_own_stores(operations: &[Operation], count: usize, location: u8) -> usize
     ensures { result ≡ length (own_among operations.now count location) }
 {
@@ -170,7 +170,7 @@ pub(crate) struct Choices {
 }
 
 impl Choices {
-    // What may be chosen with the runs of these operations, in a test with so many locations.
+    /// What may be chosen with the runs of these operations, in a test with so many locations.
     pub(crate) fn of(
         alloc: Global,
         operations: &[Operation],

@@ -28,7 +28,7 @@ fn cap(number: u64) -> u32
     }
 }
 
-// The product, or one more than there may be.
+/// The product, or one more than there may be.
 pub(crate) fn times(count: u32, factor: usize) -> u32
     requires { count ≤ most_candidates + 1 }
     ensures exact { result ≡ capped (count * factor) }
@@ -38,7 +38,7 @@ pub(crate) fn times(count: u32, factor: usize) -> u32
     cap(count as u64 * factor as u64)
 }
 
-// How many orders so many stores have.
+/// How many orders so many stores have.
 pub(crate) fn count_orders(stores: usize) -> u32
     ensures exact { result ≡ capped (factorial stores) }
     ensures most { result ≤ most_candidates + 1 }
@@ -50,7 +50,7 @@ pub(crate) fn count_orders(stores: usize) -> u32
     count
 }
 
-// The product of the lengths.
+/// The product of the lengths.
 pub(crate) fn count_choices<T>(lists: &[List<T>]) -> u32
     ensures exact { result ≡ capped (product_of_lengths lists.now) }
     ensures most { result ≤ most_candidates + 1 }
@@ -62,7 +62,7 @@ pub(crate) fn count_choices<T>(lists: &[List<T>]) -> u32
     count
 }
 
-// The product of the numbers of orders.
+/// The product of the numbers of orders.
 pub(crate) fn count_store_orders(stores: &[List<u8>]) -> u32
     ensures exact { result ≡ capped (product_by number_of_orders stores.now) }
     ensures most { result ≤ most_candidates + 1 }
@@ -75,7 +75,7 @@ pub(crate) fn count_store_orders(stores: &[List<u8>]) -> u32
 }
 
 impl Choices {
-    // How many ways there are to choose the sources, or one more than there may be.
+    /// How many ways there are to choose the sources, or one more than there may be.
     pub(crate) fn count_sources(&self) -> u32
         ensures exact { result ≡ capped (product_of_lengths self.now.sources.items) }
         ensures most { result ≤ most_candidates + 1 }
@@ -83,7 +83,7 @@ impl Choices {
         count_choices(&self.sources)
     }
 
-    // How many ways there are to order the stores, or one more than there may be.
+    /// How many ways there are to order the stores, or one more than there may be.
     pub(crate) fn count_orders(&self) -> u32
         ensures exact { result ≡ capped (product_by number_of_orders self.now.stores.items) }
         ensures most { result ≤ most_candidates + 1 }
@@ -118,8 +118,8 @@ fn count_orders_among(operations: &[Operation], count: usize, locations: u8) -> 
     orders
 }
 
-// How many raw candidates there are with the runs of these operations, in a test with so many locations, or one more
-// than there may be. The square of the operations, and nothing is listed.
+/// How many raw candidates there are with the runs of these operations, in a test with so many locations, or one more
+/// than there may be. The square of the operations, and nothing is listed.
 pub(crate) fn count_raw(operations: &[Operation], locations: u8) -> u32
     ensures exact { (x : PreExecution) → operations.now ≡ operations_of x
         → result ≡ capped (product_of_lengths (all_sources x) * product_by number_of_orders (map (own_stores x) (numbers_below locations))) }

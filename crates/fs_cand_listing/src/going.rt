@@ -76,8 +76,8 @@ impl Prepared {
         Ok(())
     }
 
-    // Puts the numbers of the raw candidates that show the outcome behind the others. Each raw candidate is tried, by
-    // tests of each two operations.
+    /// Puts the numbers of the raw candidates that show the outcome behind the others. Each raw candidate is tried, by
+    /// tests of each two operations.
     pub(crate) fn add_showing(
         &self,
         alloc: Global,
@@ -96,7 +96,7 @@ impl Prepared {
         Ok(())
     }
 
-    // The raw candidate of this number.
+    /// The raw candidate of this number.
     pub(crate) fn candidate(
         self,
         alloc: Global,

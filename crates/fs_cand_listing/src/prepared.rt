@@ -29,7 +29,7 @@ pub(crate) struct Prepared {
 }
 
 impl Prepared {
-    // What the raw candidates with these runs are made of. The square of the operations.
+    /// What the raw candidates with these runs are made of. The square of the operations.
     pub(crate) fn of(alloc: Global, test: &Test, traces: List<Trace>) -> Result<Prepared, Fault>
         requires test { IsBounded test.now }
         requires runs { CanBePrepared test.now traces }
@@ -87,7 +87,7 @@ impl Prepared {
         are_coherent(self.operations.as_slice(), sources, orders) && self.is_atomic(sources, orders)
     }
 
-    // Does the raw candidate with these sources and coherence orders show the outcome?
+    /// Does the raw candidate with these sources and coherence orders show the outcome?
     pub(crate) fn shows(&self, test: &Test, sources: &[Option<u8>], orders: &[List<u8>]) -> bool
         requires { IsPrepared test.now self.now }
         ensures { result ≡ shows test.now (candidate (steps_in self.now.traces) sources.now orders.now) }

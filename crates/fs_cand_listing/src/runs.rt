@@ -38,7 +38,7 @@ fn push_runs(
     push_runs(alloc, rest, number % count, traces)
 }
 
-// The runs of this number, one of each list.
+/// The runs of this number, one of each list.
 pub(crate) fn runs_at(
     alloc: Global,
     lists: &[List<Trace>],

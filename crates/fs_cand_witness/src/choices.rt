@@ -41,7 +41,7 @@ fn choices_of(alloc: Global, steps: &[Step]) -> Result<Choices, AllocError>
     Ok(Choices::new(choices))
 }
 
-// The choices of each run, in their order.
+/// The choices of each run, in their order.
 pub(crate) fn choices(alloc: Global, traces: &[Trace]) -> Result<ChoiceLists, AllocError>
     ensures { IfOk result (λ lists. lists ≡ map chosen (steps_in traces.now)) }
 {

@@ -9,7 +9,7 @@ use fs_cand::Candidate;
 use fs_kinds::{List, OperationName};
 use std::alloc::{AllocError, Global};
 
-// The names of the operations of these numbers. Initial stores are left out.
+/// The names of the operations of these numbers. Initial stores are left out.
 pub(crate) fn names(
     alloc: Global,
     candidate: &Candidate,

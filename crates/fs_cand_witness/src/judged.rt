@@ -8,7 +8,7 @@ ghost use Rattle.fs_ppo.specs.Rules.{OfRuns};
 use fs_cand::Candidate;
 use fs_ppo::{is_preserved, is_read_externally};
 
-// Without placed fences: must a come before b?
+/// Without placed fences: must a come before b?
 pub(crate) fn is_judged(candidate: &Candidate, a: usize, b: usize) -> bool
     ensures { OfRuns candidate.now (λ x. result ≡ is_judged x [] (candidate_of candidate.now) a b) }
 {

@@ -8,7 +8,7 @@ ghost use Rattle.fs_cand_witness.specs.inner.Widening.{HasOrder};
 
 use fs_relation::{Judged, Rows, judge};
 
-// An order that extends the relation on the numbers below n: the first n.
+/// An order that extends the relation on the numbers below n: the first n.
 pub(crate) fn order_of(rows: &Rows, n: usize) -> [u8; 64]
     requires fits { n ≤ 64 }
     requires order { HasOrder rows.now n }
@@ -20,7 +20,7 @@ pub(crate) fn order_of(rows: &Rows, n: usize) -> [u8; 64]
     }
 }
 
-// The order as rows: an edge leads from each number to those that come after it.
+/// The order as rows: an edge leads from each number to those that come after it.
 pub(crate) fn order_rows(numbers: &[u8]) -> Rows
     requires { (a : ℕ) → has_number numbers.now a ≡ true → a < 64 }
     ensures { (a b : ℕ) → has_edge result a b ≡ stands_before numbers.now a b }

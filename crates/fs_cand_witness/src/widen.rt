@@ -51,8 +51,8 @@ fn is_among(slots: &[Slot], slot: Slot) -> bool
     slots.iter().any(|other| *other == slot)
 }
 
-// The relation with each pair of classes kept that can be, at the places of these slots before the others: no other
-// pair can be added, and nothing but pairs is. For each place four times what it takes to judge a relation.
+/// The relation with each pair of classes kept that can be, at the places of these slots before the others: no other
+/// pair can be added, and nothing but pairs is. For each place four times what it takes to judge a relation.
 pub(crate) fn widened(rows: &Rows, n: usize, sides: &[Sides], first: &[Slot]) -> Rows
     requires fits { n ≤ 64 }
     requires order { HasOrder rows.now n }

@@ -22,7 +22,7 @@ pub(crate) enum Class {
     Writes,
 }
 
-// The operations of this class before the place, as bits.
+/// The operations of this class before the place, as bits.
 pub(crate) fn before_in(sides: &Sides, class: Class) -> u64
     ensures { result ≡ before_in class sides.now }
 {
@@ -32,7 +32,7 @@ pub(crate) fn before_in(sides: &Sides, class: Class) -> u64
     }
 }
 
-// Those after it.
+/// Those after it.
 pub(crate) fn after_in(sides: &Sides, class: Class) -> u64
     ensures { result ≡ after_in class sides.now }
 {
@@ -42,7 +42,7 @@ pub(crate) fn after_in(sides: &Sides, class: Class) -> u64
     }
 }
 
-// Have the rows an edge from each of the first to each of the second?
+/// Have the rows an edge from each of the first to each of the second?
 pub(crate) fn are_ordered(rows: &Rows, first: u64, second: u64) -> bool
     ensures { result ≡ are_ordered rows.now first second }
 {
@@ -101,7 +101,7 @@ fn pairs_at_each(
         .collect(alloc)
 }
 
-// The pairs that the order, as rows, keeps at each slot of the test. The slots times the sides.
+/// The pairs that the order, as rows, keeps at each slot of the test. The slots times the sides.
 pub(crate) fn widths(
     alloc: Global,
     test: &Test,

@@ -10,7 +10,7 @@ use fs_kinds::{Fault, OperationName as Name};
 use fs_model::Operation;
 use std::alloc::Global;
 
-// The name of the operation: its hart and the position of its instruction. An initial store has none.
+/// The name of the operation: its hart and the position of its instruction. An initial store has none.
 pub(crate) fn name(traces: &[Trace], operation: &Operation) -> Option<Name>
     ensures { result ≡ name_in (map (λ trace. trace.steps) traces.now) operation.now }
 {
@@ -20,7 +20,7 @@ pub(crate) fn name(traces: &[Trace], operation: &Operation) -> Option<Name>
     Some(Name { hart, at: step.at })
 }
 
-// The names of the operations, by their numbers.
+/// The names of the operations, by their numbers.
 pub(crate) fn names(
     alloc: Global,
     traces: &[Trace],
@@ -37,8 +37,8 @@ pub(crate) fn names(
     Ok(names)
 }
 
-// The numbers of the operations with these names, where each is that of an operation. The list of names is by the
-// operations' numbers.
+/// The numbers of the operations with these names, where each is that of an operation. The list of names is by the
+/// operations' numbers.
 pub(crate) fn numbers(
     alloc: Global,
     names: &[Option<Name>],

@@ -71,7 +71,7 @@ impl OrderedCandidate {
             .keeps_atomicity(self.candidate.traces.as_slice(), r, w)
     }
 
-    // The least load that doesn't return the word of its source.
+    /// The least load that doesn't return the word of its source.
     pub(crate) fn wrong_load(&self, test: &Test) -> Option<usize>
         requires { IsOrdered test.now self.now }
         ensures { result ≡ find (is_wrong_load (runs_in test.now self.now) self.now.order.listed)
@@ -80,7 +80,7 @@ impl OrderedCandidate {
         (0..self.count(test)).find(|a| self.is_wrong_load(test, *a))
     }
 
-    // The least operation that rule n puts after a, and the order doesn't.
+    /// The least operation that rule n puts after a, and the order doesn't.
     pub(crate) fn rule_broken_by(
         &self,
         test: &Test,
@@ -94,7 +94,7 @@ impl OrderedCandidate {
         (0..self.count(test)).find(|b| self.is_against_rule(test, placement, n, a, *b))
     }
 
-    // The least operation that rule n puts before another, and the order doesn't.
+    /// The least operation that rule n puts before another, and the order doesn't.
     pub(crate) fn rule_broken_after(
         &self,
         test: &Test,
@@ -107,7 +107,7 @@ impl OrderedCandidate {
         (0..self.count(test)).find(|a| self.rule_broken_by(test, placement, n, *a).is_some())
     }
 
-    // The least rule that the order breaks.
+    /// The least rule that the order breaks.
     pub(crate) fn broken_rule(&self, test: &Test, placement: &Placement) -> Option<u8>
         requires { IsOrdered test.now self.now }
         ensures { result ≡ find (λ n. is_some (rule_broken_after (runs_in test.now self.now) placement.now self.now.order.listed n)) (range_with_len 1 13) }
@@ -115,7 +115,7 @@ impl OrderedCandidate {
         (1..14).find(|n| self.rule_broken_after(test, placement, *n).is_some())
     }
 
-    // The least operation that r is paired with against atomicity.
+    /// The least operation that r is paired with against atomicity.
     pub(crate) fn atomicity_broken_by(&self, test: &Test, r: usize) -> Option<usize>
         requires { IsOrdered test.now self.now }
         ensures { result ≡ atomicity_broken_by (runs_in test.now self.now) self.now.order.listed r }
@@ -123,7 +123,7 @@ impl OrderedCandidate {
         (0..self.count(test)).find(|w| self.is_against_atomicity(test, r, *w))
     }
 
-    // The least operation that is paired with another against atomicity.
+    /// The least operation that is paired with another against atomicity.
     pub(crate) fn broken_pair(&self, test: &Test) -> Option<usize>
         requires { IsOrdered test.now self.now }
         ensures { result ≡ find (λ r. is_some (atomicity_broken_by (runs_in test.now self.now) self.now.order.listed r))

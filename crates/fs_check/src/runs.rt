@@ -19,7 +19,7 @@ pub(crate) enum Runs {
     Stopped(Reason),
 }
 
-// What the choices make of the harts of the test.
+/// What the choices make of the harts of the test.
 pub(crate) fn make_runs(alloc: Global, test: &Test, choices: &[Choices]) -> Result<Runs, Fault>
     requires test { IsBounded test.now }
     requires starts { All IsStart test.now.starts }

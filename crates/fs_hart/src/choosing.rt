@@ -31,8 +31,8 @@ fn word_choices(alloc: Global, words: &[u32]) -> Result<Vec<Option<Choice>>, All
         .collect(alloc)
 }
 
-// The choices that the hart has at the instruction, in choice order; nothing where it goes astray. An instruction that
-// takes no choice has one, which is none.
+/// The choices that the hart has at the instruction, in choice order; nothing where it goes astray. An instruction that
+/// takes no choice has one, which is none.
 pub(crate) fn options(
     alloc: Global,
     locations: u8,

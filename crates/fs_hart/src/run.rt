@@ -17,7 +17,7 @@ use fs_kinds::Fault;
 use fs_model::{Choice, Hart, Stop, Test};
 use std::alloc::Global;
 
-// Does the instruction take a choice?
+/// Does the instruction take a choice?
 pub(crate) fn is_choosing(instr: &Instr) -> bool
     ensures { result ≡ is_choosing instr.now }
 {
@@ -38,7 +38,7 @@ fn next_choice(instr: &Instr, choices: &[Choice], used: usize) -> Option<Choice>
     }
 }
 
-// The code of the hart.
+/// The code of the hart.
 pub(crate) fn code_of(test: &Test, hart: u8) -> &[Instr]
     requires { hart < length test.now.codes }
     ensures { result.now ≡ code_of test.now hart }
@@ -46,7 +46,7 @@ pub(crate) fn code_of(test: &Test, hart: u8) -> &[Instr]
     test.codes.as_slice()[usize::from(hart)].as_slice()
 }
 
-// The words that the hart's registers begin with.
+/// The words that the hart's registers begin with.
 pub(crate) fn registers_of(test: &Test, hart: u8) -> [u32; 32]
     requires hart { hart < length test.now.starts }
     requires starts { All IsStart test.now.starts }

@@ -46,7 +46,7 @@ impl Walk {
         Ok(())
     }
 
-    // The path is a whole run, and the hart has these registers.
+    /// The path is a whole run, and the hart has these registers.
     pub(crate) fn end_whole(&mut self, registers: [u32; 32]) -> Result<(), Fault>
         ensures path { self.new.path.items ≡ self.old.path.items }
         ensures astray { self.new.astray ≡ self.old.astray }
@@ -62,7 +62,7 @@ impl Walk {
         Ok(())
     }
 
-    // The instruction at this position goes astray.
+    /// The instruction at this position goes astray.
     pub(crate) fn end_astray(&mut self, at: u8) -> Result<(), Fault>
         ensures path { self.new.path.items ≡ self.old.path.items }
         ensures traces { self.new.traces.items ≡ self.old.traces.items }

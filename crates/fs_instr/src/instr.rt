@@ -296,7 +296,7 @@ impl Instr {
         table!(names self)
     }
 
-    // Its operands, as the row of `op` prints them.
+    /// Its operands, as the row of `op` prints them.
     pub(crate) fn operands(self) -> Operands
         ensures { result ≡ operands_of self }
     {

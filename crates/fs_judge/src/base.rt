@@ -26,7 +26,7 @@ pub(crate) struct Base {
 }
 
 impl Base {
-    // That of the candidate. Its cost is that of `base_rows` and `sides_of`. The error is F19.
+    /// That of the candidate. Its cost is that of `base_rows` and `sides_of`. The error is F19.
     pub(crate) fn of(alloc: Global, candidate: &Candidate) -> Result<Base, Fault>
         requires operations { length candidate.now.operations ≤ 64 }
         requires harts { length candidate.now.traces ≤ 8 }
@@ -42,7 +42,7 @@ impl Base {
         })
     }
 
-    // The judged relation with the placement's fences. The steps of the runs times the slots.
+    /// The judged relation with the placement's fences. The steps of the runs times the slots.
     pub(crate) fn under(&self, placement: &Placement) -> Rows
         ensures { (t : Test) (c : Defined) → IsBase t c self.now
             → (a b : ℕ) → has_edge result a b ≡ is_judged (runs_of t c) placement.now c a b }

@@ -30,8 +30,8 @@ const CAUSES: [Cause; 16] = [
     Cause::FromReads,
 ];
 
-// A cause for which a must come before b, where it must: the first in the order of the causes. At most as many tests as
-// there are causes, each at most linear in the operations, the steps of a hart and the slots of the placement.
+/// A cause for which a must come before b, where it must: the first in the order of the causes. At most as many tests
+/// as there are causes, each at most linear in the operations, the steps of a hart and the slots of the placement.
 pub(crate) fn cause(candidate: &Candidate, placement: &Placement, a: usize, b: usize) -> Cause
     ensures { OfRuns candidate.now (λ x. is_judged x placement.now (candidate_of candidate.now) a b ≡ true
         → is_edge x placement.now (candidate_of candidate.now) a b (cause_of result) ≡ true) }

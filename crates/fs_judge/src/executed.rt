@@ -88,8 +88,8 @@ fn sources_of(
         .collect(alloc)
 }
 
-// The candidate of the execution that the runs and the order are. The stores of each location are looked for among all
-// operations.
+/// The candidate of the execution that the runs and the order are. The stores of each location are looked for among all
+/// operations.
 pub(crate) fn candidate_of(
     alloc: Global,
     test: &Test,

@@ -28,8 +28,8 @@ pub(crate) enum Finding {
     Cyclic(List<Link>),
 }
 
-// What is found of a showing candidate with this base: a witness that is widened at the first slots before the others,
-// or a cycle.
+/// What is found of a showing candidate with this base: a witness that is widened at the first slots before the others,
+/// or a cycle.
 pub(crate) fn judged(
     alloc: Global,
     test: &Test,

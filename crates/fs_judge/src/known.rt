@@ -29,8 +29,8 @@ pub(crate) struct Known {
 }
 
 impl Known {
-    // The candidate of an execution that shows the outcome with some fences. None where it has more than 64 operations
-    // or 8 harts, as no bounded test has. Its cost is that of `Base::of`. The error is F19.
+    /// The candidate of an execution that shows the outcome with some fences. None where it has more than 64 operations
+    /// or 8 harts, as no bounded test has. Its cost is that of `Base::of`. The error is F19.
     pub(crate) fn of(
         alloc: Global,
         test: &Test,
@@ -50,8 +50,8 @@ impl Known {
         Ok(Some(Known { candidate, base }))
     }
 
-    // Its witness, where it has no cycle with the placed fences, widened at the first slots before the others. The
-    // steps of its runs times the slots, and the cost of a witness.
+    /// Its witness, where it has no cycle with the placed fences, widened at the first slots before the others. The
+    /// steps of its runs times the slots, and the cost of a witness.
     pub(crate) fn witness(
         &self,
         alloc: Global,

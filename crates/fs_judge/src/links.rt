@@ -54,7 +54,7 @@ fn link(candidate: &Candidate, placement: &Placement, a: usize, b: usize) -> Lin
     }
 }
 
-// The links of a cycle of a raw candidate's judged relation, which the rows are.
+/// The links of a cycle of a raw candidate's judged relation, which the rows are.
 pub(crate) fn links_of(
     alloc: Global,
     candidate: &Candidate,

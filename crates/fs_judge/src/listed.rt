@@ -77,10 +77,10 @@ fn judge_all(
     Ok(Survey::Cycles(List::new(cycles)))
 }
 
-// The verdict on a placement by the list of all candidates that show the outcome: the witness of the first without a
-// cycle, or a cycle for each. F15 where there are too many; or F19. The cost is that of `showing_of`, and for each
-// candidate what it takes to make it, the square of its operations, each pair by all rules of preserved program order,
-// and for a cycle its links times the tests for causes.
+/// The verdict on a placement by the list of all candidates that show the outcome: the witness of the first without a
+/// cycle, or a cycle for each. F15 where there are too many; or F19. The cost is that of `showing_of`, and for each
+/// candidate what it takes to make it, the square of its operations, each pair by all rules of preserved program order,
+/// and for a cycle its links times the tests for causes.
 pub(crate) fn verdict_by_list(
     alloc: Global,
     test: &Arc<Test>,

@@ -111,7 +111,7 @@ impl Problem {
         &self.question
     }
 
-    // The test.
+    /// The test.
     pub(crate) fn test(&self) -> &Test
         ensures value { result.now ≡ self.now.test }
         ensures bounded { IsBounded self.now.test }
@@ -119,7 +119,7 @@ impl Problem {
         &self.question.test
     }
 
-    // What a hunt finds for the placement, as far as it holds. The error is F19.
+    /// What a hunt finds for the placement, as far as it holds. The error is F19.
     pub(crate) fn sought(&self, alloc: Global, placement: &Placement) -> Result<Sought, Fault>
         ensures ok { IfOk result (IsSought self.now.test placement.now) }
         ensures err { IsOkUnless result Memory }
@@ -128,7 +128,7 @@ impl Problem {
         checked(alloc, &self.basis, placement, found)
     }
 
-    // The verdict where the inferences refute the test.
+    /// The verdict where the inferences refute the test.
     pub(crate) fn refuted(
         &self,
         placement: &Placement,
@@ -142,7 +142,7 @@ impl Problem {
         forbidden(placement, Cycles::Inferred(inferences))
     }
 
-    // The verdict where the candidate has no cycle with the placed fences; else that by the list of candidates.
+    /// The verdict where the candidate has no cycle with the placed fences; else that by the list of candidates.
     pub(crate) fn shown(
         &self,
         alloc: Global,
@@ -161,8 +161,8 @@ impl Problem {
         }
     }
 
-    // The verdict by the list of all candidates that show the outcome: the last resort, where a hunt gives up, or what
-    // it finds doesn't hold.
+    /// The verdict by the list of all candidates that show the outcome: the last resort, where a hunt gives up, or what
+    /// it finds doesn't hold.
     pub(crate) fn by_list(
         &self,
         alloc: Global,

@@ -94,8 +94,8 @@ fn shown(
     }
 }
 
-// What is left of a hunt's finding: the refutation or the execution, where it is one. The cost is that of
-// `reason_against`, or of `shown_by`. The error is F19.
+/// What is left of a hunt's finding: the refutation or the execution, where it is one. The cost is that of
+/// `reason_against`, or of `shown_by`. The error is F19.
 pub(crate) fn checked(
     alloc: Global,
     basis: &Basis,

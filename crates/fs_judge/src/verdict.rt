@@ -20,7 +20,7 @@ pub enum Verdict {
     Forbids(Forbidden),
 }
 
-// The placement forbids the outcome, as this shows. The error is F19.
+/// The placement forbids the outcome, as this shows. The error is F19.
 pub(crate) fn forbidden(placement: &Placement, cycles: Cycles) -> Result<Verdict, Fault>
     ensures ok { (t : Test) → ShowsForbidden t (record { placement = placement.now; cycles = cycles_of cycles }) → (Allows t placement.now → ⊥)
         → IfOk result (IsVerdict t placement.now) }

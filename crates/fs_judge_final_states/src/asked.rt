@@ -46,7 +46,7 @@ fn copied_locations(alloc: Global, locations: &[Location]) -> Result<Locations, 
     Ok(Locations::new(made))
 }
 
-// The test, asking for a state in which the condition is true. Linear in the test.
+/// The test, asking for a state in which the condition is true. Linear in the test.
 pub(crate) fn asked(alloc: Global, test: &Test, condition: Outcome) -> Result<Test, AllocError>
     ensures { IfOk result (λ made. made ≡ with_condition condition test.now) }
 {

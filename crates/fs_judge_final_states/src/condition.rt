@@ -96,7 +96,7 @@ fn all_of(
     }
 }
 
-// The condition that a state is in the part. Linear in the atoms.
+/// The condition that a state is in the part. Linear in the atoms.
 pub(crate) fn condition(
     alloc: Global,
     places: &[Place],

@@ -141,8 +141,8 @@ fn words_of(
     words_at(alloc, test, file.choices.as_slice(), &ordered, places)
 }
 
-// The state in which the execution of the witness ends. The cost is that of `shown_by`, and for each place a run of a
-// hart, or linear in the operations. The error is F19.
+/// The state in which the execution of the witness ends. The cost is that of `shown_by`, and for each place a run of a
+/// hart, or linear in the operations. The error is F19.
 pub(crate) fn ended(
     alloc: Global,
     test: &Test,

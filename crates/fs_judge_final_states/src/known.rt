@@ -17,7 +17,7 @@ use std::collections::BTreeMap;
 /// By the words of each state an execution that ends in it.
 pub(crate) type Known = BTreeMap<Vec<u32>, Witness>;
 
-// Puts the state among these; one of its words has its execution from then on. Logarithmic in the states.
+/// Puts the state among these; one of its words has its execution from then on. Logarithmic in the states.
 pub(crate) fn keep(alloc: Global, known: &mut Known, state: State) -> Result<(), AllocError>
     ensures rising { OnOk result (IsStrictlySortedBy (slice_cmp nat_cmp) (words_of (states_in known.new))) }
     ensures each { OnOk result (All (λ one. Contains (states_in known.old) one ⊎ (one ≡ state)) (states_in known.new)) }
@@ -31,7 +31,7 @@ pub(crate) fn keep(alloc: Global, known: &mut Known, state: State) -> Result<(),
     Ok(())
 }
 
-// The states, in the order of their words.
+/// The states, in the order of their words.
 pub(crate) fn listed(alloc: Global, known: Known) -> Result<List<State>, AllocError>
     ensures { IfOk result (λ states. states ≡ states_in known) }
 {

@@ -32,7 +32,7 @@ fn is_fixed_at(part: &[Atom], index: usize) -> bool
     part.iter().any(|atom| is_fixing(index, atom))
 }
 
-// Does no atom of the part say so?
+/// Does no atom of the part say so?
 pub(crate) fn is_open_at(part: &[Atom], index: usize) -> bool
     ensures { result ≡ is_open_at part.now index }
 {
@@ -45,7 +45,7 @@ fn is_elsewhere(index: usize, atom: &Atom) -> bool
     atom.index != index
 }
 
-// The part's states that have the word at the place: what else is said of the place needn't be said then.
+/// The part's states that have the word at the place: what else is said of the place needn't be said then.
 pub(crate) fn with_word(
     alloc: Global,
     part: &[Atom],
@@ -68,7 +68,7 @@ pub(crate) fn with_word(
     Ok(List::new(atoms))
 }
 
-// The part's states that have another word at the place.
+/// The part's states that have another word at the place.
 pub(crate) fn without_word(
     alloc: Global,
     part: &[Atom],

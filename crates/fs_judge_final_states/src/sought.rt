@@ -96,9 +96,9 @@ fn asking(alloc: Global, test: &Test, places: &[Place], part: &[Atom]) -> Result
     Ok(Arc::new(alloc, asked)?)
 }
 
-// A state in the part in which the test can end with these fences; none where there is no such state. The cost is
-// that of copying the test, of `Problem::new` and `Judge::verdict` of fs_judge, and of `ended`. The fault is that of
-// the test's candidates, or F19.
+/// A state in the part in which the test can end with these fences; none where there is no such state. The cost is
+/// that of copying the test, of `Problem::new` and `Judge::verdict` of fs_judge, and of `ended`. The fault is that of
+/// the test's candidates, or F19.
 pub(crate) fn sought(
     alloc: Global,
     test: &Test,

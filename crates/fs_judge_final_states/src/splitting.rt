@@ -6,8 +6,9 @@ ghost use Rattle.fs_judge_final_states.specs.inner.Parts.{is_in, IsPartOf, Split
 use crate::part::{Part, is_open_at, with_word, without_word};
 use std::alloc::{AllocError, Global};
 
-// Adds all that is left of the part beside this state: for each place whose word the part doesn't say the states that
-// have another word there, and at the places before it the words of this state. No two of these have a state in common.
+/// Adds all that is left of the part beside this state: for each place whose word the part doesn't say the states that
+/// have another word there, and at the places before it the words of this state. No two of these have a state in
+/// common.
 pub(crate) fn split(
     alloc: Global,
     parts: &mut Vec<Part>,

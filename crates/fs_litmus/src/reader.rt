@@ -19,8 +19,8 @@ use fs_litmus_tokens::{Stop, Token, tokens};
 use fs_model::Test;
 use std::alloc::Global;
 
-// The fault where the tokens stop being of the form: in the line of the first that can't stand there, or in the last
-// line.
+/// The fault where the tokens stop being of the form: in the line of the first that can't stand there, or in the last
+/// line.
 pub(crate) fn stopped(stop: Stop, last: usize) -> Fault
     ensures { result ≡ fault_of stop.entry last }
 {
@@ -33,7 +33,7 @@ pub(crate) fn stopped(stop: Stop, last: usize) -> Fault
     }
 }
 
-// The sections and the condition that the tokens are, all of them.
+/// The sections and the condition that the tokens are, all of them.
 pub(crate) fn read_sections<'b, 'a>(
     alloc: Global,
     tokens: &'b [Token<'a>],

@@ -137,7 +137,7 @@ fn tail(bytes: &[u8]) -> &[u8]
     }
 }
 
-// What stands at the front.
+/// What stands at the front.
 pub(crate) fn front<'a>(first: u8, after: &'a [u8], all: &'a [u8], line: usize) -> Piece<'a>
     requires room { line + length all.now < 2 ^ 64 }
     requires split { all.now ≡ first ∷ after.now }

@@ -30,7 +30,7 @@ fn shift_right(a: u32, b: u32) -> u32
     a.cast_signed().wrapping_shr(b).cast_unsigned()
 }
 
-// The word that an instruction of two registers computes.
+/// The word that an instruction of two registers computes.
 pub(crate) fn register_word(op: RegOp, a: u32, b: u32) -> u32
     ensures { result ≡ computed op a b }
 {
@@ -48,7 +48,7 @@ pub(crate) fn register_word(op: RegOp, a: u32, b: u32) -> u32
     }
 }
 
-// The word that an instruction of a register and an immediate computes; `b` is the sign-extended immediate.
+/// The word that an instruction of a register and an immediate computes; `b` is the sign-extended immediate.
 pub(crate) fn immediate_word(op: ImmOp, a: u32, b: u32) -> u32
     ensures { result ≡ computed_with op a b }
 {
@@ -62,7 +62,7 @@ pub(crate) fn immediate_word(op: ImmOp, a: u32, b: u32) -> u32
     }
 }
 
-// The word that a shift by an amount computes.
+/// The word that a shift by an amount computes.
 pub(crate) fn shift_word(op: ShiftOp, a: u32, amount: u32) -> u32
     ensures { result ≡ shifted op a amount }
 {
@@ -73,7 +73,7 @@ pub(crate) fn shift_word(op: ShiftOp, a: u32, amount: u32) -> u32
     }
 }
 
-// The word that an AMO stores, of the word that it loads and that of its source.
+/// The word that an AMO stores, of the word that it loads and that of its source.
 pub(crate) fn amo_word(op: AmoOp, loaded: u32, source: u32) -> u32
     ensures { result ≡ combined op loaded source }
 {
@@ -90,7 +90,7 @@ pub(crate) fn amo_word(op: AmoOp, loaded: u32, source: u32) -> u32
     }
 }
 
-// Does the branch go to its target, where its sources have these words?
+/// Does the branch go to its target, where its sources have these words?
 pub(crate) fn is_taken(op: BranchOp, a: u32, b: u32) -> bool
     ensures { result ≡ does_branch op a b }
 {

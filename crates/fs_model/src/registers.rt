@@ -19,7 +19,7 @@ fn displaced(registers: &[u32; 32], base: Reg, offset: i32) -> u32
     word(registers, base).wrapping_add(offset.cast_unsigned())
 }
 
-// The address that the instruction accesses, where it is a memory instruction.
+/// The address that the instruction accesses, where it is a memory instruction.
 pub(crate) fn address(registers: &[u32; 32], instr: &Instr) -> Option<u32>
     ensures { result ≡ address_in registers.now instr.now }
 {
@@ -33,7 +33,7 @@ pub(crate) fn address(registers: &[u32; 32], instr: &Instr) -> Option<u32>
     }
 }
 
-// The word that the instruction stores, where it can store one. `loaded` is the word that an AMO loads.
+/// The word that the instruction stores, where it can store one. `loaded` is the word that an AMO loads.
 pub(crate) fn word_to_store(
     registers: &[u32; 32],
     loaded: Option<u32>,
@@ -50,7 +50,7 @@ pub(crate) fn word_to_store(
     }
 }
 
-// The word for the instruction's destination, where it loads and stores these words; 0 where it writes none.
+/// The word for the instruction's destination, where it loads and stores these words; 0 where it writes none.
 pub(crate) fn result(
     registers: &[u32; 32],
     loaded: Option<u32>,
@@ -91,7 +91,7 @@ fn write(registers: &mut [u32; 32], register: Option<Reg>, word: u32)
     }
 }
 
-// Executes the instruction, where it loads and stores these words: writes its destination.
+/// Executes the instruction, where it loads and stores these words: writes its destination.
 pub(crate) fn execute(
     registers: &mut [u32; 32],
     loaded: Option<u32>,
@@ -105,7 +105,7 @@ pub(crate) fn execute(
     write(registers, destination, word);
 }
 
-// The position of the next instruction, after the one at position `at`.
+/// The position of the next instruction, after the one at position `at`.
 pub(crate) fn next(registers: &[u32; 32], at: u8, instr: &Instr) -> u8
     requires { at < 255 }
     ensures { result ≡ next_after registers.now at instr.now }

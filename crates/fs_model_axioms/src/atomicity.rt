@@ -47,8 +47,8 @@ fn follows_closely(
     order.stands_before(usize::from(s), w) && !any_comes_between(operations, order, s, w)
 }
 
-// Do r, which has this source, and w keep the atomicity axiom? They do where they aren't a pair of an lr.w and a later
-// sc.w.
+/// Do r, which has this source, and w keep the atomicity axiom? They do where they aren't a pair of an lr.w and a later
+/// sc.w.
 pub(crate) fn keeps_atomicity(
     traces: &[Trace],
     operations: &[Operation],

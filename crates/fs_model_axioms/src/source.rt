@@ -20,8 +20,8 @@ fn may_return(operations: &[Operation], order: &GlobalOrder, load: usize, s: u8)
         && (order.stands_before(usize::from(s), load) || storing.precedes(&loading))
 }
 
-// The number of the store that the load returns in this global memory order: the latest of the stores to its word that
-// precede it in this order or in program order.
+/// The number of the store that the load returns in this global memory order: the latest of the stores to its word that
+/// precede it in this order or in program order.
 pub(crate) fn source_in(operations: &[Operation], order: &GlobalOrder, load: usize) -> Option<u8>
     ensures { (x : PreExecution) (listed : List ℕ)
         → operations.now ≡ operations_of x
@@ -37,7 +37,7 @@ pub(crate) fn source_in(operations: &[Operation], order: &GlobalOrder, load: usi
     source
 }
 
-// Does operation a, which has this source, return its word? It does where it isn't a load.
+/// Does operation a, which has this source, return its word? It does where it isn't a load.
 pub(crate) fn returns_source(operations: &[Operation], source: Option<u8>, a: usize) -> bool
     ensures { (x : PreExecution) (rf : ℕ → Option ℕ)
         → operations.now ≡ operations_of x

@@ -59,8 +59,8 @@ fn whole_runs(alloc: Global, test: &Test, runs: &[Steps]) -> Result<Option<Vec<T
     Ok(Some(traces))
 }
 
-// Are these whole runs of the test's harts, with this order of their operations, an execution of the test with the
-// placement's fences, and does it show the outcome? It is as slow as `obeys_axioms`.
+/// Are these whole runs of the test's harts, with this order of their operations, an execution of the test with the
+/// placement's fences, and does it show the outcome? It is as slow as `obeys_axioms`.
 pub(crate) fn traces_show(
     alloc: Global,
     test: &Test,

@@ -78,7 +78,7 @@ fn is_placed_between(
     (i + 1..j).any(|k| kind_orders(before, after, placed_at(placement, hart, steps, k)))
 }
 
-// Does a fence between the operations order them: one of the test, or a placed one up to the second operation?
+/// Does a fence between the operations order them: one of the test, or a placed one up to the second operation?
 pub(crate) fn is_fenced(
     placement: &Placement,
     steps: &[Step],

@@ -6,7 +6,7 @@ ghost use Rattle.fs_model.specs.Numbers.{is_same};
 
 use fs_instr::Instr;
 
-// Are both numbers there, and are they the same?
+/// Are both numbers there, and are they the same?
 pub(crate) fn is_same_number(first: Option<u8>, second: Option<u8>) -> bool
     ensures { result ≡ is_same first second }
 {
@@ -16,7 +16,7 @@ pub(crate) fn is_same_number(first: Option<u8>, second: Option<u8>) -> bool
     }
 }
 
-// Is the source the operation of this number?
+/// Is the source the operation of this number?
 pub(crate) fn is_from(source: Option<u8>, number: usize) -> bool
     ensures { result ≡ is_same source (Some number) }
 {

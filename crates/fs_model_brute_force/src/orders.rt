@@ -60,8 +60,8 @@ fn shows_from(
     Ok(false)
 }
 
-// Do these runs, one of each hart, show the outcome in some order of their operations? It tries all orders: the time is
-// the factorial of the number of operations, times that of `traces_show`.
+/// Do these runs, one of each hart, show the outcome in some order of their operations? It tries all orders: the time
+/// is the factorial of the number of operations, times that of `traces_show`.
 pub(crate) fn shows_in_some_order(
     alloc: Global,
     test: &Test,

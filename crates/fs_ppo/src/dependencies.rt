@@ -61,7 +61,7 @@ fn any_address(candidate: &Candidate, hart: Option<u8>, i: usize, j: usize) -> b
     (i + 1..j).any(|m| has_address(candidate, hart, i, m))
 }
 
-// Of a before b in program order: has b an address dependency on a?
+/// Of a before b in program order: has b an address dependency on a?
 pub(crate) fn address_dependency(candidate: &Candidate, a: usize, b: usize) -> bool
     ensures { OfRuns candidate.now (λ x. po x a b ≡ true → result ≡ address_dependency x a b) }
 {
@@ -74,7 +74,7 @@ pub(crate) fn address_dependency(candidate: &Candidate, a: usize, b: usize) -> b
     )
 }
 
-// Of a before b in program order: has b a data dependency on a?
+/// Of a before b in program order: has b a data dependency on a?
 pub(crate) fn data_dependency(candidate: &Candidate, a: usize, b: usize) -> bool
     ensures { OfRuns candidate.now (λ x. po x a b ≡ true → result ≡ data_dependency x a b) }
 {
@@ -87,7 +87,7 @@ pub(crate) fn data_dependency(candidate: &Candidate, a: usize, b: usize) -> bool
     )
 }
 
-// Of a before b in program order: has b a control dependency on a?
+/// Of a before b in program order: has b a control dependency on a?
 pub(crate) fn control_dependency(candidate: &Candidate, a: usize, b: usize) -> bool
     ensures { OfRuns candidate.now (λ x. po x a b ≡ true → result ≡ control_dependency x a b) }
 {
@@ -100,7 +100,7 @@ pub(crate) fn control_dependency(candidate: &Candidate, a: usize, b: usize) -> b
     )
 }
 
-// Of a before b in program order: has an instruction between them an address dependency on a?
+/// Of a before b in program order: has an instruction between them an address dependency on a?
 pub(crate) fn address_between(candidate: &Candidate, a: usize, b: usize) -> bool
     ensures { OfRuns candidate.now (λ x. po x a b ≡ true → result ≡ address_between x a b) }
 {
@@ -124,7 +124,7 @@ fn is_dependent_store(candidate: &Candidate, a: usize, m: usize, b: usize) -> bo
         && (address_dependency(candidate, a, m) || data_dependency(candidate, a, m))
 }
 
-// Does b load from a store between a and b in program order that has an address or a data dependency on a?
+/// Does b load from a store between a and b in program order that has an address or a data dependency on a?
 pub(crate) fn is_forwarded(candidate: &Candidate, a: usize, b: usize) -> bool
     ensures { OfRuns candidate.now (λ x. result
         ≡ any_between x (λ m. is_store x m && (address_dependency x a m || data_dependency x a m)

@@ -65,7 +65,7 @@ fn any_step_orders(steps: &[Step], i: usize, j: usize, pair: Pair) -> bool
     (i + 1..j).any(|k| step_orders(steps, k, pair))
 }
 
-// Does a FENCE of the test between a and b order them?
+/// Does a FENCE of the test between a and b order them?
 pub(crate) fn is_written_between(candidate: &Candidate, a: usize, b: usize) -> bool
     ensures { OfRuns candidate.now (λ x. result
         ≡ list_any (λ k. instr_orders (classes x a) (classes x b) (instr_at (trace_of x a) k))
@@ -111,7 +111,7 @@ fn any_placed_orders(
     (i + 1..j + 1).any(|k| kind_orders(placed_before(steps, hart, k, placement), pair))
 }
 
-// Does a placed fence, before an instruction after a and up to b, order them?
+/// Does a placed fence, before an instruction after a and up to b, order them?
 pub(crate) fn is_placed_between(
     candidate: &Candidate,
     placement: &Placement,

@@ -20,28 +20,28 @@ fn operation(candidate: &Candidate, a: usize) -> Operation
     Operation::numbered(candidate.operations.as_slice(), a)
 }
 
-// The hart that makes the operation.
+/// The hart that makes the operation.
 pub(crate) fn hart(candidate: &Candidate, a: usize) -> Option<u8>
     ensures { OfRuns candidate.now (λ x. result ≡ (operation x a).hart) }
 {
     operation(candidate, a).hart
 }
 
-// The place of its step in the hart's run, counted from 0.
+/// The place of its step in the hart's run, counted from 0.
 pub(crate) fn place(candidate: &Candidate, a: usize) -> u8
     ensures { OfRuns candidate.now (λ x. result ≡ place x a) }
 {
     operation(candidate, a).place
 }
 
-// The run of the operation's hart.
+/// The run of the operation's hart.
 pub(crate) fn steps(candidate: &Candidate, a: usize) -> &[Step]
     ensures { OfRuns candidate.now (λ x. result.now ≡ trace_of x a) }
 {
     steps_of(candidate.traces.as_slice(), hart(candidate, a))
 }
 
-// The operation's instruction.
+/// The operation's instruction.
 pub(crate) fn instr(candidate: &Candidate, a: usize) -> Instr
     ensures { OfRuns candidate.now (λ x. result ≡ (operation x a).instr) }
 {
@@ -60,14 +60,14 @@ pub(crate) fn is_store(candidate: &Candidate, a: usize) -> bool
     operation(candidate, a).is_store()
 }
 
-// Whether the operation loads, and whether it stores.
+/// Whether the operation loads, and whether it stores.
 pub(crate) fn classes(candidate: &Candidate, a: usize) -> Classes
     ensures { OfRuns candidate.now (λ x. result ≡ classes x a) }
 {
     operation(candidate, a).classes()
 }
 
-// Does a come before b in program order?
+/// Does a come before b in program order?
 pub(crate) fn precedes(candidate: &Candidate, a: usize, b: usize) -> bool
     ensures { OfRuns candidate.now (λ x. result ≡ po x a b) }
 {
@@ -91,7 +91,7 @@ fn any_store_between(operations: &[Operation], first: &Operation, second: &Opera
     })
 }
 
-// Does a store to a's word stand between a and b in program order?
+/// Does a store to a's word stand between a and b in program order?
 pub(crate) fn is_stored_between(candidate: &Candidate, a: usize, b: usize) -> bool
     ensures { OfRuns candidate.now (λ x. result ≡ any_between x (λ m. is_store x m && same_word x m a) a b) }
 {
@@ -102,7 +102,7 @@ pub(crate) fn is_stored_between(candidate: &Candidate, a: usize, b: usize) -> bo
     )
 }
 
-// Do a and b load of the same store?
+/// Do a and b load of the same store?
 pub(crate) fn is_same_source(candidate: &Candidate, a: usize, b: usize) -> bool
     ensures { result ≡ is_same (rf candidate.now a) (rf candidate.now b) }
 {
@@ -124,7 +124,7 @@ pub(crate) fn is_release(candidate: &Candidate, a: usize) -> bool
     operation(candidate, a).annotation().release
 }
 
-// Is it annotated, so that it is RCsc?
+/// Is it annotated, so that it is RCsc?
 pub(crate) fn is_rcsc(candidate: &Candidate, a: usize) -> bool
     ensures { OfRuns candidate.now (λ x. result ≡ is_rcsc x a) }
 {

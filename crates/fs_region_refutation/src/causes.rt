@@ -65,7 +65,7 @@ fn has_source(source: Option<Source>, store: OperationName) -> bool
     }
 }
 
-// Must the first operation come before the second for this cause? At most linear in the runs of a hart.
+/// Must the first operation come before the second for this cause? At most linear in the runs of a hart.
 pub(crate) fn must(
     basis: &Basis,
     placement: &Placement,

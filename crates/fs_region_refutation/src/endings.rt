@@ -295,7 +295,7 @@ fn may_each(
     }
 }
 
-// With which runs of the hart may each wanted condition have its truth value?
+/// With which runs of the hart may each wanted condition have its truth value?
 pub(crate) fn may_all_each(
     alloc: Global,
     basis: &Basis,

@@ -18,7 +18,7 @@ use fs_model::Location;
 use fs_region_runs::Lone;
 use std::alloc::{AllocError, Global};
 
-// Those that make the choice of this number at the position.
+/// Those that make the choice of this number at the position.
 pub(crate) fn choosing<'a>(
     alloc: Global,
     runs: &[&'a Lone],
@@ -35,7 +35,7 @@ pub(crate) fn choosing<'a>(
     Ok(List::new(kept))
 }
 
-// Those that load nothing at the position.
+/// Those that load nothing at the position.
 pub(crate) fn not_loading<'a>(
     alloc: Global,
     runs: &[&'a Lone],
@@ -82,7 +82,7 @@ fn agrees_initially(basis: &Basis, load: OperationName, run: &Lone) -> bool
     false
 }
 
-// Those that load the word that its location begins with.
+/// Those that load the word that its location begins with.
 pub(crate) fn loading_initial<'a>(
     alloc: Global,
     basis: &Basis,
@@ -182,7 +182,7 @@ fn keep_among<'a>(
     Ok(List::new(kept))
 }
 
-// Those whose load agrees with their own store.
+/// Those whose load agrees with their own store.
 pub(crate) fn agreeing_alone<'a>(
     alloc: Global,
     runs: &[&'a Lone],
@@ -199,7 +199,7 @@ pub(crate) fn agreeing_alone<'a>(
     Ok(List::new(kept))
 }
 
-// Those whose load agrees with the store of some of the others.
+/// Those whose load agrees with the store of some of the others.
 pub(crate) fn agreeing_loads<'a>(
     alloc: Global,
     runs: &[&'a Lone],
@@ -215,7 +215,7 @@ pub(crate) fn agreeing_loads<'a>(
     Ok(kept)
 }
 
-// Those whose store agrees with the load of some of the others.
+/// Those whose store agrees with the load of some of the others.
 pub(crate) fn agreeing_stores<'a>(
     alloc: Global,
     runs: &[&'a Lone],

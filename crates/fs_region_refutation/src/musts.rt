@@ -21,7 +21,7 @@ pub enum Access {
     Store,
 }
 
-// The word that the run loads or stores at the position.
+/// The word that the run loads or stores at the position.
 pub(crate) fn accessed(run: &Lone, access: Access, at: u8) -> Option<u32>
     ensures { result ≡ access_of access run.now.steps at }
 {
@@ -31,7 +31,7 @@ pub(crate) fn accessed(run: &Lone, access: Access, at: u8) -> Option<u32>
     }
 }
 
-// Does the run access the location there?
+/// Does the run access the location there?
 pub(crate) fn accesses(run: &Lone, access: Access, at: u8, location: u8) -> bool
     ensures { result ≡ accesses_at (access_of access) at location run.now.steps }
 {
@@ -48,7 +48,7 @@ fn all_access(runs: &[&Lone], access: Access, at: u8, location: u8) -> bool
     runs.iter().all(|run| accesses(run, access, at, location))
 }
 
-// Must the operation be executed, and access the location? At most linear in the runs of its hart.
+/// Must the operation be executed, and access the location? At most linear in the runs of its hart.
 pub(crate) fn must_be(
     basis: &Basis,
     region: &Region<'_>,

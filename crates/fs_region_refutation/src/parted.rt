@@ -94,7 +94,7 @@ fn last_names(
         .collect(alloc)
 }
 
-// The names parted by this hart.
+/// The names parted by this hart.
 pub(crate) fn parted_names(
     alloc: Global,
     basis: &Basis,

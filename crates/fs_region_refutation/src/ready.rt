@@ -47,7 +47,7 @@ fn ready(alloc: Global, test: &Arc<Test>, hart: u8, traces: &[Trace]) -> Result<
     Ok(List::new(runs))
 }
 
-// For each hart its runs, in their order. The error is F19.
+/// For each hart its runs, in their order. The error is F19.
 pub(crate) fn all_ready(
     alloc: Global,
     test: &Arc<Test>,

@@ -81,7 +81,7 @@ impl<'a> Region<'a> {
             && is_same_name(second, known.second))
     }
 
-    // The region with these runs of the hart, where it is one.
+    /// The region with these runs of the hart, where it is one.
     pub(crate) fn with_runs(
         &self,
         alloc: Global,
@@ -106,7 +106,7 @@ impl<'a> Region<'a> {
         })
     }
 
-    // The region where the load returns from this source.
+    /// The region where the load returns from this source.
     pub(crate) fn with_source(
         self,
         alloc: Global,
@@ -133,7 +133,7 @@ impl<'a> Region<'a> {
         })
     }
 
-    // The region where the first store is the earlier one.
+    /// The region where the first store is the earlier one.
     pub(crate) fn with_order(
         &self,
         alloc: Global,
@@ -155,7 +155,7 @@ impl<'a> Region<'a> {
         })
     }
 
-    // The region where these conditions are wanted.
+    /// The region where these conditions are wanted.
     pub(crate) fn with_wanted(
         &self,
         alloc: Global,

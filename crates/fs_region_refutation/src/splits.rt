@@ -54,7 +54,7 @@ fn has_run(region: &Region<'_>, hart: u8) -> bool
     !region.runs(hart).is_empty()
 }
 
-// Puts the region behind those that are there, if it is open.
+/// Puts the region behind those that are there, if it is open.
 pub(crate) fn add_open<'a>(
     basis: &Basis,
     regions: &mut Vec<Region<'a>>,

@@ -17,7 +17,7 @@ fn word_number(word: Option<u32>) -> u64
     }
 }
 
-// The number of what the step chooses: words rise, and success comes before failure.
+/// The number of what the step chooses: words rise, and success comes before failure.
 pub(crate) fn choice_number(step: &Step) -> u64
     ensures { result ≡ step_number (Some step.now) }
 {

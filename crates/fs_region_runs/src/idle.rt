@@ -17,7 +17,7 @@ use fs_kinds::Fault;
 use fs_model::Test;
 use std::alloc::{AllocError, Global};
 
-// The code of the hart.
+/// The code of the hart.
 pub(crate) fn code_of(test: &Test, hart: u8) -> &[Instr]
     requires { hart < length test.now.codes }
     ensures { result.now ≡ code_of test.now hart }
@@ -57,7 +57,7 @@ fn traces(alloc: Global, test: &Test, hart: u8, trace: Trace) -> Result<Traces, 
     Ok(Traces::new(traces))
 }
 
-// The candidate with the run of the hart, runs of no steps of the others, and no sources and orders. The error is F19.
+/// The candidate with the run of the hart, runs of no steps of the others, and no sources and orders. The error is F19.
 pub(crate) fn candidate_of(
     alloc: Global,
     test: &Test,

@@ -50,8 +50,8 @@ fn passes_through(candidate: &Candidate, a: usize, m: usize, b: usize) -> bool
         && (rule(9, candidate, a, m) || rule(10, candidate, a, m))
 }
 
-// Does the rule of this number order a before b, where this is known of what they return from? The candidate has no
-// sources.
+/// Does the rule of this number order a before b, where this is known of what they return from? The candidate has no
+/// sources.
 pub(crate) fn is_ordered(
     candidate: &Candidate,
     placement: &Placement,

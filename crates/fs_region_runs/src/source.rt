@@ -20,7 +20,7 @@ pub struct Sourced {
     pub source: Option<Source>,
 }
 
-// Are both the initial store, or both the operation of one name?
+/// Are both the initial store, or both the operation of one name?
 pub(crate) fn is_same_source(first: Source, second: Source) -> bool
     ensures { result ≡ same_source (source_of first) (source_of second) }
 {

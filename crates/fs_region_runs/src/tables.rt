@@ -15,14 +15,14 @@ use std::alloc::{AllocError, Global};
 // For each position of the code a number of something there, where it is there.
 pub(crate) type Table = Vec<Option<u8>>;
 
-// What the table has at this position; past its end there is nothing.
+/// What the table has at this position; past its end there is nothing.
 pub(crate) fn listed_at(table: &[Option<u8>], at: u8) -> Option<u8>
     ensures { result ≡ listed_at table.now at }
 {
     table.get(usize::from(at)).copied().flatten()
 }
 
-// The step at this place.
+/// The step at this place.
 pub(crate) fn step_of(steps: &[Step], place: Option<u8>) -> Option<&Step>
     ensures { option_copied result ≡ option_and_then (slice_get steps.now) place }
 {
@@ -44,7 +44,7 @@ fn place_of(steps: &[Step], at: usize) -> Option<u8>
     Some(place as u8)
 }
 
-// The place of the step that executes it, for each of so many positions.
+/// The place of the step that executes it, for each of so many positions.
 pub(crate) fn places(alloc: Global, positions: usize, steps: &[Step]) -> Result<Table, AllocError>
     requires { length steps.now ≤ most_instructions }
     ensures { IfOk result (λ table. table.items ≡ map (place_of steps.now) (numbers_below positions)) }
@@ -79,7 +79,7 @@ fn number_of(hart: u8, steps: &[Step], at: usize, operations: &[Operation]) -> O
     Some(number as u8)
 }
 
-// The number of the operation that executes it, for each of so many positions.
+/// The number of the operation that executes it, for each of so many positions.
 pub(crate) fn numbers(
     alloc: Global,
     positions: usize,

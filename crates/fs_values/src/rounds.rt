@@ -25,7 +25,7 @@ fn count_storing(code: &[Instr]) -> usize
     code.iter().filter(|instr| is_storing(instr)).count()
 }
 
-// As many rounds as the test has sw, sc.w and AMO instructions.
+/// As many rounds as the test has sw, sc.w and AMO instructions.
 pub(crate) fn rounds(test: &Test) -> usize
     requires { IsBounded test.now }
     ensures { result ≡ rounds test.now }

@@ -54,7 +54,7 @@ fn add_all_stores(stores: &mut Vec<Store>, traces: &[Trace]) -> Result<(), Alloc
     Ok(())
 }
 
-// The stores of all runs of all harts in which each load takes a word of its location's set.
+/// The stores of all runs of all harts in which each load takes a word of its location's set.
 pub(crate) fn stores_over(alloc: Global, test: &Test, sets: &[Words]) -> Result<Vec<Store>, Fault>
     requires test { IsBounded test.now }
     requires starts { All IsStart test.now.starts }
@@ -71,7 +71,7 @@ pub(crate) fn stores_over(alloc: Global, test: &Test, sets: &[Words]) -> Result<
     Ok(stores)
 }
 
-// The set with the words that are stored at this address.
+/// The set with the words that are stored at this address.
 pub(crate) fn with_stores(
     alloc: Global,
     set: &[u32],
