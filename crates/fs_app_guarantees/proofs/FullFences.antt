@@ -1,15 +1,14 @@
 -- The witness beside `none` gives an execution of the program with rw,rw in every slot.
-use Rattle.std.proofs.Common.{◌≡◌, ℕ, ◌+◌, ◌<◌, suc, Option, None, Some, List, [], ◌∷◌, map, length, refl, ap, ap₂, sym, subst, ◌∙◌, arith}
+use Rattle.std.proofs.Common.{◌≡◌, ℕ, ◌<◌, suc, Option, None, Some, List, [], ◌∷◌, map, length, refl, ap, ap₂, sym, ◌∙◌, arith}
 use Rattle.std.specs.Prelude.{option_and_then, option_map, slice_get}
 use Rattle.std.specs.List.{slice_index_or}
 use Rattle.std.proofs.lemmas.List.{length-map}
 use Rattle.std.proofs.lemmas.List.FromFn.{length-enumerate_from}
 use Rattle.fs_kinds.specs.declared.placement.Entry.{Entry}
 use Rattle.fs_kinds.specs.declared.reason.OperationName.{OperationName as Name}
-use Rattle.fs_model.specs.declared.step.Choice.{Choice}
 use Rattle.fs_model.specs.declared.step.Step.{Step}
 use Rattle.fs_model.specs.declared.test.Test.{Test}
-use Rattle.fs_model.specs.Allows.{RefutesAll, full_fences, no_fences}
+use Rattle.fs_model.specs.Allows.{RefutesAll, full_fences}
 use Rattle.fs_model.specs.Choices.{choices_of}
 use Rattle.fs_model.specs.Execution as placed
 use Rattle.fs_model.specs.Execution.{Execution}
@@ -24,7 +23,7 @@ use Rattle.fs_model_laws.proofs.FencedExecutions.{execution_there}
 use Rattle.fs_model_laws.proofs.FencedLaw as no_fence
 use Rattle.fs_model_laws.proofs.FencedOperations.{fenced_pre, hart_kept, index_mapped, place_moved, trace_fenced, trace_moved, trace_was}
 use Rattle.fs_model_laws.proofs.FencedOutcome.{outcome_same}
-use Rattle.fs_model_laws.proofs.FencedSteps.{fenced_place, step_there}
+use Rattle.fs_model_laws.proofs.FencedSteps.{step_there}
 use Rattle.fs_model_laws.proofs.NoPlacement as no_placement
 use Rattle.fs_app_guarantees.specs.Meanings.{ShowsOutcome, moved_name}
 
@@ -83,7 +82,7 @@ module _ (p : List Entry) (x : PreExecution) where
       ∙ ap (option_map (step_name hart)) (step_there p hart steps (place x a))
       ∙ step_named p hart (slice_get steps (place x a)) name here
 
-  name_moved : (a : ℕ) (name : Name) → name_of x a ≡ Some name → name_of (fenced_pre p x) a ≡ Some (moved_name p name)
+  pub name_moved : (a : ℕ) (name : Name) → name_of x a ≡ Some name → name_of (fenced_pre p x) a ≡ Some (moved_name p name)
   name_moved a name e = hart_named a (operation x a).hart name refl e
 
   names_moved : (order : List ℕ) (names : List Name) → map (name_of x) order ≡ map (λ name. Some name) names

@@ -1,6 +1,6 @@
 -- The print of a program and an outcome is that of a test, and reads as it.
-use Rattle.std.proofs.Common.{◌≡◌, ◌≢◌, ◌<◌, ◌++◌, ℕ, List, [], ◌∷◌, map, All, Box, refl, ap, ap₂, sym, subst, ◌∙◌}
-use Rattle.std.specs.Prelude.{◌↔◌, codes, length, if◌then◌else◌}
+use Rattle.std.proofs.Common.{◌≡◌, ◌++◌, ℕ, List, [], ◌∷◌, map, All, Box, refl, ap, ap₂, sym, subst, ◌∙◌}
+use Rattle.std.specs.Prelude.{codes, length, if◌then◌else◌}
 use Rattle.std.specs.List.{enumerate_from}
 use Rattle.std.specs.declared.alloc.Global.{Global}
 use denote.RawPtr.{null_ptr}
@@ -56,7 +56,7 @@ printed_is t =
 abbrev somewhere : Box (Unit {0}) Global
 somewhere = record { ptr = null_ptr; alloc = record { memory = record { seal = tt } }; value = tt }
 
-tree : Condition → read.Outcome
+pub tree : Condition → read.Outcome
 tree Always = outcome.Always
 tree Never = outcome.Never
 tree (RegisterIs hart reg word) = outcome.RegisterIs hart reg word

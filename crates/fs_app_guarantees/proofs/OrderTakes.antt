@@ -25,7 +25,7 @@ use Rattle.fs_model.proofs.FencedSteps.{length-fenced_codes}
 use Rattle.fs_model.proofs.HartOperations.{has_name}
 use Rattle.fs_model.proofs.ListedNumbers.{has-here}
 use Rattle.fs_model.proofs.OnceListed.{order_below}
-use Rattle.fs_model_laws.specs.Fenced.{fenced_execution, fenced_steps, fenced_traces}
+use Rattle.fs_model_laws.specs.Fenced.{fenced_execution, fenced_traces}
 use Rattle.fs_model_laws.proofs.FencedChoices.{keeps_choices}
 use Rattle.fs_model_laws.proofs.FencedExecutions.{execution_back}
 use Rattle.fs_model_laws.proofs.FencedLaw as no_fence

@@ -1,5 +1,5 @@
 -- What `place` prints is the print of the fenced program; without FENCE words, of the program that was read.
-use Rattle.std.proofs.Common.{◌≡◌, ℕ, ◌+◌, ◌++◌, Bool, true, false, Option, None, Some, List, [], ◌∷◌, map, filter, flat_map, length, is_some, unwrap_or, Ok, refl, ap, ap₂, sym, subst, ◌∙◌, append-nil, arith}
+use Rattle.std.proofs.Common.{◌≡◌, ℕ, ◌+◌, ◌++◌, Bool, false, Option, None, Some, List, [], ◌∷◌, map, filter, flat_map, length, is_some, unwrap_or, Ok, refl, ap, ap₂, sym, subst, ◌∙◌, append-nil, arith}
 use Rattle.std.specs.List.{enumerate_from, range_with_len}
 use Rattle.fs_instr.specs.declared.instr.Instr.{Instr}
 use Rattle.fs_instr.specs.declared.instr.Instr.TheVariants.{Register, Immediate, Shift, Lui, Li, Lw, Sw, Lr, Sc, Amo, Branch, Jump, Fence, FenceTso}
@@ -9,7 +9,7 @@ use Rattle.fs_kinds.specs.declared.slot.Slot.{Slot}
 use Rattle.fs_kinds.specs.Placement.{all_with, kind_at}
 use Rattle.fs_kinds.specs.PriceTable.{PriceTable}
 use Rattle.fs_model.specs.declared.test.Test.{Test}
-use Rattle.fs_model.specs.Answers.{slot_at, is_filled, position, moved, fences, with_fence, fenced_code, fenced_codes, fenced}
+use Rattle.fs_model.specs.Answers.{slot_at, is_filled, position, moved, fences, with_fence, fenced_code, fenced}
 use Rattle.fs_model.specs.Executions.{Outcome}
 use Rattle.fs_model.specs.Fenced as tests
 use Rattle.fs_model.specs.OfTests.{program_of, outcome_of}
@@ -17,7 +17,7 @@ use Rattle.fs_model.specs.Placed.{word_of, placed, IsPlaced}
 use Rattle.fs_model.specs.Printed.{printed}
 use Rattle.fs_model.specs.Runs.{Program}
 use Rattle.fs_model.specs.Slots.{slots}
-use Rattle.fs_model.specs.Test.{IsTest, IsSame}
+use Rattle.fs_model.specs.Test.{IsSame}
 use Rattle.fs_model_laws.proofs.FencedExecutions.{none_at}
 use Rattle.fs_litmus.specs.Reads.{Reads}
 use Rattle.fs_litmus.proofs.ReadsOnce.{reads_once}
@@ -77,9 +77,14 @@ nothing_placed ss p h = from_words h.0 h.1 h.2
 
 -- ---- what is printed
 
-no_cost : (table : Option PriceTable) → ArePriced None table → (p : List Entry) → cost_line table p ≡ []
-no_cost None h p = refl
-no_cost (Some table) h p = absurd h
+no_table : (table : Option PriceTable) → ArePriced None table → table ≡ None
+no_table None h = refl
+no_table (Some table) h = absurd h
+
+-- the words place the fences whatever they cost
+pub placed_so : (file test : List ℕ) (words : List (List ℕ)) (a : IsFencedText file None words test)
+    → IsPlaced None (slots a.the_test) words (Some a.placement)
+placed_so file test words a = subst (λ (table : Option PriceTable). IsPlaced table (slots a.the_test) words (Some a.placement)) (no_table a.table a.priced) a.placed
 
 -- what is true of the fenced program is true of each whose print `place` prints
 pub of_placed : (file test : List ℕ) (words : List (List ℕ)) (P : Program → Outcome → Type 0) (a : IsFencedText file None words test)
@@ -88,7 +93,7 @@ of_placed file test words P a h =
     let f = a.the_test in
     let q = a.placement in
     let shown : test ≡ printed (tests.fenced f q) =
-    a.shown ∙ ap (λ (line : List ℕ). printed (tests.fenced f q) ++ line) (no_cost a.table a.priced q) ∙ append-nil (printed (tests.fenced f q)) in
+    a.shown ∙ ap (λ (line : List ℕ). printed (tests.fenced f q) ++ line) (ap (λ (table : Option PriceTable). cost_line table q) (no_table a.table a.priced)) ∙ append-nil (printed (tests.fenced f q)) in
     of_tests test P
     (λ t is e.
     let same : IsSame t (tests.fenced f q) = read_back f q (printed t) (Ok t) (is_test file f a.reads) (sym e ∙ shown) (printed_reads t is) in
@@ -99,7 +104,7 @@ pub of_file : (file test : List ℕ) (P : Program → Outcome → Type 0) (u : T
     → P (program_of u) (outcome_of u) → OfPrint test P
 of_file file test P u r a h =
     let f = a.the_test in
-    let none : a.placement ≡ all_with None (slots f) = nothing_placed (slots f) a.placement a.placed in
+    let none : a.placement ≡ all_with None (slots f) = nothing_placed (slots f) a.placement (placed_so file test [] a) in
     let stays : fenced (program_of f) a.placement ≡ program_of f =
     ap (λ (p : List Entry). fenced (program_of f) p) none ∙ program_stays (all_with None (slots f)) (none_at (slots f)) (program_of f) in
     of_placed file test [] P a (subst (λ (t : Program). P t (outcome_of f)) (sym stays) (of_same P u f (reads_once file u f r a.reads) h))

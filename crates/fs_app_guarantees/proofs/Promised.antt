@@ -1,11 +1,10 @@
 -- What commands answer is true of each program in print that they may have been asked of.
-use Rattle.std.proofs.Common.{◌≡◌, ℕ, Bool, false, None, Some, Option, List, [], refl, ap, sym, subst, ◌∙◌}
+use Rattle.std.proofs.Common.{◌≡◌, ℕ, Bool, false, None, Some, Option, List, [], ap, subst, ◌∙◌}
 use Rattle.fs_kinds.specs.declared.placement.Entry.{Entry}
 use Rattle.fs_kinds.specs.Placement.{all_with}
 use Rattle.fs_kinds.specs.Placements.{PriceTable}
-use Rattle.fs_model.specs.declared.test.Test.{Test}
 use Rattle.fs_model.specs.Answers.{fenced}
-use Rattle.fs_model.specs.OfTests.{program_of, outcome_of}
+use Rattle.fs_model.specs.OfTests.{program_of}
 use Rattle.fs_model.specs.Placed.{IsPlaced}
 use Rattle.fs_model.specs.Runs.{Program}
 use Rattle.fs_model.specs.Slots.{slots}
@@ -29,7 +28,7 @@ use Rattle.fs_app_check.specs.Check.{IsChecked}
 use Rattle.fs_app_guarantees.specs.Meanings.{HavePrices, Solves, Accepts, Says, ListsStates, SolveIsTrue, StatesAreTrue, TestIsTrue, YesIsTrue}
 use Rattle.fs_app_guarantees.proofs.Agrees.{slots_alike}
 use Rattle.fs_app_guarantees.proofs.InPrint.{of_read, same_program}
-use Rattle.fs_app_guarantees.proofs.PlacePrints.{nothing_placed, of_file, of_placed, program_stays}
+use Rattle.fs_app_guarantees.proofs.PlacePrints.{nothing_placed, of_file, of_placed, placed_so, program_stays}
 use Rattle.fs_app_guarantees.proofs.Placing.{one_placement}
 use Rattle.fs_app_guarantees.proofs.StateTruths.{lists}
 use Rattle.fs_app_guarantees.proofs.Truths.{solve, yes, tested}
@@ -88,7 +87,7 @@ states_placed file test text words all a s =
     let same : IsSame t f = reads_once file t f s.reads a.reads in
     let there : IsPlaced None (slots f) words (Some s.placement) =
     subst (λ ss. IsPlaced None ss words (Some s.placement)) (slots_alike t f same) s.placed in
-    let one : s.placement ≡ a.placement = one_placement f (is_test file f a.reads).bounded words s.placement a.placement there a.placed in
+    let one : s.placement ≡ a.placement = one_placement f (is_test file f a.reads).bounded words s.placement a.placement there (placed_so file test words a) in
     let alike : fenced (program_of t) s.placement ≡ fenced (program_of f) a.placement =
     ap (λ (u : Program). fenced u s.placement) (same_program t f same) ∙ ap (λ (p : List Entry). fenced (program_of f) p) one in
     of_placed file test words (λ u o. ListsStates u text) a (subst (λ (u : Program). ListsStates u text) alike (states_there file words all text s))

@@ -1,8 +1,8 @@
 -- The states that `states` lists are those of the fenced program.
-use Rattle.std.proofs.Common.{◌≡◌, ℕ, ◌==◌, ◌++◌, cond, Bool, true, false, ◌&&◌, ◌||◌, not, nat_le, nat_lt, Option, None, Some, List, [], ◌∷◌, map, flat_map, length, take, zero, suc, All, Contains, refl, ap, ap₂, sym, subst, ◌∙◌, append-nil, append_assoc, if◌then◌else◌}
+use Rattle.std.proofs.Common.{◌≡◌, ℕ, ◌==◌, ◌++◌, cond, Bool, true, false, ◌&&◌, ◌||◌, not, Option, None, Some, List, [], ◌∷◌, map, flat_map, length, take, zero, suc, All, Contains, refl, ap, ap₂, sym, subst, ◌∙◌, append-nil, append_assoc, arith, inl, inr}
 use Rattle.std.specs.Prelude.{◌↔◌, codes, slice_get}
-use Rattle.std.specs.Fmt.{decimal}
-use Rattle.std.specs.List.{list_any, slice_index_or}
+use Rattle.std.specs.Fmt.{decimal, digits}
+use Rattle.std.specs.List.{filter, list_any, slice_index_or}
 use Rattle.std.specs.Option.{option_or}
 use Rattle.std.specs.Str.{bytes_eq}
 use Rattle.std.proofs.lemmas.Bool.{and_parts, eqb-true, false≢true, or_cases}
@@ -103,8 +103,11 @@ abbrev are_numbered : List (List ℕ × ℕ) → Bool
 are_numbered [] = true
 are_numbered (row ∷ rows) = is_numbered row && are_numbered rows
 
+none_some : (n : ℕ) → None ≡ Some n → ⊥
+none_some n e = cc
+
 not_x : (name : List ℕ) → slice_get name 0 ≡ Some 120 → not (begins_with_x name) ≡ true → ⊥
-not_x [] begins other = let none : None ≡ Some 120 = begins in cc
+not_x [] begins other = none_some 120 begins
 not_x (c ∷ cs) begins other =
     let some : Some c ≡ Some 120 = begins in
     let same : c ≡ 120 = cc in
@@ -136,7 +139,7 @@ either None b name reg one two e = two e
 either (Some n) b name reg one two e = one e
 
 has_number : (name : List ℕ) (reg : ℕ) → register_of name ≡ Some reg → HasNumber name reg
-unfolding register_of low_x middle_x high_x first_names arguments last_names
+unfolding register_of low_x middle_x high_x first_names arguments last_names digits
 has_number name reg e =
     either (look_up low_x name) _ name reg (looked_up low_x name reg refl)
     (either (look_up middle_x name) _ name reg (looked_up middle_x name reg refl)
@@ -231,7 +234,7 @@ title t = codes "Test " ++ (name_text t.name ++ (codes " " ++ quantifier_word t.
 one_line : (t : Test) → list_any is_end (title t) ≡ false
 one_line t =
     none_in (codes "Test ") (name_text t.name ++ (codes " " ++ quantifier_word t.quantifier)) refl
-    (none_in (name_text t.name) (codes " " ++ quantifier_word t.quantifier) (none_taken most_name (shown t.name) (none_shown _))
+    (none_in (name_text t.name) (codes " " ++ quantifier_word t.quantifier) (none_taken most_name (shown t.name) (none_shown (filter (λ b. not (goes_on b)) t.name)))
     (none_in (codes " ") (quantifier_word t.quantifier) refl (no_end_in_word t.quantifier)))
 
 -- ---- the lines

@@ -9,15 +9,11 @@ use Rattle.fs_kinds.specs.PriceTable.{PriceTable, cost}
 use Rattle.fs_model.specs.declared.test.Test.{Test}
 use Rattle.fs_model.specs.Allows as placed
 use Rattle.fs_model.specs.Allows.{IsPlacement, RefutesAll, is_better}
-use Rattle.fs_model.specs.Answers as answers
-use Rattle.fs_model.specs.Answers.{NothingRulesOut}
 use Rattle.fs_model.specs.Execution.{Execution}
-use Rattle.fs_model.specs.Executions.{Allows}
 use Rattle.fs_model.specs.OfTests.{program_of, outcome_of}
 use Rattle.fs_model.specs.Test.{IsBounded}
 use Rattle.fs_model.specs.Witness.{Witness, IsOfWitness}
 use Rattle.fs_model_laws.proofs.FencedPrograms.{cheapest_alike, fenced_alike, none_alike, tested_alike}
-use Rattle.fs_litmus.specs.Reads.{Reads}
 use Rattle.fs_litmus.proofs.ReadsTest.{is_test}
 use Rattle.fs_cert_evidence.specs.Certificate.{Certificate, Version, First, Second, Fourth, IsBest, IsLeastCost}
 use Rattle.fs_cert_evidence.specs.CertificateFile.{IsCertificateFile, version_number}

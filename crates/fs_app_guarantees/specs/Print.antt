@@ -1,6 +1,6 @@
 -- A program and the outcome that it asks for in print, as `place` prints them under a name; and which of them can be
 -- printed and read.
-use Rattle.std.specs.Prelude.{◌≢◌, ◌≡◌, ℕ, ◌<◌, ◌≤◌, ◌^◌, false, not, ◌&&◌, List, [], ◌∷◌, ◌++◌, length, map, sum_by, count_by, All, AllPairs, IsTrue, codes, if◌then◌else◌}
+use Rattle.std.specs.Prelude.{◌≢◌, ◌≡◌, ℕ, ◌<◌, ◌≤◌, ◌^◌, false, not, ◌&&◌, List, [], ◌++◌, length, map, sum_by, count_by, All, AllPairs, IsTrue, codes, if◌then◌else◌}
 use Rattle.std.specs.List.{enumerate_from}
 use Rattle.std.specs.Str.{IsUtf8}
 use Rattle.fs_kinds.specs.Limits.{most_harts, most_instructions, most_accesses, most_locations, most_depth}
