@@ -2,7 +2,7 @@
 //! candidate and no certificate. Each law is said twice: of the command over these bytes, and of the command over a
 //! file of which `place` prints them.
 
-ghost use Rattle.std.specs.Prelude.{◌≡◌, ◌↔◌, ◌⊎◌, ℕ, Bool, false, Option, None, List, []};
+ghost use Rattle.std.specs.Prelude.{◌≡◌, ◌↔◌, ◌⊎◌, ◌++◌, ℕ, Bool, false, Option, None, List, []};
 ghost use Rattle.fs_kinds.specs.Placements.{PriceTable};
 ghost use Rattle.fs_model.specs.declared.test.Test.{Test};
 ghost use Rattle.fs_model.specs.Allows.{full_fences};
@@ -13,7 +13,7 @@ ghost use Rattle.fs_model.specs.Reasons.{IsYes};
 ghost use Rattle.fs_model.specs.Runs.{Program};
 ghost use Rattle.fs_model.specs.Test.{IsTest};
 ghost use Rattle.fs_model.specs.Witness.{Witness};
-ghost use Rattle.fs_cert_evidence.specs.Certificate.{Certificate};
+ghost use Rattle.fs_cert_evidence.specs.Certificate.{Certificate, Version};
 ghost use Rattle.fs_cert_evidence.specs.CertificateFile.{IsCertificateFile, version_number};
 ghost use Rattle.fs_app_io.specs.declared.status.Status.{Status};
 ghost use Rattle.fs_app_io.specs.declared.status.Status.TheVariants.{Denied, Success};
@@ -24,9 +24,10 @@ ghost use Rattle.fs_app_solve.specs.Solve.{IsSolved};
 ghost use Rattle.fs_app_test.specs.Report.{kind_text};
 ghost use Rattle.fs_app_test.specs.Verdicts.{IsTested};
 ghost use Rattle.fs_app_states.specs.Shown.{IsStatesText};
-ghost use Rattle.fs_app_check.specs.Check.{IsChecked};
+ghost use Rattle.fs_app_check.specs.Check.{IsChecked, yes_line};
+ghost use Rattle.fs_app_guarantees.specs.Checked.{IsBestAnswer};
 ghost use Rattle.fs_app_guarantees.specs.Headline.{CheapestRulesOut, NothingRulesOut};
-ghost use Rattle.fs_app_guarantees.specs.Meanings.{ShowsOutcome, SolveIsTrue, Solves, StatesAreTrue, TestIsTrue, YesIsTrue};
+ghost use Rattle.fs_app_guarantees.specs.Meanings.{Accepts, ShowsOutcome, SolveIsTrue, Solves, StatesAreTrue, TestIsTrue, YesIsTrue};
 ghost use Rattle.fs_app_guarantees.specs.Print.{print, IsPrintable};
 
 /// A law: what `place` prints of a test is the print of its program and outcome, and each test can be printed so; a
@@ -52,12 +53,16 @@ pub fn solve_is_true()
 {}
 
 /// A law: of each test and prices that is what the headline says of an answer, no less and no more, but that the
-/// headline says besides that the test's runs can be listed. And `order` says yes to the witness beside `none` exactly
-/// where it gives such an execution.
+/// headline says besides that the test's runs can be listed; and so it is of a yes of `check`. `order` says yes to a
+/// witness, with `rw,rw` in every slot, exactly where it gives an execution as the line beside `none` does.
 pub fn chapter_says_the_headline()
     ensures answers { (t : Test) (table : PriceTable) (text : List ℕ) (status : Status) → IsTest t
         → Solves (program_of t) (outcome_of t) table text (code status)
         ↔ (((status ≡ Success) × CheapestRulesOut t table text) ⊎ ((status ≡ Denied) × NothingRulesOut t text)) }
+    ensures yes { (t : Test) (table : PriceTable) (text : List ℕ) (version : Version) → IsTest t
+        → Accepts (version_number version) (program_of t) (outcome_of t) table text
+        ↔ ((below : List ℕ) × (text ≡ yes_line ++ below)
+        × (IsBestAnswer version t table below ⊎ NothingRulesOut t below)) }
     ensures witness { (t : Test) (w : Witness)
         → ShowsOutcome (program_of t) (outcome_of t) w ↔ IsYes t (full_fences t) w }
 {}
