@@ -57,7 +57,7 @@ pub data Solves (t : Program) (o : Outcome) (prices : PriceTable) (text : List �
   cheapest : (p : List Entry) → IsCheapest t o prices p → text ≡ fenced_lines (cost prices p) p → status ≡ 0 → Solves t o prices text status
   nothing : (w : Witness) → NothingRulesOut t o → ShowsOutcome t o w → text ≡ none_lines w → status ≡ 1 → Solves t o prices text status
 
--- ---- `check` says yes: the same of the lines below the first one, but that with a certificate of version 1 ties are open
+-- ---- `check` says yes: the same of the lines below the first one, but that of version 1 of certificates ties are open
 
 -- it rules the outcome out, and none that costs less does
 pub record IsLeast (t : Program) (o : Outcome) (prices : PriceTable) (p : List Entry) : Type 0 where

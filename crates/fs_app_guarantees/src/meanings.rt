@@ -71,8 +71,9 @@ pub fn chapter_says_the_headline()
 /// prints below means what the same lines of `solve` do. With a certificate of version 1 fences may be such that they
 /// rule the outcome out and none that cost less do.
 pub fn check_is_true()
-    ensures printed { (test prices certificate text : List ℕ) (c : Certificate) → IsChecked test prices certificate text Success
-        → IsCertificateFile certificate c → YesIsTrue (version_number c.version) test prices text }
+    ensures printed { (test prices certificate text : List ℕ) (c : Certificate)
+        → IsChecked test prices certificate text Success → IsCertificateFile certificate c
+        → YesIsTrue (version_number c.version) test prices text }
     ensures placed { (file test prices certificate text : List ℕ) (c : Certificate) → IsFencedText file None [] test
         → IsChecked file prices certificate text Success → IsCertificateFile certificate c
         → YesIsTrue (version_number c.version) test prices text }
@@ -91,8 +92,8 @@ pub fn test_is_true()
 /// in which executions end, at some places, each once and no other. With FENCE words it is the program that `place`
 /// prints with the same words.
 pub fn states_are_true()
-    ensures printed { (test text : List ℕ) (all : Bool) → IsStatesText test [] (record { all = all; witnesses = false }) text
-        → StatesAreTrue test text }
+    ensures printed { (test text : List ℕ) (all : Bool)
+        → IsStatesText test [] (record { all = all; witnesses = false }) text → StatesAreTrue test text }
     ensures placed { (file test text : List ℕ) (words : List (List ℕ)) (all : Bool) → IsFencedText file None words test
         → IsStatesText file words (record { all = all; witnesses = false }) text → StatesAreTrue test text }
 {}
