@@ -1,8 +1,8 @@
 -- The witness beside `none` gives an execution of the program with rw,rw in every slot.
-use Rattle.std.proofs.Common.{◌≡◌, ℕ, ◌<◌, suc, Option, None, Some, List, [], ◌∷◌, map, length, refl, ap, ap₂, sym, ◌∙◌, arith}
+use Rattle.std.proofs.Common.{◌≡◌, ℕ, Option, None, Some, List, [], ◌∷◌, map, length, refl, ap, ap₂, sym, ◌∙◌, arith}
 use Rattle.std.specs.Prelude.{option_and_then, option_map, slice_get}
 use Rattle.std.specs.List.{slice_index_or}
-use Rattle.std.proofs.lemmas.List.{length-map}
+use Rattle.std.proofs.lemmas.List.{ext_get_or, length-map}
 use Rattle.std.proofs.lemmas.List.FromFn.{length-enumerate_from}
 use Rattle.fs_kinds.specs.declared.placement.Entry.{Entry}
 use Rattle.fs_kinds.specs.declared.reason.OperationName.{OperationName as Name}
@@ -35,20 +35,12 @@ fenced_there t p e is =
 
 -- ---- choices
 
-lists_alike : {X : Type 0} (d : X) (xs ys : List X) → length xs ≡ length ys
-    → ((k : ℕ) → k < length xs → slice_index_or xs k d ≡ slice_index_or ys k d) → xs ≡ ys
-lists_alike d [] [] e each = refl
-lists_alike d [] (y ∷ ys) e each = absurd (omega (arith, e))
-lists_alike d (x ∷ xs) [] e each = absurd (omega (arith, e))
-lists_alike d (x ∷ xs) (y ∷ ys) e each =
-    ap₂ (λ z zs. z ∷ zs) (each 0 (omega arith)) (lists_alike d xs ys (omega (arith, e)) (λ k low. each (suc k) (omega (arith, low))))
-
 choices_kept : (t : Test) (p : List Entry) (w : Witness) (e : Execution) → IsOfWitness t w e → map choices_of (fenced_traces p e.traces) ≡ w.choices
 choices_kept t p w e given =
     let traces = fenced_traces p e.traces in
     let long : length (map choices_of traces) ≡ length t.codes =
     length-map traces choices_of ∙ length-map _ (fenced_steps p) ∙ length-enumerate_from 0 e.traces ∙ given.harts in
-    lists_alike [] (map choices_of traces) w.choices (long ∙ sym given.lists)
+    ext_get_or [] (map choices_of traces) w.choices (long ∙ sym given.lists)
     (λ hart low.
     let there = (keeps_choices t p hart (slice_index_or w.choices hart []) (steps_of e.traces hart) (given.runs hart (omega (arith, low, long)))).1 in
     index_mapped choices_of traces hart [] ∙ ap choices_of (trace_fenced p e.traces hart) ∙ sym there)

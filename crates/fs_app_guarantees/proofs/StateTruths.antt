@@ -5,7 +5,7 @@ use Rattle.std.specs.Fmt.{decimal, digits}
 use Rattle.std.specs.List.{filter, list_any, slice_index_or}
 use Rattle.std.specs.Option.{option_or}
 use Rattle.std.specs.Str.{bytes_eq}
-use Rattle.std.proofs.lemmas.Bool.{and_parts, eqb-true, false≢true, or_cases}
+use Rattle.std.proofs.lemmas.Bool.{and_parts, eqb-true, false≢true, or_cases, or_parts}
 use Rattle.std.proofs.lemmas.List.{length-map}
 use Rattle.std.proofs.lemmas.List.Elements.{All-map}
 use Rattle.fs_instr.specs.Registers.{register_of, low_x, middle_x, high_x, first_names, arguments, last_names}
@@ -203,18 +203,14 @@ called bytes t all columns are =
 abbrev is_end : ℕ → Bool
 is_end c = c == 10
 
-neither : (a b : Bool) → (a || b) ≡ false → (a ≡ false) × (b ≡ false)
-neither true b e = absurd (false≢true (sym e))
-neither false b e = (refl, e)
-
 none_in : (xs ys : List ℕ) → list_any is_end xs ≡ false → list_any is_end ys ≡ false → list_any is_end (xs ++ ys) ≡ false
 none_in [] ys one two = two
-none_in (x ∷ xs) ys one two = let parts = neither (is_end x) (list_any is_end xs) one in rw (parts.0, none_in xs ys parts.1 two) refl
+none_in (x ∷ xs) ys one two = let parts = or_parts (is_end x) (list_any is_end xs) one in rw (parts.0, none_in xs ys parts.1 two) refl
 
 none_taken : (n : ℕ) (xs : List ℕ) → list_any is_end xs ≡ false → list_any is_end (take n xs) ≡ false
 none_taken zero xs none = refl
 none_taken (suc n) [] none = refl
-none_taken (suc n) (x ∷ xs) none = let parts = neither (is_end x) (list_any is_end xs) none in rw (parts.0, none_taken n xs parts.1) refl
+none_taken (suc n) (x ∷ xs) none = let parts = or_parts (is_end x) (list_any is_end xs) none in rw (parts.0, none_taken n xs parts.1) refl
 
 no_end : (b : ℕ) → is_end (shown_byte b) ≡ false
 no_end b = grind arith
