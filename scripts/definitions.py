@@ -56,10 +56,19 @@ CONTRACTS = {
     ],
 }
 # what a program of harts means, in the words of the chapter on the model
-MEANINGS = {
+PROGRAMS = {
     "that an outcome is possible": [("fs_model", "Executions", "Allows")],
     "that fences are the answer": [("fs_model", "Answers", "IsCheapest"), ("fs_model", "Answers", "NothingRulesOut")],
 }
+# what an answer means of a test in print, in the same words, and on how many lines that may rest
+ANSWERS = {
+    "what an answer of solve means": [("fs_app_guarantees", "Meanings", "SolveIsTrue")],
+    "what a yes of check means": [("fs_app_guarantees", "Meanings", "YesIsTrue")],
+    "what a word of test means": [("fs_app_guarantees", "Meanings", "TestIsTrue")],
+    "what the lines of states mean": [("fs_app_guarantees", "Meanings", "StatesAreTrue")],
+}
+MOST = dict(zip(ANSWERS, [1100, 1110, 860, 840]))
+MEANINGS = {**PROGRAMS, **ANSWERS}
 
 
 def spec_file(crate, path):
@@ -197,6 +206,12 @@ def needed_by(name):
 def all_needed():
     """All that some contract rests on."""
     return frozenset(it for name in CONTRACTS for it in needed_by(name))
+
+
+@functools.cache
+def all_meant():
+    """All that the definitions in `ANSWERS` rest on."""
+    return frozenset(it for name in ANSWERS for it in needed_by(name))
 
 
 def size_of(nodes):

@@ -7,6 +7,7 @@ import re
 
 TOP = os.path.dirname(os.path.dirname(os.path.abspath(__file__)))
 BELIEVED = "The files that must be believed"
+MEANT = "## What an answer means"
 OF_CRATE = re.compile(r"((?:`[\w:]+`(?:,| and| or)? )+)of (fs_\w+)")
 HEADER = re.compile(r'(?:#![^\n]*\n)?(?:"""(.*?)(?:\n\n|""")|/\*(.*?)\*/|((?:(?:#(?!!)|//!|--)[^\n]*\n)+))', re.S)
 
@@ -49,3 +50,8 @@ def named_in(text):
 def believed():
     """The files of definitions that docs/PROVED.md lists as those that must be believed."""
     return list(named_in("".join(re.findall(r"^- .*", text_of("docs/PROVED.md").partition(BELIEVED)[2], re.M))))
+
+
+def meant():
+    """The files that docs/PROVED.md lists besides for what an answer means: in the section's last paragraph."""
+    return list(named_in(text_of("docs/PROVED.md").partition(MEANT)[2].partition("\n## ")[0].strip().split("\n\n")[-1]))

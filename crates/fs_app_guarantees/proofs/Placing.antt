@@ -35,7 +35,7 @@ slot_there s (e ∷ p) small has = elim (or_cases (is_same_slot e.slot s) (has_s
 ]
 
 -- where the choice is a value, the test passed
-if_some : {A : Type 0} (b : Bool) (o : Option A) (x : A) → (if b then o else None) ≡ Some x → (b ≡ true) × (o ≡ Some x)
+pub if_some : {A : Type 0} (b : Bool) (o : Option A) (x : A) → (if b then o else None) ≡ Some x → (b ≡ true) × (o ≡ Some x)
 if_some true o x e = (refl, e)
 if_some false o x e = absurd (let none : None ≡ Some x = e in cc)
 

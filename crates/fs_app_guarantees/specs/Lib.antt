@@ -1,6 +1,9 @@
 pub mod Agreement
+pub mod Assembly
 pub mod Audits
 pub mod Checked
 pub mod Headline
 pub mod Lines
+pub mod Meanings
+pub mod Print
 pub mod States
