@@ -1,12 +1,10 @@
 """The tests and files that scripts/bench measures. scripts/check workers runs some of the tests too."""
 
-import json
 import re
 
 from litmus import text_of                                      # of this folder
 
 AND, OR = ' /\\ ', ' \\/ '
-HARTS = 8                               # of the tests for `order`
 
 
 # --- Tests that grow ---------------------------------------------------------------------------------------------
@@ -135,43 +133,6 @@ def long_searches():
     numbers = [(3, 2, 0), (3, 2, 3), (3, 2, 6), (4, 2, 0), (4, 2, 2), (4, 2, 6), (4, 2, 8), (4, 3, 0), (4, 3, 2),
                (4, 3, 4), (4, 3, 8), (4, 3, 12)]
     return {name: grown[name] for name in names} | {'votes-%d-%d-%d' % each: votes(*each) for each in numbers}
-
-
-# --- Tests of 48 accesses for `order` ----------------------------------------------------------------------------
-
-# The code of a hart, 6 accesses. x6 has the address of the hart's own location, and x7 that of the next hart's.
-STORE, LOAD = 'sw x5,0(x6)', 'lw x8,0(x7)'
-PLAIN = ['ori x5,x0,1'] + [STORE, LOAD] * 3
-# Each access depends on the load before it by its address, its word or a branch, in 32 instructions.
-DEPENDENT = ['ori x5,x0,1', STORE]
-for _at in range(5):
-    DEPENDENT += [(f'L{_at}: ' if _at else '') + (STORE if _at % 2 else LOAD), 'xor x9,x8,x8', 'add x7,x7,x9',
-                  'add x6,x6,x9', 'ori x5,x9,1', f'beq x8,x0,L{_at + 1}']
-DEPENDENT.append('L5:')
-
-
-def order_test(cells):
-    """A test in which every hart has this code; its outcome is true of every execution."""
-    harts = [[f'x6:a{hart}', f'x7:a{(hart + 1) % HARTS}', *cells] for hart in range(HARTS)]
-    return test_of('BENCH', harts, ['true'])
-
-
-def accesses_of(cells):
-    """The numbers of the instructions that access memory."""
-    return [at for at, cell in enumerate(cells) if cell.endswith((STORE, LOAD))]
-
-
-def order_witness(cells):
-    """The harts run one after the other. So a hart's loads return 0, but those of the last hart the first hart's 1."""
-    loads = sum(cell.endswith(LOAD) for cell in cells)
-    choices = [[int(hart == HARTS - 1)] * loads for hart in range(HARTS)]
-    order = [f'P{hart}:{at}' for hart in range(HARTS) for at in accesses_of(cells)]
-    return json.dumps({'choices': choices, 'order': order})
-
-
-def order_fences(cells):
-    """`rw,rw` in every slot."""
-    return [f'P{hart}:{at}=rw,rw' for hart in range(HARTS) for at in accesses_of(cells)[1:]]
 
 
 # --- Large files -------------------------------------------------------------------------------------------------

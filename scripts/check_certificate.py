@@ -8,8 +8,7 @@ with the program. The sections below name the part of these documents that they 
 
 It prints `yes` and the answer, status 0; or `no: ` and the first reason of docs/CERTIFICATE.md, section 5, status 1.
 Bytes that are no certificate are `fault F18 BadCertificate` on standard error, and any other file that can't be read
-is another line there; both have status 2. It takes it that the program accepts the test and the price list, and looks
-for no more faults in them than it stumbles over.
+is another line there, with the fault that the program finds in it; both have status 2.
 """
 
 import itertools
@@ -17,12 +16,17 @@ import json
 import math
 import re
 import sys
+import typing
 
 WORDS = 2 ** 32
 
 
 class Unreadable(Exception):
     """A file isn't what it should be, or a test's runs can't be listed."""
+
+
+class Fault(Unreadable):
+    """The fault of a test or of a price list, as its line says it."""
 
 
 class NotACertificate(Exception):
@@ -108,7 +112,7 @@ PAIRS = {kind: TSO if kind == 'tso' else product_of(*kind.split(',')) for kind i
 ALL_PAIRS = ['RR', 'RW', 'WR', 'WW']
 
 
-# --- Tests (FORMAT 1 and 2) --------------------------------------------------------------------------------------
+# --- Tests (FORMAT 1, 2, 9 and 10) -------------------------------------------------------------------------------
 
 REGISTER_NAMES = ['zero', 'ra', 'sp', 'gp', 'tp', 't0', 't1', 't2', 's0', 's1'] + ['a%d' % n for n in range(8)] \
     + ['s%d' % n for n in range(2, 12)] + ['t%d' % n for n in range(3, 7)]
@@ -173,7 +177,8 @@ class Instruction:
         self.number = 0             # immediate or offset
         self.label = None           # where a branch goes: a name, and once all labels are known, a position
         self.aq = self.rl = False
-        self.pairs = frozenset()    # what a written fence orders
+        self.letters = ()           # of a written fence
+        self.pairs = frozenset()    # what it orders
 
     def is_memory(self):
         return self.address is not None
@@ -203,256 +208,343 @@ class Test:
         return found
 
 
-TOKEN = re.compile(r'(?:[ \t\r\n]|\(\*.*?\*\))+|([A-Za-z0-9_.]+|/\\|\\/|[{};|,:=()\[\]~-])', re.DOTALL)
-
-
-def tokens_of(text):
-    """The tokens of the part of a test from `{` on, without blanks and comments."""
-    found = []
-    at = 0
-    while at < len(text):
-        match = TOKEN.match(text, at)
-        if not match:
-            raise Unreadable('no token: %a' % text[at])
-        if match[1]:
-            found.append(match[1])
-        at = match.end()
-    return found
+TOKEN = re.compile(r'[A-Za-z0-9_.]+|/\\|\\/|[^ \t\r\n]')
+SIGNS = {*'{};|,:=()[]~-', '/\\', '\\/'}
+CONNECTIVES = {'/\\': 'and', '\\/': 'or'}
+FAULTS = {3: 'Syntax', 4: 'UnknownInstr', 5: 'BadAnnotation', 6: 'BadLabel', 7: 'BadInit'}
 
 
 def number_of(token):
     """The number that this word is, or None. One of many digits is in no range."""
-    match = re.fullmatch('0x([0-9A-Fa-f]+)|([0-9]+)', token or '')
+    match = re.fullmatch('0x([0-9A-Fa-f]+)|([0-9]+)', token)
     if not match:
         return None
     digits = match[match.lastindex].lstrip('0') or '0'
     return int(digits, 16 if match[1] else 10) if len(digits) <= 20 else 10 ** 20
 
 
+def is_number(token):
+    return number_of(token) is not None
+
+
+def is_word(token):
+    return re.match('[A-Za-z0-9_.]', token) is not None
+
+
 def is_name(token):
-    return token is not None and re.fullmatch('[A-Za-z_][A-Za-z0-9_]*', token) is not None
+    return re.fullmatch('[A-Za-z_][A-Za-z0-9_]*', token) is not None
 
 
-class TestReader:
-    """Reads the tokens of a test from first to last."""
+class Tokens:
+    """The tokens of a text with their lines, and a place among them. `last` is the line where the text ends."""
 
-    def __init__(self, tokens):
-        self.tokens, self.at, self.test = tokens, 0, Test()
-        self.entries = []           # hart, register and word: harts are known after the header only
+    def __init__(self, text, line, last):
+        self.words, self.lines = [], []
+        self.at, self.last, self.is_closed = 0, last, True
+        place = 0
+        while place < len(text):
+            if text.startswith('(*', place):
+                end = text.find('*)', place + 2)
+                self.is_closed = end >= 0
+                end = end + 2 if self.is_closed else len(text)
+                line += text.count('\n', place, end)
+                place = end
+            elif text[place] in ' \t\r\n':
+                line += text[place] == '\n'
+                place += 1
+            else:
+                word = TOKEN.match(text, place)[0]
+                self.words.append(word)
+                self.lines.append(line)
+                place += len(word)
 
     def peek(self, ahead=0):
-        return self.tokens[self.at + ahead] if self.at + ahead < len(self.tokens) else None
+        """The token here, or the empty text at the end."""
+        return self.words[self.at + ahead] if self.at + ahead < len(self.words) else ''
 
-    def take(self, *wanted):
-        """The next token, which is one of those wanted if there are any."""
+    def line(self):
+        return self.lines[self.at] if self.at < len(self.lines) else self.last
+
+    def next(self, is_wanted):
+        """Takes the token here, where it is wanted; else the form breaks here."""
         token = self.peek()
-        if token is None or wanted and token not in wanted:
-            raise Unreadable('the test has %a at token %d' % (token, self.at))
+        if not token or not is_wanted(token):
+            raise Fault('fault F3 Syntax line %d' % self.line())
         self.at += 1
         return token
 
-    def number(self):
-        number = number_of(self.take())
-        if number is None:
-            raise Unreadable('no number at token %d' % (self.at - 1))
-        return number
+    def expect(self, *wanted):
+        return self.next(lambda token: token in wanted)
 
-    def signed_number(self, least, greatest):
-        minus = self.peek() == '-' and self.take() == '-'
-        number = -self.number() if minus else self.number()
-        if not least <= number <= greatest:
-            raise Unreadable('a number out of range at token %d' % (self.at - 1))
-        return number
+    def skip_to(self, *ends):
+        """Goes on to the first of these tokens."""
+        while self.peek() not in ends:
+            self.next(lambda token: is_word(token) or token in SIGNS)
 
-    def register(self):
-        token = self.take()
-        if token not in REGISTERS:
-            raise Unreadable('no register: %a' % token)
-        return REGISTERS[token]
+
+def take_operand(operand, words, made):
+    """Takes an operand of FORMS off the words, into its place in the instruction. Is it one?"""
+    if operand == 'o' and words[:1] == ['(']:
+        return True
+    is_negative = operand in RANGES and words[:1] == ['-']
+    word = ''.join(words[is_negative:is_negative + 1])
+    del words[:is_negative + 1]
+    if operand in RANGES:
+        least, greatest = RANGES[operand]
+        number = -(number_of(word) or 0) if is_negative else number_of(word) or 0
+        made.number = (number * 4096 if operand == 'u' else number) % WORDS
+        return is_number(word) and least <= number <= greatest
+    if operand in 'dsvaz':
+        register = REGISTERS.get(word)
+        if operand == 's':
+            made.plain += (register,)
+        elif operand != 'z':
+            setattr(made, {'d': 'rd', 'a': 'address', 'v': 'data'}[operand], register)
+        return register is not None and (operand != 'z' or register == 0)
+    if operand == 'l':
+        made.label = word
+        return is_name(word)
+    if operand == 'f':
+        made.letters += (word,)
+        return re.fullmatch('(?=.)i?o?r?w?', word) is not None
+    return word == operand
+
+
+def instruction_of(name, words):
+    """The instruction of this name with these words behind it, or None where they are none of its operands."""
+    operands, form, function = FORMS[name]
+    made = Instruction(form, function)
+    if name == 'fence' and not words:
+        words = ['iorw', ',', 'iorw']
+    if not all(take_operand(operand, words, made) for operand in operands) or words:
+        return None
+    if form in ('lr', 'sc', 'amo'):
+        made.aq, made.rl = ANNOTATIONS[name.partition('.w')[2]]
+    if form == 'fence':
+        made.pairs = product_of(*made.letters) if made.letters else TSO
+    return made
+
+
+class Column:
+    """The code of a hart in the making: its instructions with their lines, and the place of each label. What is wrong
+    with it is noted in `faults`, by number and line."""
+
+    def __init__(self, faults):
+        self.faults, self.code, self.lines, self.labels = faults, [], [], {}
+
+    def read_cell(self, words, lines):
+        at = 0
+        while words[at + 1:at + 2] == [':'] and is_name(words[at]):
+            if words[at] in self.labels:
+                self.faults.append((6, lines[at]))
+            self.labels.setdefault(words[at], len(self.code))
+            at += 2
+        if at == len(words):
+            return
+        made = instruction_of(words[at], words[at + 1:]) if words[at] in FORMS else None
+        if is_word(words[at]) and words[at] not in FORMS:
+            self.faults.append((4, lines[at]))
+        elif made is None:
+            self.faults.append((3, lines[0]))
+        elif words[at] in ('lr.w.rl', 'sc.w.aq'):
+            self.faults.append((5, lines[at]))
+        else:
+            self.code.append(made)
+            self.lines.append(lines[at])
+
+    def link(self):
+        """Has each branch go to the place of its label, which must be a later one."""
+        for at, (made, line) in enumerate(zip(self.code, self.lines)):
+            if made.label is not None:
+                made.label = self.labels.get(made.label, -1)
+                self.faults += [(6, line)] * (made.label <= at)
+
+
+def joined(stack, right, signs):
+    """The condition at the right of these signs, once those are off the stack. A condition has its tree and its depth;
+    a denial and an open parenthesis have nothing at their left."""
+    while stack and stack[-1][0] in signs:
+        sign, tree, depth = stack.pop()
+        tree = ('not', right[0]) if sign == '~' else (CONNECTIVES[sign], tree, right[0])
+        right = tree, 1 + max(depth, right[1])
+    return right
+
+
+class TestReader(Tokens):
+    """Reads a test from first to last. Where the form breaks, that is its fault; else the least of those noted is."""
+
+    def __init__(self, *text):
+        super().__init__(*text)
+        self.test = Test()
+        self.faults = []            # number and line
+        self.has_bad_atom = False
 
     def location(self):
         """The address of the location of this name, which declares it where it is new."""
-        name = self.take()
-        if not is_name(name):
-            raise Unreadable('no name: %a' % name)
-        test = self.test
+        name, test = self.next(is_name), self.test
         if name not in test.addresses:
-            address = 4096 + 16 * len(test.addresses)
-            test.addresses[name], test.words[address] = address, 0
+            test.addresses[name] = 4096 + 16 * len(test.addresses)
+            test.words[test.addresses[name]] = 0
         return test.addresses[name]
 
+    def target(self):
+        """A location's address, or hart and register, which is None where there is none of this name."""
+        if is_number(self.peek()):
+            hart = number_of(self.next(is_number))
+            self.expect(':')
+            return hart, REGISTERS.get(self.next(is_word))
+        if self.peek() != '[':
+            return self.location()
+        self.expect('[')
+        address = self.location()
+        self.expect(']')
+        return address
+
     def value(self):
+        """A word, or None where the number is out of range."""
         if is_name(self.peek()):
             return self.location()
-        return self.signed_number(-2 ** 31, WORDS - 1) % WORDS
+        sign = -1 if self.peek() == '-' and self.expect('-') else 1
+        number = sign * number_of(self.next(is_number))
+        return number % WORDS if -2 ** 31 <= number < WORDS else None
 
-    def target(self):
-        """A location's address, or hart and register: of an entry or of an atom."""
-        if self.peek() == '[':
-            self.take()
-            address = self.location()
-            self.take(']')
-            return address
-        if number_of(self.peek()) is not None:
-            hart = self.number()
-            self.take(':')
-            return hart, self.register()
-        return self.location()
-
-    def read(self):
-        self.initial_words()
-        self.header()
-        self.rows()
-        if self.peek() == 'locations':
-            self.take()
-            self.take('[')
-            while self.take() != ']':
-                pass
-        quantifier = self.take('exists', 'forall', '~')
-        if quantifier == '~':
-            self.take('exists')
-        condition = self.disjunction()
-        if self.peek() is not None:
-            raise Unreadable('the test goes on after its condition')
-        self.test.wanted = (condition, quantifier != 'forall')
-        self.test.outcome = ('not', condition) if quantifier == 'forall' else condition
-        return self.test
-
-    def initial_words(self):
-        self.take('{')
+    def entries(self):
+        """The entries of the init block: line, target and value of each."""
+        found = []
+        self.expect('{')
         while self.peek() != '}':
             if self.peek() in ('int', 'int32_t', 'uint32_t') and self.peek(1) != '=':
-                self.take()
-            target = self.target()
-            self.take('=')
-            self.entries.append((target, self.value()))
+                self.next(is_name)
+            line, target = self.line(), self.target()
+            self.expect('=')
+            found.append((line, target, self.value()))
             if self.peek() != '}':
-                self.take(';')
-        self.take('}')
+                self.expect(';')
+        self.expect('}')
+        return found
 
     def header(self):
-        """The columns, and with them the registers at the beginning."""
-        harts = 0
-        while True:
-            self.take('P%d' % harts)
+        """The number of harts."""
+        self.expect('P0')
+        harts = 1
+        while self.expect('|', ';') == '|':
+            self.expect('P%d' % harts)
             harts += 1
-            if self.take('|', ';') == ';':
-                break
-        test = self.test
-        test.registers = [[0] * 32 for _ in range(harts)]
-        for target, word in self.entries:
-            if type(target) is not tuple:
-                test.words[target] = word
-            elif target[0] < harts and target[1] != 0:
-                test.registers[target[0]][target[1]] = word
-            else:
-                raise Unreadable('an entry for a register that there is not')
+        return harts
 
-    def rows(self):
-        harts = len(self.test.registers)
-        test = self.test
-        test.code = [[] for _ in range(harts)]
-        labels = [{} for _ in range(harts)]
-        while self.peek() not in ('locations', 'exists', 'forall', '~', None):
-            for hart in range(harts):
-                while is_name(self.peek()) and self.peek(1) == ':':
-                    labels[hart][self.take()] = len(test.code[hart])
-                    self.take(':')
-                if self.peek() not in ('|', ';'):
-                    test.code[hart].append(self.instruction())
-                self.take(';' if hart == harts - 1 else '|')
-        for hart, code in enumerate(test.code):
-            for position, instruction in enumerate(code):
-                if instruction.label is not None:
-                    instruction.label = labels[hart].get(instruction.label, -1)
-                    if instruction.label <= position:
-                        raise Unreadable('a branch to no later label')
+    def rows(self, harts):
+        """Of each hart its cells: tokens and their lines."""
+        columns = [[] for _ in range(harts)]
+        while self.peek() not in ('locations', 'exists', 'forall', '~'):
+            for cells in columns:
+                start = self.at
+                self.skip_to('|', ';')
+                cells.append((self.words[start:self.at], self.lines[start:self.at]))
+                self.expect('|' if cells is not columns[-1] else ';')
+        return columns
 
-    def instruction(self):
-        """One instruction of the table of FORMAT 2."""
-        word = self.take()
-        if word not in FORMS:
-            raise Unreadable('no instruction: %a' % word)
-        operands, form, function = FORMS[word]
-        made = Instruction(form, function)
-        if form in ('lr', 'sc', 'amo'):
-            made.aq, made.rl = ANNOTATIONS[word.partition('.w')[2]]
-        if form == 'fence':
-            made.pairs = TSO if word == 'fence.tso' else product_of(*self.fence_letters())
-            return made
-        for operand in operands:
-            self.operand(operand, made)
-        return made
-
-    def operand(self, operand, made):
-        """Reads an operand into its place."""
-        if operand in RANGES:
-            if operand != 'o' or self.peek() != '(':
-                number = self.signed_number(*RANGES[operand])
-                made.number = (number * 4096 if operand == 'u' else number) % WORDS
-        elif operand == 'l':
-            made.label = self.take()
-        elif operand == 's':
-            made.plain += (self.register(),)
-        elif operand in 'dav':
-            setattr(made, {'d': 'rd', 'a': 'address', 'v': 'data'}[operand], self.register())
-        elif operand == 'z':
-            if self.register() != 0:
-                raise Unreadable('jal with another register than x0')
-        else:
-            self.take(operand)
-
-    def fence_letters(self):
-        """The letters of a `fence` before and after the comma; all where there are none."""
-        if self.peek() in ('|', ';'):
-            return 'iorw', 'iorw'
-        before, _, after = self.take(), self.take(','), self.take()
-        if not all(re.fullmatch('(?=.)i?o?r?w?', letters) for letters in (before, after)):
-            raise Unreadable('no fence: %a,%a' % (before, after))
-        return before, after
-
-    def disjunction(self):
-        condition = self.conjunction()
-        while self.peek() == '\\/':
-            self.take()
-            condition = ('or', condition, self.conjunction())
-        return condition
-
-    def conjunction(self):
-        condition = self.unit()
-        while self.peek() == '/\\':
-            self.take()
-            condition = ('and', condition, self.unit())
-        return condition
-
-    def unit(self):
-        token = self.peek()
-        if token == '~' or token == 'not' and self.peek(1) != '=':
-            self.take()
-            return ('not', self.unit())
-        if token == '(':
-            self.take()
-            condition = self.disjunction()
-            self.take(')')
-            return condition
-        if token in ('true', 'false') and self.peek(1) != '=':
-            return ('constant', self.take() == 'true')
+    def atom(self):
+        """An atom, `true` or `false`."""
+        if self.peek() in ('true', 'false') and self.peek(1) != '=':
+            return 'constant', self.next(is_word) == 'true'
         target = self.target()
-        self.take('=')
-        if type(target) is tuple and target[0] >= len(self.test.registers):
-            raise Unreadable('the condition speaks of a hart that there is not')
-        return ('word' if type(target) is int else 'register', target, self.value())
+        self.expect('=')
+        value, is_register = self.value(), type(target) is tuple
+        is_there = not is_register or target[0] < len(self.test.registers) and target[1] is not None
+        self.has_bad_atom |= value is None or not is_there
+        return 'register' if is_register else 'word', target, value
+
+    def condition(self):
+        """The condition, and its depth, both as written and as grouped. The stack has what is open: parentheses,
+        denials, and connectives with what they join to the left."""
+        stack, deepest = [], 0
+        while True:
+            while self.peek() in ('(', '~') or self.peek() == 'not' and self.peek(1) != '=':
+                stack.append(('(' if self.expect('(', '~', 'not') == '(' else '~', None, 0))
+            deepest = max(deepest, sum(sign in ('(', '~') for sign, *_ in stack))
+            found = joined(stack, (self.atom(), 0), ('~', '/\\'))
+            while self.peek() == ')' and any(sign == '(' for sign, *_ in stack):
+                self.expect(')')
+                found = joined(stack, found, ('\\/',))
+                stack.pop()
+                found = joined(stack, found, ('~', '/\\'))
+            if not self.peek() and not any(sign == '(' for sign, *_ in stack):
+                tree, depth = joined(stack, found, ('\\/',))
+                return tree, max(deepest, depth)
+            sign = self.expect('/\\', '\\/')
+            stack.append((sign, *(joined(stack, found, ('\\/',)) if sign == '\\/' else found)))
+
+    def read(self):
+        test, entries = self.test, self.entries()
+        columns = self.rows(self.header())
+        test.registers = [[0] * 32 for _ in columns]
+        if self.peek() == 'locations':
+            self.expect('locations')
+            self.expect('[')
+            self.skip_to(']')
+            self.expect(']')
+        quantifier = self.expect('exists', 'forall', '~')
+        if quantifier == '~':
+            self.expect('exists')
+        condition, depth = self.condition()
+        if not self.is_closed:
+            raise Fault('fault F3 Syntax line %d' % self.last)
+        for cells in columns:
+            column = Column(self.faults)
+            for cell in cells:
+                column.read_cell(*cell)
+            column.link()
+            test.code.append(column.code)
+        self.begin(entries)
+        test.wanted = (condition, quantifier != 'forall')
+        test.outcome = ('not', condition) if quantifier == 'forall' else condition
+        self.judge(depth)
+        return test
+
+    def begin(self, entries):
+        """Gives registers and locations their words at the beginning."""
+        seen, harts = set(), len(self.test.registers)
+        for line, target, word in entries:
+            is_register = type(target) is tuple
+            is_there = not is_register or target[0] < harts and target[1]       # but for x0
+            if word is None or not is_there or target in seen:
+                self.faults.append((7, line))
+            elif is_register:
+                self.test.registers[target[0]][target[1]] = word
+            else:
+                self.test.words[target] = word
+            seen.add(target)
+
+    def judge(self, depth):
+        """Raises the test's fault, where it has one."""
+        if self.faults:
+            number, line = min(self.faults)
+            raise Fault('fault F%d %s line %d' % (number, FAULTS[number], line))
+        if self.has_bad_atom:
+            raise Fault('fault F8 BadCondition')
+        code = self.test.code
+        counts = [('harts', len(code), 8), ('instructions', max(map(len, code)), 32),
+                  ('accesses', sum(made.is_memory() for each in code for made in each), 48),
+                  ('locations', len(self.test.addresses), 8), ('depth', depth, 64)]
+        for what, count, most in counts:
+            if count > most:
+                raise Fault('fault F9 TooBig %s' % what)
 
 
 def test_of(data):
-    """The test that these bytes are."""
-    lines = data.decode('utf-8').split('\n')
-    if not re.match(r'RISCV[ \t\r]+[^ \t\r]', lines[0]):
-        raise Unreadable('the first line is not RISCV and a name')
-    for at, line in enumerate(lines):
-        if at > 0 and line.lstrip(' \t\r').startswith('{'):
-            return TestReader(tokens_of('\n'.join(lines[at:]))).read()
-    raise Unreadable('the test has no {')
+    """The test that these bytes are. Raises its fault, where it has one."""
+    if len(data) > 2 ** 20:
+        raise Fault('fault F20 ReadFault')
+    try:
+        text = data.decode('utf-8')
+    except UnicodeDecodeError:
+        raise Fault('fault F1 BadUtf8')
+    if not re.match(r'RISCV[ \t\r]+[^ \t\r\n]', text):
+        raise Fault('fault F2 NotRiscv')
+    block = re.compile(r'^[ \t\r]*\{', re.MULTILINE).search(text, text.find('\n') + 1)
+    start = block.start() if block else len(text)
+    last = text.count('\n') + (not text.endswith('\n'))
+    return TestReader(text[start:], text.count('\n', 0, start) + 1, last).read()
 
 
 def truth(condition, registers, words):
@@ -476,9 +568,6 @@ def truth(condition, registers, words):
 
 # --- Prices (FORMAT 4) -------------------------------------------------------------------------------------------
 
-NUMERAL = '(?:0|[1-9][0-9]*)'
-
-
 class Prices:
     """The offered kinds in the order of the table, and what they cost at each slot."""
 
@@ -495,18 +584,17 @@ class Prices:
 
 
 def prices_of(data):
-    """The price list that these bytes are."""
-    value = json_of(data)
-    if type(value) is not dict:
-        raise Unreadable('the prices are no object')
-    weight = value.pop('weights', {})
-    if not all(kind in KINDS and is_whole(price, 1000001) and price > 0 for kind, price in value.items()):
-        raise Unreadable('the prices are not of the form')
-    if type(weight) is not dict or not all(re.fullmatch('P%s:%s' % (NUMERAL, NUMERAL), slot) and is_whole(number, 1001)
-                                           for slot, number in weight.items()):
-        raise Unreadable('the weights are not of the form')
+    """The price list that these bytes are. Raises its fault, where it has one."""
+    try:
+        value = json_of(data)
+    except (ValueError, RecursionError):
+        raise Fault('fault F10 BadPrices')
+    weight = value.pop('weights', {}) if type(value) is dict else None
+    if not (type(weight) is dict and all(is_byte_name(slot) and is_whole(it, 1001) for slot, it in weight.items())
+            and all(kind in KINDS and is_whole(price, 1000001) and price > 0 for kind, price in value.items())):
+        raise Fault('fault F10 BadPrices')
     if 'rw,rw' not in value:
-        raise Unreadable('rw,rw has no price')
+        raise Fault('fault F11 NoTop')
     return Prices(value, weight)
 
 
@@ -949,7 +1037,7 @@ def execution_of(test, witness):
 
 # --- The file (CERTIFICATE 1) ------------------------------------------------------------------------------------
 
-NAME = 'P%s:%s' % (NUMERAL, NUMERAL)
+NAME = 'P(0|[1-9][0-9]*):(0|[1-9][0-9]*)'
 CAUSES = ['p%d' % rule for rule in range(1, 14)] + ['rf', 'co', 'fr']
 
 
@@ -1094,27 +1182,22 @@ class OnlyRun:
         return self.preserved.rule(number, self.operations[a], self.operations[b])
 
 
-class Region:
+class Region(typing.NamedTuple):
     """For each hart the runs that are left; of some loads, by name, what they return from; pairs of stores, of which
     the first comes first in coherence order; and conditions, each with the truth value that it is to have."""
 
-    def __init__(self, runs, sources, before, wanted):
-        self.runs, self.sources, self.before, self.wanted = runs, sources, before, wanted
+    runs: list
+    sources: dict
+    before: frozenset
+    wanted: list
 
     def keeping(self, hart, passes):
         """With those runs of the hart that pass."""
-        runs = list(self.runs)
-        runs[hart] = [run for run in runs[hart] if passes(run)]
-        return Region(runs, self.sources, self.before, self.wanted)
-
-    def with_source(self, load, source):
-        return Region(self.runs, {**self.sources, load: source}, self.before, self.wanted)
+        left = [run for run in self.runs[hart] if passes(run)]
+        return self._replace(runs=[*self.runs[:hart], left, *self.runs[hart + 1:]])
 
     def with_order(self, first, second):
-        return Region(self.runs, self.sources, self.before | {(first, second)}, self.wanted)
-
-    def with_wanted(self, wanted):
-        return Region(self.runs, self.sources, self.before, wanted)
+        return self._replace(before=self.before | {(first, second)})
 
     def is_open(self):
         return all(self.runs)
@@ -1181,7 +1264,7 @@ class Refutation:
 
     def from_source(self, region, load, source):
         """The load returns from this source: address and word agree."""
-        decided = region.with_source(load, source)
+        decided = region._replace(sources={**region.sources, load: source})
         hart, at = load
         if source == INITIAL:
             return decided.keeping(hart, lambda run: run.loads(at) in self.test.words.items())
@@ -1211,7 +1294,7 @@ class Refutation:
             ways = [parts] if value == (condition[0] == 'and') else [[part] for part in parts]
         else:
             return None
-        return [region.with_wanted(region.wanted[:number] + way + region.wanted[number + 1:]) for way in ways]
+        return [region._replace(wanted=region.wanted[:number] + way + region.wanted[number + 1:]) for way in ways]
 
     def by_outcome(self, region, hart):
         """Of the hart's runs those with each of which the wanted conditions may have their truth values."""

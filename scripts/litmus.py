@@ -1,7 +1,7 @@
-"""Tests that the checks make: random ones with prices, by a number, which makes the same test and the same prices
-each time; and tests of one cell again and again.
+"""Tests with prices that the checks make at random, by a number, which makes the same test and the same prices each
+time.
 
-The random tests are small: one to four harts, stores, loads, AMOs, LR/SC, dependencies, branches, fences and
+They are small: one to four harts, stores, loads, AMOs, LR/SC, dependencies, branches, fences and
 annotations. Most conditions are on final states that fences rule out."""
 import itertools
 import json
@@ -191,9 +191,3 @@ def last_word(candidate, address):
     """The word that the last store to this address wrote."""
     stores = [candidate.operations.initial[address]] + candidate.operations.stores_to(address)
     return max(stores, key=lambda store: candidate.place[store.number]).stored
-
-
-def repeated(first, firsts, second, seconds, condition):
-    """A test of two harts, each with a cell so many times. x6 is x, x5 is 1 and x7 is 0."""
-    harts = [[first] * firsts, [second] * seconds]
-    return text_of("repeated", ["0:x5=1; 0:x6=x; 1:x5=1; 1:x6=x;"], harts, f"exists ({condition})")

@@ -157,6 +157,12 @@ def crates():
     return {names.split()[0]: uses.split() for names, colon, uses in lines if colon}
 
 
+def here(*names):
+    """The path of a file of examples/ or of scripts/transcripts/files/ that has one of these names."""
+    folders = [EXAMPLES, f"{TOP}/scripts/transcripts/files"]
+    return next(path for name in names for folder in folders if os.path.exists(path := f"{folder}/{name}"))
+
+
 def tests_of_examples():
     """The paths of the tests below examples/, those known by name before the idioms."""
     folders = [EXAMPLES, f"{EXAMPLES}/idioms"]

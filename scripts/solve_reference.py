@@ -1,32 +1,23 @@
-#!/usr/bin/env python3
 """Finds the cheapest fences of a test, in plain Python.
-
-    scripts/solve_reference.py TEST PRICES [--listing]
 
 It is written from docs/MODEL.md and docs/FORMAT.md alone and shares no code with the program. Tests, prices, runs,
 rules and candidates are those of scripts/check_certificate.py. The way to the answer is another one than the
 program's: it has no tree.
 
-It prints what `rvfence solve` is to print: `fenced`, the cost and a line for each fence, status 0; or `none` and an
+It gives what `rvfence solve` is to print: `fenced`, the cost and a line for each fence, status 0; or `none` and an
 execution that shows the outcome with `rw,rw` in every slot, status 1. Where the program may print any such execution,
-this is one. Of the faults it knows F13, F14 and F15; it takes it that `rvfence place` accepts the test and the prices.
-
-With `--listing` it judges all placements one by one, the best first, until one forbids the outcome. That is slow and
-plain, and there to be compared with.
+this is one. Of the faults of runs and candidates it knows F13, F14 and F15.
 """
 
 import collections
 import itertools
 import json
 import math
-import sys
 
-sys.dont_write_bytecode = True
 import check_certificate as model                               # of this folder
 
 MOST_RUNS = 100000
 MOST_CANDIDATES = 4000000
-MOST_LISTED = 2000000
 
 
 class Fault(Exception):
@@ -249,7 +240,7 @@ class Problem:
         return self.prices.cost(self.slots, placement)
 
 
-# --- The answer by breaking one execution after the other --------------------------------------------------------
+# --- The answer, by breaking one execution after the other -------------------------------------------------------
 
 class Breaks:
     """Which placements break all of some executions: for each execution the slots and kinds that break it."""
@@ -327,39 +318,7 @@ def solved(problem):
         breaks.add(live.kept(found[1]))
 
 
-# --- The answer by listing ---------------------------------------------------------------------------------------
-
-def by_cost(problem):
-    """All placements, each made when it is asked for: the cheapest first, those of one cost by precedence."""
-    costs = [{0}]                   # what the last slots together may cost, for more and more of them
-    options = [None] + problem.prices.offered
-    for at in reversed(range(len(problem.slots))):
-        costs.insert(0, {problem.price(at, kind) + rest for kind in options for rest in costs[0]})
-
-    def of_cost(at, cost):
-        if at == len(problem.slots):
-            yield ()
-            return
-        for kind in options:
-            if cost - problem.price(at, kind) in costs[at + 1]:
-                for rest in of_cost(at + 1, cost - problem.price(at, kind)):
-                    yield (kind,) + rest
-
-    for cost in sorted(costs[0]):
-        yield from of_cost(0, cost)
-
-
-def listed(problem):
-    """The first placement by cost and precedence that forbids the outcome, or None."""
-    for number, placement in enumerate(by_cost(problem)):
-        if number == MOST_LISTED:
-            raise Fault('there are too many placements to list')
-        if problem.survivor(placement) is None:
-            return placement
-    return None
-
-
-# --- The command -------------------------------------------------------------------------------------------------
+# --- What is printed -------------------------------------------------------------------------------------------------
 
 def lines_of(problem, placement):
     """What is printed of an answer."""
@@ -369,29 +328,11 @@ def lines_of(problem, placement):
     return ['fenced %d' % problem.cost(placement)] + model.fence_lines(problem.slots, placement)
 
 
-def answer(test, prices, method=solved):
+def answer(test, prices):
     """The lines that are printed for this test and these prices, a fault's included, and the exit status."""
     try:
         problem = Problem(test, prices)
-        placement = method(problem)
+        placement = solved(problem)
     except Fault as fault:
         return [str(fault)], 2
     return lines_of(problem, placement), 1 if placement is None else 0
-
-
-def main(arguments):
-    method = listed if '--listing' in arguments else solved
-    files = [word for word in arguments if word != '--listing']
-    if len(files) != 2:
-        print('usage: solve_reference.py TEST PRICES [--listing]', file=sys.stderr)
-        return 2
-    try:
-        lines, status = answer(model.read(files[0], model.test_of), model.read(files[1], model.prices_of), method)
-    except model.Unreadable as error:
-        lines, status = [str(error)], 2
-    print('\n'.join(lines), file=sys.stderr if status == 2 else sys.stdout)
-    return status
-
-
-if __name__ == '__main__':
-    sys.exit(main(sys.argv[1:]))

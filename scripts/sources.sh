@@ -10,12 +10,12 @@ release_note=$released.txt # the sum of the sources that it was built from, its 
 current=$out/current.$HOSTNAME # names the program that the sources call for, as they were when this file was as old as it is, and its crates
 start=$out/start.$$ # as old as the moment when the choice of a program began
 
-declare -A needs=() lines=() below=()
+declare -A needs=()
 order=()
 
 say() { echo "rvfence: $*" >&2 2>/dev/null; }
 
-# The crates of crates.txt with what each stands on.
+# The crates of crates.txt with what each stands on, and in `order` those that the program is made of.
 read_crates() {
     local line name
     while IFS= read -r line; do
@@ -23,65 +23,54 @@ read_crates() {
         [[ $line == *:* ]] || continue
         read -r name _ <<<"${line%%:*}"
         needs[$name]=${line#*:}
-        lines[$name]=$line
     done <"$top/crates.txt"
+    visit rvfence
 }
 
-# Appends the crate to `order`, after all that it stands on, and lists those in `below`.
+# Appends the crate to `order`, after all that it stands on.
 visit() {
-    local name=$1 all='' lower it
-    [[ -z ${below[$name]+seen} ]] || return 0
+    local name=$1 lower
+    [[ " ${order[*]} " != *" $name "* ]] || return 0
     for lower in ${needs[$name]}; do
-        [[ -n ${needs[$lower]+listed} ]] || continue
-        visit "$lower"
-        for it in ${below[$lower]} "$lower"; do
-            [[ " $all " == *" $it "* ]] || all+=" $it"
-        done
+        [[ -z ${needs[$lower]+listed} ]] || visit "$lower"
     done
-    below[$name]=$all
     order+=("$name")
 }
 
-# folders_of NAME..: the folders of the crates in which their sources stand.
-folders_of() {
-    local name folder
-    for name in "$@"; do
+# sources WORD..: what `find` says with these words of the files that the program is built from; tests are none of them.
+sources() (
+    local name folder folders=()
+    cd -- "$top" || exit
+    for name in "${order[@]}"; do
         for folder in crates/"$name"/{src,specs,proofs}; do
-            [[ ! -d $top/$folder ]] || echo "$folder"
+            [[ ! -d $folder ]] || folders+=("$folder")
         done
     done
-}
+    find -L "${folders[@]}" -type f ! -path '*/src/tests/*' ! -name tests.rt "$@"
+)
 
-# has_newer FILE NAMES WORD..: is a file of the crates, of those that `find` takes by the words, newer than FILE, or can't that be seen?
-has_newer() {
-    local file=$1 names=$2 folders
-    shift 2
-    mapfile -t folders < <(cd -- "$top" && folders_of $names)
-    [[ -n $(cd -- "$top" && find -L "${folders[@]}" -type f -newer "$file" "$@" -print -quit 2>&1) ]]
-}
-
-# Is the program that was built here missing, half built, or not of the sources as they are? By their sum, where that of its own is known;
-# else by dates. Tests are no part of it.
+# Is the program that was built here missing, half built, or not of the sources as they are? By their sum, where that of
+# its own is known; else by dates, where what can't be seen counts as newer.
 is_stale() {
     [[ -x $own && ! -e $unfinished ]] || return 0
     if [[ -f $own_sum && ! $own -nt $own_sum ]]; then
         [[ $(sum_sources) != "$(<"$own_sum")" ]]
     else
-        [[ $top/crates.txt -nt $own ]] || has_newer "$own" "${order[*]}" ! -path '*/src/tests/*' ! -name tests.rt
+        [[ $top/crates.txt -nt $own || -n $(sources -newer "$own" -print -quit 2>&1) ]]
     fi
 }
 
-# The sum of all that the program is built from: the lines of its crates in crates.txt, and their files, without tests. Nothing where
+# The sum of all that the program is built from: the lines of its crates in crates.txt, and their files. Nothing where
 # there is no sha256sum.
 sum_sources() (
+    local name folder folders=()
     cd -- "$top" || exit
     set -o pipefail
-    mapfile -t folders < <(folders_of "${order[@]}")
     {
         for name in "${order[@]}"; do
             echo "$name:" ${needs[$name]}
         done
-        find -L "${folders[@]}" -type f ! -path '*/src/tests/*' ! -name tests.rt -print0 | LC_ALL=C sort -z | xargs -0 sha256sum --
+        sources -print0 | LC_ALL=C sort -z | xargs -0 sha256sum --
     } | sha256sum | cut -d ' ' -f 1
 ) 2>/dev/null
 
@@ -114,7 +103,6 @@ remember() {
 choose() {
     { mkdir -p -- "$out" && : >"$start"; } 2>/dev/null
     read_crates
-    visit rvfence
     if is_released; then
         program=$released
     elif is_stale && [[ ${1:-} == find_only ]]; then

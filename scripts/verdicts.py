@@ -1,5 +1,6 @@
-"""What plain Python says of tests, executions and certificates: which tests are vacuous, by whether runs and last words
-can make the outcome true at all; which can be listed; and what check_certificate.py accepts."""
+"""What plain Python says of tests, executions and certificates: which faults files have; which tests are vacuous, by
+whether runs and last words can make the outcome true at all; which can be listed; and what check_certificate.py
+accepts."""
 import functools
 import itertools
 import tempfile
@@ -9,6 +10,8 @@ import solve_reference as reference
 from running import EXAMPLES, Said, rvfence, written
 
 YES = Said("yes\n", "", 0)
+READ = "a test"                     # the answer of a file that has no fault
+ANSWERED = "yes or no"              # of one that is a witness: which of the two is a matter of the memory model
 
 
 class Judge:
@@ -27,6 +30,24 @@ class Judge:
             return Said(f"no: {reason}\n", "", 1)
         except model.NotACertificate as fault:
             return Said("", f"{fault}\n", 2)
+
+
+def fault_of(data, reader=model.test_of):
+    """The line of the fault of a test, or of prices by their reader; or READ."""
+    try:
+        reader(data)
+    except model.Fault as fault:
+        return str(fault)
+    return READ
+
+
+def is_witness(data, harts):
+    """Are the bytes a witness for so many harts? Where a key stands twice, the last one counts."""
+    try:
+        value = model.json_of(data)
+    except (ValueError, RecursionError):
+        return False
+    return model.is_witness(value) and len(value["choices"]) == harts
 
 
 @functools.cache

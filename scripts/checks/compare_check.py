@@ -16,166 +16,93 @@ from running import EXAMPLES, PRICE_LISTS, Said, read, rvfence, tests_of_example
 from verdicts import Judge
 
 LISTED = ['CoRR', 'MP', 'SB', 'SBF']    # of version 1, and of version 2
-
-
-def changed_link(cert, dice):
-    cycle = dice.choice(cert['cycles'])
-    link = dice.choice(cycle)
-    if dice.random() < 0.5:
-        link[1] = dice.choice(model.CAUSES)
-    else:
-        link[0] = dice.choice(cycle)[0] if dice.random() < 0.5 else 'P%d:%d' % (dice.randrange(3), dice.randrange(6))
-
-
-def changed_cycle(cert, dice):
-    cycles = cert['cycles']
-    at, other, kind = dice.randrange(len(cycles)), dice.randrange(len(cycles)), dice.randrange(6)
-    if kind == 3:
-        cycles[at].reverse()
-    elif kind == 4:
-        cycles[at] = cycles[at][1:] + cycles[at][:1]
-    elif kind == 5:
-        del cycles[at][dice.randrange(len(cycles[at]))]
-    else:
-        changed_list(cycles, kind, at, other)
-
-
-def changed_list(parts, kind, at, other):
-    """Leaves out an entry of the list, puts another in before it, or swaps the two."""
-    if kind == 0:
-        del parts[at]
-    elif kind == 1:
-        parts.insert(at, copy.deepcopy(parts[other]))
-    else:
-        parts[at], parts[other] = parts[other], parts[at]
-
-
-def any_item(cert, dice):
-    count = len(cert['witnesses']) + 1
-    kind = dice.randrange(4)
-    if kind == 0:
-        return 'c'
-    if kind == 1:
-        return ['w', dice.randrange(count)]
-    if kind == 2:
-        return dice.randrange(4)
-    return ['b', [dice.randrange(count) for _ in range(dice.randint(1, 3))]]
-
-
-def changed_tree(cert, dice):
-    tree = cert['tree']
-    at, kind = dice.randrange(len(tree)), dice.randrange(5)
-    if kind == 0:
-        del tree[at]
-    elif kind == 1:
-        tree.insert(at, any_item(cert, dice))
-    elif kind == 2:
-        other = dice.randrange(len(tree))
-        tree[at], tree[other] = tree[other], tree[at]
-    else:
-        tree[at] = any_item(cert, dice)
-
-
-def changed_witness(cert, dice):
-    witnesses = cert['witnesses']
-    at, kind = dice.randrange(len(witnesses)), dice.randrange(6)
-    if kind == 0:
-        del witnesses[at]
-    elif kind == 1:
-        witnesses.insert(dice.randrange(len(witnesses) + 1), copy.deepcopy(witnesses[at]))
-    elif kind == 2:
-        order = witnesses[at]['order']
-        first, second = dice.randrange(len(order)), dice.randrange(len(order))
-        order[first], order[second] = order[second], order[first]
-    elif kind == 3:
-        other = dice.randrange(len(witnesses))
-        witnesses[at], witnesses[other] = witnesses[other], witnesses[at]
-    elif kind == 4:
-        witnesses[at]['choices'].append([])
-    else:
-        choices = dice.choice(witnesses[at]['choices'])
-        choices.append(dice.choice([0, 1, 2, True, False]))
-
-
-def changed_answer(cert, dice):
-    answer = cert['answer']
-    kind = dice.randrange(5)
-    if answer == 'none' or kind == 0:
-        cert['answer'] = {'cost': 0, 'fences': []} if answer == 'none' else 'none'
-    elif kind == 1:
-        answer['cost'] = max(0, answer['cost'] + dice.choice([-1, 1]))
-    elif kind == 2 and answer['fences']:
-        del answer['fences'][dice.randrange(len(answer['fences']))]
-    elif kind == 3 and answer['fences']:
-        at = dice.randrange(len(answer['fences']))
-        answer['fences'][at] = answer['fences'][at].partition('=')[0] + '=' + dice.choice(model.KINDS)
-    else:
-        answer['fences'].reverse()
+# Where changes are made, as often as each stands here; and in a certificate with a refutation.
+PARTS = ['cycles', 'cycles', 'tree', 'tree', 'tree', 'witnesses', 'answer']
+PARTS_OF_REFUTED = ['cycles'] * 6 + ['tree', 'witnesses', 'answer']
 
 
 def any_name(dice):
-    return 'P%d:%d' % (dice.randrange(3), dice.randrange(10))
+    return f'P{dice.randrange(3)}:{dice.randrange(10)}'
 
 
-def any_inference(items, dice):
-    """An inference of any kind: in part one of the refutation."""
-    letter = dice.choice('csofdla.')
-    if letter == '.':
-        return copy.deepcopy(dice.choice(items))
-    if letter in 'fd':
-        return [letter, dice.randrange(3)]
-    count = {'c': 1, 's': 1, 'o': 2, 'l': 2, 'a': dice.choice([2, 3])}[letter]
-    return [letter, *(any_name(dice) for _ in range(count))]
+def any_inference(dice):
+    letter = dice.choice('csofdla')
+    count = {'c': 1, 's': 1, 'a': dice.choice([2, 3])}.get(letter, 2)
+    return [letter, dice.randrange(4)] if letter in 'fd' else [letter, *[any_name(dice) for _ in range(count)]]
 
 
-def changed_part(item, items, dice):
-    """Changes a name, a cause, a letter or a number of the inference."""
-    if type(item[0]) is list:
-        link = dice.choice(item)
-        if dice.random() < 0.5:
-            link[1] = dice.choice(model.CAUSES)
-        else:
-            link[0] = dice.choice([any_name(dice), dice.choice(item)[0]])
-    elif dice.random() < 0.2:
-        item[0] = dice.choice('csofdla')
-    elif item[0] in 'fd':
-        item[1] = dice.randrange(4)
+def any_item(dice):
+    """An item of the tree."""
+    numbers = [dice.randrange(4) for _ in range(dice.randint(1, 3))]
+    return dice.choice(['c', numbers[0], ['w', numbers[0]], ['b', numbers]])
+
+
+def is_record(value):
+    """Is this a link, an inference, or an item of two parts: a list in which each place has a meaning of its own?"""
+    return isinstance(value, list) and type(value[0]) is str and (value[0][0] != 'P' or value[-1] in model.CAUSES)
+
+
+def another(value, dice):
+    """Another value of this kind."""
+    if type(value) is bool:
+        return not value
+    if type(value) is int:
+        return max(0, value + dice.choice([-1, 1, 2]))
+    if is_record(value):
+        at = dice.choice([*range(len(value)), len(value) - 1])
+        return [*value[:at], another(value[at], dice), *value[at + 1:]]
+    if isinstance(value, list):
+        return value[::-1] if dice.random() < 0.5 else value[1:] + value[:1]
+    if isinstance(value, dict):
+        return {**value, 'order': another(value['order'], dice)} if 'order' in value else 'none'
+    slot, is_fence, _ = value.partition('=')
+    if value == 'none' or is_fence:
+        return f'{slot}={dice.choice(model.KINDS)}' if is_fence else {'cost': 0, 'fences': []}
+    # a cause, a letter with as many parts behind it, or a name
+    return dice.choice(next((kin for kin in (model.CAUSES, 'cs', 'ola', 'fd') if value in kin), [any_name(dice)]))
+
+
+def place_in(cert, key, dice):
+    """A place in the part of the certificate at this key: the list or the object that it is in, and where."""
+    inside, at = cert, key
+    while isinstance(inside[at], (dict, list)) and inside[at] and dice.random() < (0.9 if inside is cert else 0.5):
+        inside = inside[at]
+        at = dice.choice(list(inside)) if isinstance(inside, dict) else dice.randrange(len(inside))
+    return inside, at
+
+
+def changed(cert, dice):
+    """Makes a change somewhere in the certificate: an entry of a list less or more, two swapped, or another value."""
+    key = dice.choice(PARTS_OF_REFUTED if cert['version'] == 4 else PARTS)
+    inside, at = place_in(cert, key, dice)
+    way = dice.randrange(5) if isinstance(inside, list) and not is_record(inside) or inside is cert['tree'] else 4
+    if way == 0:
+        del inside[at]
+    elif way == 1:
+        inside.insert(at, copy.deepcopy(dice.choice(inside)))
+    elif way == 2:
+        other = dice.randrange(len(inside))
+        inside[at], inside[other] = inside[other], inside[at]
+    elif inside[at] == []:
+        inside[at].append(dice.choice([0, 1, 2, True, False]))
+    elif inside is cert['tree']:
+        inside[at] = any_item(dice)
+    elif inside is cert['cycles'] and cert['version'] == 4 and way == 3:
+        inside[at] = any_inference(dice)
     else:
-        item[dice.randrange(1, len(item))] = any_name(dice)
-
-
-def changed_inference(cert, dice):
-    items = cert['cycles']
-    at, other, kind = dice.randrange(len(items)), dice.randrange(len(items)), dice.randrange(8)
-    if kind < 3:
-        changed_list(items, kind, at, other)
-    elif kind == 3:
-        items.insert(dice.randrange(len(items) + 1), any_inference(items, dice))
-    elif kind == 4:
-        items[at] = any_inference(items, dice)
-    else:
-        changed_part(items[at], items, dice)
-
-
-CHANGES = [changed_link, changed_cycle, changed_tree, changed_tree, changed_tree, changed_witness, changed_answer]
-REFUTATION_CHANGES = [changed_inference] * 6 + [changed_tree, changed_witness, changed_answer]
+        inside[at] = another(inside[at], dice)
 
 
 def mangled(cert, number):
     """The certificate with a change or two, in each version."""
     dice = random.Random(number)
     cert = copy.deepcopy(cert)
-    changes = REFUTATION_CHANGES if cert['version'] == 4 else CHANGES
     if cert['version'] == 2 and dice.random() < 0.4:
         cert['version'] = 1
         if dice.random() < 0.8:
             cert['tree'] = [['w', it[1][0]] if type(it) is list and it[0] == 'b' else it for it in cert['tree']]
     for _ in range(dice.choice([1, 1, 2])):
-        change = dice.choice(changes)
-        try:
-            change(cert, dice)
-        except (IndexError, ValueError):                        # of a list that is empty
-            pass
+        changed(cert, dice)
     return cert
 
 

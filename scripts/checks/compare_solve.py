@@ -1,7 +1,6 @@
 """Compares `rvfence solve` with scripts/solve_reference.py on the tests and price lists that scripts/litmus.py makes.
 
-With `--reference` the reference's two ways to its answer are compared on the same tests; `--show` prints the last test
-of those asked for, its prices and the reference's answer. What differs is printed with the test."""
+What differs is printed with the test; `--show` prints each test, its prices and the reference's answer."""
 import check_certificate as model
 import solve_reference as reference
 from litmus import Maker
@@ -13,10 +12,6 @@ def by_program(folder, test, prices):
     """The lines and the status of the program on these bytes."""
     said = rvfence("solve", written(f"{folder}/test.litmus", test), written(f"{folder}/prices.json", prices))
     return (said.out or said.err).splitlines(), said.status       # beside an answer there may be a note
-
-
-def by_listing(_, test, prices):
-    return reference.answer(model.test_of(test), model.prices_of(prices), reference.listed)
 
 
 def agree(test, wanted, found):
@@ -32,14 +27,13 @@ def kind_of(lines):
 
 
 def check(run):
-    solve = by_listing if run.options.reference else by_program
     for number in run.numbers():
         test, prices = Maker(number).make()
         read = model.test_of(test)
         wanted = reference.answer(read, model.prices_of(prices))
         if run.options.show:
             print(test.decode() + prices.decode(), *wanted[0], sep="\n")
-        found = solve(run.folder, test, prices)
+        found = by_program(run.folder, test, prices)
         run.kinds[kind_of(wanted[0])] += 1
         texts = [test.decode(), prices.decode(), f"\nwanted: {wanted}", f"\nfound:  {found}"]
         run.check(f"made test {number}", agree(read, wanted, found), "".join(texts))

@@ -9,6 +9,7 @@ status 0 or 1 comes only where the whole answer was written. No signal ends a ru
 A certificate stands under its name whole or not at all, with the mode of what was there; what was there stays where it
 can't be written, and so does each other file."""
 import array
+import contextlib
 import errno
 import fcntl
 import itertools
@@ -24,7 +25,8 @@ import tempfile
 import termios
 import time
 
-from checks import limit_files as files
+from checks import transcripts
+from litmus import text_of
 from running import LONGEST, PRICES, Said, compiled, decoded, program, ran, read, waited_for, written
 
 MISSING, FOLDER, UNREAD = "there is no such file", "it is a folder", "it can't be opened or read"
@@ -32,6 +34,16 @@ UNWRITTEN = Said("", "fault F21 WriteFault\n", 2)
 OLD = b"old"
 NOBODY = 65534
 STREAMS = [[0], [1], [2], [0, 1], [0, 2], [1, 2], [0, 1, 2]]
+# Store buffering in the printed form, an execution of it, and its answer.
+SB = decoded(read(f"{transcripts.FOLDER}/files/printed.litmus"))
+SB_WITNESS = '{"choices":[[0],[0]],"order":["P0:1","P1:1","P0:0","P1:0"]}'
+SB_ANSWER = Said("fenced 18\nfence P0 1 w,r\nfence P1 1 w,r\n", "", 0)
+
+
+def stores(count):
+    """A test whose hart stores 1, 2 and so on to one word: there are as many candidates as orders of them."""
+    entries = ["0:x28=a;", *[f"0:x{5 + at}={1 + at};" for at in range(count)]]
+    return text_of("stores", entries, [[f"sw x{5 + at},0(x28)" for at in range(count)]], "exists a=1")
 
 
 def unread(name, why):
@@ -49,15 +61,15 @@ class Checks:
         os.chmod(folder, 0o755)
         self.program = shutil.copy(program(), folder)
         self.prices = shutil.copy(PRICES, folder)
-        self.test = written(f"{folder}/sb.litmus", files.SB)
-        self.witness = written(f"{folder}/witness.json", files.SB_WITNESS)
+        self.test = written(f"{folder}/sb.litmus", SB)
+        self.witness = written(f"{folder}/witness.json", SB_WITNESS)
         self.hinder = compiled("checks/hinder.c", folder, "-shared", "-fPIC")
         self.certificate = f"{folder}/certificate.json"
         self.run(["solve", self.test, self.prices, "--cert", self.certificate])
-        self.answer = Said("\n".join([*files.SB_ANSWER, ""]), "", 0)
+        self.answer = SB_ANSWER
         # each command with its words, and what it says
         self.commands = {
-            "place": (["place", self.test], Said(files.SB, "", 0)),
+            "place": (["place", self.test], Said(SB, "", 0)),
             "order": (["order", self.test, self.witness], Said("yes\n", "", 0)),
             "order, no": (["order", self.test, self.witness, "P0:1=w,r"], Said("no: rule 4 P0:0 P0:1\n", "", 1)),
             "solve": (["solve", self.test, self.prices], self.answer),
@@ -71,6 +83,16 @@ class Checks:
     def certify(self, path, **options):
         """What the program says that writes the certificate to this path."""
         return self.run(["solve", self.test, self.prices, "--cert", path], **options)
+
+
+@contextlib.contextmanager
+def folder_with(checks, kept):
+    """A folder in which this is kept where a certificate is to be written, if anything is; and that path."""
+    with tempfile.TemporaryDirectory(dir=checks.folder) as folder:
+        path = f"{folder}/kept.json"
+        if kept is not None:
+            written(path, kept)
+        yield folder, path
 
 
 def before(*closed, size=None, is_ignored=True):
@@ -125,7 +147,7 @@ def check_inputs(checks):
         checks.expect(f"{command}: standard input is a folder", unread("stdin", FOLDER), found)
         os.close(folder)
         for size in (0, 1, 20, 8192, 100_000):
-            data = files.filled(files.SB, max(size, len(files.SB)))[:size]
+            data = SB.encode().ljust(size)[:size]
             found = broken(checks, words, data)
             checks.expect(f"{command}: a connection that breaks after {size} bytes", failed, found)
 
@@ -193,7 +215,7 @@ def check_errors(checks):
     checks.expect("a fault where standard error is closed", Said("", "", 2), checks.run(missing, preexec_fn=before(2)))
     with open("/dev/full", "wb") as full:
         checks.expect("a fault where standard error is full", Said("", "", 2), checks.run(missing, stderr=full))
-        checks.expect("an answer where standard error is full", Said(files.SB, "", 0), checks.run(place, stderr=full))
+        checks.expect("an answer where standard error is full", Said(SB, "", 0), checks.run(place, stderr=full))
         checks.expect("both are full", Said("", "", 2), checks.run(place, stdout=full, stderr=full))
     line = unread(missing[1], MISSING).err
     for size, is_ignored in itertools.product(range(0, len(line) + 8, 7), (True, False)):
@@ -233,10 +255,7 @@ def check_certificates(checks):
 def certified(checks, kept, size, is_ignored, closed=()):
     """The end of a run that writes a certificate where this is kept and there is so much room, and what is there
     then. What a write that failed leaves beside it is told as its name. These streams are closed."""
-    with tempfile.TemporaryDirectory(dir=checks.folder) as folder:
-        path = f"{folder}/kept.json"
-        if kept is not None:
-            written(path, kept)
+    with folder_with(checks, kept) as (folder, path):
         found = checks.certify(path, preexec_fn=before(*closed, size=size, is_ignored=is_ignored))
         beside = [name for name in os.listdir(folder) if name != "kept.json"]
         if beside:
@@ -266,7 +285,7 @@ def check_signals(checks):
     """A run that a signal ends, each time a little later, leaves under the name of its certificate what was there or
     the whole of it. The test has many candidates, so that its certificate takes some time to be made and to be
     written."""
-    test = written(f"{checks.folder}/stores.litmus", files.stores(7).text())
+    test = written(f"{checks.folder}/stores.litmus", stores(7))
     path = f"{checks.folder}/stores.json"
     words = ["solve", test, checks.prices, "--cert", path]
     start = time.monotonic()
@@ -332,15 +351,13 @@ def check_two_runs(checks):
     goes on before the other one or behind it. Both say what they say alone, the certificate of one of them stands
     there whole, and nothing beside it."""
     runs = []
-    for test in (checks.test, written(f"{checks.folder}/three.litmus", files.stores(3).text())):
+    for test in (checks.test, written(f"{checks.folder}/three.litmus", stores(3))):
         said = checks.run(["solve", test, checks.prices, "--cert", f"{checks.folder}/alone.json"])
         runs.append((test, said, read(f"{checks.folder}/alone.json")))
     wanted, wholes = [said for _, said, _ in runs], [whole for _, _, whole in runs]
     checks.check("the certificates differ", wholes[0] != wholes[1])
     for calls, kept, order in itertools.product(itertools.product(HELD, HELD), (OLD, None), ((0, 1), (1, 0))):
-        with tempfile.TemporaryDirectory(dir=checks.folder) as folder:
-            if kept is not None:
-                written(f"{folder}/kept.json", kept)
+        with folder_with(checks, kept) as (folder, _):
             both = [Held(checks, folder, test, call) for (test, _, _), call in zip(runs, calls)]
             said = dict((at, both[at].let_go()) for at in order)
             name = f"two runs held at {' and '.join(calls)}, {kept} there, run {order[0]} goes on first"
@@ -354,10 +371,7 @@ def check_ended_runs(checks):
     most, which no later run minds."""
     whole = read(checks.certificate)
     for call, kept, number in itertools.product(HELD, (OLD, None), (signal.SIGTERM, signal.SIGKILL)):
-        with tempfile.TemporaryDirectory(dir=checks.folder) as folder:
-            path = f"{folder}/kept.json"
-            if kept is not None:
-                written(path, kept)
+        with folder_with(checks, kept) as (folder, path):
             held = Held(checks, folder, checks.test, call)
             held.child.send_signal(number)
             held.end()
@@ -372,8 +386,7 @@ def check_ended_runs(checks):
 def check_beside(checks):
     """What stands under the names beside a certificate is nobody's to remove."""
     whole = read(checks.certificate)
-    with tempfile.TemporaryDirectory(dir=checks.folder) as folder:
-        path = f"{folder}/kept.json"
+    with folder_with(checks, None) as (folder, path):
         written(f"{path}.part", "mine")
         os.mkdir(f"{path}.1.part")
         os.symlink("nowhere", f"{path}.2.part")
@@ -394,8 +407,7 @@ def check_modes(checks):
     for mask in (0o022, 0o077, 0):
         os.umask(mask)
         for mode in (0o600, 0o644, 0o400, 0o666, 0o755, 0o620):
-            with tempfile.TemporaryDirectory(dir=checks.folder) as folder:
-                path = written(f"{folder}/kept.json", OLD)
+            with folder_with(checks, OLD) as (folder, path):
                 os.chmod(path, mode)
                 held = Held(checks, folder, checks.test, "write")
                 during = stat.S_IMODE(os.stat(f"{path}.part").st_mode)
@@ -409,8 +421,7 @@ def check_modes(checks):
         checks.expect(f"a new file at mask {mask:o}", oct(0o666 & ~mask), mode_of(path))
         os.unlink(path)
     os.umask(0o022)
-    with tempfile.TemporaryDirectory(dir=checks.folder) as folder:
-        path = written(f"{folder}/kept.json", OLD)
+    with folder_with(checks, OLD) as (folder, path):
         os.chmod(path, 0o640)
         settings = hindering(checks, "fchmod", errno.EPERM, name=folder)
         found = (checks.certify(path, env=settings), contents(folder), mode_of(path))

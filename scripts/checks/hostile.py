@@ -21,8 +21,8 @@ import signal
 from concurrent.futures import ProcessPoolExecutor
 
 from checks import hostile_files as files
-from reference import ANSWERED, READ
 from running import EXAMPLES, PRICES, program, read, written
+from verdicts import ANSWERED, READ
 
 MP = f"{EXAMPLES}/MP.litmus"
 SB = f"{EXAMPLES}/SB.litmus"

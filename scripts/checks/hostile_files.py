@@ -10,10 +10,9 @@ import os
 import random
 import re
 
-import check_certificate
-import verdicts
-from reference import ANSWERED, READ, fault_of, is_witness
+from check_certificate import prices_of
 from running import EXAMPLES, TOP, decoded, read
+from verdicts import ANSWERED, READ, Judge, fault_of, is_witness
 
 TABLE = f"{TOP}/scripts/transcripts/hostile.table"
 TOKENS_CHANGED = 3000
@@ -38,6 +37,11 @@ NO_BLOCK = "error: the log has no block of a test"
 BAD_TITLE = "error: log line 1: expected `Test NAME Allowed`, `Test NAME Required` or `Test NAME Forbidden`"
 LOGGED = "what is seen and allowed, or an error of the log"
 TOO_LONG = "fault F20 ReadFault"
+
+
+def compact(value):
+    """A value as bytes of JSON without blanks."""
+    return json.dumps(value, separators=(",", ":")).encode()
 
 
 def last_line(text):
@@ -232,8 +236,6 @@ def tests_composed():
         yield f"composed test {number}, {text!r}", text, fault_of(text)
 
 
-SIGNS = [b"(", b"~", b"{", b"[", b"(*", b"\\/", b"|", b";", b"a", b"0", b"-", b"\n", b"\r", b"\0", b"\xff"]
-
 # Where a flood may begin: what stands before it, its line, and what stands after it, on lines of its own.
 PLACES = {
     "in the init block": (b"RISCV T\n{ ", b"\n}\nP0 ;\n;\nexists true\n"),
@@ -245,54 +247,27 @@ PLACES = {
 
 
 def floods():
-    """A mebibyte of each sign: bare; after a good beginning, to the end; and after a good beginning and before what
-    ends the test well."""
-    for sign in SIGNS:
+    """A mebibyte of each sign of the table: bare; after a good beginning, to the end; and after a good beginning and
+    before what ends the test well."""
+    for line in lines_of("floods"):
+        escaped, *answers = map(str.strip, line.split(" | "))
+        sign = escaped.encode().decode("unicode_escape").encode("latin-1")
         bare = sign * (MEBIBYTE // len(sign))
         yield f"{sign!r} alone", bare, UTF8 if sign == b"\xff" else TITLE
-        for place, (before, after) in PLACES.items():
+        for (place, (before, after)), answer in zip(PLACES.items(), answers):
             text = before + sign * ((MEBIBYTE - len(before)) // len(sign))
             # No flood ends the test, so the text ends too soon, unless a sign breaks the form before; all but the line
             # ends stand in one line.
             yield f"{sign!r} {place}, cut", text, UTF8 if sign == b"\xff" else syntax(last_line(text))
             text = before + sign * ((MEBIBYTE - len(before) - len(after)) // len(sign)) + after
-            yield f"{sign!r} {place}", text, within(sign, place, before, text)
+            yield f"{sign!r} {place}", text, within(answer, last_line(before + b"."), text)
 
 
-def within(sign, place, before, text):
-    """The answer of a test with a flood inside."""
-    line = last_line(before + b".")
-    if sign == b"\xff":
-        return UTF8
-    if sign in (b"\n", b"\r"):
-        return READ if place != "in the condition" else syntax(last_line(text))
-    if sign == b"(*":
-        # a comment that isn't closed
-        return syntax(last_line(text))
-    if sign == b"\0":
-        # a character of no token breaks the form wherever it stands
-        return syntax(line)
-    if place == "in the init block":
-        # a word or number after which comes `}`: the entry breaks there. All else begins no entry.
-        return syntax(line + 1 if sign in (b"a", b"0") else line)
-    if place == "in a row":
-        return {
-            b"~": syntax(line),  # ends the rows, and no `exists` follows
-            b"|": syntax(line),  # a cell too many
-            b";": READ,  # empty rows
-            b"a": f"fault F4 UnknownInstr line {line}",
-            b"0": f"fault F4 UnknownInstr line {line}",
-        }.get(sign, syntax(line))  # a cell that begins with another token than a word
-    if place == "in a cell":
-        if sign == b";":
-            return READ
-        # a cell too many; else operands of another shape, at the first token of the cell, a line before the flood
-        return syntax(line if sign == b"|" else line - 1)
-    if place == "in the condition":
-        # operands of nothing; after parentheses, denials, a word or a number the text ends too soon
-        return syntax(last_line(text) if sign in (b"(", b"~", b"a", b"0") else line)
-    # between the brackets anything but `]` is skipped
-    return READ
+def within(answer, line, text):
+    """The answer of a test with a flood inside that begins in this line."""
+    if answer in ("end", "0", "1", "-1"):
+        return syntax(last_line(text) if answer == "end" else line + int(answer))
+    return {"READ": READ, "UTF8": UTF8, "instr": f"fault F4 UnknownInstr line {line}"}[answer]
 
 
 def depths():
@@ -338,36 +313,13 @@ def prices():
     yield "a weight for every slot", b'{"rw,rw":1,"weights":{' + every.encode("ascii") + b"}}", READ
 
 
-def fault_of_prices(data):
-    """The line of the fault of these prices, or READ."""
-    try:
-        value = check_certificate.json_of(data)
-    except (ValueError, RecursionError):
-        return PRICES
-    if not isinstance(value, dict):
-        return PRICES
-    weights = value.pop("weights", {})
-    is_whole = check_certificate.is_whole
-    if not isinstance(weights, dict) or not all(is_slot(name) and is_whole(it, 1001) for name, it in weights.items()):
-        return PRICES
-    if not all(kind in check_certificate.KINDS and is_whole(it, 1_000_001) and it for kind, it in value.items()):
-        return PRICES
-    return READ if "rw,rw" in value else "fault F11 NoTop"
-
-
-def is_slot(name):
-    """Is this the name of a slot, with numbers up to 255?"""
-    found = re.fullmatch("P(0|[1-9][0-9]*):(0|[1-9][0-9]*)", name)
-    return found is not None and all(len(number) <= 3 and int(number) <= 255 for number in found.groups())
-
-
 def prices_changed():
     """A price list with each byte replaced by each telling one, and with each of its values replaced by others."""
     value = {"w,w": 2, "tso": 1000000, "rw,rw": 10, "weights": {"P0:3": 3, "P255:255": 1000}}
-    whole = json.dumps(value, separators=(",", ":")).encode()
-    yield from bytes_replaced("prices", whole, TELLING, fault_of_prices)
+    whole = compact(value)
+    yield from bytes_replaced("prices", whole, TELLING, lambda text: fault_of(text, prices_of))
     for name, text in values_changed(value):
-        yield f"prices with {name}", text, fault_of_prices(text)
+        yield f"prices with {name}", text, fault_of(text, prices_of)
     yield from pairs_of_surrogates("prices", b"tso", whole, READ, PRICES)
 
 
@@ -389,7 +341,7 @@ def values_changed(whole):
     object left out or put in twice, an object's under another key."""
     mark = "@"
     for place, changed in parts_changed(whole, mark):
-        text = json.dumps(changed, separators=(",", ":"))
+        text = compact(changed).decode()
         if f'"{mark}"' not in text:
             yield place, text.encode()
             continue
@@ -523,7 +475,7 @@ def checked(text):
 
 @functools.cache
 def judge():
-    return verdicts.Judge(f"{EXAMPLES}/SB.litmus", f"{EXAMPLES}/prices.json")
+    return Judge(f"{EXAMPLES}/SB.litmus", f"{EXAMPLES}/prices.json")
 
 
 def large_certificates(whole):
@@ -548,27 +500,28 @@ def large_certificates(whole):
     yield "a name past the last number", dict(whole, cycles=[[["P0:" + "9" * 500_000, "p4"], *cycle[1:]]])
 
 
+def changed_certificates(what, name, telling, large):
+    """Every beginning of a certificate, the certificate with each byte replaced by some telling ones and with each of
+    its values replaced by others, and the large ones."""
+    good = json.loads(read(f"{EXAMPLES}/certificates/{name}.json"))
+    yield from beginnings_of(what, compact(good), checked)
+    yield from bytes_replaced(what, compact(good), telling, checked)
+    for name, text in itertools.chain(values_changed(good), ((name, compact(it)) for name, it in large(good))):
+        yield f"{what} with {name}", text, checked(text)
+
+
 def certificates():
-    """Every beginning of a certificate for SB, and the certificate with each byte replaced by some telling ones; then
-    the large ones."""
-    good = json.loads(read(f"{EXAMPLES}/certificates/SB.json"))
-    whole = json.dumps(good, separators=(",", ":")).encode()
-    yield from beginnings_of("a certificate", whole, checked)
-    yield from bytes_replaced("a certificate", whole, b'"[]{,: 0129w\xff', checked)
-    for name, text in values_changed(good):
-        yield f"a certificate with {name}", text, checked(text)
+    """A certificate for SB, changed, and what is none."""
+    yield from changed_certificates("a certificate", "SB", b'"[]{,: 0129w\xff', large_certificates)
     for name, text, _ in noise():
         yield f"{name} for a certificate", text, CERTIFICATE
+    whole = compact(json.loads(read(f"{EXAMPLES}/certificates/SB.json")))
     yield from pairs_of_surrogates("a certificate", b"tree", whole, checked(whole), CERTIFICATE)
     for name, text in PAIRS:
         wanted = "no: answer" if name == "a pair" else CERTIFICATE
         yield f"a certificate with {name} of surrogates for a fence", whole.replace(b"P0:2=w,r", text), wanted
-    for name, certificate in large_certificates(good):
-        text = json.dumps(certificate, separators=(",", ":")).encode()
-        yield f"a certificate with {name}", text, checked(text)
     for sign in (b"[", b'{"', b'{"tree":', b'"', b" ", b"0", b"[[", b"\xff"):
-        text = sign * (1_048_576 // len(sign))
-        yield f"a mebibyte of {sign!r} for a certificate", text, CERTIFICATE
+        yield f"a mebibyte of {sign!r} for a certificate", sign * (MEBIBYTE // len(sign)), CERTIFICATE
 
 
 def large_refutations(whole):
@@ -602,15 +555,7 @@ def large_refutations(whole):
 
 def refutations():
     """The same of a certificate for SB of version 4."""
-    good = json.loads(read(f"{EXAMPLES}/certificates/SB-v4.json"))
-    whole = json.dumps(good, separators=(",", ":")).encode()
-    yield from beginnings_of("a refutation", whole, checked)
-    yield from bytes_replaced("a refutation", whole, b'"[],: 01249acdflos\xff', checked)
-    for name, text in values_changed(good):
-        yield f"a refutation with {name}", text, checked(text)
-    for name, certificate in large_refutations(good):
-        text = json.dumps(certificate, separators=(",", ":")).encode()
-        yield f"a refutation with {name}", text, checked(text)
+    yield from changed_certificates("a refutation", "SB-v4", b'"[],: 01249acdflos\xff', large_refutations)
 
 
 HUGE = 100_000_000
@@ -620,14 +565,14 @@ def huge_certificates():
     """Certificates of SB of 100 MB, most of them by one part again and again. What it is known for is said beside
     each."""
     whole = json.loads(read(f"{EXAMPLES}/certificates/SB.json"))
-    text = json.dumps(whole, separators=(",", ":"))
+    text = compact(whole).decode()
     yes = "yes\nfenced 18\nfence P0 2 w,r\nfence P1 2 w,r"
 
     def repeated(key, part):
         """The certificate with this part behind the others of its list, as often as there is room."""
-        part = json.dumps(part, separators=(",", ":"))
-        before, after = json.dumps(dict(whole, **{key: whole[key] + ["@"]}), separators=(",", ":")).split('"@"')
-        return (before + ",".join([part] * (HUGE // (len(part) + 1))) + after).encode()
+        part = compact(part)
+        before, after = compact(dict(whole, **{key: whole[key] + ["@"]})).split(b'"@"')
+        return before + b",".join([part] * (HUGE // (len(part) + 1))) + after
 
     yield "blanks", (text + " " * (HUGE - len(text))).encode(), yes
     yield "line ends before it", ("\n" * (HUGE - len(text)) + text).encode(), yes

@@ -8,7 +8,7 @@ dir=$(mktemp -d) || exit 2
 trap 'rm -rf -- "$dir"' EXIT
 repo="$dir/a folder"
 log=$dir/log
-export LOG=$log DELAY=0.1 RT_JOBS=4 PATH=$dir/bin:$PATH HOSTTYPE=x86_64 OSTYPE=linux-gnu
+export LOG=$log HOLD=$dir/hold RT_JOBS=4 PATH=$dir/bin:$PATH HOSTTYPE=x86_64 OSTYPE=linux-gnu
 
 # check NAME WANTED FOUND
 check() {
@@ -21,37 +21,26 @@ check() {
     diff <(echo "$2") <(echo "$3") | sed 's/^/    /'
 }
 
-# The stand-in. A library wants those below it to be built, as rt's own folders have it; a source with the word WRONG fails.
+# The stand-in. It notes where it runs and its words, waits while the file is there that holds its first word, and fails
+# where a source has the word WRONG.
 mkdir -p "$dir/bin" "$repo/scripts"
 cat >"$dir/bin/rt" <<'END'
 #!/usr/bin/env bash
-name=$(basename "$PWD")
-echo "begin $name" >>"$LOG"
-below=$(sed -n "s/^$name: *//p" ../../crates.txt)
-for it in $below; do
-    [[ $it != serde_json ]] || continue # of the toolchain
-    [[ -f ../$it/out/rlib/stamp ]] || { echo "no library $it" | tee -a "$LOG"; exit 1; }
-done
-mkdir -p out/incremental
-echo work >>out/incremental/work
-sleep "$DELAY"
-while [[ " ${HOLD:-} " == *" $name "* && -e $LOG ]]; do
+echo "$(basename "$PWD"): $*" >>"$LOG"
+sleep 0.1
+while [[ -e $HOLD.$1 ]]; do
     sleep 0.1
 done
-if grep -q WRONG src/*; then
-    seq -f "error %g" 40
-    echo "wrong $name" >>"$LOG"
-    exit 1
-fi
-if [[ $1 == lib ]]; then
-    rm -rf out/rlib
-    mkdir -p out/rlib
-    echo made >out/rlib/stamp
+wrong=$(grep -l WRONG ../*/src/*)
+if [[ $1 == all ]]; then
+    printf '== left\nproved\n== both\n'
+    [[ -z $wrong ]] || seq -f "error %g" 40
+    printf '== summary\nleft: ok\nboth: %s\n' "$([[ -z $wrong ]] && echo ok || echo failed)"
 else
     printf '#!/bin/sh\n[ "$1" = quiet ] || echo "program $*"\nexit 7\n' >out/rvfence
     chmod +x out/rvfence
 fi
-[[ ! -e $LOG ]] || echo "end $name" >>"$LOG"
+[[ -z $wrong ]]
 END
 chmod +x "$dir/bin/rt"
 cp rvfence "$repo/"
@@ -60,13 +49,11 @@ cat >"$repo/crates.txt" <<'END'
 # low ones first
 left:
 right: serde_json
-over_left: left
-over_right: right
-both: over_left over_right left right
+both: left right
 rvfence: both
 law: left
 END
-for name in left right over_left over_right both rvfence law; do
+for name in left right both rvfence law; do
     mkdir -p "$repo/crates/$name"/{src/tests,specs,proofs,must-fail}
     echo "fn f() {}" >"$repo/crates/$name/src/lib.rt"
 done
@@ -89,18 +76,13 @@ edit() {
     echo "// $RANDOM" >>"$repo/crates/$1"
 }
 
-begun() { sed -n 's/^begin //p' "$log" | sort | paste -sd ' '; }
-most_at_once() { awk '/^begin/ { n++; if (n > m) m = n } /^end|^wrong/ { n-- } END { print m + 0 }' "$log"; }
-left_over() { (cd -- "$repo/crates" && find . -path '*rooms*' -o -name '*.unfinished' -o -name 'start.*') | wc -l; }
-# What has to be built yet, with the program.
-unbuilt() {
-    local name
-    for name in both left over_left over_right right; do
-        [[ -f $repo/crates/$name/out/rlib/stamp ]] || printf '%s ' "$name"
-    done
-    echo rvfence
+# What was asked of rt since this was called last.
+asked() {
+    paste -sd ' ' "$log"
+    : >"$log"
 }
-all="both left over_left over_right right rvfence"
+left_over() { (cd -- "$repo/crates" && find . -name '*.unfinished' -o -name 'start.*') | wc -l; }
+all="rvfence: all check --jobs 4 rvfence: run --jobs 4 -- --help"
 answer=$'program place x\n[status 7]'
 
 forget
@@ -109,52 +91,49 @@ check "help of a command without a program" "$(cat scripts/help/place.txt; echo 
 check "help by its command without a program" "$(cat scripts/help/order.txt; echo "[status 0]")" "$(run help order)"
 check "the version without a program" "$(cat scripts/help/version.txt; echo "[status 0]")" "$(run --version)"
 check "help by its letter without a program" "$(cat scripts/help/solve.txt; echo "[status 0]")" "$(run solve -h)"
-check "version and help prove nothing" "" "$(begun)"
+check "version and help prove nothing" "" "$(asked)"
 "$repo/rvfence" --help >/dev/full 2>"$dir/err"
 check "stored help that can't be written" "2 fault F21 WriteFault" "$? $(cat "$dir/err")"
 
-check "a first run" "$answer" "$(DELAY=1 run place x)"
-check "what a first run builds, each once" "$all" "$(begun)"
-check "side by side" 2 "$(most_at_once)"
-check "it says how far it is" "yes" "$(grep -q '[2-4] of 6 crates are built, about . min left' "$dir/err" && echo yes)"
+check "a first run" "$answer" "$(run place x)"
+check "what is asked of rt" "$all" "$(asked)"
+check "it says how far it is" "rvfence: left is done rvfence: both is done" \
+    "$(grep 'is done' "$dir/err" | paste -sd ' ')"
 check "nothing is left over" 0 "$(left_over)"
-: >"$log"
 check "a second run" "$answer" "$(run place x)"
 for file in both/must-fail/x.edit both/src/tests.rt both/src/tests/one.rt law/src/lib.rt both/out/x rvfence/stdout; do
+    mkdir -p "$repo/crates/${file%/*}"
     edit "$file"
 done
 check "a run after other files changed" "$answer" "$(run place x)"
-check "those runs build nothing, and say nothing" " 0" "$(begun) $(stat -c %s "$dir/err")"
-edit over_left/src/lib.rt
+check "those runs build nothing, and say nothing" " 0" "$(asked) $(stat -c %s "$dir/err")"
+edit left/src/lib.rt
 check "help of an older program" $'program --help\n[status 7]' "$(run --help)"
-check "that builds nothing" "" "$(begun)"
+check "that builds nothing" "" "$(asked)"
 rm "$repo/crates/both/src/tests.rt" "$repo/crates/both/src/tests/one.rt"
-check "a run after an edit" "$answer" "$(run place x)"
-check "what an edit builds" "both over_left rvfence" "$(begun)"
-: >"$log"
+check "a run after an edit" "$answer $all" "$(run place x) $(asked)"
 mv "$repo/crates/left/src/lib.rt" "$dir/moved"
 echo "fn g() {}" >"$repo/crates/left/src/other.rt"
 touch -r "$dir/moved" "$repo/crates/left/src/other.rt"
-check "after a file is renamed and keeps its date" "$answer rvfence" "$(run place x) $(begun | grep -o rvfence)"
+check "after a file is renamed and keeps its date" "$answer $all" "$(run place x) $(asked)"
 rm "$repo/crates/left/src/other.rt"
 mv "$dir/moved" "$repo/crates/left/src/lib.rt"
-check "after it has its name back" "$answer" "$(run place x)"
-check "the work that rt keeps stays" 2 "$(wc -l <"$repo/crates/over_left/out/incremental/work")"
+check "after it has its name back" "$answer $all" "$(run place x) $(asked)"
+edit both/src/lib.rt
+check "one processor" "$answer ${all//4/1}" "$(RT_JOBS=1 run place x) $(asked)"
+edit both/src/lib.rt
+check "as many as fit, and one at least" "$answer yes" \
+    "$(RT_JOBS='' run place x) $([[ $(asked) =~ all\ check\ --jobs\ [1-9] ]] && echo yes)"
 
-forget
-RT_JOBS=1 run place x >/dev/null
-check "one processor" "$all 1" "$(begun) $(most_at_once)"
-
-forget
-edit over_right/src/lib.rt
-echo WRONG >>"$repo/crates/over_right/src/lib.rt"
+echo WRONG >>"$repo/crates/right/src/lib.rt"
 check "a crate that fails" "[status 125]" "$(run place x)"
-check "its last lines are shown" "error 40 rvfence: over_right could not be built" "$(tail -n 2 "$dir/err" | paste -sd ' ')"
-check "nothing is left over of it" 1 "$(left_over)"
-sed -i /WRONG/d "$repo/crates/over_right/src/lib.rt"
-: >"$log"
-check "a run after it is mended" "$answer" "$(run place x)"
-check "it goes on where it was" yes "$([[ $(begun) != *\ left* && $(begun) == *over_right* ]] && echo yes)"
+check "its last lines are shown" \
+    "error 40;both: failed;rvfence: the program could not be built; $repo/crates/rvfence/out/build.log has all that rt said" \
+    "$(tail -n 3 "$dir/err" | paste -sd ';')"
+check "no program is asked of it" "${all% rvfence*}" "$(asked)"
+check "nothing is left over of it but that it isn't whole" 1 "$(left_over)"
+sed -i /WRONG/d "$repo/crates/right/src/lib.rt"
+check "a run after it is mended" "$answer $all" "$(run place x) $(asked)"
 check "no rt" "[status 125] there is no rt" \
     "$(forget; mkdir -p "$dir/few"; for it in bash dirname readlink find; do ln -sf "$(command -v $it)" "$dir/few/"; done
     PATH=$dir/few run place x) $(grep -o 'there is no rt' "$dir/err")"
@@ -162,89 +141,73 @@ check "no rt" "[status 125] there is no rt" \
 # Output that nobody reads.
 forget
 "$repo/rvfence" quiet 2> >(exec true)
-check "standard error without a reader" "7 $all" "$? $(begun)"
+check "standard error without a reader" "7 $all" "$? $(asked)"
 forget
 "$repo/rvfence" quiet 2>&-
-check "closed standard error" "7 $all" "$? $(begun)"
+check "closed standard error" "7 $all" "$? $(asked)"
 forget
 "$repo/rvfence" quiet 2>/dev/null | true
-check "standard output without a reader" "7 $all" "${PIPESTATUS[0]} $(begun)"
+check "standard output without a reader" "7 $all" "${PIPESTATUS[0]} $(asked)"
 forget
 "$repo/rvfence" quiet >&- <&- 2>/dev/null
-check "closed standard output and input" "7 $all" "$? $(begun)"
+check "closed standard output and input" "7 $all" "$? $(asked)"
 
-# How many processes of the stand-in there are.
-at_work() { grep -lze "$dir/bin/[r]t" /proc/[0-9]*/cmdline 2>/dev/null | wc -l; }
-
-# stopped SIGNAL CRATE..: the status of a run that gets the signal while these crates, which are held, are built, how many of
-# its processes are left, and how many of its rooms.
-stopped() {
-    local it status signal=$1
-    shift
-    set -m
-    HOLD=$* env --default-signal "$repo/rvfence" place x >"$dir/out" 2>"$dir/err" &
-    set +m
-    for it in "$@"; do
-        until grep -q "^begin $it$" "$log" || ! kill -0 $!; do
-            sleep 0.05
-        done
-    done 2>/dev/null
-    sleep 0.1
-    kill "-$signal" $!
-    wait $!
-    status=$?
-    # (what was told to end may take a while, where much else runs)
-    it=0
-    while [[ $signal != KILL ]] && (($(at_work) > 0 && it++ < 600)); do
-        sleep 0.1
-    done
-    echo "$status $(at_work) $(find "$repo/crates" -path '*rooms*' | wc -l)"
-}
-forget
-check "an interrupt" "130 0 0" "$(stopped INT over_left over_right)"
-check "what was whole by then" "yes yes no" "$(for it in left right both; do
-    [[ -f $repo/crates/$it/out/rlib/stamp ]] && echo yes || echo no; done | paste -sd ' ')"
-: >"$log"
-rest=$(unbuilt)
-check "a run after the interrupt" "$answer" "$(run place x)"
-check "it does the rest" "$rest" "$(begun)"
-check "over the work that was kept" 2 "$(wc -l <"$repo/crates/over_left/out/incremental/work")"
-edit rvfence/src/lib.rt
-: >"$log"
-check "an end while the program is built" "143 0 0" "$(stopped TERM rvfence)"
-: >"$log"
-check "a run after that" "$answer rvfence" "$(run place x) $(begun)"
-touch "$repo/crates/rvfence/out/rvfence.unfinished"
-: >"$log"
-check "a program whose build didn't end well" "$answer rvfence" "$(run place x) $(begun)"
-edit rvfence/src/lib.rt
-: >"$log"
-check "a hangup" "129 0 0" "$(stopped HUP rvfence)"
-forget
-check "a kill" 137 "$(stopped KILL over_left 2>/dev/null | sed 's/ .*//')"
-: >"$log"
-rest=$(unbuilt)
-check "a run after a kill" "$answer" "$(run place x)"
-check "it does the rest after a kill" "$rest" "$(begun)"
-check "nothing is left over of a kill" 0 "$(left_over)"
-
-# Two at once, and one beside an rt that works in a crate.
-forget
-run place x >"$dir/first" &
-check "one of two at once" "$answer" "$("$repo/rvfence" place x 2>/dev/null; echo "[status $?]")"
-wait $!
-check "the other" "$answer" "$(cat "$dir/first")"
-check "each crate is built once" "both left over_left over_right right" "$(begun | sed 's/ rvfence//g')"
-if command -v flock >/dev/null; then
-    forget
-    : >"$dir/err"
-    flock "$repo/crates/left" bash -c 'echo held >>"$0"; while [[ -e $1 ]] && ! grep -q "waiting for it" "$1"; do sleep 0.05; done' \
-        "$log" "$dir/err" &
-    until grep -q held "$log"; do
+# soon COMMAND..: waits until the command succeeds, for a minute or so.
+soon() {
+    local at
+    for ((at = 0; at < 1000; at++)); do
+        "$@" 2>/dev/null && return
         sleep 0.05
     done
-    check "an rt is waited for" "$answer" "$(run place x)"
-fi
+}
+
+# Is no process of the stand-in left?
+is_at_rest() { ! grep -qze "$dir/bin/[r]t" /proc/[0-9]*/cmdline; }
+
+# stopped SIGNAL WORD: the status of a run that gets the signal while rt, which is held, does what this word says, and
+# whether it has ended.
+stopped() {
+    local status
+    : >"$log"
+    : >"$HOLD.$2"
+    set -m
+    env --default-signal "$repo/rvfence" place x >"$dir/out" 2>"$dir/err" &
+    set +m
+    soon grep -q "^rvfence: $2 " "$log"
+    kill "-$1" $!
+    wait $!
+    status=$?
+    [[ $1 == KILL ]] || soon is_at_rest
+    echo "$status $(is_at_rest && echo at rest)"
+    rm "$HOLD.$2"
+} 2>/dev/null
+forget
+check "an interrupt" "130 at rest" "$(stopped INT all)"
+check "an end while the program is built" "143 at rest" "$(stopped TERM run)"
+touch "$repo/crates/rvfence/out/rvfence"
+check "a hangup" "129 at rest" "$(stopped HUP run)"
+: >"$log"
+check "a run after these" "$answer $all" "$(run place x) $(asked)"
+touch "$repo/crates/rvfence/out/rvfence.unfinished"
+check "a program whose build didn't end well" "$answer $all" "$(run place x) $(asked)"
+forget
+check "a kill" 137 "$(stopped KILL all | sed 's/ .*//')"
+: >"$log"
+check "a run after a kill" "$answer $all" "$(run place x) $(asked)"
+check "nothing is left over of a kill" 0 "$(left_over)"
+
+# Two at once.
+forget
+: >"$HOLD.all"
+run place x >"$dir/first" &
+soon test -s "$log"
+"$repo/rvfence" place x >"$dir/second" 2>"$dir/waiting" &
+soon grep -q "waiting for it" "$dir/waiting"
+rm "$HOLD.all"
+wait
+check "the first of two at once" "$answer" "$(cat "$dir/first")"
+check "the second, which waits" "program place x" "$(cat "$dir/second")"
+check "they build once" "$all" "$(asked)"
 
 # A program that comes with the repository, with the sum of the sources that stand there. (The stand-in builds one with another answer.)
 . scripts/sources.sh
@@ -252,7 +215,6 @@ sum_here() {
     (
         top=$repo
         read_crates
-        visit rvfence
         sum_sources
     )
 }
@@ -265,13 +227,12 @@ release() {
     printf '#!/bin/sh\n[ "$1" != --version ] || { echo rvfence 9; exit; }\necho "released $*"\nexit 5\n' >"$repo/bin/rvfence-x86_64-linux"
     chmod +x "$repo/bin/rvfence-x86_64-linux"
     note
-
 }
 released=$'released place x\n[status 5]'
 forget
 release
 check "the released program" "$released" "$(run place x)"
-check "nothing is built, and nothing is said" " 0" "$(begun) $(stat -c %s "$dir/err")"
+check "nothing is built, and nothing is said" " 0" "$(asked) $(stat -c %s "$dir/err")"
 check "the program that was chosen last, without a sum" "$released" "$(PATH=$dir/few run place x)"
 check "the released program's help" $'released --help\n[status 5]' "$(run --help)"
 check "without rt" "$released" "$(PATH=${PATH#"$dir/bin:"} run place x)"
@@ -284,12 +245,12 @@ for at in 1 2; do
     sleep 0.02
     check "a file written anew as it was, $at" "$released" "$(run place x)"
 done
-check "all that builds nothing" "" "$(begun)"
+check "all that builds nothing" "" "$(asked)"
 sleep 0.02
 sed -i 's/fn/gn/' "$repo/crates/left/src/lib.rt"
 touch -r "$dir/kept" "$repo/crates/left/src/lib.rt"
 check "help after an edit" $'program --help\n[status 7]' "$(run place x >"$dir/first"; run --help)"
-check "with one byte of a source changed it builds" "$answer $all" "$(cat "$dir/first") $(begun)"
+check "with one byte of a source changed it builds" "$answer $all" "$(cat "$dir/first") $(asked)"
 cp "$dir/kept" "$repo/crates/left/src/lib.rt"
 sleep 0.02
 check "after the edit is taken back" "$released" "$(run place x)"
@@ -300,9 +261,9 @@ mv "$dir/moved" "$repo/crates/left/src/lib.rt"
 check "after it is put back with its date" "$released" "$(run place x)"
 sed -i 's/^law: left/law: left right/' "$repo/crates.txt"
 check "after a line of crates.txt that it isn't built from" "$released" "$(run place x)"
-sed -i 's/^over_left: left/over_left: left right/' "$repo/crates.txt"
+sed -i 's/^both: left right/both: right left/' "$repo/crates.txt"
 : >"$log"
-check "after a line that it is built from" "$answer rvfence" "$(run place x) $(begun | grep -o rvfence)"
+check "after a line that it is built from" "$answer $all" "$(run place x) $(asked)"
 release
 sleep 0.02
 check "a release made anew" "$released" "$(run place x)"

@@ -2,64 +2,33 @@
 
 What it must print stands in scripts/transcripts/*.txt, command by command: the command line, faults and their order,
 tests as they are printed, prices, witnesses good and bad, answers worked out by hand, certificates. Then come the
-examples with their answers, the commands of the documents with what stands below them, `solve` by several workers,
-what is printed as JSON, what a shell completes, and whether the other commands take what it answers; messages, and how
-far it is, as it says on a terminal; and the help that the launcher prints where there is no program."""
+examples with their answers, the commands of the documents with what stands below them, what is printed as JSON, what a
+shell completes, and whether the other commands take what it answers; messages, and how far it is, as it says on a
+terminal; and the help that the launcher prints where there is no program."""
 import glob
 import json
 import os
 import re
 import shutil
-import tempfile
 import time
 
 from bench_tests import votes
+from checks.transcripts import FOLDER, Transcripts, blocks_of
 from running import (EXAMPLES, PRICES, TOP, Said, decoded, program, ran, ran_on_terminal, read, rvfence, side_by_side,
                      stored_answers, tests_of_examples, transcript, written)
 from verdicts import YES, is_accepted
 
-TRANSCRIPTS = f"{TOP}/scripts/transcripts"
-WORKERS = [1, 2, 4, 16]
 
 
 def text_of(path):
     return decoded(read(path))
 
 
-class Checks:
-    """The counts, and a folder with the program, the examples and the files of scripts/transcripts/files/."""
-
-    def __init__(self, run):
-        folder = self.folder = run.folder
-        self.check, self.expect = run.check, run.expect
-        os.mkdir(f"{folder}/bin")
-        # under the name that help prints
-        os.symlink(program(), f"{folder}/bin/rvfence")
-        os.symlink(EXAMPLES, f"{folder}/examples")
-        shutil.copytree(f"{TRANSCRIPTS}/files", folder, dirs_exist_ok=True)
-
-    def shell(self, command, own=None, **options):
-        """What a command says, for which `rvfence` is the program and $own a folder."""
-        environment = {**os.environ, "PATH": f"{self.folder}/bin:{os.environ['PATH']}", "own": own or self.folder}
-        return ran(["bash", "-c", command], **{"cwd": self.folder, "env": environment, **options})
-
-    def check_block(self, block):
-        """Checks a block of a transcript: its name after `# `, a command after `$ `, and what is printed. A line of
-        standard error stands behind `! `, and `! ...` stands for whatever is said there."""
-        lines = [line for line in block.split("\n") if not line.startswith("## ")]
-        name, command, wanted = lines[0][2:], lines[1][2:], "\n".join(lines[2:])
-        with tempfile.TemporaryDirectory() as own:
-            said = self.shell(f"source {TRANSCRIPTS}/functions.sh\n{command}", own)
-        error = re.sub("(?m)^", "! ", said.err[:-1]) + "\n" if said.err else ""
-        if error and "\n! ...\n" in f"\n{wanted}":
-            error = "! ...\n"
-        self.expect(f"{name}: {command}", wanted, f"{said.out}{error}[status {said.status}]")
-
-
 def check_transcripts(checks):
-    names = sorted(name for name in os.listdir(TRANSCRIPTS) if name.endswith(".txt"))
-    texts = [text_of(f"{TRANSCRIPTS}/{name}").rstrip("\n") for name in names]
-    side_by_side(checks.check_block, [block for text in texts for block in text.split("\n\n")])
+    """All of scripts/transcripts/, with the files there."""
+    shutil.copytree(f"{FOLDER}/files", checks.folder, dirs_exist_ok=True)
+    blocks = [block for path in sorted(glob.glob(f"{FOLDER}/*.txt")) for block in blocks_of(path)]
+    side_by_side(checks.check_block, blocks)
 
 
 def check_examples(checks):
@@ -118,24 +87,13 @@ def check_documents(checks):
                 checks.expect(f"{document}: {command}", wanted.rstrip("\n"), said.out.rstrip("\n"))
 
 
-def check_paths(checks):
-    """By the launcher from another folder, through a link, and with paths from there. A test called `-` or `stdin` is
-    standard input; `./-` and `./stdin` are files."""
+def check_launcher(checks):
+    """The launcher runs the program from another folder, through a link, and with paths from there."""
     folder, test = checks.folder, f"{EXAMPLES}/MP.litmus"
-    for name in ("here.litmus", "-", "stdin"):
-        shutil.copy(test, f"{folder}/{name}")
     os.symlink(f"{TOP}/rvfence", f"{folder}/linked")
-    whole = read(test)
-    table = [("from another folder", [f"{TOP}/rvfence", "place", "here.litmus"], None),
-             ("through a link", ["./linked", "place", "here.litmus"], None),
-             *[(f"standard input, as {words}", [program(), "place", *words.split()], whole)
-               for words in ("stdin", "-", "-- -")],
-             *[(f"the file {path}", [program(), "place", path], None) for path in ("./stdin", "./-")]]
-    wanted = rvfence("place", test)
-    for name, command, stdin in table:
-        checks.expect(name, wanted, ran(command, stdin=stdin, cwd=folder))
-    wanted = rvfence("place", test, "--prices", PRICES)
-    checks.expect("prices before the test", wanted, rvfence("place", "--prices", PRICES, test))
+    shutil.copy(test, f"{folder}/here.litmus")
+    for name, command in (("from another folder", f"{TOP}/rvfence"), ("through a link", "./linked")):
+        checks.expect(name, rvfence("place", test), ran([command, "place", "here.litmus"], cwd=folder))
 
 
 def check_answers(checks):
@@ -157,39 +115,6 @@ def check_answers(checks):
             checks.expect(f"the cost of the fences for {test}", cost, placed[-len(cost):])
             found = rvfence("solve", "stdin", PRICES, stdin=rvfence("place", test, *fences).out)
             checks.expect(f"{test} with its fences", ("fenced 0\n", 0), (found.out, found.status))
-
-
-def check_workers(checks):
-    """With each number of workers `solve` gives the stored answer, the bytes that it gives with one, and a
-    certificate that `check` takes. Without its cycle such a certificate is refused, and cut at half it is none."""
-    answers = stored_answers()
-    for test in tests_of_examples():
-        wanted = answers[os.path.relpath(test, EXAMPLES), "prices.json"]
-        by_one = rvfence("solve", test, PRICES, "--workers", "1")
-        for workers in WORKERS:
-            path = f"{checks.folder}/{workers}.json"
-            said = rvfence("solve", test, PRICES, "--workers", str(workers), "--cert", path)
-            name = f"{test} by {workers} workers"
-            checks.expect(name, wanted, re.sub(r"(?m)^(\{|note: vacuous: ).*\n", "", transcript(said)))
-            checks.expect(f"{name} as by one", by_one, said)
-            if said.status == 2:
-                is_right = test.endswith("/STRAY.litmus") and not os.path.exists(path)
-                checks.check(f"no certificate of the fault of {name}", is_right)
-                continue
-            wanted_verdict = Said(f"yes\n{said.out}", "", 0)
-            checks.expect(f"the certificate of {name}", wanted_verdict, rvfence("check", test, PRICES, path))
-            os.unlink(path)
-    test = f"{EXAMPLES}/SBF.litmus"
-    for workers in WORKERS:
-        path = f"{checks.folder}/{workers}.json"
-        rvfence("solve", test, PRICES, "--workers", str(workers), "--cert", path)
-        whole = read(path)
-        changed = json.loads(whole)
-        changed["cycles"].pop()
-        for name, text, wanted in (("without its cycle", json.dumps(changed), ("no: cycles\n", "", 1)),
-                                   ("cut at half", whole[:len(whole) // 2], ("", "fault F18 BadCertificate\n", 2))):
-            found = rvfence("check", test, PRICES, written(path, text))
-            checks.expect(f"a certificate by {workers} workers {name}", wanted, found)
 
 
 def line_of(found, width):
@@ -239,24 +164,7 @@ def check_objects(checks):
 
 
 def check_completions(checks):
-    """In bash each command's options are completed, and no others than its help has, and the commands themselves. A
-    shell that is here reads its script."""
-    def completed(*words):
-        given = " ".join(f"'{word}'" for word in words)
-        asked = f"COMP_WORDS=(rvfence {given}); COMP_CWORD={len(words)}; _rvfence; echo ${{COMPREPLY[*]}}"
-        said = checks.shell(f"source <(rvfence completions bash); {asked}")
-        return sorted(said.out.split())
-
-    commands = re.findall(r"(?m)^  ([a-z]+)  ", rvfence("--help").out)
-    checks.expect("the commands that are completed", sorted(commands), completed(""))
-    checks.expect("the command that is completed", ["completions"], completed("com"))
-    for command in commands:
-        if command != "help":
-            options = re.findall(r"(?m)^ +(?:-\w, )?(--[a-z]+)", rvfence(command, "--help").out.split("Options:")[1])
-            checks.expect(f"the options of {command} that are completed", sorted(set(options)), completed(command, "-"))
-    checks.expect("the options before a command", ["--help", "--version"], completed("-"))
-    checks.expect("the shells that are completed", ["bash", "fish", "zsh"], completed("completions", ""))
-    checks.expect("files are left to bash", [], completed("test", ""))
+    """A shell that is here reads its script for completion."""
     for shell in ("bash", "zsh", "fish"):
         if shutil.which(shell):
             said = ran([shell, "-n"], stdin=rvfence("completions", shell).out)
@@ -314,24 +222,15 @@ def check_progress(checks):
 
 
 def check_help(checks):
-    """What the launcher prints while there is no program: scripts/store-help writes it."""
-    folder = f"{TOP}/scripts/help"
-    program_help = checks.shell("rvfence --help").out
-    commands = re.findall(r"(?m)^  ([a-z]+) ", program_help.partition("Commands:")[2].partition("\n\n")[0])
-    commands = sorted(set(commands) - {"help"})
-    checks.expect("the stored help", program_help, text_of(f"{folder}/rvfence.txt"))
-    checks.expect("the stored version", checks.shell("rvfence --version").out, text_of(f"{folder}/version.txt"))
-    checks.expect("the commands whose help is stored", sorted(["rvfence", "version", *commands]),
-                         sorted(name.removesuffix(".txt") for name in os.listdir(folder)))
-    for command in commands:
-        found = text_of(f"{folder}/{command}.txt")
-        checks.expect(f"the stored help of {command}", checks.shell(f"rvfence {command} --help").out, found)
+    """What the launcher prints while there is no program is what scripts/store-help writes."""
+    made = checks.shell(f'mkdir made && "{TOP}/scripts/store-help" made && diff -r "{TOP}/scripts/help" made')
+    checks.expect("the stored help", Said("", "", 0), made)
 
 
 def check(run):
     # the launcher builds the program, so that no progress comes between later checks
     ran([f"{TOP}/rvfence", "place", f"{EXAMPLES}/MP.litmus"], seconds=None)
-    checks = Checks(run)
-    for part in (check_transcripts, check_examples, check_idioms, check_documents, check_paths, check_answers,
-                 check_workers, check_objects, check_completions, check_messages, check_progress, check_help):
+    checks = Transcripts(run)
+    for part in (check_transcripts, check_examples, check_idioms, check_documents, check_launcher, check_answers,
+                 check_objects, check_completions, check_messages, check_progress, check_help):
         part(checks)

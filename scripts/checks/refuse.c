@@ -22,40 +22,20 @@ static int is_refused(void) {
     return 1;
 }
 
-void *malloc(size_t size) {
-    static void *(*_Atomic next)(size_t);
-    if (next == NULL)
-        next = (void *(*)(size_t))dlsym(RTLD_NEXT, "malloc");
-    return is_refused() ? NULL : next(size);
-}
+// A function of the C library that answers `refused` where its request is the one to refuse.
+#define REFUSABLE(result, name, parameters, arguments, refused)      \
+    result name parameters {                                         \
+        static result(*_Atomic next) parameters;                     \
+        if (next == NULL)                                            \
+            next = (result(*) parameters)dlsym(RTLD_NEXT, #name);    \
+        return is_refused() ? refused : next arguments;              \
+    }
 
-void *calloc(size_t count, size_t size) {
-    static void *(*_Atomic next)(size_t, size_t);
-    if (next == NULL)
-        next = (void *(*)(size_t, size_t))dlsym(RTLD_NEXT, "calloc");
-    return is_refused() ? NULL : next(count, size);
-}
-
-void *realloc(void *old, size_t size) {
-    static void *(*_Atomic next)(void *, size_t);
-    if (next == NULL)
-        next = (void *(*)(void *, size_t))dlsym(RTLD_NEXT, "realloc");
-    return is_refused() ? NULL : next(old, size);
-}
-
-void *aligned_alloc(size_t alignment, size_t size) {
-    static void *(*_Atomic next)(size_t, size_t);
-    if (next == NULL)
-        next = (void *(*)(size_t, size_t))dlsym(RTLD_NEXT, "aligned_alloc");
-    return is_refused() ? NULL : next(alignment, size);
-}
-
-int posix_memalign(void **made, size_t alignment, size_t size) {
-    static int (*_Atomic next)(void **, size_t, size_t);
-    if (next == NULL)
-        next = (int (*)(void **, size_t, size_t))dlsym(RTLD_NEXT, "posix_memalign");
-    return is_refused() ? ENOMEM : next(made, alignment, size);
-}
+REFUSABLE(void *, malloc, (size_t size), (size), NULL)
+REFUSABLE(void *, calloc, (size_t count, size_t size), (count, size), NULL)
+REFUSABLE(void *, realloc, (void *old, size_t size), (old, size), NULL)
+REFUSABLE(void *, aligned_alloc, (size_t alignment, size_t size), (alignment, size), NULL)
+REFUSABLE(int, posix_memalign, (void **made, size_t alignment, size_t size), (made, alignment, size), ENOMEM)
 
 __attribute__((destructor)) static void report(void) {
     const char *path = getenv("REFUSE_COUNT");

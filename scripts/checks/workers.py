@@ -8,42 +8,25 @@ Then it is asked ROUNDS times with each number of workers, alone and with `--cer
 bytes on both outputs and end with the same status; and beside an answer stands a certificate, to which `check` says
 yes, with that answer. A question has one certificate, whatever the number of workers: in none of them does judging
 take so long that others join the first one, and then nothing depends on the turns of the threads. (That they answer the
-same where they join, crates/fs_board_tests looks at.) Beside a fault there is none.
-
-A run that doesn't end is ended after a while and fails, and after some of these no more are made."""
+same where they join, crates/fs_board_tests looks at.) Beside a fault there is none."""
 import collections
 import os
 import tempfile
-import threading
 
 import bench_tests
 import check_certificate as model
 import litmus
 import solve_reference as reference
-from running import (EXAMPLES, LONGEST, NO_END, PRICES, TOP, Said, decoded, read, rvfence, side_by_side,
-                     stored_answers, written)
+from running import EXAMPLES, PRICES, TOP, Said, decoded, here, read, rvfence, side_by_side, stored_answers, written
 from verdicts import is_accepted
 
 WORKERS = [1, 2, 4, 16]
-MOST_ENDLESS = 8                    # runs that don't end, before no more are made
 TABLE = f"{TOP}/scripts/transcripts/workers.table"
 
-# Tests that one cell makes, so many times in each hart.
-REPEATED = [
-    ("48 loads", "lw x7,0(x6)", 24, "lw x7,0(x6)", 24, "0:x7=1", "fenced 0"),
-    ("49 stores", "sw x5,0(x6)", 25, "sw x5,0(x6)", 24, "x=1", "fault F9 TooBig accesses"),
-    ("17 loads", "lw x7,0(x6)", 17, "sw x5,0(x6)", 1, "0:x7=1", "fault F13 TooManyTraces"),
-    ("11 stores", "sw x5,0(x6)", 11, "lw x7,0(x6)", 0, "x=1", "fault F15 TooManyCandidates"),
-]
-
-# Tests of scripts/bench_tests.py, by their names: with many nodes, with many candidates, and with candidates of many
-# shapes.
+# Tests of scripts/bench_tests.py, by their names: with many candidates, with candidates of many shapes, and with many
+# nodes.
 GROWN = ["SB-2-4", "SB-3-2", "SB-4-1", "LB-3-2", "MP-3-2", "2+2W-3-2", "chain-4", "IRIW-2", "IRIW-3", "stores-4",
-         "loads-4", "rounds-1", "rounds-2", "lock"]
-LONG = ["votes-3-2-3", "votes-4-3-0"]   # with many nodes
-# and one whose answer is argued for here: of four pairs of harts three may not both load early, so two pairs need a
-# fence in each hart; of these answers, which cost the same, the first leaves the first slots empty
-WIDE = "votes-4-3-4", ["fenced 36", "fence P4 1 w,r", "fence P5 1 w,r", "fence P6 1 w,r", "fence P7 1 w,r"]
+         "loads-4", "rounds-1", "rounds-2", "lock", "votes-3-2-3", "votes-4-3-0"]
 MADE = range(40)                    # random tests of scripts/litmus.py, by their numbers
 
 
@@ -72,24 +55,20 @@ def rows(folder):
         if not line.startswith("#"):
             name, prices, limit, printed = line.split(" | ")
             path = written(f"{folder}/{number}.json", prices) if prices.startswith("{") else f"{EXAMPLES}/{prices}"
-            lines, test = printed.split(" / "), f"{EXAMPLES}/{name}.litmus"
-            yield Question(f"{name} {prices} {limit}", test, path, lines, limit.split())
+            question = f"{name} {prices} {limit}"
+            yield Question(question, here(f"{name}.litmus"), path, printed.split(" / "), limit.split())
 
 
 def grown(folder):
-    """The tests of REPEATED, of scripts/bench_tests.py, and random ones."""
+    """The tests of scripts/bench_tests.py, and random ones."""
     def by_reference(name, test, prices):
         lines, _ = reference.answer(model.test_of(test), model.prices_of(prices))
         paths = [written(f"{folder}/{name}.{kind}", data) for kind, data in (("litmus", test), ("json", prices))]
         return Question(name, *paths, lines)
 
-    for name, *made, printed in REPEATED:
-        yield Question(name, written(f"{folder}/{name}.litmus", litmus.repeated(*made)), PRICES, [printed])
     texts = bench_tests.families() | bench_tests.long_searches()
-    for name in GROWN + LONG:
+    for name in GROWN:
         yield by_reference(name, texts[name].encode(), read(PRICES))
-    name, lines = WIDE
-    yield Question(name, written(f"{folder}/{name}.litmus", texts[name]), PRICES, lines)
     for number in MADE:
         yield by_reference(f"made test {number}", *litmus.Maker(number).make())
 
@@ -101,24 +80,11 @@ class Bench:
 
     def __init__(self, run):
         self.folder, self.check, self.expect = run.folder, run.check, run.expect
-        self.lock = threading.Lock()
-        self.endless = 0
         self.verdicts = {}              # what `check` says, by question and certificate
-
-    def ran(self, *words):
-        """What a run says."""
-        if self.endless >= MOST_ENDLESS:
-            wrong = f"it was not made, since {self.endless} others did not end in {LONGEST} seconds of processor time"
-            return Said("", wrong, NO_END)
-        # without the note of a vacuous outcome
-        said = rvfence(*words, *(["-q"] if words[0] == "solve" else []))
-        with self.lock:
-            self.endless += said.status == NO_END
-        return said
 
     def ask_plainly(self, question):
         """Asks without `--workers`. Is it the wanted answer?"""
-        said = question.plain = self.ran("solve", *question.words)
+        said = question.plain = rvfence("solve", "-q", *question.words)
         printed, silent = (said.err, said.out) if question.status == 2 else (said.out, said.err)
         lines = printed.splitlines()
         is_right = lines == question.lines
@@ -130,12 +96,12 @@ class Bench:
         """Asks with so many workers, alone and with a certificate."""
         question, workers = asked
         name = f"{question.name} --workers {workers}"
-        words = ["solve", *question.words, "--workers", str(workers)]
-        said = self.ran(*words)
+        words = ["solve", "-q", *question.words, "--workers", str(workers)]
+        said = rvfence(*words)
         self.check(name, said == question.plain, said)
         with tempfile.TemporaryDirectory(dir=self.folder) as own:
             path = f"{own}/certificate.json"
-            said = self.ran(*words, "--cert", path)
+            said = rvfence(*words, "--cert", path)
             self.check(f"{name} --cert", said == question.plain, said)
             is_answer = said.status in (0, 1)
             self.check(f"{name}: a certificate beside an answer alone", os.path.exists(path) == is_answer, said)
@@ -147,7 +113,7 @@ class Bench:
         """What `check` says of the certificate; it isn't asked twice of the same one."""
         key = question, read(path)
         if key not in self.verdicts:
-            self.verdicts[key] = self.ran("check", *question.words[:2], path)
+            self.verdicts[key] = rvfence("check", *question.words[:2], path)
         return self.verdicts[key]
 
 

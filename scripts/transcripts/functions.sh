@@ -97,3 +97,25 @@ states() (
 
 # The same of store buffering with these lines behind its rows, the first of which is line 13, and with further words.
 asked() { states <(sed -e '1s/SB/asked/' -e '$d' examples/SB.litmus && echo "$1") "${@:2}"; }
+
+# What `solve` answers, and what `check` says of the certificate that it writes.
+certified() { rvfence solve "$1" "$2" -q --cert "$own/certificate.json" && rvfence check "$1" "$2" "$own/certificate.json"; }
+
+# A test in the printed form without its documentation.
+printed() { sed '1n; /^{/,$!d' "$1"; }
+
+# A file with blanks behind it, up to so many bytes.
+padded() { cat "$2" && head -c $(($1 - $(wc -c <"$2"))) /dev/zero | tr '\0' ' '; }
+
+# The commands, and the options of one, as help has them.
+commands() { rvfence --help | sed -n '/^Commands:/,/^$/s/^  \([a-z]*\) .*/\1/p'; }
+options_of() { rvfence "$1" --help | sed '1,/^Options:/d' | grep -oE '^ +(-\w, )?--[a-z]+' | grep -oE -- '--[a-z]+' | sort -u; }
+
+# What bash completes behind these words, of which the last is begun, a line each.
+completed() {
+    source <(rvfence completions bash)
+    COMP_WORDS=(rvfence "$@")
+    COMP_CWORD=$#
+    _rvfence
+    printf '%s\n' "${COMPREPLY[@]}" | sed '/^$/d' | sort
+}
