@@ -7,7 +7,7 @@ use Rattle.fs_board_search.proofs.Ends.{handed}
 use Rattle.fs_board_search.proofs.sweep.search_alone.Goals as goal
 
 pub returns-in_err-sweep-clause-err : goal.returns-in_err-sweep-clause-err
-returns-in_err-sweep-clause-err g c = handed c.from_residual.result _ _ c.from_residual.ensures.1 c.in_err-sweep.ensures.err
+returns-in_err-sweep-clause-err g c = handed c.from_residual-in_err-sweep.result _ _ c.from_residual-in_err-sweep.ensures.1 c.in_err-sweep.ensures.err
 
 pub returns-clause-met : goal.returns-clause-met
 returns-clause-met g c =
