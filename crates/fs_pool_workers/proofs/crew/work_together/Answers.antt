@@ -24,7 +24,7 @@ map_vec-requires-sync-F g c κs within =
               (
                 ((λ q. tt), c.type_bounds.sync-G.shared x.3.now x.3.ref_ptr.0 x.3.ref_ptr.1 _),
                 (
-                  ((λ q. tt), q.shared x.4.now x.4.ref_ptr.0 x.4.ref_ptr.1 _),
+                  ((λ q. tt), q.shared x.4.now x.4.ref_ptr.0 x.4.ref_ptr.1 κ),
                   (
                     ((λ q. tt), w.shared x.5.now x.5.ref_ptr.0 x.5.ref_ptr.1 _),
                     (((λ q. tt), p.shared x.6.now x.6.ref_ptr.0 x.6.ref_ptr.1 κ), tt),
