@@ -8,8 +8,8 @@ use Rattle.fs_judge_vacuous_outcomes.proofs.Forbidden.{vacuous_forbids}
 use Rattle.fs_app_test.specs.Words.{never_in_outcome, never_words}
 use Rattle.fs_app_test.proofs.vacuous.vacuous.Goals as goal
 
-pub returns-in-Some-true-clause-ok : goal.returns-in-Some-true-clause-ok
-returns-in-Some-true-clause-ok c =
+pub returns-in_ok-vacuous_text-in-Some-true-clause-ok : goal.returns-in_ok-vacuous_text-in-Some-true-clause-ok
+returns-in_ok-vacuous_text-in-Some-true-clause-ok c =
     let t = arc_value c.args.test.now in
     let text = string_bytes c.in_ok-vacuous_text-in-Some-true.field-0 in
     let same = c.requires.same in
@@ -35,5 +35,5 @@ returns-in-Some-false-clause-ok c =
     let found = c.in-Some-false.is ∙ ap (λ b. Some b) c.in-Some-false.field-0-test in
     subst (λ (t : Test). IsVacuous t → ⊥) c.requires.same (c.in_ok-is_vacuous.ensures.no found)
 
-pub returns-clause-ok : goal.returns-clause-ok
-returns-clause-ok c = subst HasManyRuns c.requires.same (c.in_ok-is_vacuous.ensures.open c.in-None.is)
+pub returns-in-None-clause-ok : goal.returns-in-None-clause-ok
+returns-in-None-clause-ok c = subst HasManyRuns c.requires.same (c.in_ok-is_vacuous.ensures.open c.in-None.is)
