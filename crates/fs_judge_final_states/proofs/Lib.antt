@@ -1,7 +1,6 @@
 pub mod Halves
 mod Kept
 pub mod Balanced
-pub mod Ending
 pub mod Asking
 pub mod Covered
 mod Many

@@ -30,8 +30,7 @@ fn shown_state(
     placement: &Placement,
     places: &[Place],
 ) -> Result<Option<State>, Fault>
-    requires placement { slots_of placement.now ≡ slots problem.now }
-    requires places { ArePlacesOf problem.now places.now }
+    requires { slots_of placement.now ≡ slots problem.now }
     ensures some { IfOk result (λ found. IfSome found
         (λ state. EndsIn problem.now placement.now places.now state.witness.witness state.words)) }
     ensures none { IfOk result (λ found. IfNone found (Allows problem.now placement.now → ⊥)) }
