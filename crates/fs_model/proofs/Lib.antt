@@ -38,3 +38,4 @@ pub mod ProgramOrder
 pub mod ByRule
 pub mod RunLocations
 pub mod RunPairs
+mod Examples

@@ -30,3 +30,4 @@ pub mod Rules
 pub mod Executions
 pub mod Answers
 pub mod OfTests
+pub mod Examples

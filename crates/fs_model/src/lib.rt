@@ -16,6 +16,7 @@ mod outcome;
 mod pairs;
 mod print;
 mod registers;
+pub mod rules;
 mod step;
 mod test;
 mod words;

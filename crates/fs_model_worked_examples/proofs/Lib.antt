@@ -1,4 +1,3 @@
-pub mod Examples
 pub mod Inversion
 pub mod StoreBuffering
 pub mod Witnesses

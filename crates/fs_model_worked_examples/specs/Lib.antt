@@ -1,4 +1,3 @@
-pub mod Examples
 pub mod StoreBuffering
 pub mod CoherentReads
 pub mod Rows

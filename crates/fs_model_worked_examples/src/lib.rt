@@ -23,8 +23,5 @@ pub use certificates::{
 pub use early::{early_reads, early_widths};
 pub use plain::value_sets_decide;
 pub use rows::{locks, not_sure, right_trees, splits, whole_tests, wrong_inferences, wrong_trees};
-pub use rules::{
-    annotations, dependencies, dependencies_carried, fences_by_position, loads_run_ahead,
-    overlapping_addresses, pairs, placed_fences, store_buffering, stores_and_reads, written_fences,
-};
+pub use rules::store_buffering;
 pub use values::values_of_two_adds;

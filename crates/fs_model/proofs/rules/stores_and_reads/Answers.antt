@@ -1,5 +1,5 @@
-use Rattle.fs_model_worked_examples.proofs.Examples.{amo_returned, store_returned, store_between}
-use Rattle.fs_model_worked_examples.proofs.rules.stores_and_reads.Goals as goal
+use Rattle.fs_model.proofs.Examples.{amo_returned, store_returned, store_between}
+use Rattle.fs_model.proofs.rules.stores_and_reads.Goals as goal
 
 pub returns-clause-amo_returned : goal.returns-clause-amo_returned
 returns-clause-amo_returned c = amo_returned

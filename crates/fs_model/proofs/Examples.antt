@@ -1,11 +1,13 @@
 -- The small runs have the rules that they are to show.
-use Rattle.std.proofs.Common.{◌≡◌, true, false, [], ◌∷◌, refl}
+use Rattle.std.proofs.Common.{◌≡◌, true, false, [], ◌∷◌, zero, suc, refl}
+use Rattle.std.proofs.lemmas.Bool.{false≢true}
+use Rattle.fs_model.specs.Executions.{gmo, HasNoneBetween}
 use Rattle.fs_kinds.specs.declared.kind.Kind.TheVariants.{RR, WR, WW}
 use Rattle.fs_instr.specs.declared.instr.Instr.TheVariants.{Fence, FenceTso}
 use Rattle.fs_model.specs.Fenced.{read, write}
 use Rattle.fs_model.specs.Operations.{are_paired}
 use Rattle.fs_model.specs.Preserved.{Rule1, Rule2, Rule3, Rule4, Rule5, Rule6, Rule7, Rule8, Rule9, Rule10, Rule11, Rule12, Rule13}
-use Rattle.fs_model_worked_examples.specs.Examples.{rules_of, fence_at, load_then_store, coherent_reads, reserved, swap_then_read, store_then_read, read_store_read, store_then_load, swap_then_load, around, load_and_store_around, jumped, reserved_twice, tried_twice, output, input, message_passing, release_then_acquire, address_known_late, forwarded, branched, carried, overwritten, branch_then_load, address_then_load}
+use Rattle.fs_model.specs.Examples.{rules_of, read_twice, stored_between, stored_by_another, fence_at, load_then_store, coherent_reads, reserved, swap_then_read, store_then_read, read_store_read, store_then_load, swap_then_load, around, load_and_store_around, jumped, reserved_twice, tried_twice, output, input, message_passing, release_then_acquire, address_known_late, forwarded, branched, carried, overwritten, branch_then_load, address_then_load}
 
 pub same_word : rules_of load_then_store [] (0 ∷ 1 ∷ []) 0 1 ≡ Rule1 ∷ []
 unfolding load_then_store
@@ -14,6 +16,23 @@ same_word = refl
 pub reads : rules_of coherent_reads [] (2 ∷ 0 ∷ 1 ∷ []) 1 2 ≡ Rule2 ∷ []
 unfolding coherent_reads
 reads = refl
+
+pub one_store : rules_of read_twice [] (0 ∷ 1 ∷ 2 ∷ []) 1 2 ≡ []
+unfolding read_twice
+one_store = refl
+
+pub own : HasNoneBetween stored_between (gmo stored_between (0 ∷ 1 ∷ 2 ∷ [])) 3 2
+unfolding stored_between
+own zero stores same other after before = false≢true stores
+own (suc zero) stores same other after before = false≢true (let there = other in cc)
+own (suc (suc zero)) stores same other after before = false≢true before
+own (suc (suc (suc zero))) stores same other after before = false≢true after
+own (suc (suc (suc (suc zero)))) stores same other after before = false≢true same
+own (suc (suc (suc (suc (suc m))))) stores same other after before = false≢true stores
+
+pub other : (HasNoneBetween stored_by_another (gmo stored_by_another (0 ∷ 2 ∷ 1 ∷ [])) 3 1) → ⊥
+unfolding stored_by_another
+other none = none 2 refl refl refl refl refl
 
 pub returned : rules_of reserved [] (0 ∷ 1 ∷ 2 ∷ []) 1 2 ≡ Rule3 ∷ []
 unfolding reserved

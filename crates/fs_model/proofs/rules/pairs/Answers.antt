@@ -1,5 +1,5 @@
-use Rattle.fs_model_worked_examples.proofs.Examples.{first_lr, second_lr, first_sc, second_sc}
-use Rattle.fs_model_worked_examples.proofs.rules.pairs.Goals as goal
+use Rattle.fs_model.proofs.Examples.{first_lr, second_lr, first_sc, second_sc}
+use Rattle.fs_model.proofs.rules.pairs.Goals as goal
 
 pub returns-clause-first_lr : goal.returns-clause-first_lr
 returns-clause-first_lr c = first_lr

@@ -1,5 +1,5 @@
-use Rattle.fs_model_worked_examples.proofs.Examples.{branch, address_between}
-use Rattle.fs_model_worked_examples.proofs.rules.loads_run_ahead.Goals as goal
+use Rattle.fs_model.proofs.Examples.{branch, address_between}
+use Rattle.fs_model.proofs.rules.loads_run_ahead.Goals as goal
 
 pub returns-clause-branch : goal.returns-clause-branch
 returns-clause-branch c = branch

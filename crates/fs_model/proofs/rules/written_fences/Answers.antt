@@ -1,5 +1,5 @@
-use Rattle.fs_model_worked_examples.proofs.Examples.{written, tso, devices, tso_keeps}
-use Rattle.fs_model_worked_examples.proofs.rules.written_fences.Goals as goal
+use Rattle.fs_model.proofs.Examples.{written, tso, devices, tso_keeps}
+use Rattle.fs_model.proofs.rules.written_fences.Goals as goal
 
 pub returns-clause-written : goal.returns-clause-written
 returns-clause-written c = written

@@ -1,5 +1,5 @@
-use Rattle.fs_model_worked_examples.proofs.Examples.{address, word, control, through_store, address_first}
-use Rattle.fs_model_worked_examples.proofs.rules.dependencies.Goals as goal
+use Rattle.fs_model.proofs.Examples.{address, word, control, through_store, address_first}
+use Rattle.fs_model.proofs.rules.dependencies.Goals as goal
 
 pub returns-clause-address : goal.returns-clause-address
 returns-clause-address c = address

@@ -1,5 +1,5 @@
-use Rattle.fs_model_worked_examples.proofs.Examples.{carries, ends}
-use Rattle.fs_model_worked_examples.proofs.rules.dependencies_carried.Goals as goal
+use Rattle.fs_model.proofs.Examples.{carries, ends}
+use Rattle.fs_model.proofs.rules.dependencies_carried.Goals as goal
 
 pub returns-clause-carries : goal.returns-clause-carries
 returns-clause-carries c = carries

@@ -1,5 +1,5 @@
-use Rattle.fs_model_worked_examples.proofs.Examples.{same_word, reads, returned}
-use Rattle.fs_model_worked_examples.proofs.rules.overlapping_addresses.Goals as goal
+use Rattle.fs_model.proofs.Examples.{same_word, reads, one_store, returned}
+use Rattle.fs_model.proofs.rules.overlapping_addresses.Goals as goal
 
 pub returns-clause-same_word : goal.returns-clause-same_word
 returns-clause-same_word c = same_word
@@ -9,3 +9,6 @@ returns-clause-reads c = reads
 
 pub returns-clause-returned : goal.returns-clause-returned
 returns-clause-returned c = returned
+
+pub returns-clause-one_store : goal.returns-clause-one_store
+returns-clause-one_store c = one_store

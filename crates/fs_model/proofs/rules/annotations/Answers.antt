@@ -1,5 +1,5 @@
-use Rattle.fs_model_worked_examples.proofs.Examples.{acquired, released, both_annotated, paired, against}
-use Rattle.fs_model_worked_examples.proofs.rules.annotations.Goals as goal
+use Rattle.fs_model.proofs.Examples.{acquired, released, both_annotated, paired, against}
+use Rattle.fs_model.proofs.rules.annotations.Goals as goal
 
 pub returns-clause-acquired : goal.returns-clause-acquired
 returns-clause-acquired c = acquired

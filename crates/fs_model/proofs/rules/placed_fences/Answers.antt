@@ -1,5 +1,5 @@
-use Rattle.fs_model_worked_examples.proofs.Examples.{unfenced, fenced, swap_writes, swap_reads, swap_passes}
-use Rattle.fs_model_worked_examples.proofs.rules.placed_fences.Goals as goal
+use Rattle.fs_model.proofs.Examples.{unfenced, fenced, swap_writes, swap_reads, swap_passes}
+use Rattle.fs_model.proofs.rules.placed_fences.Goals as goal
 
 pub returns-clause-unfenced : goal.returns-clause-unfenced
 returns-clause-unfenced c = unfenced

@@ -86,6 +86,18 @@ load_then_store = of_two_words ((lw 0 5 6 4096 0 ∷ sw 1 7 6 4096 1 ∷ []) ∷
 unfoldable pub coherent_reads : PreExecution
 coherent_reads = of_two_words ((sw 0 5 6 4096 1 ∷ []) ∷ (lw 0 5 6 4096 1 ∷ lw 1 7 6 4096 0 ∷ []) ∷ [])
 
+-- sw x5,0(x6) | lw x5,0(x6) / lw x7,0(x6), both loads returning the store's word
+unfoldable pub read_twice : PreExecution
+read_twice = of_two_words ((sw 0 5 6 4096 1 ∷ []) ∷ (lw 0 5 6 4096 1 ∷ lw 1 7 6 4096 1 ∷ []) ∷ [])
+
+-- lr.w x5,(x6) / sw x7,0(x6) / sc.w x8,x9,(x6), the sc.w succeeding
+unfoldable pub stored_between : PreExecution
+stored_between = of_two_words ((lr 0 plain 5 6 4096 0 ∷ sw 1 7 6 4096 1 ∷ sc 2 plain 8 9 6 4096 2 ∷ []) ∷ [])
+
+-- lr.w x5,(x6) / sc.w x8,x9,(x6) | sw x7,0(x6), the sc.w succeeding
+unfoldable pub stored_by_another : PreExecution
+stored_by_another = of_two_words ((lr 0 plain 5 6 4096 0 ∷ sc 1 plain 8 9 6 4096 2 ∷ []) ∷ (sw 0 7 6 4096 1 ∷ []) ∷ [])
+
 -- lr.w x5,(x6) / sc.w x7,x9,(x6) / lw x8,0(x6), the sc.w succeeding and the lw returning its word
 unfoldable pub reserved : PreExecution
 reserved = of_two_words ((lr 0 plain 5 6 4096 0 ∷ sc 1 plain 7 9 6 4096 1 ∷ lw 2 8 6 4096 1 ∷ []) ∷ [])

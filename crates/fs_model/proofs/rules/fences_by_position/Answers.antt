@@ -1,5 +1,5 @@
-use Rattle.fs_model_worked_examples.proofs.Examples.{run_between, jumped_past, other_hart, before_both}
-use Rattle.fs_model_worked_examples.proofs.rules.fences_by_position.Goals as goal
+use Rattle.fs_model.proofs.Examples.{run_between, jumped_past, other_hart, before_both}
+use Rattle.fs_model.proofs.rules.fences_by_position.Goals as goal
 
 pub returns-clause-run_between : goal.returns-clause-run_between
 returns-clause-run_between c = run_between
