@@ -25,7 +25,7 @@ use crate::asked::{Purpose, asked, bare};
 use crate::standing::access_after;
 use crate::{is_fence, memory_kind};
 use fs_app_test::{Kind, forbids, judge_test};
-use fs_board_search::{Answer, Unwatched, solve};
+use fs_board_search::{Answer, Problem, Unwatched, problem_of, solve_problem};
 use fs_cert_evidence::{Forbidden, Question};
 use fs_instr::Instr;
 use fs_kinds::{Entry, Fault, Kind as FenceKind, List, Placement, Prices, Slot, read_prices};
@@ -223,12 +223,12 @@ fn costs_everywhere(prices: &Prices, placement: &Placement) -> bool
 fn is_kept(
     alloc: Global,
     question: &Arc<Question>,
+    problem: &Problem,
     own: &Placement,
     first: &Forbidden,
     cost: u64,
 ) -> Result<bool, Fault>
-    requires bounded { IsBounded (arc_value question.now).test }
-    requires starts { All IsStart (arc_value question.now).test.starts }
+    requires same { problem.now ≡ (arc_value question.now).test }
     requires slots { slots_of own.now ≡ slots (arc_value question.now).test }
     requires offered { IsTrue (are_offered (arc_value question.now).prices own.now) }
     requires first { IsCheapest (arc_value question.now).test (arc_value question.now).prices first.now.placement }
@@ -239,7 +239,7 @@ fn is_kept(
 {
     let prices = &question.prices;
     if costs_everywhere(prices, own) && prices.cost(own) == cost {
-        forbids(alloc, question, own)
+        forbids(alloc, problem, own)
     } else {
         Ok(false)
     }
@@ -249,12 +249,12 @@ fn is_kept(
 fn kept_or_first(
     alloc: Global,
     question: &Arc<Question>,
+    problem: &Problem,
     own: &Placement,
     first: &Forbidden,
     cost: u64,
 ) -> Result<Placement, Fault>
-    requires bounded { IsBounded (arc_value question.now).test }
-    requires starts { All IsStart (arc_value question.now).test.starts }
+    requires same { problem.now ≡ (arc_value question.now).test }
     requires slots { slots_of own.now ≡ slots (arc_value question.now).test }
     requires offered { IsTrue (are_offered (arc_value question.now).prices own.now) }
     requires first { IsCheapest (arc_value question.now).test (arc_value question.now).prices first.now.placement }
@@ -262,7 +262,7 @@ fn kept_or_first(
     ensures ok { IfOk result (λ p. IsAdvised (arc_value question.now).test (arc_value question.now).prices own.now (Some p)) }
     ensures err { IfErr result (λ f. f ≢ Fault.Memory → IsCandidateFault (arc_value question.now).test f) }
 {
-    let is_kept = is_kept(alloc, question, own, first, cost)?;
+    let is_kept = is_kept(alloc, question, problem, own, first, cost)?;
     if is_kept {
         own.copy()
     } else {
@@ -288,11 +288,13 @@ fn best(
     ensures err { IfErr result (λ f. f ≢ Fault.Memory
         → IsUnanswered (arc_value question.now).test (arc_value question.now).prices limit f) }
 {
+    let problem = problem_of(alloc, question)?;
     let asked = Arc::try_clone(question)?;
-    let solved = solve(alloc, asked, limit, &mut Unwatched)?;
+    let shared = Arc::try_clone(&problem)?;
+    let solved = solve_problem(alloc, asked, shared, limit, &mut Unwatched)?;
     match &solved.answer {
         Answer::Fenced { forbidden, cost } => {
-            let best = kept_or_first(alloc, question, own, forbidden, *cost)?;
+            let best = kept_or_first(alloc, question, &problem, own, forbidden, *cost)?;
             Ok(Some(best))
         }
         Answer::None { .. } => Ok(None),

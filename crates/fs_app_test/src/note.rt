@@ -15,6 +15,7 @@ use crate::vacuous::{Vacuity, vacuous};
 use fs_kinds::Fault;
 use fs_litmus::read_test;
 use fs_model::Test;
+use fs_region_refutation::Basis;
 use std::alloc::{AllocError, Global};
 
 /// A line that says of a test file that its test is vacuous, and why, as `test` does. None where it isn't, or where
@@ -40,7 +41,8 @@ fn note_of(alloc: Global, test: Test) -> Result<Option<String>, Fault>
     ensures err { IfErr result (λ f. f ≢ Memory → IsRunFault test f) }
 {
     let test = shared(alloc, test)?;
-    match vacuous(alloc, &test)? {
+    let basis = Basis::new(alloc, &test)?;
+    match vacuous(alloc, &test, &basis)? {
         Vacuity::Vacuous(said) => Ok(Some(note(alloc, &said)?)),
         Vacuity::Serious => Ok(None),
         Vacuity::Open => Ok(None),

@@ -1,13 +1,11 @@
 //! What a verdict comes to.
 
-ghost use Rattle.std.specs.Prelude.{◌≡◌, ◌≢◌, ◌⊎◌, ◌≤◌, All, true, false, IfOk, IfErr, string_bytes};
-ghost use Rattle.std.specs.Arc.{arc_value};
+ghost use Rattle.std.specs.Prelude.{◌≡◌, ◌≢◌, ◌⊎◌, ◌≤◌, true, false, IfOk, IfErr, string_bytes};
 ghost use Rattle.fs_kinds.specs.Placement.{slots_of};
 ghost use Rattle.fs_kinds.specs.declared.fault.Fault.TheVariants.{Memory, TooManyCandidates};
 ghost use Rattle.fs_model.specs.declared.test.Test.{Test as Tests};
 ghost use Rattle.fs_model.specs.Allows.{Allows, no_fences};
 ghost use Rattle.fs_model.specs.Slots.{slots};
-ghost use Rattle.fs_model.specs.Test.{IsBounded, IsStart};
 ghost use Rattle.fs_cert_evidence.specs.CandidateFaults.{IsCandidateFault};
 ghost use Rattle.fs_cert_evidence.specs.Valid.{Forbid};
 ghost use Rattle.fs_cert_evidence.specs.Inferences.{cycles_of};
@@ -18,27 +16,19 @@ ghost use Rattle.fs_app_test.specs.Words.{contradictions_in};
 use crate::contradictions::{contradictions_in, forbidden_words};
 use crate::ordered::{order_words, overtaking};
 use crate::said::{Kind, Said};
-use fs_cert_evidence::{Cycles, Question};
+use fs_cert_evidence::Cycles;
 use fs_judge::{Problem, Verdict};
 use fs_kinds::{Fault, Placement};
 use std::alloc::Global;
-use std::sync::Arc;
 
 /// Does the placement forbid the outcome? The fault is that of the test's candidates, or `Memory`. The cost is that of
-/// `Problem::new` and `Problem::verdict` of fs_judge.
-pub fn forbids(
-    alloc: Global,
-    question: &Arc<Question>,
-    placement: &Placement,
-) -> Result<bool, Fault>
-    requires bounded { IsBounded (arc_value question.now).test }
-    requires starts { All IsStart (arc_value question.now).test.starts }
-    requires slots { slots_of placement.now ≡ slots (arc_value question.now).test }
-    ensures yes { IfOk result (λ is. is ≡ true → Allows (arc_value question.now).test placement.now → ⊥) }
-    ensures no { IfOk result (λ is. is ≡ false → Allows (arc_value question.now).test placement.now) }
-    ensures err { IfErr result (λ f. f ≢ Memory → IsCandidateFault (arc_value question.now).test f) }
+/// `Problem::verdict` of fs_judge.
+pub fn forbids(alloc: Global, problem: &Problem, placement: &Placement) -> Result<bool, Fault>
+    requires { slots_of placement.now ≡ slots problem.now }
+    ensures yes { IfOk result (λ is. is ≡ true → Allows problem.now placement.now → ⊥) }
+    ensures no { IfOk result (λ is. is ≡ false → Allows problem.now placement.now) }
+    ensures err { IfErr result (λ f. f ≢ Memory → IsCandidateFault problem.now f) }
 {
-    let problem = Problem::new(alloc, Arc::try_clone(question)?)?;
     match problem.verdict(alloc, placement, &[])? {
         Verdict::Forbids(_) => Ok(true),
         Verdict::Allowed(_) => Ok(false),

@@ -1,11 +1,9 @@
 //! What is said of a test that is vacuous.
 
-ghost use Rattle.std.specs.Prelude.{◌≢◌, All, IfOk, OnOk, IfErr};
+ghost use Rattle.std.specs.Prelude.{◌≡◌, IfOk, IsOkUnless};
 ghost use Rattle.std.specs.Arc.{arc_value};
 ghost use Rattle.fs_kinds.specs.declared.fault.Fault.TheVariants.{Memory};
-ghost use Rattle.fs_model.specs.Test.{IsBounded, IsStart};
-ghost use Rattle.fs_model.specs.TooMany.{IsRunFault};
-ghost use Rattle.fs_app_test.specs.SaidVerdicts.{HasNoRunFault};
+ghost use Rattle.fs_values.specs.ThinAir.{CanBeListed};
 ghost use Rattle.fs_app_test.specs.inner.Vacuities.{IsVacuity};
 
 use crate::never::vacuous_text;
@@ -28,20 +26,19 @@ pub(crate) enum Vacuity {
     Open,
 }
 
-/// Whether the test is vacuous, and where it is what is said of it. The fault is that of its runs; or F19. The cost is
-/// that of `Basis::new`, and of `is_vacuous` of fs_judge_vacuous_outcomes.
-pub(crate) fn vacuous(alloc: Global, test: &Arc<Test>) -> Result<Vacuity, Fault>
-    requires bounded { IsBounded (arc_value test.now) }
-    requires starts { All IsStart (arc_value test.now).starts }
+/// Whether the test with these runs is vacuous, and where it is what is said of it. The error is F19. The cost is that
+/// of `is_vacuous` of fs_judge_vacuous_outcomes.
+pub(crate) fn vacuous(alloc: Global, test: &Arc<Test>, basis: &Basis) -> Result<Vacuity, Fault>
+    requires same { basis.now ≡ arc_value test.now }
+    requires listable { CanBeListed (arc_value test.now) }
     ensures ok { IfOk result (IsVacuity (arc_value test.now)) }
-    ensures clean { OnOk result (HasNoRunFault (arc_value test.now)) }
-    ensures err { IfErr result (λ f. f ≢ Memory → IsRunFault (arc_value test.now) f) }
+    ensures err { IsOkUnless result Memory }
 {
-    let basis = Basis::new(alloc, test)?;
-    match is_vacuous(alloc, &basis)? {
+    let _ = test;
+    match is_vacuous(alloc, basis)? {
         Some(true) => Ok(Vacuity::Vacuous(Said {
             kind: Kind::Vacuous,
-            why: vacuous_text(alloc, &basis)?,
+            why: vacuous_text(alloc, basis)?,
             witness: None,
         })),
         Some(false) => Ok(Vacuity::Serious),

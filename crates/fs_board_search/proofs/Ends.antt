@@ -66,16 +66,15 @@ bound-cheapest s q p same table history finished is =
     subst (λ (x : Question). IsCheapest x.test x.prices p) same cheapest
 
 -- with no bound rw,rw in every slot allows the outcome
-pub all-allowed : (s : Search) (q : Question) → s.question ≡ q → IsPriceTable q.prices
+pub all-allowed : (s : Search) (t : Test) → s.question.test ≡ t → IsPriceTable s.question.prices
     → IsHistory s.question.test s.question.prices s.board.limit s.log s.board → is_finished s.board ≡ true → None ≡ s.board.bound
-    → Allows q.test (all_with (Some RwRw) (slots q.test))
-all-allowed s q same table history finished is =
-    let table_there = subst (λ (x : Question). IsPriceTable x.prices) (sym same) table in
-    let answer = final s.question.test s.question.prices s.board.limit s.log s.board table_there history finished in
+    → Allows t (all_with (Some RwRw) (slots t))
+all-allowed s t same table history finished is =
+    let answer = final s.question.test s.question.prices s.board.limit s.log s.board table history finished in
     let refuted = subst (IsFinalAnswer s.question.test s.question.prices s.board.witnesses) (sym is) answer in
     let shown : Allows s.question.test (all_with (Some RwRw) (slots s.question.test)) =
     (refuted.1.0, refuted.1.1.2.1) in
-    subst (λ (x : Question). Allows x.test (all_with (Some RwRw) (slots x.test))) same shown
+    subst (λ (u : Test). Allows u (all_with (Some RwRw) (slots u))) same shown
 
 -- ---- faults
 
@@ -97,11 +96,11 @@ pub ends-handed : {T : Type 0} (r : Result T Fault) (fault : Fault) (t : Test) �
 ends-handed r fault t is why = handed r fault (λ f. f ≢ Memory → IsEndFault t f) is (λ other. inr (why other))
 
 -- and of a question that isn't answered
-pub solve-handed : {T : Type 0} (r : Result T Fault) (fault : Fault) (p q : Question) (limit : ℕ) → p ≡ q → IsErrAnd r (λ f. f ≡ fault)
-    → (fault ≢ Memory → IsCandidateFault p.test fault) → IfErr r (λ f. f ≢ Memory → IsSolveFault q limit f)
-solve-handed r fault p q limit same is why =
+pub solve-handed : {T : Type 0} (r : Result T Fault) (fault : Fault) (t : Test) (q : Question) (limit : ℕ) → t ≡ q.test
+    → IsErrAnd r (λ f. f ≡ fault) → (fault ≢ Memory → IsCandidateFault t fault) → IfErr r (λ f. f ≢ Memory → IsSolveFault q limit f)
+solve-handed r fault t q limit same is why =
     handed r fault (λ f. f ≢ Memory → IsSolveFault q limit f) is
-    (λ other. inl (subst (λ (x : Question). IsCandidateFault x.test fault) same (why other)))
+    (λ other. inl (subst (λ (u : Test). IsCandidateFault u fault) same (why other)))
 
 -- the fault of a search that goes on
 pub later-fault : (a b : Search) (f : Fault) → GoesOn a b → IsSearchFault b f → IsSearchFault a f
@@ -115,39 +114,38 @@ later-fault a b f goes fault = elim fault [
 ]
 
 -- where the runs can be listed the limit is none of the candidates' faults
-pub limit-met : (s : Search) (q : Question) (f : Fault) → s.question ≡ q → f ≡ NodeLimit → HasNoRunFault q.test → IsSearchFault s f
-    → s.board.limit < tree_size q.prices (length (slots q.test))
-limit-met s q f same is clean fault = elim fault [
-  | inl large ↦ subst (λ (x : Question). s.board.limit < tree_size x.prices (length (slots x.test))) same large.1
-  | inr other ↦ absurd (clean NodeLimit (subst (λ (x : Question). IsCandidateFault x.test NodeLimit) same
-      (subst (λ (g : Fault). IsCandidateFault s.question.test g) is other)))
+pub limit-met : (s : Search) (f : Fault) → f ≡ NodeLimit → HasNoRunFault s.question.test → IsSearchFault s f
+    → s.board.limit < tree_size s.question.prices (length (slots s.question.test))
+limit-met s f is clean fault = elim fault [
+  | inl large ↦ large.1
+  | inr other ↦ absurd (clean NodeLimit (subst (λ (g : Fault). IsCandidateFault s.question.test g) is other))
 ]
 
 -- any other fault is
-pub not_limit : (s : Search) (q : Question) (limit : ℕ) (f : Fault) → s.question ≡ q → (f ≡ NodeLimit → ⊥) → (f ≢ Memory → IsSearchFault s f)
-    → f ≢ Memory → IsSolveFault q limit f
-not_limit s q limit f same another why other = elim (why other) [
+pub not_limit : (s : Search) (f : Fault) → (f ≡ NodeLimit → ⊥) → (f ≢ Memory → IsSearchFault s f) → f ≢ Memory
+    → IsSolveFault s.question s.board.limit f
+not_limit s f another why other = elim (why other) [
   | inl large ↦ absurd (another large.0)
-  | inr of ↦ inl (subst (λ (x : Question). IsCandidateFault x.test f) same of)
+  | inr of ↦ inl of
 ]
 
 -- the limit is due where the runs can be listed, and the least and the greatest placement don't have the answer
-pub limit-fault : (q p : Question) (limit : ℕ) (f : Fault) → p ≡ q → HasNoRunFault q.test
-    → limit < tree_size q.prices (length (slots q.test)) → IsEndFault p.test f → IsSolveFault q limit f
-limit-fault q p limit f same clean large fault = elim fault [
+pub limit-fault : (q : Question) (t : Test) (limit : ℕ) (f : Fault) → t ≡ q.test → HasNoRunFault q.test
+    → limit < tree_size q.prices (length (slots q.test)) → IsEndFault t f → IsSolveFault q limit f
+limit-fault q t limit f same clean large fault = elim fault [
   | inl ends ↦
-      let needed = subst (λ (x : Question). Allows x.test (all_with None (slots x.test))) same ends.1 in
-      let enough = subst (λ (x : Question). Allows x.test (all_with (Some RwRw) (slots x.test)) → ⊥) same ends.2 in
+      let needed = subst (λ (u : Test). Allows u (all_with None (slots u))) same ends.1 in
+      let enough = subst (λ (u : Test). Allows u (all_with (Some RwRw) (slots u)) → ⊥) same ends.2 in
       inr (ends.0, record { needed = needed; enough = enough; large = large }, clean)
-  | inr other ↦ inl (subst (λ (x : Question). IsCandidateFault x.test f) same other)
+  | inr other ↦ inl (subst (λ (u : Test). IsCandidateFault u f) same other)
 ]
 
 -- no fence at all, which forbids the outcome, with its cost
-pub none-answer : (q : Question) (p : List Entry) (prices : PriceTable) → prices ≡ q.prices → p ≡ all_with None (slots q.test)
-    → (Allows q.test (all_with None (slots q.test)) → ⊥) → IsCheapest q.test q.prices p × (cost prices p ≡ cost q.prices p)
-none-answer q p prices priced is forbids =
-    let denied : Allows q.test p → ⊥ = λ shown. forbids (subst (Allows q.test) is shown) in
-    (none-cheapest q.test q.prices p is denied, ap (λ (x : PriceTable). cost x p) priced)
+pub none-answer : (t : Test) (p : List Entry) (table prices : PriceTable) → table ≡ prices → p ≡ all_with None (slots t)
+    → (Allows t (all_with None (slots t)) → ⊥) → IsCheapest t prices p × (cost table p ≡ cost prices p)
+none-answer t p table prices priced is forbids =
+    let denied : Allows t p → ⊥ = λ shown. forbids (subst (Allows t) is shown) in
+    (none-cheapest t prices p is denied, ap (λ (x : PriceTable). cost x p) priced)
 
 pub limit-not-memory : (f : Fault) → f ≡ NodeLimit → f ≢ Memory
 limit-not-memory f is other = let e : NodeLimit ≡ Memory = sym is ∙ other in absurd (cc)

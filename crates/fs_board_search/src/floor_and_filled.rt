@@ -1,22 +1,24 @@
 //! What to try at a node, its least placement (the floor) and the one filled with `rw,rw`, apart from the event that
 //! tries it.
 
-ghost use Rattle.std.specs.Prelude.{◌≡◌, ◌≢◌, ℕ, Some, IfOk, IfErr, IfSome, IsOkUnless, slice_get};
+ghost use Rattle.std.specs.Prelude.{◌≡◌, ◌≢◌, ℕ, List, Some, IfOk, IfErr, IfSome, IsOkUnless, slice_get};
 ghost use Rattle.std.specs.Arc.{arc_value};
-ghost use Rattle.fs_kinds.specs.Placement.{slots_of};
+ghost use Rattle.fs_kinds.specs.declared.placement.Entry.{Entry};
+ghost use Rattle.fs_model.specs.declared.test.Test.{Test};
 ghost use Rattle.fs_model.specs.Slots.{slots};
 ghost use Rattle.fs_model.specs.Execution.{Execution};
 ghost use Rattle.fs_cert_evidence.specs.CandidateFaults.{IsCandidateFault};
 ghost use Rattle.fs_board_laws.specs.Bounds.{slots_in_part};
 ghost use Rattle.fs_board.specs.Growth.{AreWitnesses};
 ghost use Rattle.fs_cert_evidence.specs.Evidence.{IsWitnessFor};
+ghost use Rattle.fs_judge.specs.Verdicts.{IsVerdict};
 ghost use Rattle.fs_board_search.specs.Tries.{IsPostable};
 
 use crate::Store;
 use fs_board::Part;
 use fs_cert_evidence::{Forbidden, Witness};
 use fs_judge::{Judge, Verdict};
-use fs_kinds::{Fault, Kind, Placement, Slot};
+use fs_kinds::{Fault, Kind, Prices, Slot};
 use std::alloc::{AllocError, Global};
 use std::sync::Arc;
 
@@ -62,13 +64,14 @@ pub(crate) fn stored_over_filled(
 pub(crate) fn look_at_filled(
     alloc: Global,
     judge: &mut Judge,
+    prices: &Prices,
     store: &mut Store,
     part: &Part,
 ) -> Result<Option<Arc<Witness>>, Fault>
-    requires { AreWitnesses judge.old.test store.old }
+    requires { AreWitnesses judge.old store.old }
     ensures judge { judge.new ≡ judge.old }
-    ensures known { AreWitnesses judge.old.test store.new }
-    ensures ok { IfOk result (λ found. IfSome found (λ w. (e : Execution) × IsWitnessFor judge.old.test (arc_value w) e)) }
+    ensures known { AreWitnesses judge.old store.new }
+    ensures ok { IfOk result (λ found. IfSome found (λ w. (e : Execution) × IsWitnessFor judge.old (arc_value w) e)) }
     ensures err { IsOkUnless result Fault.Memory }
 {
     let filled = part.filled(alloc)?;
@@ -77,31 +80,25 @@ pub(crate) fn look_at_filled(
     let Some(found) = looked else {
         return Ok(None);
     };
-    let witness = store.add(alloc, &judge.question().prices, part.as_slice(), found)?;
+    let witness = store.add(alloc, prices, part.as_slice(), found)?;
     Ok(Some(witness))
 }
 
-/// Judges a placement. Where it allows the outcome a witness is stored, which is widened at the first slots before the
-/// others. The decisions of the part are those of any node.
-pub(crate) fn judge_placement(
+/// What forbids the outcome, where the verdict is that; else the verdict's witness is stored. The decisions of the part
+/// are those of any node.
+pub(crate) fn forbidden_or_stored(
     alloc: Global,
-    judge: &mut Judge,
+    prices: &Prices,
     store: &mut Store,
     part: &Part,
-    placement: &Placement,
-    first: &[Slot],
-) -> Result<Option<Forbidden>, Fault>
-    requires known { AreWitnesses judge.old.test store.old }
-    requires slots { slots_of placement.now ≡ slots judge.old.test }
-    ensures judge { judge.new ≡ judge.old }
-    ensures known { AreWitnesses judge.old.test store.new }
-    ensures ok { IfOk result (λ found. IfSome found (IsPostable judge.old.test)) }
-    ensures err { IfErr result (λ f. f ≢ Fault.Memory → IsCandidateFault judge.old.test f) }
+    verdict: Verdict,
+) -> Result<Option<Forbidden>, AllocError>
+    ensures known { (t : Test) (p : List Entry) → IsVerdict t p verdict → AreWitnesses t store.old → AreWitnesses t store.new }
+    ensures ok { (t : Test) (p : List Entry) → IsVerdict t p verdict → IfOk result (λ found. IfSome found (IsPostable t)) }
 {
-    let verdict = judge.verdict(alloc, placement, first)?;
     match verdict {
         Verdict::Allowed(found) => {
-            store.add(alloc, &judge.question().prices, part.as_slice(), found)?;
+            store.add(alloc, prices, part.as_slice(), found)?;
             Ok(None)
         }
         Verdict::Forbids(forbidden) => Ok(Some(forbidden)),
@@ -118,21 +115,24 @@ pub(crate) fn is_floor_allowed(
     Ok(store.newest_over(floor.as_slice()).is_some())
 }
 
-/// Judges the least placement. Where it allows the outcome a witness is stored.
+/// Judges the least placement. Where it allows the outcome a witness is stored, which is widened at the undecided slots
+/// before the others.
 pub(crate) fn judge_floor(
     alloc: Global,
     judge: &mut Judge,
+    prices: &Prices,
     store: &mut Store,
     part: &Part,
 ) -> Result<Option<Forbidden>, Fault>
-    requires known { AreWitnesses judge.old.test store.old }
-    requires slots { slots_in_part part.now ≡ slots judge.old.test }
+    requires known { AreWitnesses judge.old store.old }
+    requires slots { slots_in_part part.now ≡ slots judge.old }
     ensures judge { judge.new ≡ judge.old }
-    ensures known { AreWitnesses judge.old.test store.new }
-    ensures ok { IfOk result (λ found. IfSome found (IsPostable judge.old.test)) }
-    ensures err { IfErr result (λ f. f ≢ Fault.Memory → IsCandidateFault judge.old.test f) }
+    ensures known { AreWitnesses judge.old store.new }
+    ensures ok { IfOk result (λ found. IfSome found (IsPostable judge.old)) }
+    ensures err { IfErr result (λ f. f ≢ Fault.Memory → IsCandidateFault judge.old f) }
 {
     let floor = part.floor(alloc)?;
     let open = part.undecided_slots(alloc)?;
-    judge_placement(alloc, judge, store, part, &floor, &open)
+    let verdict = judge.verdict(alloc, &floor, &open)?;
+    Ok(forbidden_or_stored(alloc, prices, store, part, verdict)?)
 }

@@ -22,7 +22,7 @@ pub use codes::Codes;
 pub use fs_judge::Problem;
 pub use plan::{MOST_STEPS, cheapest_breaking};
 pub use scout::{Scout, TRIES, Way};
-pub use solving::{conclude, solve};
+pub use solving::{conclude, problem_of, solve, solve_problem};
 pub use store::{Limit, Offer, Store, Sum, cost};
 pub use sweep::{search, search_alone};
 pub use taken::{Child, Taken};

@@ -15,8 +15,8 @@ ghost use Rattle.fs_board.specs.Asking.{Tells};
 ghost use Rattle.fs_board_search.specs.Tries.{IsPostable, IsTry, IsLast};
 
 use crate::floor_and_filled::{
-    is_filled_new, is_floor_allowed, is_floor_new, judge_floor, judge_placement, look_at_filled,
-    stored_over_filled,
+    forbidden_or_stored, is_filled_new, is_floor_allowed, is_floor_new, judge_floor,
+    look_at_filled, stored_over_filled,
 };
 use crate::taken::{Child, Taken, push_children};
 use crate::watch::Watch;
@@ -70,11 +70,13 @@ const MANY_VERDICTS: usize = 16;
 /// Where a verdict is made for so many nodes, judging takes longer than all else that is done with them.
 const NODES_A_VERDICT: usize = 4;
 
-/// A judge of the question, the witnesses that were met, for how many verdicts the plan may still ask, how many steps
-/// it may still take, the planned placement, how many verdicts were made at nodes, and what was seen of the board: the
-/// best placement posted, and where a peek was learned, how many witnesses there were. Contracts see the question.
+/// A question, a judge of its test, the witnesses that were met, for how many verdicts the plan may still ask, how many
+/// steps it may still take, the planned placement, how many verdicts were made at nodes, and what was seen of the
+/// board: the best placement posted, and where a peek was learned, how many witnesses there were. Contracts see the
+/// question.
 #[derive(Drop)]
 pub struct Scout {
+    question: Arc<Question>,
     judge: Judge,
     store: Store,
     rounds: usize,
@@ -90,18 +92,19 @@ impl Model for Scout {
     ghost use Rattle.std.specs.Coded.{codes};
     ghost use Rattle.fs_model.specs.contracts.outcome.Outcome as outcome;
     ghost use Rattle.fs_cert_evidence.specs.Evidence.{Question as Asked};
-    ghost use Rattle.std.specs.Prelude.{IfSome};
+    ghost use Rattle.std.specs.Prelude.{◌≡◌, IfSome};
     ghost use Rattle.std.specs.Arc.{arc_value};
     ghost use Rattle.fs_board.specs.Growth.{AreWitnesses};
     ghost use Rattle.fs_board_search.specs.Tries.{IsPostable};
 
     ghost Value = { Asked };
 
-    ghost view = { λ s. s.judge };
+    ghost view = { λ s. arc_value s.question };
 
     ghost coded = { Prim.hlevel (codes, outcome.the_row.coded) };
 
-    ghost invariant = { λ s. AreWitnesses s.judge.test s.store × IfSome s.planned (λ f. IsPostable s.judge.test (arc_value f)) };
+    ghost invariant = { λ s. (s.judge ≡ (arc_value s.question).test) × AreWitnesses (arc_value s.question).test s.store
+        × IfSome s.planned (λ f. IsPostable (arc_value s.question).test (arc_value f)) };
 }
 
 /// Stores the witness, unless a stored one has the same widths.
@@ -168,11 +171,14 @@ fn share(bound: Option<&Arc<Forbidden>>) -> Result<Option<Arc<Forbidden>>, Alloc
 }
 
 impl Scout {
-    /// A scout that has met no witness yet, and makes no plan. Others may share the problem.
-    pub fn new(alloc: Global, problem: Arc<Problem>) -> Scout
-        ensures { result ≡ arc_value problem }
+    /// A scout that has met no witness yet, and makes no plan. Others may share the question, and the problem of its
+    /// test.
+    pub fn new(alloc: Global, question: Arc<Question>, problem: Arc<Problem>) -> Scout
+        requires { arc_value problem ≡ (arc_value question).test }
+        ensures { result ≡ arc_value question }
     {
         Scout {
+            question,
             judge: Judge::new(alloc, problem),
             store: Store::new(alloc),
             rounds: 0,
@@ -186,10 +192,11 @@ impl Scout {
     }
 
     /// A scout that has met no witness yet, and makes a plan where it is told to prepare.
-    pub fn planner(alloc: Global, problem: Arc<Problem>) -> Scout
-        ensures { result ≡ arc_value problem }
+    pub fn planner(alloc: Global, question: Arc<Question>, problem: Arc<Problem>) -> Scout
+        requires { arc_value problem ≡ (arc_value question).test }
+        ensures { result ≡ arc_value question }
     {
-        let mut scout = Scout::new(alloc, problem);
+        let mut scout = Scout::new(alloc, question, problem);
         scout.rounds = MOST_ROUNDS;
         scout
     }
@@ -242,21 +249,15 @@ impl Scout {
         ensures value { self.new ≡ self.old }
         ensures err { IfErr result (λ f. f ≢ Fault.Memory → IsCandidateFault self.old.test f) }
     {
-        let prices = &self.judge.question().prices;
+        let prices = &self.question.prices;
         let mut steps = self.steps;
         let cheapest = cheapest_breaking(alloc, &self.store, prices, part, &mut steps)?;
         self.steps = steps;
         let Some(placement) = cheapest else {
             return Ok(true);
         };
-        let found = judge_placement(
-            alloc,
-            &mut self.judge,
-            &mut self.store,
-            part,
-            &placement,
-            &[],
-        )?;
+        let verdict = self.judge.verdict(alloc, &placement, &[])?;
+        let found = forbidden_or_stored(alloc, prices, &mut self.store, part, verdict)?;
         let Some(forbidden) = found else {
             return Ok(false);
         };
@@ -289,7 +290,7 @@ impl Scout {
         if !is_under(&taken.part, &planned.placement) {
             return None;
         }
-        let prices = &self.judge.question().prices;
+        let prices = &self.question.prices;
         Some(number_of(prices, planned.placement.get(slot)))
     }
 
@@ -332,7 +333,7 @@ impl Scout {
         requires { AreWitnesses self.old.test (map arc_value witnesses.now) }
         ensures { self.new ≡ self.old }
     {
-        let prices = &self.judge.question().prices;
+        let prices = &self.question.prices;
         keep_all(alloc, &mut self.store, prices, decisions, witnesses)
     }
 
@@ -363,7 +364,7 @@ impl Scout {
     fn bounding(&self, alloc: Global, taken: &Taken) -> Result<Option<Event>, AllocError>
         ensures { IfOk result (λ found. IfSome found (IsTry self.now)) }
     {
-        let prices = &self.judge.question().prices;
+        let prices = &self.question.prices;
         let picked = self
             .store
             .pick(alloc, prices, self.bound.as_ref(), &taken.part)?;
@@ -389,7 +390,13 @@ impl Scout {
         ensures made { IfOk result (λ found. IfSome found (IsTry self.old)) }
         ensures err { IsOkUnless result Fault.Memory }
     {
-        let found = look_at_filled(alloc, &mut self.judge, &mut self.store, &taken.part)?;
+        let found = look_at_filled(
+            alloc,
+            &mut self.judge,
+            &self.question.prices,
+            &mut self.store,
+            &taken.part,
+        )?;
         let Some(witness) = found else {
             return Ok(None);
         };
@@ -410,7 +417,13 @@ impl Scout {
             return Ok(None);
         }
         self.verdicts = self.verdicts.saturating_add(1);
-        let found = judge_floor(alloc, &mut self.judge, &mut self.store, &taken.part)?;
+        let found = judge_floor(
+            alloc,
+            &mut self.judge,
+            &self.question.prices,
+            &mut self.store,
+            &taken.part,
+        )?;
         let Some(forbidden) = found else {
             return Ok(None);
         };
@@ -508,7 +521,7 @@ impl Scout {
             return Ok(());
         };
         let shared = share(bound.as_ref())?;
-        let prices = &self.judge.question().prices;
+        let prices = &self.question.prices;
         keep_all(
             alloc,
             &mut self.store,

@@ -37,22 +37,22 @@ fn fenced(prices: &Prices, forbidden: Arc<Forbidden>) -> Answer
 
 /// The verdict on no fence at all.
 fn verdict_on_none(alloc: Global, problem: &Problem) -> Result<Verdict, Fault>
-    requires { IsBounded problem.now.test }
-    ensures ok { IfOk result (λ v. IsVerdict problem.now.test (all_with None (slots problem.now.test)) v) }
-    ensures err { IfErr result (λ f. f ≢ Fault.Memory → IsCandidateFault problem.now.test f) }
+    requires { IsBounded problem.now }
+    ensures ok { IfOk result (λ v. IsVerdict problem.now (all_with None (slots problem.now)) v) }
+    ensures err { IfErr result (λ f. f ≢ Fault.Memory → IsCandidateFault problem.now f) }
 {
-    let places = slots(alloc, &problem.question().test)?;
+    let places = slots(alloc, problem.test())?;
     let placement = Placement::bottom(alloc, &places)?;
     problem.verdict(alloc, &placement, &[])
 }
 
 /// The verdict on `rw,rw` in every slot.
 fn verdict_on_all(alloc: Global, problem: &Problem) -> Result<Verdict, Fault>
-    requires { IsBounded problem.now.test }
-    ensures ok { IfOk result (λ v. IsVerdict problem.now.test (all_with (Some Kind.RwRw) (slots problem.now.test)) v) }
-    ensures err { IfErr result (λ f. f ≢ Fault.Memory → IsCandidateFault problem.now.test f) }
+    requires { IsBounded problem.now }
+    ensures ok { IfOk result (λ v. IsVerdict problem.now (all_with (Some Kind.RwRw) (slots problem.now)) v) }
+    ensures err { IfErr result (λ f. f ≢ Fault.Memory → IsCandidateFault problem.now f) }
 {
-    let places = slots(alloc, &problem.question().test)?;
+    let places = slots(alloc, problem.test())?;
     let placement = Placement::top(alloc, &places)?;
     problem.verdict(alloc, &placement, &[])
 }
@@ -77,13 +77,13 @@ fn posted_answer(board: &Board) -> Result<Option<Answer>, Fault>
 /// The answer of a finished board: its bound, or where it has none the witness for `rw,rw` in every slot. This is the
 /// problem's own, and not that of a judge, so that it is the same whatever was searched before.
 fn answer_of(alloc: Global, problem: &Problem, board: &Board) -> Result<Answer, Fault>
-    requires bounded { IsBounded problem.now.test }
-    requires prices { IsPriceTable problem.now.prices }
-    requires same { board.now.question ≡ problem.now }
+    requires bounded { IsBounded problem.now }
+    requires prices { IsPriceTable board.now.question.prices }
+    requires same { board.now.question.test ≡ problem.now }
     requires finished { is_finished board.now.board ≡ true }
-    ensures ok { IfOk result (λ a. IsAnswer problem.now.test problem.now.prices a) }
+    ensures ok { IfOk result (IsAnswer board.now.question.test board.now.question.prices) }
     ensures bound { IfOk result (λ a. board.now.board.bound ≡ placement_of a) }
-    ensures err { IfErr result (λ f. f ≢ Fault.Memory → IsCandidateFault problem.now.test f) }
+    ensures err { IfErr result (λ f. f ≢ Fault.Memory → IsCandidateFault problem.now f) }
 {
     let _legal = board.log();
     if let Some(answer) = posted_answer(board)? {
@@ -98,13 +98,13 @@ fn answer_of(alloc: Global, problem: &Problem, board: &Board) -> Result<Answer, 
 
 /// The answer where the search came to its limit: none where `rw,rw` in every slot isn't enough, no fence where none is
 /// needed. Else F16, or the fault of a verdict. As in `answer_of` the witness of none is the problem's own.
-fn answer_by_ends(alloc: Global, problem: &Problem) -> Result<Solved, Fault>
-    requires bounded { IsBounded problem.now.test }
-    requires prices { IsPriceTable problem.now.prices }
-    ensures ok { IfOk result (λ s. IsAnswer problem.now.test problem.now.prices s.answer) }
+fn answer_by_ends(alloc: Global, problem: &Problem, board: &Board) -> Result<Solved, Fault>
+    requires bounded { IsBounded problem.now }
+    requires prices { IsPriceTable board.now.question.prices }
+    ensures ok { IfOk result (λ s. IsAnswer problem.now board.now.question.prices s.answer) }
     ensures board { IfOk result (λ s. s.board ≡ None) }
-    ensures ends { IfOk result (λ s. IsAtAnEnd problem.now.test s.answer) }
-    ensures err { IfErr result (λ f. f ≢ Fault.Memory → IsEndFault problem.now.test f) }
+    ensures ends { IfOk result (λ s. IsAtAnEnd problem.now s.answer) }
+    ensures err { IfErr result (λ f. f ≢ Fault.Memory → IsEndFault problem.now f) }
 {
     let on_all = verdict_on_all(alloc, problem)?;
     if let Verdict::Allowed(witness) = on_all {
@@ -118,7 +118,7 @@ fn answer_by_ends(alloc: Global, problem: &Problem) -> Result<Solved, Fault>
         Verdict::Forbids(forbidden) => {
             let least = Arc::new(alloc, forbidden)?;
             Ok(Solved {
-                answer: fenced(&problem.question().prices, least),
+                answer: fenced(&board.question().prices, least),
                 board: None,
             })
         }
@@ -129,24 +129,24 @@ fn answer_by_ends(alloc: Global, problem: &Problem) -> Result<Solved, Fault>
 /// Ends the search of a board, whatever open and held nodes it has, and reads the answer from it: the cheapest
 /// placement that forbids the outcome, of several the first, or a witness that none does. F16 comes only where fences
 /// are needed, `rw,rw` in every slot is enough, and the tree of all placements has more nodes below its root than the
-/// board's limit; F13 to F15 where a verdict can't be made for the candidates; or F19. The witness of none depends on
-/// the problem alone, not on what was searched before. What is handed out with the answer, `solve` says, and a board
-/// that is handed out is this one gone on with: its log begins with what was logged before. It takes what `search`
-/// takes, and at most two verdicts more.
+/// board's limit; F13 to F15 where a verdict can't be made for the candidates; or F19. The problem is that of the
+/// board's test, and the witness of none depends on it alone, not on what was searched before. What is handed out with
+/// the answer, `solve` says, and a board that is handed out is this one gone on with: its log begins with what was
+/// logged before. It takes what `search` takes, and at most two verdicts more.
 pub fn conclude<W: Watch>(
     alloc: Global,
     problem: Arc<Problem>,
     board: Board,
     watch: &mut W,
 ) -> Result<Solved, Fault>
-    requires bounded { IsBounded (arc_value problem).test }
-    requires prices { IsPriceTable (arc_value problem).prices }
-    requires same { board.question ≡ arc_value problem }
-    requires clean { HasNoRunFault (arc_value problem).test }
-    ensures ok { IfOk result (λ s. IsAnswer (arc_value problem).test (arc_value problem).prices s.answer) }
-    ensures rests { IfOk result (Rests (arc_value problem) board.board.limit) }
+    requires bounded { IsBounded (arc_value problem) }
+    requires prices { IsPriceTable board.question.prices }
+    requires same { board.question.test ≡ arc_value problem }
+    requires clean { HasNoRunFault (arc_value problem) }
+    ensures ok { IfOk result (λ s. IsAnswer board.question.test board.question.prices s.answer) }
+    ensures rests { IfOk result (Rests board.question board.board.limit) }
     ensures goes { IfOk result (λ s. IfSome s.board (GoesOn board)) }
-    ensures err { IfErr result (λ f. f ≢ Fault.Memory → IsSolveFault (arc_value problem) board.board.limit f) }
+    ensures err { IfErr result (λ f. f ≢ Fault.Memory → IsSolveFault board.question board.board.limit f) }
 {
     let mut board = board;
     let shared = Arc::try_clone(&problem)?;
@@ -159,11 +159,24 @@ pub fn conclude<W: Watch>(
             })
         }
         Err(Fault::NodeLimit) => {
-            let solved = answer_by_ends(alloc, &problem)?;
+            let solved = answer_by_ends(alloc, &problem, &board)?;
             Ok(solved)
         }
         Err(fault) => Err(fault),
     }
+}
+
+/// The problem of the question's test, to be shared. The faults are those of `Problem::new`.
+pub fn problem_of(alloc: Global, question: &Arc<Question>) -> Result<Arc<Problem>, Fault>
+    requires bounded { IsBounded (arc_value question.now).test }
+    requires starts { All IsStart (arc_value question.now).test.starts }
+    ensures same { IfOk result (λ problem. (arc_value question.now).test ≡ arc_value problem) }
+    ensures clean { OnOk result (HasNoRunFault (arc_value question.now).test) }
+    ensures err { IfErr result (λ f. f ≢ Fault.Memory → IsCandidateFault (arc_value question.now).test f) }
+{
+    let test = Arc::try_clone(&question.test)?;
+    let problem = Problem::shared(alloc, test)?;
+    Ok(problem)
 }
 
 /// The answer to a question: the cheapest placement that forbids the outcome, of several the first, or a witness that
@@ -193,8 +206,28 @@ pub fn solve<W: Watch>(
     ensures rests { IfOk result (Rests (arc_value question) limit) }
     ensures err { IfErr result (λ f. f ≢ Fault.Memory → IsSolveFault (arc_value question) limit f) }
 {
-    let asked = Arc::try_clone(&question)?;
-    let problem = Problem::shared(alloc, asked)?;
+    let problem = problem_of(alloc, &question)?;
+    let solved = solve_problem(alloc, question, problem, limit, watch)?;
+    Ok(solved)
+}
+
+/// The same where the problem of the question's test is made already, so its runs can be listed.
+pub fn solve_problem<W: Watch>(
+    alloc: Global,
+    question: Arc<Question>,
+    problem: Arc<Problem>,
+    limit: usize,
+    watch: &mut W,
+) -> Result<Solved, Fault>
+    requires bounded { IsBounded (arc_value problem) }
+    requires same { (arc_value question).test ≡ arc_value problem }
+    requires clean { HasNoRunFault (arc_value problem) }
+    requires prices { IsPriceTable (arc_value question).prices }
+    requires limit { limit ≤ 1000000 }
+    ensures ok { IfOk result (λ s. IsAnswer (arc_value question).test (arc_value question).prices s.answer) }
+    ensures rests { IfOk result (Rests (arc_value question) limit) }
+    ensures err { IfErr result (λ f. f ≢ Fault.Memory → IsSolveFault (arc_value question) limit f) }
+{
     let board = Board::new(alloc, question, limit)?;
     let solved = conclude(alloc, problem, board, watch)?;
     Ok(solved)

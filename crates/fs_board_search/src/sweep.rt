@@ -95,7 +95,8 @@ fn sweep<W: Watch>(
 /// Searches until the board is finished, whatever open and held nodes it has: a child of its own first, then any open
 /// node, then any that is held, whoever holds it. It works as worker 0, and makes a plan before the first node. F16
 /// where a split is refused for want of nodes, and then the tree of all placements has more nodes below its root than
-/// the limit; F13 to F15 where a verdict can't be made for the candidates; else F19.
+/// the limit; F13 to F15 where a verdict can't be made for the candidates; else F19. The problem is that of the board's
+/// test.
 ///
 /// There are no more nodes than the board's limit allows. At each one, the stored witnesses are held against it by four
 /// bits a slot, and those that show the outcome under its least placement are sorted. Where they don't close it, the
@@ -107,12 +108,13 @@ pub fn search<W: Watch>(
     board: &mut Board,
     watch: &mut W,
 ) -> Result<(), Fault>
-    requires { board.old.question ≡ arc_value problem }
+    requires { board.old.question.test ≡ arc_value problem }
     ensures goes { GoesOn board.old board.new }
     ensures ok { OnOk result (is_finished board.new.board ≡ true) }
     ensures err { IfErr result (λ f. f ≢ Fault.Memory → IsSearchFault board.old f) }
 {
-    let mut scout = Scout::planner(alloc, problem);
+    let question = Arc::try_clone(board.question())?;
+    let mut scout = Scout::planner(alloc, question, problem);
     let _all = sweep(alloc, board, &mut scout, None, watch)?;
     Ok(())
 }
@@ -127,13 +129,14 @@ pub fn search_alone<W: Watch>(
     most: usize,
     watch: &mut W,
 ) -> Result<Option<Vec<Arc<Witness>>>, Fault>
-    requires { board.old.question ≡ arc_value problem }
+    requires { board.old.question.test ≡ arc_value problem }
     ensures goes { GoesOn board.old board.new }
-    ensures met { IfOk result (λ found. IfSome found (λ met. AreWitnesses (arc_value problem).test (map arc_value met.items))) }
+    ensures met { IfOk result (λ found. IfSome found (λ met. AreWitnesses (arc_value problem) (map arc_value met.items))) }
     ensures finished { IfOk result (λ found. IfNone found (is_finished board.new.board ≡ true)) }
     ensures err { IfErr result (λ f. f ≢ Fault.Memory → IsSearchFault board.old f) }
 {
-    let mut scout = Scout::planner(alloc, problem);
+    let question = Arc::try_clone(board.question())?;
+    let mut scout = Scout::planner(alloc, question, problem);
     if sweep(alloc, board, &mut scout, Some(most), watch)? {
         return Ok(None);
     }

@@ -31,7 +31,8 @@ fn root(alloc: Global, board: &mut Board) -> Result<Option<Taken>, AllocError>
 fn scout_after(alloc: Global, verdicts: usize) -> Result<Scout, Fault> {
     let question = question_of(alloc, CO_RR, PRICES)?;
     let mut board = Board::new(alloc, Arc::try_clone(&question)?, 1)?;
-    let mut scout = Scout::new(alloc, Problem::shared(alloc, question)?);
+    let problem = Problem::shared(alloc, Arc::try_clone(&question.test)?)?;
+    let mut scout = Scout::new(alloc, question, problem);
     let Some(taken) = root(alloc, &mut board)? else {
         return Ok(scout);
     };

@@ -14,7 +14,7 @@ use crate::known::Known;
 use crate::problem::Problem;
 use crate::sought::Sought;
 use crate::verdict::Verdict;
-use fs_cert_evidence::{Question, Witness};
+use fs_cert_evidence::Witness;
 use fs_kinds::{Fault, Placement, Slot};
 use fs_model::Test;
 use std::alloc::Global;
@@ -23,7 +23,7 @@ use std::sync::Arc;
 
 /// A problem, which several judges may share, and the candidates that this judge's hunts have found: one of them may
 /// have no cycle with the next placement either. Which witness a judge finds depends on what it judged before.
-/// Contracts see the question.
+/// Contracts see the test.
 #[derive(Drop)]
 pub struct Judge {
     problem: Arc<Problem>,
@@ -36,16 +36,16 @@ impl Model for Judge {
     ghost use Rattle.std.specs.Arc.{arc_value};
     ghost use Rattle.std.specs.Coded.{codes};
     ghost use Rattle.fs_model.specs.contracts.outcome.Outcome as outcome;
-    ghost use Rattle.fs_cert_evidence.specs.Evidence.{Question as Asked};
+    ghost use Rattle.fs_model.specs.declared.test.Test.{Test};
     ghost use Rattle.fs_judge.specs.inner.Bases.{IsKnown};
 
-    ghost Value = { Asked };
+    ghost Value = { Test };
 
     ghost view = { λ j. arc_value j.problem };
 
     ghost coded = { Prim.hlevel (codes, outcome.the_row.coded) };
 
-    ghost invariant = { λ j. All (IsKnown (arc_value j.problem).test) j.known.items };
+    ghost invariant = { λ j. All (IsKnown (arc_value j.problem)) j.known.items };
 }
 
 /// The witness of the newest of these candidates that has no cycle with the placed fences.
@@ -88,13 +88,6 @@ impl Judge {
         &self.problem
     }
 
-    /// The test and the prices.
-    pub fn question(&self) -> &Arc<Question>
-        ensures { arc_value result.now ≡ self.now }
-    {
-        self.problem.question()
-    }
-
     /// A quick look for an execution that shows the outcome with the placed fences, among those that were found before.
     /// Its witness is widened at the first slots before the others. No witness promises nothing. The cost: for each
     /// candidate that was found the steps of its runs times the slots, and for the witness that of `widest_witness`.
@@ -106,7 +99,7 @@ impl Judge {
         first: &[Slot],
     ) -> Result<Option<Witness>, Fault>
         ensures value { self.new ≡ self.old }
-        ensures ok { IfOk result (λ found. IfSome found (IsShownWith self.old.test placement.now)) }
+        ensures ok { IfOk result (λ found. IfSome found (IsShownWith self.old placement.now)) }
         ensures err { IsOkUnless result Memory }
     {
         witness_among(alloc, self.problem.test(), &self.known, placement, first)
@@ -122,10 +115,10 @@ impl Judge {
         placement: &Placement,
         first: &[Slot],
     ) -> Result<Verdict, Fault>
-        requires { slots_of placement.now ≡ slots self.old.test }
+        requires { slots_of placement.now ≡ slots self.old }
         ensures value { self.new ≡ self.old }
-        ensures ok { IfOk result (IsVerdict self.old.test placement.now) }
-        ensures err { IfErr result (λ f. f ≢ Memory → IsCandidateFault self.old.test f) }
+        ensures ok { IfOk result (IsVerdict self.old placement.now) }
+        ensures err { IfErr result (λ f. f ≢ Memory → IsCandidateFault self.old f) }
     {
         if let Some(witness) = self.look(alloc, placement, first)? {
             return Ok(Verdict::Allowed(witness));

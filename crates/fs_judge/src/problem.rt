@@ -1,4 +1,4 @@
-//! A question that is ready to be judged.
+//! A test that is ready to be judged.
 
 ghost use Rattle.std.specs.Prelude.{◌≡◌, ◌≢◌, All, IfOk, OnOk, IfErr, IsOkUnless};
 ghost use Rattle.std.specs.Arc.{arc_value};
@@ -18,7 +18,7 @@ use crate::listed::verdict_by_list;
 use crate::sought::{Sought, checked};
 use crate::verdict::{Verdict, forbidden};
 use fs_cand_listing::check_number;
-use fs_cert_evidence::{Cycles, Inference, Question};
+use fs_cert_evidence::{Cycles, Inference};
 use fs_judge_hunt::Hunter;
 use fs_kinds::{Fault, List, Placement, Slot};
 use fs_model::Test;
@@ -30,11 +30,11 @@ use std::sync::Arc;
 /// How many inferences a hunt may make before it gives up.
 const MOST_INFERENCES: usize = 1_000_000;
 
-/// A test and prices, with all that judging a placement takes: all runs of each hart, and what hunts over them need. No
-/// call changes it, so several workers may share one. Contracts see the question.
+/// A test with all that judging a placement takes: all runs of each hart, and what hunts over them need. No call
+/// changes it, so several workers may share one. Contracts see the test.
 #[derive(Drop)]
 pub struct Problem {
-    question: Arc<Question>,
+    test: Arc<Test>,
     basis: Basis,
     hunter: Hunter,
 }
@@ -43,85 +43,90 @@ impl Model for Problem {
     ghost use Rattle.std.specs.Arc.{arc_value};
     ghost use Rattle.std.specs.Coded.{codes};
     ghost use Rattle.fs_model.specs.contracts.outcome.Outcome as outcome;
-    ghost use Rattle.fs_cert_evidence.specs.Evidence.{Question as Asked};
+    ghost use Rattle.fs_model.specs.declared.test.Test.{Test};
     ghost use Rattle.fs_judge.specs.inner.Bases.{IsReady};
 
-    ghost Value = { Asked };
+    ghost Value = { Test };
 
-    ghost view = { λ p. arc_value p.question };
+    ghost view = { λ p. arc_value p.test };
 
     ghost coded = { Prim.hlevel (codes, outcome.the_row.coded) };
 
-    ghost invariant = { λ p. IsReady (arc_value p.question).test p.basis };
+    ghost invariant = { λ p. IsReady (arc_value p.test) p.basis };
 }
 
-/// All runs of the test, made ready, and what hunts over them need. F15 where some location may get 11 stores or more,
-/// and there are too many candidates or lists of runs.
-fn made_ready(alloc: Global, test: &Arc<Test>) -> Result<(Basis, Hunter), Fault>
-    requires test { IsBounded (arc_value test.now) }
-    requires starts { All IsStart (arc_value test.now).starts }
-    ensures basis { IfOk result (λ made. made.0 ≡ arc_value test.now) }
-    ensures listable { OnOk result (CanBeListed (arc_value test.now)) }
-    ensures err { IfErr result (λ f. f ≢ Memory → IsCandidateFault (arc_value test.now) f) }
+/// What hunts over the runs of the test. F15 where some location may get 11 stores or more, and there are too many
+/// candidates or lists of runs; else the error is F19.
+fn hunter_over(alloc: Global, basis: &Basis) -> Result<Hunter, Fault>
+    requires listable { CanBeListed basis.now }
+    requires starts { All IsStart basis.now.starts }
+    ensures err { IfErr result (λ f. f ≢ Memory → IsCandidateFault basis.now f) }
 {
-    let basis = Basis::new(alloc, test)?;
+    let test = basis.test();
     let hunter = Hunter::new(alloc, test, basis.names(), basis.runs())?;
     if hunter.has_many_stores() {
         check_number(alloc, test)?;
     }
-    Ok((basis, hunter))
+    Ok(hunter)
 }
 
 impl Problem {
     /// Finds all runs of the test's harts, and makes them ready. The test is bounded, and its harts start with whole
-    /// registers. The fault is F13 or F14 where a hart's runs can't be listed; else F15 where some location may get 11
-    /// stores or more, and there are too many candidates or lists of runs; or F19. The cost is that of `Basis::new` and
-    /// `Hunter::new`, and where so many stores are possible that of `check_number`.
-    pub fn new(alloc: Global, question: Arc<Question>) -> Result<Problem, Fault>
-        requires test { IsBounded (arc_value question).test }
-        requires starts { All IsStart (arc_value question).test.starts }
-        ensures value { IfOk result (λ p. p ≡ arc_value question) }
-        ensures clean { OnOk result ((f : Fault) → IsRunFault (arc_value question).test f → ⊥) }
-        ensures err { IfErr result (λ f. f ≢ Memory → IsCandidateFault (arc_value question).test f) }
+    /// registers. The fault is F13 or F14 where a hart's runs can't be listed; else that of `Problem::over`. The cost
+    /// is that of `Basis::new` and of `Problem::over`.
+    pub fn new(alloc: Global, test: Arc<Test>) -> Result<Problem, Fault>
+        requires bounded { IsBounded (arc_value test) }
+        requires starts { All IsStart (arc_value test).starts }
+        ensures value { IfOk result (λ p. p ≡ arc_value test) }
+        ensures clean { OnOk result ((f : Fault) → IsRunFault (arc_value test) f → ⊥) }
+        ensures err { IfErr result (λ f. f ≢ Memory → IsCandidateFault (arc_value test) f) }
     {
-        let (basis, hunter) = made_ready(alloc, &question.test)?;
+        let basis = Basis::new(alloc, &test)?;
+        let problem = Problem::over(alloc, test, basis)?;
+        Ok(problem)
+    }
+
+    /// The same of a test whose runs are found. The fault is F15 where some location may get 11 stores or more, and
+    /// there are too many candidates or lists of runs; or F19. The cost is that of `Hunter::new`, and where so many
+    /// stores are possible that of `check_number`.
+    pub fn over(alloc: Global, test: Arc<Test>, basis: Basis) -> Result<Problem, Fault>
+        requires same { basis ≡ arc_value test }
+        requires listable { CanBeListed (arc_value test) }
+        requires starts { All IsStart (arc_value test).starts }
+        ensures value { IfOk result (λ p. p ≡ arc_value test) }
+        ensures err { IfErr result (λ f. f ≢ Memory → IsCandidateFault (arc_value test) f) }
+    {
+        let hunter = hunter_over(alloc, &basis)?;
         Ok(Problem {
-            question,
+            test,
             basis,
             hunter,
         })
     }
 
-    /// The same, to be shared by several judges.
-    pub fn shared(alloc: Global, question: Arc<Question>) -> Result<Arc<Problem>, Fault>
-        requires test { IsBounded (arc_value question).test }
-        requires starts { All IsStart (arc_value question).test.starts }
-        ensures value { IfOk result (λ p. arc_value p ≡ arc_value question) }
-        ensures clean { OnOk result ((f : Fault) → IsRunFault (arc_value question).test f → ⊥) }
-        ensures err { IfErr result (λ f. f ≢ Memory → IsCandidateFault (arc_value question).test f) }
+    /// The same as of `Problem::new`, to be shared by several judges.
+    pub fn shared(alloc: Global, test: Arc<Test>) -> Result<Arc<Problem>, Fault>
+        requires bounded { IsBounded (arc_value test) }
+        requires starts { All IsStart (arc_value test).starts }
+        ensures value { IfOk result (λ p. arc_value p ≡ arc_value test) }
+        ensures clean { OnOk result ((f : Fault) → IsRunFault (arc_value test) f → ⊥) }
+        ensures err { IfErr result (λ f. f ≢ Memory → IsCandidateFault (arc_value test) f) }
     {
-        let problem = Problem::new(alloc, question)?;
+        let problem = Problem::new(alloc, test)?;
         Ok(Arc::new(alloc, problem)?)
     }
 
-    /// The test and the prices.
-    pub fn question(&self) -> &Arc<Question>
-        ensures { arc_value result.now ≡ self.now }
-    {
-        &self.question
-    }
-
     /// The test.
-    pub(crate) fn test(&self) -> &Test
-        ensures value { result.now ≡ self.now.test }
-        ensures bounded { IsBounded self.now.test }
+    pub fn test(&self) -> &Test
+        ensures value { result.now ≡ self.now }
+        ensures bounded { IsBounded self.now }
     {
-        &self.question.test
+        &self.test
     }
 
     /// What a hunt finds for the placement, as far as it holds. The error is F19.
     pub(crate) fn sought(&self, alloc: Global, placement: &Placement) -> Result<Sought, Fault>
-        ensures ok { IfOk result (IsSought self.now.test placement.now) }
+        ensures ok { IfOk result (IsSought self.now placement.now) }
         ensures err { IsOkUnless result Memory }
     {
         let found = self.hunter.hunt(alloc, placement, MOST_INFERENCES)?;
@@ -134,11 +139,11 @@ impl Problem {
         placement: &Placement,
         inferences: List<Inference>,
     ) -> Result<Verdict, Fault>
-        requires { IsSought self.now.test placement.now (Sought.Refuted inferences) }
-        ensures ok { IfOk result (IsVerdict self.now.test placement.now) }
+        requires { IsSought self.now placement.now (Sought.Refuted inferences) }
+        ensures ok { IfOk result (IsVerdict self.now placement.now) }
         ensures err { IsOkUnless result Memory }
     {
-        let _ = &self.question;
+        let _ = &self.test;
         forbidden(placement, Cycles::Inferred(inferences))
     }
 
@@ -150,11 +155,11 @@ impl Problem {
         placement: &Placement,
         first: &[Slot],
     ) -> Result<Verdict, Fault>
-        requires { IsSought self.now.test placement.now (Sought.Shown known.now) }
-        ensures ok { IfOk result (IsVerdict self.now.test placement.now) }
-        ensures err { IfErr result (λ f. f ≢ Memory → IsCandidateFault self.now.test f) }
+        requires { IsSought self.now placement.now (Sought.Shown known.now) }
+        ensures ok { IfOk result (IsVerdict self.now placement.now) }
+        ensures err { IfErr result (λ f. f ≢ Memory → IsCandidateFault self.now f) }
     {
-        let _ = &self.question;
+        let _ = &self.test;
         match known.witness(alloc, self.test(), placement, first)? {
             Some(witness) => Ok(Verdict::Allowed(witness)),
             None => self.by_list(alloc, placement, first),
@@ -169,11 +174,11 @@ impl Problem {
         placement: &Placement,
         first: &[Slot],
     ) -> Result<Verdict, Fault>
-        ensures ok { IfOk result (IsVerdict self.now.test placement.now) }
-        ensures err { IfErr result (λ f. f ≢ Memory → IsCandidateFault self.now.test f) }
+        ensures ok { IfOk result (IsVerdict self.now placement.now) }
+        ensures err { IfErr result (λ f. f ≢ Memory → IsCandidateFault self.now f) }
     {
-        let _ = &self.question;
-        verdict_by_list(alloc, &self.question.test, placement, first)
+        let _ = &self.test;
+        verdict_by_list(alloc, &self.test, placement, first)
     }
 
     /// Whether the placement, one of the test's slots, forbids the outcome. A hunt finds a refutation, or of the
@@ -188,9 +193,9 @@ impl Problem {
         placement: &Placement,
         first: &[Slot],
     ) -> Result<Verdict, Fault>
-        requires { slots_of placement.now ≡ slots self.now.test }
-        ensures ok { IfOk result (IsVerdict self.now.test placement.now) }
-        ensures err { IfErr result (λ f. f ≢ Memory → IsCandidateFault self.now.test f) }
+        requires { slots_of placement.now ≡ slots self.now }
+        ensures ok { IfOk result (IsVerdict self.now placement.now) }
+        ensures err { IfErr result (λ f. f ≢ Memory → IsCandidateFault self.now f) }
     {
         let found = self.hunter.first(alloc, placement, MOST_INFERENCES)?;
         match checked(alloc, &self.basis, placement, found)? {

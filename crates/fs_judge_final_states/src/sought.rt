@@ -18,35 +18,11 @@ use crate::ended::ended;
 use crate::part::Atom;
 use crate::place::Place;
 use crate::state::State;
-use fs_cert_evidence::Question;
 use fs_judge::{Judge, Problem, Verdict};
-use fs_kinds::{Fault, Placement, Prices, read_prices};
+use fs_kinds::{Fault, Placement};
 use fs_model::Test;
 use std::alloc::Global;
 use std::sync::Arc;
-
-/// Prices, which a question has and no verdict looks at.
-const PRICES: &[u8] = b"{\"rw,rw\":1}";
-
-/// Prices, as they have to be in a question.
-fn prices(alloc: Global) -> Result<Prices, Fault>
-    ensures { IsOkUnless result Memory }
-{
-    match read_prices(alloc, PRICES) {
-        Ok(prices) => Ok(prices),
-        Err(_) => Err(Fault::Memory), // they are prices, so it can be nothing else
-    }
-}
-
-/// The question of the test.
-fn question(alloc: Global, test: &Arc<Test>) -> Result<Arc<Question>, Fault>
-    ensures ok { IfOk result (λ question. (arc_value question).test ≡ arc_value test.now) }
-    ensures err { IsOkUnless result Memory }
-{
-    let prices = prices(alloc)?;
-    let test = Arc::try_clone(test)?;
-    Ok(Arc::new(alloc, Question { test, prices })?)
-}
 
 /// The verdict on the test with these fences.
 fn verdict(alloc: Global, test: &Arc<Test>, placement: &Placement) -> Result<Verdict, Fault>
@@ -56,7 +32,7 @@ fn verdict(alloc: Global, test: &Arc<Test>, placement: &Placement) -> Result<Ver
     ensures ok { IfOk result (IsVerdict (arc_value test.now) placement.now) }
     ensures err { IfErr result (λ f. f ≢ Memory → IsCandidateFault (arc_value test.now) f) }
 {
-    let problem = Problem::shared(alloc, question(alloc, test)?)?;
+    let problem = Problem::shared(alloc, Arc::try_clone(test)?)?;
     let mut judge = Judge::new(alloc, problem);
     judge.verdict(alloc, placement, &[])
 }

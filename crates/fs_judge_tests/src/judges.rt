@@ -2,11 +2,11 @@
 ghost use Rattle.std.specs.Prelude.{◌≡◌};
 ghost use Rattle.fs_model.specs.Test.{IsBounded};
 
-use crate::questions::verdict_on;
+use crate::questions::{problem_of, verdict_on};
 use fs_judge::{Judge, Problem, Verdict};
 use fs_kinds::Fault;
 use fs_model::Choice;
-use fs_tests_shared::{PRICES, placement_of, question_of};
+use fs_tests_shared::placement_of;
 use std::alloc::{AllocError, Global};
 use std::sync::Arc;
 use std::test::Fail;
@@ -57,10 +57,10 @@ fn write_judged(
     words: &str,
     text: &mut String,
 ) -> Result<(), Fault>
-    requires { IsBounded judge.old.test }
+    requires { IsBounded judge.old }
     ensures { judge.new ≡ judge.old }
 {
-    let placement = placement_of(alloc, &judge.question().test, words)?;
+    let placement = placement_of(alloc, judge.problem().test(), words)?;
     let verdict = judge.verdict(alloc, &placement, &[])?;
     Ok(write_verdict(&verdict, text)?)
 }
@@ -72,7 +72,7 @@ fn write_verdict_on(
     words: &str,
     text: &mut String,
 ) -> Result<(), Fault>
-    requires { IsBounded problem.now.test }
+    requires { IsBounded problem.now }
 {
     let verdict = verdict_on(alloc, problem, words)?;
     Ok(write_verdict(&verdict, text)?)
@@ -80,7 +80,7 @@ fn write_verdict_on(
 
 /// What a judge of a problem says in turn, and the problem.
 fn said(alloc: Global) -> Result<String, Fault> {
-    let problem = Problem::shared(alloc, question_of(alloc, EITHER, PRICES)?)?;
+    let problem = problem_of(alloc, EITHER)?;
     let mut judge = Judge::new(alloc, Arc::try_clone(&problem)?);
     let mut text = String::new(alloc);
     write_judged(alloc, &mut judge, BOTH, &mut text)?;

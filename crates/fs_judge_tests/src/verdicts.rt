@@ -1,12 +1,12 @@
 //! What is said of placements, and the candidates in their order.
-use crate::questions::verdict_on;
+use crate::questions::{problem_of, verdict_on};
 use fs_cand_listing::Showing;
 use fs_cert_evidence::Cycles;
 use fs_hart::{Step, Trace};
-use fs_judge::{Problem, Verdict};
+use fs_judge::Verdict;
 use fs_kinds::Fault;
 use fs_litmus::read_test;
-use fs_tests_shared::{ADD2, CO_RR, LBD, LRSC, MP, MPA, PRICES, SB, SBF, question_of};
+use fs_tests_shared::{ADD2, CO_RR, LBD, LRSC, MP, MPA, SB, SBF};
 use fs_values::Values;
 use std::alloc::{AllocError, Global};
 use std::sync::Arc;
@@ -14,8 +14,7 @@ use std::test::Fail;
 
 /// What the verdict on the placement that the words name says.
 fn said_of(alloc: Global, text: &str, words: &str) -> Result<String, Fault> {
-    let question = question_of(alloc, text, PRICES)?;
-    let problem = Problem::new(alloc, question)?;
+    let problem = problem_of(alloc, text)?;
     let said = match verdict_on(alloc, &problem, words)? {
         Verdict::Allowed(_) => String::from_str(alloc, "allowed")?,
         Verdict::Forbids(forbidden) => match forbidden.cycles {

@@ -37,10 +37,10 @@ test_send = declared_send Test.the_type (name.the_send, (search (instr.the_send,
 test_sync : IsSync Test.the_row
 test_sync = declared_sync Test.the_type (name.the_sync, (search (instr.the_sync, list.the_sync, crosses, sendable) depth 20, (search (list.the_sync, crosses, sendable) depth 20, (search (location.the_sync, list.the_sync, crosses, sendable) depth 20, (quantifier.the_sync, (outcome_sync, tt))))))
 
-question_send : IsSend Question.the_row
+pub question_send : IsSend Question.the_row
 question_send = search (test_send, test_sync, prices.the_send, crosses, sendable) depth 40 fits 100000
 
-question_sync : IsSync Question.the_row
+pub question_sync : IsSync Question.the_row
 question_sync = search (test_send, test_sync, prices.the_sync, crosses, sendable) depth 40 fits 100000
 
 board_send : IsSend Board.the_row
@@ -66,10 +66,10 @@ basis_sync : IsSync Basis.the_row
 basis_sync = search (test_send, test_sync, lone_sync, list.the_sync, named.the_sync, crosses, sendable) depth 40 fits 100000
 
 pub problem_send : IsSend problem.the_row
-problem_send = search (question_send, question_sync, basis_send, crosses, sendable) depth 40 fits 100000
+problem_send = search (test_send, test_sync, basis_send, crosses, sendable) depth 40 fits 100000
 
 pub problem_sync : IsSync problem.the_row
-problem_sync = search (question_send, question_sync, basis_sync, crosses, sendable) depth 40 fits 100000
+problem_sync = search (test_send, test_sync, basis_sync, crosses, sendable) depth 40 fits 100000
 
 pub witness_send : IsSend Witness.the_row
 witness_send = search (list.the_send, named.the_send, crosses, sendable) depth 40 fits 100000

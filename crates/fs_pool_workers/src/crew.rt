@@ -15,7 +15,9 @@ ghost use Rattle.fs_pool_workers.specs.Ends.{GoesOnFrom};
 use crate::gate::{Alone, Gate};
 use crate::work::Workplace;
 use fs_board::Board;
-use fs_board_search::{Problem, Solved, Unwatched, conclude, search_alone};
+use fs_board_search::{
+    Problem, Solved, Unwatched, conclude, problem_of, search_alone, solve_problem,
+};
 use fs_cert_evidence::{Question, Witness};
 use fs_kinds::Fault;
 use fs_pool::{Asked, Desk, Hand, Pass, finish, hands};
@@ -58,7 +60,8 @@ fn work_together<A: Asked + Send + Sync, R: Threads + Wait + Sync, G: Gate + Syn
     passes: Vec<Pass<A>>,
     workers: u8,
 ) -> Result<Vec<Pass<A>>, Fault>
-    requires same { arc_value problem.now ≡ A.question }
+    requires question { arc_value place.now.question.now ≡ A.question }
+    requires problem { arc_value problem.now ≡ A.question.test }
     requires met { AreWitnesses A.question.test (map arc_value place.now.met.now.items) }
     requires some { 1 ≤ workers }
     ensures { IsOkUnless result Fault.Memory }
@@ -67,6 +70,7 @@ fn work_together<A: Asked + Send + Sync, R: Threads + Wait + Sync, G: Gate + Syn
     let alloc = place.alloc;
     let desk = place.desk;
     let gate = place.gate;
+    let question = place.question;
     let met = place.met;
     let jobs = side_by_side(alloc, passes, hands(alloc, workers)?)?;
     let came = thread::map_vec(
@@ -79,6 +83,7 @@ fn work_together<A: Asked + Send + Sync, R: Threads + Wait + Sync, G: Gate + Syn
                 alloc,
                 desk,
                 gate,
+                question,
                 met,
             };
             place.work(pass, hand, problem)
@@ -107,14 +112,14 @@ fn concluded<A: Asked, G: Gate>(
     passes: Vec<Pass<A>>,
     gate: &G,
 ) -> Result<Option<Solved>, Fault>
-    requires test { IsBounded (arc_value problem.now).test }
-    requires prices { IsPriceTable (arc_value problem.now).prices }
-    requires clean { HasNoRunFault (arc_value problem.now).test }
-    requires same { arc_value problem.now ≡ A.question }
-    ensures ok { IfOk result (λ found. IfSome found (λ s. IsAnswer (arc_value problem.now).test (arc_value problem.now).prices s.answer)) }
-    ensures rests { IfOk result (λ found. IfSome found (Rests (arc_value problem.now) A.limit)) }
+    requires test { IsBounded A.question.test }
+    requires prices { IsPriceTable A.question.prices }
+    requires same { arc_value problem.now ≡ A.question.test }
+    requires clean { HasNoRunFault (arc_value problem.now) }
+    ensures ok { IfOk result (λ found. IfSome found (λ s. IsAnswer A.question.test A.question.prices s.answer)) }
+    ensures rests { IfOk result (λ found. IfSome found (Rests A.question A.limit)) }
     ensures left { IfOk result (λ found. IfSome found (λ s. IfSome s.board (GoesOnFrom passes.items desk.since))) }
-    ensures err { IfErr result (λ f. f ≢ Fault.Memory → IsSolveFault (arc_value problem.now) A.limit f) }
+    ensures err { IfErr result (λ f. f ≢ Fault.Memory → IsSolveFault A.question A.limit f) }
 {
     let Some(board) = handed_out(desk, passes) else {
         gate.ended(None);
@@ -138,55 +143,42 @@ fn search_together<A: Asked + Send + Sync, R: Threads + Wait + Sync, G: Gate + S
     gate: &G,
 ) -> Result<Option<Solved>, Fault>
     requires asked { IsAsked begun.board A.question A.limit }
-    requires test { IsBounded (arc_value problem.now).test }
-    requires prices { IsPriceTable (arc_value problem.now).prices }
-    requires clean { HasNoRunFault (arc_value problem.now).test }
-    requires same { arc_value problem.now ≡ A.question }
+    requires test { IsBounded A.question.test }
+    requires prices { IsPriceTable A.question.prices }
+    requires same { arc_value problem.now ≡ A.question.test }
+    requires clean { HasNoRunFault (arc_value problem.now) }
     requires met { AreWitnesses A.question.test (map arc_value begun.met.items) }
     requires some { 1 ≤ workers }
     requires few { workers ≤ 16 }
-    ensures ok { IfOk result (λ found. IfSome found (λ s. IsAnswer (arc_value problem.now).test (arc_value problem.now).prices s.answer)) }
-    ensures rests { IfOk result (λ found. IfSome found (Rests (arc_value problem.now) A.limit)) }
-    ensures err { IfErr result (λ f. f ≢ Fault.Memory → IsSolveFault (arc_value problem.now) A.limit f) }
+    ensures ok { IfOk result (λ found. IfSome found (λ s. IsAnswer A.question.test A.question.prices s.answer)) }
+    ensures rests { IfOk result (λ found. IfSome found (Rests A.question A.limit)) }
+    ensures err { IfErr result (λ f. f ≢ Fault.Memory → IsSolveFault A.question A.limit f) }
 {
     let Begun { board, met } = begun;
+    let question = Arc::try_clone(board.question())?;
     let (desk, passes) = Desk::<A>::new(alloc, board, workers)?;
     let place = Workplace {
         rt,
         alloc,
         desk: &desk,
         gate,
+        question: &question,
         met: &met,
     };
     let passes = work_together(&place, problem, passes, workers)?;
     concluded(alloc, problem, desk, passes, gate)
 }
 
-/// The board of the problem's question, on which nothing was searched yet. The error is F19.
-fn opened(alloc: Global, problem: &Problem, limit: usize) -> Result<Board, Fault>
-    requires test { IsBounded problem.now.test }
+/// The board of the question, on which nothing was searched yet. The error is F19.
+fn opened(alloc: Global, question: &Arc<Question>, limit: usize) -> Result<Board, Fault>
+    requires test { IsBounded (arc_value question.now).test }
     requires limit { limit ≤ 1000000 }
-    ensures asked { IfOk result (λ b. IsAsked b problem.now limit) }
+    ensures asked { IfOk result (λ b. IsAsked b (arc_value question.now) limit) }
     ensures empty { IfOk result (λ b. b.log ≡ []) }
     ensures err { IsOkUnless result Fault.Memory }
 {
-    let question = Arc::try_clone(problem.question())?;
+    let question = Arc::try_clone(question)?;
     Board::new(alloc, question, limit)
-}
-
-/// The answer by one worker, from a board anew.
-fn searched_anew(alloc: Global, problem: Arc<Problem>, limit: usize) -> Result<Solved, Fault>
-    requires test { IsBounded (arc_value problem).test }
-    requires prices { IsPriceTable (arc_value problem).prices }
-    requires clean { HasNoRunFault (arc_value problem).test }
-    requires most { limit ≤ 1000000 }
-    ensures ok { IfOk result (λ s. IsAnswer (arc_value problem).test (arc_value problem).prices s.answer) }
-    ensures rests { IfOk result (Rests (arc_value problem) limit) }
-    ensures err { IfErr result (λ f. f ≢ Fault.Memory → IsSolveFault (arc_value problem) limit f) }
-{
-    let board = opened(alloc, &problem, limit)?;
-    let solved = conclude(alloc, problem, board, &mut Unwatched)?;
-    Ok(solved)
 }
 
 /// One worker searches the board alone. Where the others are to join now the witnesses that it has met come back; none
@@ -197,10 +189,10 @@ fn begin<G: Gate>(
     board: &mut Board,
     gate: &G,
 ) -> Result<Option<Vec<Arc<Witness>>>, Fault>
-    requires { board.old.question ≡ arc_value problem.now }
+    requires { board.old.question.test ≡ arc_value problem.now }
     ensures goes { GoesOn board.old board.new }
-    ensures met { IfOk result (λ found. IfSome found (λ met. AreWitnesses (arc_value problem.now).test (map arc_value met.items))) }
-    ensures err { IfErr result (λ f. f ≢ Fault.Memory → IsSolveFault (arc_value problem.now) board.old.board.limit f) }
+    ensures met { IfOk result (λ found. IfSome found (λ met. AreWitnesses (arc_value problem.now) (map arc_value met.items))) }
+    ensures err { IfErr result (λ f. f ≢ Fault.Memory → IsSolveFault board.old.question board.old.board.limit f) }
 {
     let shared = Arc::try_clone(problem)?;
     let most = gate.nodes_alone();
@@ -239,8 +231,8 @@ pub fn solve<R: Threads + Wait + Sync, G: Gate + Sync>(
     if workers == 1 {
         return fs_board_search::solve(alloc, question, limit, &mut Alone { gate });
     }
-    let problem = Problem::shared(alloc, question)?;
-    let mut board = opened(alloc, &problem, limit)?;
+    let problem = problem_of(alloc, &question)?;
+    let mut board = opened(alloc, &question, limit)?;
     let Some(met) = begin(alloc, &problem, &mut board, gate)? else {
         let solved = conclude(alloc, problem, board, &mut Unwatched)?;
         return Ok(solved);
@@ -250,6 +242,6 @@ pub fn solve<R: Threads + Wait + Sync, G: Gate + Sync>(
     if let Some(solved) = found {
         return Ok(solved);
     }
-    let solved = searched_anew(alloc, problem, limit)?;
+    let solved = solve_problem(alloc, question, problem, limit, &mut Unwatched)?;
     Ok(solved)
 }

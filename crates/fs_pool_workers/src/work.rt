@@ -11,7 +11,7 @@ ghost use Rattle.fs_board.specs.Growth.{AreWitnesses};
 use crate::gate::Gate;
 use fs_board::{Event, Part, Reply};
 use fs_board_search::{Child, Problem, Scout, TRIES, Taken, Way};
-use fs_cert_evidence::Witness;
+use fs_cert_evidence::{Question, Witness};
 use fs_kinds::Slot;
 use fs_pool::{Asked, Desk, Hand, Pass};
 use std::alloc::{AllocError, Global};
@@ -96,14 +96,15 @@ fn keep_children<A: Asked>(
         .is_ok()
 }
 
-/// What a worker is lent: where it may wait, what it allocates with, the desk, the gate that is told of its calls, and
-/// the witnesses that were met before all began together.
+/// What a worker is lent: where it may wait, what it allocates with, the desk, the gate that is told of its calls, the
+/// question, and the witnesses that were met before all began together.
 #[derive(Drop)]
 pub(crate) struct Workplace<'a, A: Asked, R, G> {
     pub(crate) rt: &'a R,
     pub(crate) alloc: Global,
     pub(crate) desk: &'a Desk<A>,
     pub(crate) gate: &'a G,
+    pub(crate) question: &'a Arc<Question>,
     pub(crate) met: &'a Vec<Arc<Witness>>,
 }
 
@@ -293,13 +294,25 @@ impl<A: Asked, R: Wait, G: Gate> Workplace<'_, A, R, G> {
         pass
     }
 
+    /// A scout of the question, with the problem of its test.
+    fn scout(&self, problem: &Arc<Problem>) -> Result<Scout, AllocError>
+        requires question { arc_value self.now.question.now ≡ A.question }
+        requires problem { arc_value problem.now ≡ A.question.test }
+        ensures { IfOk result (λ scout. scout ≡ A.question) }
+    {
+        let question = Arc::try_clone(self.question)?;
+        let problem = Arc::try_clone(problem)?;
+        Ok(Scout::new(self.alloc, question, problem))
+    }
+
     /// Works until there is nothing to do or something fails, and leaves; a node that it isn't done with stays held.
     pub(crate) fn work(&self, pass: Pass<A>, hand: Hand, problem: &Arc<Problem>) -> Pass<A>
-        requires question { arc_value problem.now ≡ A.question }
+        requires question { arc_value self.now.question.now ≡ A.question }
+        requires problem { arc_value problem.now ≡ A.question.test }
         requires met { AreWitnesses A.question.test (map arc_value self.now.met.now.items) }
     {
-        let pass = match Arc::try_clone(problem) {
-            Ok(shared) => self.rounds(pass, hand, Scout::new(self.alloc, shared)),
+        let pass = match self.scout(problem) {
+            Ok(scout) => self.rounds(pass, hand, scout),
             Err(_) => pass,
         };
         self.desk.leave(self.rt, &pass);

@@ -4,7 +4,7 @@ ghost use Rattle.std.specs.Arc.{arc_value};
 ghost use Rattle.fs_model.specs.Test.{IsBounded, IsTest};
 
 use crate::printing::{print_fences, print_reply, say_refused};
-use crate::questions::{Request, forbidden_on, witness_on, witnesses_on};
+use crate::questions::{Request, forbidden_on, problem_of, witness_on, witnesses_on};
 use fs_board::{Board, Reply};
 use fs_cert_evidence::Question;
 use fs_judge::Problem;
@@ -55,8 +55,8 @@ fn ask(
     worker: u8,
     request: Request,
 ) -> Result<Reply, Fault>
-    requires test { IsBounded problem.now.test }
-    requires same { board.old.question ≡ problem.now }
+    requires test { IsBounded problem.now }
+    requires same { board.old.question.test ≡ problem.now }
     ensures same { board.new.question ≡ board.old.question }
 {
     match request {
@@ -90,8 +90,8 @@ fn ask_again<R: Print>(
     worker: u8,
     request: Request,
 ) -> Result<Reply, Fault>
-    requires test { IsBounded problem.now.test }
-    requires same { board.old.question ≡ problem.now }
+    requires test { IsBounded problem.now }
+    requires same { board.old.question.test ≡ problem.now }
     ensures same { board.new.question ≡ board.old.question }
 {
     let before = State::of(board);
@@ -129,8 +129,8 @@ fn ask_all<R: Print>(
     board: &mut Board,
     asks: &[(u8, Request)],
 ) -> Result<(), Fault>
-    requires test { IsBounded problem.now.test }
-    requires same { board.old.question ≡ problem.now }
+    requires test { IsBounded problem.now }
+    requires same { board.old.question.test ≡ problem.now }
 {
     for (worker, request) in asks {
         let reply = ask_again(rt, alloc, problem, board, *worker, *request)?;
@@ -158,7 +158,7 @@ fn ask_board<R: Print>(
     asks: &[(u8, Request)],
 ) -> Result<(), Fault>
     requires test { IsTest (arc_value question.now).test }
-    requires same { problem.now ≡ arc_value question.now }
+    requires same { problem.now ≡ (arc_value question.now).test }
     requires limit { limit ≤ 1000000 }
 {
     let _ = println!(rt; "a board with limit {limit}");
@@ -178,7 +178,7 @@ fn make_board<R: Print>(
     requires { limit ≤ 1000000 }
 {
     let question = question_of(alloc, text, prices)?;
-    let problem = Problem::new(alloc, Arc::try_clone(&question)?)?;
+    let problem = problem_of(alloc, &question)?;
     ask_board(rt, alloc, &question, &problem, limit, asks)
 }
 

@@ -4,7 +4,7 @@ ghost use Rattle.std.specs.Arc.{arc_value};
 ghost use Rattle.fs_model.specs.Test.{IsBounded, IsTest};
 
 use crate::printing::{print_reply, say_refused};
-use crate::questions::{Request, forbidden_on, witness_on, witnesses_on};
+use crate::questions::{Request, forbidden_on, problem_of, witness_on, witnesses_on};
 use fs_board::Board;
 use fs_cert_evidence::Question;
 use fs_judge::Problem;
@@ -24,8 +24,8 @@ fn ask<A: Asked, R: Wait>(
     pass: Pass<A>,
     request: Request,
 ) -> Result<Pass<A>, (Pass<A>, Fault)>
-    requires test { IsBounded problem.now.test }
-    requires same { problem.now ≡ A.question }
+    requires test { IsBounded problem.now }
+    requires same { problem.now ≡ A.question.test }
 {
     match request {
         Request::Take => desk.take(rt, alloc, pass),
@@ -58,8 +58,8 @@ fn ask_again<A: Asked, R: Print + Wait>(
     pass: Pass<A>,
     request: Request,
 ) -> Result<Pass<A>, Fault>
-    requires test { IsBounded problem.now.test }
-    requires same { problem.now ≡ A.question }
+    requires test { IsBounded problem.now }
+    requires same { problem.now ≡ A.question.test }
 {
     let worker = pass.worker();
     let receipts = pass.receipts().len();
@@ -97,8 +97,8 @@ fn ask_all<A: Asked, R: Print + Wait>(
     passes: &mut Vec<Pass<A>>,
     requests: &[(usize, Request)],
 ) -> Result<(), Fault>
-    requires test { IsBounded problem.now.test }
-    requires same { problem.now ≡ A.question }
+    requires test { IsBounded problem.now }
+    requires same { problem.now ≡ A.question.test }
 {
     for (worker, request) in requests {
         if *worker < passes.len() {
@@ -150,7 +150,7 @@ fn ask_desk<A: Asked, R: Print + Wait>(
 ) -> Result<(), Fault>
     requires test { IsTest (arc_value question.now).test }
     requires question { arc_value question.now ≡ A.question }
-    requires same { problem.now ≡ A.question }
+    requires same { problem.now ≡ A.question.test }
     requires limit { A.limit ≡ 14 }
 {
     let _ = println!(rt; "a desk of 2 workers");
@@ -173,7 +173,7 @@ fn make_desk<A: Asked, R: Print + Wait>(
     requires question { arc_value question.now ≡ A.question }
     requires limit { A.limit ≡ 14 }
 {
-    let problem = Problem::new(alloc, Arc::try_clone(question)?)?;
+    let problem = problem_of(alloc, question)?;
     ask_desk::<A, R>(rt, alloc, question, &problem, requests, kept)
 }
 
@@ -186,7 +186,7 @@ fn make_left<A: Asked, R: Print + Wait>(
 ) -> Result<(), Fault>
     requires test { IsTest (arc_value question.now).test }
     requires question { arc_value question.now ≡ A.question }
-    requires same { problem.now ≡ A.question }
+    requires same { problem.now ≡ A.question.test }
     requires limit { A.limit ≡ 14 }
 {
     let _ = rt.println("a desk that a worker leaves");
@@ -263,7 +263,7 @@ fn make_desks<A: Asked, R: Print + Wait>(
     make_desk::<A, R>(rt, alloc, question, &requests, 2)?;
     make_desk::<A, R>(rt, alloc, question, &peeks, 2)?;
     make_desk::<A, R>(rt, alloc, question, &peeks, 1)?;
-    let problem = Problem::new(alloc, Arc::try_clone(question)?)?;
+    let problem = problem_of(alloc, question)?;
     make_left::<A, R>(rt, alloc, question, &problem)?;
     make_two::<A, R>(rt, alloc, question)
 }

@@ -1,13 +1,13 @@
 //! What workers ask of a board or a desk, and what verdicts on placements hold.
-ghost use Rattle.std.specs.Prelude.{IfOk, map};
+ghost use Rattle.std.specs.Prelude.{◌≡◌, IfOk, map};
 ghost use Rattle.std.specs.Arc.{arc_value};
-ghost use Rattle.fs_model.specs.Test.{IsBounded};
+ghost use Rattle.fs_model.specs.Test.{IsBounded, IsTest};
 ghost use Rattle.fs_model.specs.Allows.{Allows};
 ghost use Rattle.fs_model.specs.Execution.{Execution};
 ghost use Rattle.fs_cert_evidence.specs.Evidence.{IsWitnessFor, ShowsForbidden, placement_in};
 ghost use Rattle.fs_board.specs.Growth.{AreWitnesses};
 
-use fs_cert_evidence::{Forbidden, Witness};
+use fs_cert_evidence::{Forbidden, Question, Witness};
 use fs_judge::{Problem, Verdict};
 use fs_judge_tests::verdict_on;
 use fs_kinds::{Fault, List, Slot};
@@ -31,14 +31,22 @@ pub(crate) enum Request {
     Peek(usize),
 }
 
+/// The problem of the question's test.
+pub(crate) fn problem_of(alloc: Global, question: &Question) -> Result<Problem, Fault>
+    requires { IsTest question.now.test }
+    ensures { IfOk result (λ problem. problem ≡ question.now.test) }
+{
+    Problem::new(alloc, Arc::try_clone(&question.test)?)
+}
+
 /// The witness of the verdict on the placement that the words name. `BadFence` where it forbids the outcome.
 pub(crate) fn witness_on(
     alloc: Global,
     problem: &Problem,
     words: &str,
 ) -> Result<Arc<Witness>, Fault>
-    requires { IsBounded problem.now.test }
-    ensures { IfOk result (λ w. (e : Execution) × IsWitnessFor problem.now.test (arc_value w) e) }
+    requires { IsBounded problem.now }
+    ensures { IfOk result (λ w. (e : Execution) × IsWitnessFor problem.now (arc_value w) e) }
 {
     match verdict_on(alloc, problem, words)? {
         Verdict::Allowed(witness) => Ok(Arc::new(alloc, witness)?),
@@ -52,8 +60,8 @@ pub(crate) fn witnesses_on(
     problem: &Problem,
     words: &str,
 ) -> Result<List<Arc<Witness>>, Fault>
-    requires { IsBounded problem.now.test }
-    ensures { IfOk result (λ ws. AreWitnesses problem.now.test (map arc_value ws)) }
+    requires { IsBounded problem.now }
+    ensures { IfOk result (λ ws. AreWitnesses problem.now (map arc_value ws)) }
 {
     let witness = witness_on(alloc, problem, words)?;
     let mut witnesses = Vec::new(alloc);
@@ -68,9 +76,9 @@ pub(crate) fn forbidden_on(
     problem: &Problem,
     words: &str,
 ) -> Result<Arc<Forbidden>, Fault>
-    requires { IsBounded problem.now.test }
-    ensures cycles { IfOk result (λ f. ShowsForbidden problem.now.test (arc_value f)) }
-    ensures forbids { IfOk result (λ f. Allows problem.now.test (placement_in f) → ⊥) }
+    requires { IsBounded problem.now }
+    ensures cycles { IfOk result (λ f. ShowsForbidden problem.now (arc_value f)) }
+    ensures forbids { IfOk result (λ f. Allows problem.now (placement_in f) → ⊥) }
 {
     match verdict_on(alloc, problem, words)? {
         Verdict::Allowed(_) => Err(Fault::BadFence),

@@ -1,41 +1,41 @@
-//! A question that is made ready, and verdicts on placements: of the problem, and of a judge, who keeps what it found
-//! last.
+//! A test that is made ready, and verdicts on placements: of the problem, and of a judge, who keeps what it found last.
 ghost use Rattle.std.specs.Prelude.{◌≡◌, IfOk};
 ghost use Rattle.std.specs.Arc.{arc_value};
 ghost use Rattle.fs_model.specs.Test.{IsBounded, IsTest};
 
 use crate::printing::say_refused;
-use fs_cert_evidence::{Question, Witness};
+use fs_cert_evidence::Witness;
 use fs_judge::{Judge, Problem, Verdict};
 use fs_judge_tests::{count_of, verdict_on};
 use fs_kinds::Fault;
+use fs_model::Test;
 use fs_tests_shared::{PRICES, SB, placement_of, question_of};
 use std::alloc::Global;
 use std::sync::Arc;
 
-/// The question, ready to be judged by several.
-fn problem_of(alloc: Global, question: &Arc<Question>) -> Result<Arc<Problem>, Fault>
-    requires { IsTest (arc_value question.now).test }
-    ensures { IfOk result (λ problem. arc_value problem ≡ arc_value question.now) }
+/// The problem of the test, to be shared by several judges.
+fn problem_of(alloc: Global, test: &Arc<Test>) -> Result<Arc<Problem>, Fault>
+    requires { IsTest (arc_value test.now) }
+    ensures { IfOk result (λ problem. arc_value problem ≡ arc_value test.now) }
 {
-    Problem::shared(alloc, Arc::try_clone(question)?)
+    Problem::shared(alloc, Arc::try_clone(test)?)
 }
 
 /// What a judge sees at a quick look at the placement that the words name.
 fn look_on(alloc: Global, judge: &mut Judge, words: &str) -> Result<Option<Witness>, Fault>
-    requires { IsBounded judge.old.test }
+    requires { IsBounded judge.old }
     ensures { judge.new ≡ judge.old }
 {
-    let placement = placement_of(alloc, &judge.question().test, words)?;
+    let placement = placement_of(alloc, judge.problem().test(), words)?;
     judge.look(alloc, &placement, &[])
 }
 
 /// A judge's verdict on the placement that the words name.
 fn judged_on(alloc: Global, judge: &mut Judge, words: &str) -> Result<Verdict, Fault>
-    requires { IsBounded judge.old.test }
+    requires { IsBounded judge.old }
     ensures { judge.new ≡ judge.old }
 {
-    let placement = placement_of(alloc, &judge.question().test, words)?;
+    let placement = placement_of(alloc, judge.problem().test(), words)?;
     judge.verdict(alloc, &placement, &[])
 }
 
@@ -70,7 +70,7 @@ fn print_verdict_on<R: Print>(
     problem: &Problem,
     words: &str,
 ) -> Result<(), Fault>
-    requires { IsBounded problem.now.test }
+    requires { IsBounded problem.now }
 {
     let verdict = twice!(rt, verdict_on(alloc, problem, words))?;
     print_verdict(rt, &verdict);
@@ -84,7 +84,7 @@ fn print_look_on<R: Print>(
     judge: &mut Judge,
     words: &str,
 ) -> Result<(), Fault>
-    requires { IsBounded judge.old.test }
+    requires { IsBounded judge.old }
     ensures { judge.new ≡ judge.old }
 {
     let found = twice!(rt, look_on(alloc, judge, words))?;
@@ -99,7 +99,7 @@ fn print_judged_on<R: Print>(
     judge: &mut Judge,
     words: &str,
 ) -> Result<(), Fault>
-    requires { IsBounded judge.old.test }
+    requires { IsBounded judge.old }
     ensures { judge.new ≡ judge.old }
 {
     let judged = twice!(rt, judged_on(alloc, judge, words))?;
@@ -109,7 +109,7 @@ fn print_judged_on<R: Print>(
 
 /// Judges the placement that the words name: by the problem itself, and by the judge.
 fn judge_on<R: Print>(rt: &R, alloc: Global, judge: &mut Judge, words: &str) -> Result<(), Fault>
-    requires { IsBounded judge.old.test }
+    requires { IsBounded judge.old }
     ensures { judge.new ≡ judge.old }
 {
     print_verdict_on(rt, alloc, judge.problem(), words)?;
@@ -122,7 +122,7 @@ pub(crate) fn make<R: Print + AllocGlobal>(rt: &R) -> Result<(), Fault> {
     let alloc = rt.alloc();
     let question = question_of(alloc, SB, PRICES)?;
     let _ = rt.println("verdicts");
-    let problem = twice!(rt, problem_of(alloc, &question))?;
+    let problem = twice!(rt, problem_of(alloc, &question.test))?;
     let mut judge = Judge::new(alloc, problem);
     judge_on(rt, alloc, &mut judge, "")?;
     judge_on(rt, alloc, &mut judge, "P0:2=w,r P1:2=w,r")

@@ -1,11 +1,19 @@
-use Rattle.std.proofs.Common.{◌≡◌, ◌∙◌, true, ap, sym}
+use Rattle.std.proofs.Common.{◌≡◌, ◌≢◌, ◌∙◌, true, IfErr, ap, sym, subst}
 use Rattle.std.specs.Arc.{arc_value}
 use Rattle.std.proofs.lemmas.Result.{IfOk-weaker}
+use Rattle.fs_kinds.specs.declared.fault.Fault.TheVariants.{Memory}
 use Rattle.fs_kinds.specs.PriceTable.{cost}
+use Rattle.fs_model.specs.declared.test.Test.{Test}
+use Rattle.fs_model.specs.Allows.{Allows}
+use Rattle.fs_model.specs.Slots.{slots}
+use Rattle.fs_cert_evidence.specs.CandidateFaults.{IsCandidateFault}
 use Rattle.fs_cert_evidence.specs.Evidence.{Question}
 use Rattle.fs_app_audit.specs.Audit.{costs_everywhere}
 use Rattle.fs_app_audit.proofs.Chosen.{is-kept}
 use Rattle.fs_app_audit.proofs.findings.is_kept.Goals as goal
+
+pub forbids-requires : goal.forbids-requires
+forbids-requires c = c.requires.slots ∙ ap slots (sym c.requires.same)
 
 pub returns-then-cost-clause-yes : goal.returns-then-cost-clause-yes
 returns-then-cost-clause-yes c =
@@ -16,4 +24,14 @@ returns-then-cost-clause-yes c =
     let same : cost prices c.args.first.now.placement ≡ cost prices c.args.own.now =
     sym c.requires.cost ∙ sym c.if-cost.true ∙ c.cost.ensures ∙ ap (λ t. cost t c.args.own.now) behind in
     IfOk-weaker c.forbids.result _ _
-    (λ is h yes. is-kept _ _ _ _ each c.requires.first c.requires.slots c.requires.offered same (h yes)) c.forbids.ensures.yes
+    (λ is h yes. is-kept _ _ _ _ each c.requires.first c.requires.slots c.requires.offered same
+    (subst (λ (t : Test). Allows t c.args.own.now → ⊥) c.requires.same (h yes))) c.forbids.ensures.yes
+
+pub returns-then-cost-clause-err : goal.returns-then-cost-clause-err
+returns-then-cost-clause-err c =
+    subst (λ (t : Test). IfErr c.forbids.result (λ f. f ≢ Memory → IsCandidateFault t f)) c.requires.same c.forbids.ensures.err
+
+pub returns-then-cost-clause-no : goal.returns-then-cost-clause-no
+returns-then-cost-clause-no c =
+    IfOk-weaker c.forbids.result _ _
+    (λ is h no kept. kept.1.forbids (subst (λ (t : Test). Allows t c.args.own.now) c.requires.same (h no))) c.forbids.ensures.no

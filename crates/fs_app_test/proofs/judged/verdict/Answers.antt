@@ -6,7 +6,6 @@ use Rattle.fs_kinds.proofs.Entries.{slots_of-all_with}
 use Rattle.fs_model.specs.declared.test.Test.{Test}
 use Rattle.fs_model.specs.Slots.{slots}
 use Rattle.fs_cert_evidence.specs.CandidateFaults.{IsCandidateFault}
-use Rattle.fs_cert_evidence.specs.Evidence.{Question}
 use Rattle.fs_app_place_order.proofs.Faults.{IfErr-handed}
 use Rattle.fs_app_test.proofs.judged.verdict.Goals as goal
 
@@ -14,18 +13,18 @@ pub returns-in_err-problem-clause-err : goal.returns-in_err-problem-clause-err
 returns-in_err-problem-clause-err c =
     let fault = c.in_err-problem.field-0.0 in
     IfErr-handed c.from_residual-in_err-problem.result _ _ c.from_residual-in_err-problem.ensures.1
-    (subst (λ (t : Test). fault ≢ Memory → IsCandidateFault t fault) c.in_ok-question.ensures.ok c.in_err-problem.ensures.err)
+    (subst (λ (t : Test). fault ≢ Memory → IsCandidateFault t fault) c.in_ok-try_clone.ensures c.in_err-problem.ensures.err)
 
 pub verdict-requires : goal.verdict-requires
 verdict-requires c =
-    let asked : c.new-judge.result.test ≡ arc_value c.args.test.now =
-    ap (λ (q : Question). q.test) (c.new-judge.ensures ∙ c.in_ok-problem.ensures.value) ∙ c.in_ok-question.ensures.ok in
+    let asked : c.new-judge.result ≡ arc_value c.args.test.now =
+    c.new-judge.ensures ∙ c.in_ok-new.ensures.ok ∙ c.in_ok-problem.ensures.value ∙ c.in_ok-try_clone.ensures in
     ap slots_of c.in_ok-placement.ensures.ok
     ∙ slots_of-all_with None (slots c.deref.result.now)
     ∙ ap slots (c.deref.ensures ∙ sym asked)
 
 pub returns-clause-err : goal.returns-clause-err
 returns-clause-err c =
-    let asked : c.new-judge.result.test ≡ arc_value c.args.test.now =
-    ap (λ (q : Question). q.test) (c.new-judge.ensures ∙ c.in_ok-problem.ensures.value) ∙ c.in_ok-question.ensures.ok in
+    let asked : c.new-judge.result ≡ arc_value c.args.test.now =
+    c.new-judge.ensures ∙ c.in_ok-new.ensures.ok ∙ c.in_ok-problem.ensures.value ∙ c.in_ok-try_clone.ensures in
     subst (λ (t : Test). IfErr c.verdict.result (λ f. f ≢ Memory → IsCandidateFault t f)) asked c.verdict.ensures.err

@@ -8,11 +8,11 @@ use Rattle.fs_judge_vacuous_outcomes.proofs.Forbidden.{vacuous_forbids}
 use Rattle.fs_app_test.specs.Words.{never_in_outcome, never_words}
 use Rattle.fs_app_test.proofs.vacuous.vacuous.Goals as goal
 
-pub returns-in-Some-true-clause-ok : goal.returns-in-Some-true-clause-ok
-returns-in-Some-true-clause-ok c =
+pub returns-in_ok-vacuous_text-in-Some-true-clause-ok : goal.returns-in_ok-vacuous_text-in-Some-true-clause-ok
+returns-in_ok-vacuous_text-in-Some-true-clause-ok c =
     let t = arc_value c.args.test.now in
     let text = string_bytes c.in_ok-vacuous_text-in-Some-true.field-0 in
-    let same = c.in_ok-basis.ensures.value in
+    let same = c.requires.same in
     let found = c.in-Some-true.is ∙ ap (λ b. Some b) c.in-Some-true.field-0-test in
     let vacuous : IsVacuous t = subst IsVacuous same (c.in_ok-is_vacuous.ensures.yes found) in
     let said : (runs : ℕ → List (List Step)) × AreItsRuns t runs × (text ≡ never_words t (never_in_outcome t runs)) =
@@ -22,7 +22,7 @@ returns-in-Some-true-clause-ok c =
       kind = refl;
       why = record {
         vacuous = vacuous;
-        forbidden = vacuous_forbids t c.in_ok-basis.ensures.listable vacuous;
+        forbidden = vacuous_forbids t c.requires.listable vacuous;
         runs = said.0;
         all = said.1;
         shown = said.2;
@@ -33,7 +33,7 @@ returns-in-Some-true-clause-ok c =
 pub returns-in-Some-false-clause-ok : goal.returns-in-Some-false-clause-ok
 returns-in-Some-false-clause-ok c =
     let found = c.in-Some-false.is ∙ ap (λ b. Some b) c.in-Some-false.field-0-test in
-    subst (λ (t : Test). IsVacuous t → ⊥) c.in_ok-basis.ensures.value (c.in_ok-is_vacuous.ensures.no found)
+    subst (λ (t : Test). IsVacuous t → ⊥) c.requires.same (c.in_ok-is_vacuous.ensures.no found)
 
-pub returns-clause-ok : goal.returns-clause-ok
-returns-clause-ok c = subst HasManyRuns c.in_ok-basis.ensures.value (c.in_ok-is_vacuous.ensures.open c.in-None.is)
+pub returns-in-None-clause-ok : goal.returns-in-None-clause-ok
+returns-in-None-clause-ok c = subst HasManyRuns c.requires.same (c.in_ok-is_vacuous.ensures.open c.in-None.is)

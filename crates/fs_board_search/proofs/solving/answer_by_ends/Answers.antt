@@ -9,7 +9,7 @@ use Rattle.fs_board_search.proofs.solving.answer_by_ends.Goals as goal
 
 pub fenced-requires : goal.fenced-requires
 fenced-requires c =
-    let t = c.args.problem.now.test in
+    let t = c.args.problem.now in
     let refuted = subst (IsVerdict t (all_with None (slots t))) c.in-Forbids.is c.in_ok-on_none.ensures.ok in
     let placed : placement_in c.in_ok-least-in-Forbids.least ≡ all_with None (slots t) =
     ap (λ (f : Refuted). f.placement) c.in_ok-least-in-Forbids.ensures.ok ∙ refuted.0 in
@@ -17,21 +17,21 @@ fenced-requires c =
 
 pub returns-in-Forbids-clause-ok : goal.returns-in-Forbids-clause-ok
 returns-in-Forbids-clause-ok c =
-    let r = c.args.problem.now in
-    let t = r.test in
+    let t = c.args.problem.now in
+    let prices = c.args.board.now.question.prices in
     let refuted = subst (IsVerdict t (all_with None (slots t))) c.in-Forbids.is c.in_ok-on_none.ensures.ok in
     let least = c.in_ok-least-in-Forbids.least in
     let placed : placement_in least ≡ all_with None (slots t) =
     ap (λ (f : Refuted). f.placement) c.in_ok-least-in-Forbids.ensures.ok ∙ refuted.0 in
-    let priced : c.behind-question.inside.prices ≡ r.prices =
+    let priced : c.behind-question.inside.prices ≡ prices =
     ap (λ (q : Question). q.prices) (c.behind-question.view_is ∙ (c.deref.ensures ∙ c.question.ensures)) in
-    let answer = none-answer r (placement_in least) c.behind-question.inside.prices priced placed refuted.2 in
+    let answer = none-answer t (placement_in least) c.behind-question.inside.prices prices priced placed refuted.2 in
     let shows : ShowsForbidden t least.value = subst (ShowsForbidden t) (sym c.in_ok-least-in-Forbids.ensures.ok) refuted.1 in
-    subst (IsAnswer t r.prices) (sym c.fenced.ensures) (answer.0, answer.1, shows)
+    subst (IsAnswer t prices) (sym c.fenced.ensures) (answer.0, answer.1, shows)
 
 pub returns-in-Forbids-clause-ends : goal.returns-in-Forbids-clause-ends
 returns-in-Forbids-clause-ends c =
-    let t = c.args.problem.now.test in
+    let t = c.args.problem.now in
     let refuted = subst (IsVerdict t (all_with None (slots t))) c.in-Forbids.is c.in_ok-on_none.ensures.ok in
     let placed : placement_in c.in_ok-least-in-Forbids.least ≡ all_with None (slots t) =
     ap (λ (f : Refuted). f.placement) c.in_ok-least-in-Forbids.ensures.ok ∙ refuted.0 in

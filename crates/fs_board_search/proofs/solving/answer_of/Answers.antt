@@ -10,10 +10,10 @@ use Rattle.fs_board_search.proofs.solving.answer_of.Goals as goal
 
 pub unreachable-requires : goal.unreachable-requires
 unreachable-requires c =
-    let t = c.args.problem.now.test in
+    let t = c.args.problem.now in
     let s = c.args.board.now in
     let refuted = subst (IsVerdict t (all_with (Some RwRw) (slots t))) c.in-Forbids.is c.in_ok-verdict.ensures.ok in
     let nothing : s.board.bound ≡ None =
     subst (λ (found : Option Answer). MatchOption found (s.board.bound ≡ None) (λ a. IsAnswer s.question.test s.question.prices a × (s.board.bound ≡ placement_of a)))
     c.in_default.is c.in_ok-answer.ensures.ok in
-    refuted.2 (all-allowed s c.args.problem.now c.requires.same c.requires.prices c.log-legal.ensures.legal c.requires.finished (sym nothing))
+    refuted.2 (all-allowed s t c.requires.same c.requires.prices c.log-legal.ensures.legal c.requires.finished (sym nothing))

@@ -1,7 +1,6 @@
 use Rattle.std.proofs.Common.{ℕ, Option, None, Some, IfSome, List, drop, sym, subst}
 use Rattle.fs_cert_evidence.specs.Receipts.{Pass, IsAgreed}
 use Rattle.fs_cert_evidence.specs.Sizes.{HasNoRunFault}
-use Rattle.fs_cert_evidence.specs.Evidence.{Question}
 use Rattle.fs_board.specs.View.{Search}
 use Rattle.fs_board_search.specs.Histories.{GoesOn}
 use Rattle.fs_board_search.proofs.Ends.{handed}
@@ -15,12 +14,12 @@ gone-on passes since left None agreed goes = tt
 gone-on passes since left (Some s) agreed goes = record { left = left; agreed = agreed; goes = goes }
 
 pub conclude-requires-clause-clean : goal.conclude-requires-clause-clean
-conclude-requires-clause-clean g c = subst (λ (x : Question). HasNoRunFault x.test) (sym c.in_ok-shared.ensures) c.requires.clean
+conclude-requires-clause-clean g c = subst HasNoRunFault (sym c.in_ok-shared.ensures) c.requires.clean
 
 pub returns-in_err-solved-clause-err : goal.returns-in_err-solved-clause-err
 returns-in_err-solved-clause-err g c =
     handed c.from_residual-in_err-solved.result _ _ c.from_residual-in_err-solved.ensures.1
-    (λ other. same-fault _ _ c.in-Some.board.board.limit g.A.Asked.limit _ c.in_ok-shared.ensures c.in-Some.ensures.asked.limit
+    (λ other. same-fault _ _ c.in-Some.board.board.limit g.A.Asked.limit _ c.in-Some.ensures.asked.question c.in-Some.ensures.asked.limit
     (c.in_err-solved.ensures.err other))
 
 pub returns-clause-left : goal.returns-clause-left

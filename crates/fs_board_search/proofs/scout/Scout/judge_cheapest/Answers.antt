@@ -1,13 +1,50 @@
+use Rattle.std.proofs.Common.{◌∙◌, Option, IfSome, ap, sym, subst}
+use Rattle.std.specs.Arc.{arc_value}
+use Rattle.fs_model.specs.declared.test.Test.{Test}
+use Rattle.fs_cert_evidence.specs.Evidence.{Question, Refuted}
+use Rattle.fs_board.specs.Growth.{AreWitnesses}
+use Rattle.fs_board_search.specs.Tries.{IsPostable}
 use Rattle.fs_board_search.proofs.Handed.{candidates-handed}
 use Rattle.fs_board_search.proofs.Scouts.{known-still}
 use Rattle.fs_board_search.proofs.scout.Scout.judge_cheapest.Goals as goal
 
-pub returns-in_err-found-clause-err : goal.returns-in_err-found-clause-err
-returns-in_err-found-clause-err c =
-    candidates-handed c.from_residual-in_err-found.result _ c.self.inside.judge c.args.self.now c.self.view_is
-    c.from_residual-in_err-found.ensures.1 c.in_err-found.ensures.err
+pub returns-in_err-verdict-clause-err : goal.returns-in_err-verdict-clause-err
+returns-in_err-verdict-clause-err c =
+    candidates-handed c.from_residual-in_err-verdict.result _ c.self.inside.judge c.args.self.now.test
+    (c.self.invariant.0 ∙ ap (λ (q : Question). q.test) c.self.view_is)
+    c.from_residual-in_err-verdict.ensures.1 c.in_err-verdict.ensures.err
+
+pub invariant_of-self-in_err-found : goal.invariant_of-self-in_err-found
+invariant_of-self-in_err-found c =
+    let t = c.self.inside.judge in
+    let known = subst (λ (u : Test). AreWitnesses u c.self.inside.store) (sym c.self.invariant.0) c.self.invariant.1 in
+    known-still c.verdict.new.self t (arc_value c.self.inside.question).test c.forbidden_or_stored.new.store c.self.inside.planned
+    c.in_ok-verdict.ensures.value c.self.invariant.0 (c.in_err-found.ensures.known t _ c.in_ok-verdict.ensures.ok known) c.self.invariant.2
+
+pub invariant_of-self-in_default-found : goal.invariant_of-self-in_default-found
+invariant_of-self-in_default-found c =
+    let t = c.self.inside.judge in
+    let known = subst (λ (u : Test). AreWitnesses u c.self.inside.store) (sym c.self.invariant.0) c.self.invariant.1 in
+    known-still c.verdict.new.self t (arc_value c.self.inside.question).test c.forbidden_or_stored.new.store c.self.inside.planned
+    c.in_ok-verdict.ensures.value c.self.invariant.0 (c.in_ok-found.ensures.known t _ c.in_ok-verdict.ensures.ok known) c.self.invariant.2
 
 pub invariant_of-self-in_err-new : goal.invariant_of-self-in_err-new
 invariant_of-self-in_err-new c =
-    known-still c.judge_placement.new.judge c.self.inside.judge c.judge_placement.new.store c.self.inside.planned c.in_ok-found.ensures.judge
-    c.in_ok-found.ensures.known c.self.invariant.1
+    let t = c.self.inside.judge in
+    let known = subst (λ (u : Test). AreWitnesses u c.self.inside.store) (sym c.self.invariant.0) c.self.invariant.1 in
+    known-still c.verdict.new.self t (arc_value c.self.inside.question).test c.forbidden_or_stored.new.store c.self.inside.planned
+    c.in_ok-verdict.ensures.value c.self.invariant.0 (c.in_ok-found.ensures.known t _ c.in_ok-verdict.ensures.ok known) c.self.invariant.2
+
+pub invariant_of-self-2 : goal.invariant_of-self-2
+invariant_of-self-2 c =
+    let t = c.self.inside.judge in
+    let known = subst (λ (u : Test). AreWitnesses u c.self.inside.store) (sym c.self.invariant.0) c.self.invariant.1 in
+    let still = known-still c.verdict.new.self t (arc_value c.self.inside.question).test c.forbidden_or_stored.new.store c.self.inside.planned
+    c.in_ok-verdict.ensures.value c.self.invariant.0 (c.in_ok-found.ensures.known t _ c.in_ok-verdict.ensures.ok known) c.self.invariant.2 in
+    let postable : IsPostable t c.in-Some-found.forbidden =
+    subst (λ (found : Option Refuted). IfSome found (IsPostable t)) c.in-Some-found.is (c.in_ok-found.ensures.ok t _ c.in_ok-verdict.ensures.ok) in (
+      still.0,
+      still.1,
+      subst (IsPostable (arc_value c.self.inside.question).test) (sym c.in_ok-new.ensures.ok)
+          (subst (λ (u : Test). IsPostable u c.in-Some-found.forbidden) c.self.invariant.0 postable),
+    )

@@ -1,18 +1,28 @@
+use Rattle.std.proofs.Common.{◌∙◌, ap, sym, subst}
+use Rattle.std.specs.Arc.{arc_value}
+use Rattle.fs_model.specs.declared.test.Test.{Test}
+use Rattle.fs_cert_evidence.specs.Evidence.{Question}
+use Rattle.fs_board.specs.Growth.{AreWitnesses}
 use Rattle.fs_board_search.proofs.Handed.{candidates-handed}
 use Rattle.fs_board_search.proofs.Scouts.{known-still}
 use Rattle.fs_board_search.proofs.scout.Scout.judged.Goals as goal
 
+pub judge_floor-requires-clause-known : goal.judge_floor-requires-clause-known
+judge_floor-requires-clause-known c =
+    subst (λ (t : Test). AreWitnesses t c.self.inside.store) (sym c.self.invariant.0) c.self.invariant.1
+
 pub returns-in_err-found-clause-err : goal.returns-in_err-found-clause-err
 returns-in_err-found-clause-err c =
-    candidates-handed c.from_residual-in_err-found.result _ c.self.inside.judge c.args.self.now c.self.view_is
+    candidates-handed c.from_residual-in_err-found.result _ c.self.inside.judge c.args.self.now.test
+    (c.self.invariant.0 ∙ ap (λ (q : Question). q.test) c.self.view_is)
     c.from_residual-in_err-found.ensures.1 c.in_err-found.ensures.err
 
 pub invariant_of-self-in_err-new : goal.invariant_of-self-in_err-new
 invariant_of-self-in_err-new c =
-    known-still c.judge_floor.new.judge c.self.inside.judge c.judge_floor.new.store c.self.inside.planned c.in_ok-found.ensures.judge
-    c.in_ok-found.ensures.known c.self.invariant.1
+    known-still c.judge_floor.new.judge c.self.inside.judge (arc_value c.self.inside.question).test c.judge_floor.new.store c.self.inside.planned
+    c.in_ok-found.ensures.judge c.self.invariant.0 c.in_ok-found.ensures.known c.self.invariant.2
 
 pub invariant_of-self-2 : goal.invariant_of-self-2
 invariant_of-self-2 c =
-    known-still c.judge_floor.new.judge c.self.inside.judge c.judge_floor.new.store c.self.inside.planned c.in_ok-found.ensures.judge
-    c.in_ok-found.ensures.known c.self.invariant.1
+    known-still c.judge_floor.new.judge c.self.inside.judge (arc_value c.self.inside.question).test c.judge_floor.new.store c.self.inside.planned
+    c.in_ok-found.ensures.judge c.self.invariant.0 c.in_ok-found.ensures.known c.self.invariant.2

@@ -6,8 +6,9 @@ use Rattle.fs_board_search.proofs.scout.Scout.meet.Goals as goal
 
 pub invariant_of-self : goal.invariant_of-self
 invariant_of-self c = (
-  c.keep_all.ensures c.self.inside.judge.test
+  c.self.invariant.0,
+  c.keep_all.ensures (arc_value c.self.inside.question).test
       (subst (λ (q : Question). AreWitnesses q.test (map arc_value c.args.witnesses.now)) (sym c.self.view_is) c.requires)
-      c.self.invariant.0,
-  c.self.invariant.1,
+      c.self.invariant.1,
+  c.self.invariant.2,
 )
