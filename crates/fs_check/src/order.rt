@@ -63,10 +63,10 @@ pub fn check_order(
     }
 }
 
-/// The execution that a witness gives, as its runs and their order, where it is one of the test with the placement's
-/// fences that shows the outcome of its condition; nothing where the witness gives no such execution. A witness with
-/// another number of lists of choices than the test has harts gives none. The cost is that of `check_order` after
-/// reading. The error is F19.
+/// The execution that a witness gives, as its runs, with their final registers, and their order, where it is one of the
+/// test with the placement's fences that shows the outcome of its condition; nothing where the witness gives no such
+/// execution. A witness with another number of lists of choices than the test has harts gives none. The cost is that of
+/// `check_order` after reading. The error is F19.
 pub fn shown_by(
     alloc: Global,
     test: &Test,
@@ -76,6 +76,7 @@ pub fn shown_by(
     requires test { IsBounded test.now }
     requires starts { All IsStart test.now.starts }
     ensures ordered { IfOk result (λ found. IfSome found (IsOrdered test.now)) }
+    ensures last { IfOk result (λ found. IfSome found (λ o. AreFinal test.now o.candidate.traces)) }
     ensures some { (w : Witness) → KeepsWitness file.now w → IfOk result (λ found.
         IfSome found (λ o. ShowsAs test.now placement.now w (execution_in o))) }
     ensures none { (w : Witness) → KeepsWitness file.now w → IfOk result (λ found.
@@ -102,6 +103,7 @@ fn shown_in(
     requires test { IsBounded test.now }
     requires whole { IsWholeFile test.now file.now traces }
     ensures ordered { IfOk result (λ found. IfSome found (IsOrdered test.now)) }
+    ensures last { IfOk result (λ found. IfSome found (λ o. AreFinal test.now o.candidate.traces)) }
     ensures some { (w : Witness) → KeepsWitness file.now w → IfOk result (λ found.
         IfSome found (λ o. ShowsAs test.now placement.now w (execution_in o))) }
     ensures none { (w : Witness) → KeepsWitness file.now w → IfOk result (λ found.

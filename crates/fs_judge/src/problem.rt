@@ -6,6 +6,7 @@ ghost use Rattle.fs_kinds.specs.declared.fault.Fault.{Fault};
 ghost use Rattle.fs_kinds.specs.declared.fault.Fault.TheVariants.{Memory};
 ghost use Rattle.fs_kinds.specs.Placement.{slots_of};
 ghost use Rattle.fs_model.specs.Slots.{slots};
+ghost use Rattle.fs_model.specs.OfTests.{program_of};
 ghost use Rattle.fs_model.specs.Test.{IsBounded, IsStart};
 ghost use Rattle.fs_model.specs.TooMany.{IsRunFault};
 ghost use Rattle.fs_cert_evidence.specs.CandidateFaults.{IsCandidateFault};
@@ -104,6 +105,23 @@ impl Problem {
         })
     }
 
+    /// The problem of another test with the same program, whose runs are these. The error is F19. The cost is that of
+    /// `Basis::asking` and of `Hunter::asking`.
+    pub fn asking(&self, alloc: Global, test: Arc<Test>) -> Result<Problem, Fault>
+        requires bounded { IsBounded (arc_value test) }
+        requires same { program_of self.now ≡ program_of (arc_value test) }
+        ensures value { IfOk result (λ p. p ≡ arc_value test) }
+        ensures err { IsOkUnless result Memory }
+    {
+        let basis = self.basis.asking(alloc, &test)?;
+        let hunter = self.hunter.asking(alloc, &test, basis.runs())?;
+        Ok(Problem {
+            test,
+            basis,
+            hunter,
+        })
+    }
+
     /// The same as of `Problem::new`, to be shared by several judges.
     pub fn shared(alloc: Global, test: Arc<Test>) -> Result<Arc<Problem>, Fault>
         requires bounded { IsBounded (arc_value test) }
@@ -120,6 +138,7 @@ impl Problem {
     pub fn test(&self) -> &Test
         ensures value { result.now ≡ self.now }
         ensures bounded { IsBounded self.now }
+        ensures starts { All IsStart self.now.starts }
     {
         &self.test
     }
@@ -179,6 +198,24 @@ impl Problem {
     {
         let _ = &self.test;
         verdict_by_list(alloc, &self.test, placement, first)
+    }
+
+    /// The verdict of a judge that has judged nothing, which is the soonest: of several executions any is the witness.
+    pub fn judged(
+        &self,
+        alloc: Global,
+        placement: &Placement,
+        first: &[Slot],
+    ) -> Result<Verdict, Fault>
+        requires { slots_of placement.now ≡ slots self.now }
+        ensures ok { IfOk result (IsVerdict self.now placement.now) }
+        ensures err { IfErr result (λ f. f ≢ Memory → IsCandidateFault self.now f) }
+    {
+        match self.sought(alloc, placement)? {
+            Sought::Refuted(inferences) => self.refuted(placement, inferences),
+            Sought::Shown(known) => self.shown(alloc, &known, placement, first),
+            Sought::Nothing => self.by_list(alloc, placement, first),
+        }
     }
 
     /// Whether the placement, one of the test's slots, forbids the outcome. A hunt finds a refutation, or of the

@@ -6,7 +6,6 @@ use Rattle.fs_kinds.specs.declared.fault.Fault.{Fault}
 use Rattle.fs_kinds.specs.declared.placement.Entry.{Entry}
 use Rattle.fs_model.specs.declared.outcome.Outcome.{Outcome}
 use Rattle.fs_model.specs.declared.test.Test.{Test}
-use Rattle.fs_model.specs.declared.test.Quantifier.TheVariants.{Exists}
 use Rattle.fs_model.specs.Allows.{Allows, Shows}
 use Rattle.fs_model.specs.Condition.{condition_of, nesting, SpeaksOf}
 use Rattle.fs_model.specs.Execution.{pre_execution}
@@ -19,7 +18,7 @@ use Rattle.fs_judge_final_states.specs.declared.place.Place.{Place}
 use Rattle.fs_judge_final_states.specs.declared.state.State.{State}
 use Rattle.fs_judge_final_states.specs.States.{word_of, IsPlaceOf, IsState}
 use Rattle.fs_judge_final_states.specs.inner.Parts.{is_in, with_condition, AsksFor, EndsIn, IsFoundIn}
-use Rattle.fs_judge_final_states.proofs.Conditions.{back, candidate_fault, execution, given}
+use Rattle.fs_judge.proofs.Conditions.{back, candidate_fault, execution, given}
 
 -- what holds of the error handed on holds of the result
 pub handed : {T : Type 0} (r : Result T Fault) (fault : Fault) (P : Fault → Type 0) → IsErrAnd r (λ f. f ≡ fault) → P fault → IfErr r P
@@ -65,8 +64,8 @@ module _ (t : Test) (places : List Place) (part : List Atom) (asked : Test) (ask
       let says = asks_for.holds (final_register t e.traces) (final_word (pre_execution t e.traces) e.order) in (
         (
           e,
-          back (λ u. _) (given state.witness.witness e) t Exists asks_for.condition own.1,
-          back (λ u. _) (execution p e) t Exists asks_for.condition own.2.execution,
+          back (λ u. _) (given state.witness.witness e) t (with_condition asks_for.condition t) own.1,
+          back (λ u. _) (execution p e) t (with_condition asks_for.condition t) own.2.execution,
           own.3,
         ),
         sym (says ∙ ap (is_in part) own.3) ∙ own.2.outcome,
@@ -76,7 +75,7 @@ module _ (t : Test) (places : List Place) (part : List Atom) (asked : Test) (ask
   none_in p forbidden s h inside =
       let e = h.0 in
       let own : Shows (with_condition asks_for.condition t) p e = record {
-        execution = execution p e t Exists asks_for.condition h.1;
+        execution = execution p e t (with_condition asks_for.condition t) h.1;
         outcome =
             asks_for.holds (final_register t e.traces) (final_word (pre_execution t e.traces) e.order)
             ∙ ap (is_in part) h.2
@@ -86,7 +85,7 @@ module _ (t : Test) (places : List Place) (part : List Atom) (asked : Test) (ask
 
   pub same_fault : (f : Fault) → IsCandidateFault asked f → IsCandidateFault t f
   same_fault f h =
-      back (λ u. IsCandidateFault u f) (candidate_fault f) t Exists asks_for.condition
+      back (λ u. IsCandidateFault u f) (candidate_fault f) t (with_condition asks_for.condition t)
       (subst (λ (u : Test). IsCandidateFault u f) asks_for.same h)
 
 if_some : {X : Type 0} (found : Option X) (P Q : X → Type 0) → ((x : X) → P x → Q x) → IfSome found P → IfSome found Q

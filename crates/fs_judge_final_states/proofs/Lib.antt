@@ -1,8 +1,6 @@
 pub mod Halves
 mod Kept
 pub mod Balanced
-pub mod Ending
-pub mod Conditions
 pub mod Asking
 pub mod Covered
 mod Many

@@ -1,27 +1,24 @@
 //! The state in which the execution of a witness ends.
 
-ghost use Rattle.std.specs.Prelude.{◌≡◌, ◌<◌, All, map, length, IfOk, IsOkUnless};
+ghost use Rattle.std.specs.Prelude.{◌≡◌, All, map, IfOk, IsOkUnless};
 ghost use Rattle.fs_kinds.specs.declared.fault.Fault.TheVariants.{Memory};
 ghost use Rattle.fs_model.specs.Test.{IsBounded, IsStart};
-ghost use Rattle.fs_model.specs.Execution.{pre_execution};
-ghost use Rattle.fs_model.specs.Shows.{final_register, final_word};
 ghost use Rattle.fs_model.specs.Witness.{Witness as Witnesses};
 ghost use Rattle.fs_cert_evidence.specs.Shown.{IsShownBy};
 ghost use Rattle.fs_cert_evidence.specs.WitnessFile.{KeepsWitness, in_range};
+ghost use Rattle.fs_model_axioms.specs.Final.{AreFinal};
 ghost use Rattle.fs_check.specs.Ordered.{IsOrdered, execution_in};
 ghost use Rattle.fs_judge.specs.Verdicts.{IsShownWith};
-ghost use Rattle.fs_judge_final_states.specs.States.{word_at, state_of, ArePlacesOf, IsPlaceOf};
-ghost use Rattle.fs_judge_final_states.specs.inner.Parts.{IsGivenBy, EndsIn};
+ghost use Rattle.fs_judge_final_states.specs.States.{word_at, state_of};
+ghost use Rattle.fs_judge_final_states.specs.inner.Parts.{EndsIn};
 
 use crate::place::Place;
 use crate::state::State;
-use fs_cert_evidence::{Choices, Names, Witness, WitnessFile};
+use fs_cert_evidence::{Names, Witness, WitnessFile};
 use fs_check::{OrderedCandidate, shown_by};
-use fs_hart::{Run, trace_of};
-use fs_instr::Reg;
 use fs_kinds::{Fault, List, OperationName, Placement};
 use fs_model::Test;
-use fs_model_axioms::final_word;
+use fs_model_axioms::{final_register, final_word};
 use std::alloc::{AllocError, Global};
 
 /// The name, which each byte can be part of.
@@ -41,59 +38,21 @@ fn all_named(
     order.iter().map(|name| named(*name)).collect(alloc)
 }
 
-/// The final word of a hart's register, where these choices make its run.
-fn register_word(
-    alloc: Global,
-    test: &Test,
-    choices: &[Choices],
-    ordered: &OrderedCandidate,
-    hart: u8,
-    reg: Reg,
-) -> Result<u32, Fault>
-    requires test { IsBounded test.now }
-    requires starts { All IsStart test.now.starts }
-    requires hart { hart < length test.now.codes }
-    requires given { IsGivenBy test.now choices.now (execution_in ordered.now) }
-    ensures ok { IfOk result (λ word. word ≡ final_register test.now (execution_in ordered.now).traces hart reg) }
-    ensures err { IsOkUnless result Memory }
-{
-    let _ = ordered;
-    match trace_of(alloc, test, hart, choices[usize::from(hart)].as_slice())? {
-        Run::Whole(trace) => Ok(trace.final_reg(reg)),
-        _ => unreachable!(),
-    }
-}
-
-/// The final word of a location.
-fn location_word(test: &Test, ordered: &OrderedCandidate, location: u8) -> u32
-    requires { IsOrdered test.now ordered.now }
-    ensures { result ≡ final_word (pre_execution test.now (execution_in ordered.now).traces)
-        (execution_in ordered.now).order location }
+/// The final word at a place.
+fn word_at(test: &Test, ordered: &OrderedCandidate, place: Place) -> u32
+    requires ordered { IsOrdered test.now ordered.now }
+    requires last { AreFinal test.now ordered.now.candidate.traces }
+    ensures { result ≡ word_at test.now (execution_in ordered.now) place }
 {
     let _ = test;
-    let operations = ordered.candidate.operations.as_slice();
-    final_word(operations, ordered.order.order(), location)
-}
-
-/// The final word at a place.
-fn word_at(
-    alloc: Global,
-    test: &Test,
-    choices: &[Choices],
-    ordered: &OrderedCandidate,
-    place: Place,
-) -> Result<u32, Fault>
-    requires test { IsBounded test.now }
-    requires starts { All IsStart test.now.starts }
-    requires place { IsPlaceOf (length test.now.codes) (length test.now.locations) place }
-    requires ordered { IsOrdered test.now ordered.now }
-    requires given { IsGivenBy test.now choices.now (execution_in ordered.now) }
-    ensures ok { IfOk result (λ word. word ≡ word_at test.now (execution_in ordered.now) place) }
-    ensures err { IsOkUnless result Memory }
-{
+    let candidate = &ordered.candidate;
     match place {
-        Place::Register { hart, reg } => { register_word(alloc, test, choices, ordered, hart, reg) }
-        Place::Location(location) => Ok(location_word(test, ordered, location)),
+        Place::Register { hart, reg } => final_register(candidate.traces.as_slice(), hart, reg),
+        Place::Location(location) => final_word(
+            candidate.operations.as_slice(),
+            ordered.order.order(),
+            location,
+        ),
     }
 }
 
@@ -101,21 +60,16 @@ fn word_at(
 fn words_at(
     alloc: Global,
     test: &Test,
-    choices: &[Choices],
     ordered: &OrderedCandidate,
     places: &[Place],
-) -> Result<List<u32>, Fault>
-    requires test { IsBounded test.now }
-    requires starts { All IsStart test.now.starts }
-    requires places { ArePlacesOf test.now places.now }
+) -> Result<List<u32>, AllocError>
     requires ordered { IsOrdered test.now ordered.now }
-    requires given { IsGivenBy test.now choices.now (execution_in ordered.now) }
-    ensures ok { IfOk result (λ words. words ≡ state_of test.now places.now (execution_in ordered.now)) }
-    ensures err { IsOkUnless result Memory }
+    requires last { AreFinal test.now ordered.now.candidate.traces }
+    ensures { IfOk result (λ words. words ≡ state_of test.now places.now (execution_in ordered.now)) }
 {
     let mut words = Vec::new(alloc);
     for place in places {
-        words.push(word_at(alloc, test, choices, ordered, *place)?)?;
+        words.push(word_at(test, ordered, *place))?;
     }
     Ok(List::new(words))
 }
@@ -130,7 +84,6 @@ fn words_of(
 ) -> Result<List<u32>, Fault>
     requires test { IsBounded test.now }
     requires starts { All IsStart test.now.starts }
-    requires places { ArePlacesOf test.now places.now }
     requires shown { (w : Witnesses) × KeepsWitness file.now w × IsShownBy test.now placement.now w }
     ensures ok { (w : Witnesses) → KeepsWitness file.now w → IfOk result (EndsIn test.now placement.now places.now w) }
     ensures err { IsOkUnless result Memory }
@@ -138,11 +91,11 @@ fn words_of(
     let Some(ordered) = shown_by(alloc, test, placement, file)? else {
         unreachable!()
     };
-    words_at(alloc, test, file.choices.as_slice(), &ordered, places)
+    Ok(words_at(alloc, test, &ordered, places)?)
 }
 
-/// The state in which the execution of the witness ends. The cost is that of `shown_by`, and for each place a run of a
-/// hart, or linear in the operations. The error is F19.
+/// The state in which the execution of the witness ends. The cost is that of `shown_by`, and for each place at
+/// most linear in the operations. The error is F19.
 pub(crate) fn ended(
     alloc: Global,
     test: &Test,
@@ -152,7 +105,6 @@ pub(crate) fn ended(
 ) -> Result<State, Fault>
     requires test { IsBounded test.now }
     requires starts { All IsStart test.now.starts }
-    requires places { ArePlacesOf test.now places.now }
     requires shown { IsShownWith test.now placement.now witness }
     ensures ok { IfOk result (λ state. EndsIn test.now placement.now places.now state.witness.witness state.words) }
     ensures err { IsOkUnless result Memory }

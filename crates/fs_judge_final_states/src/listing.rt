@@ -21,9 +21,9 @@ use crate::place::Place;
 use crate::sought::sought;
 use crate::splitting::split;
 use crate::state::State;
+use fs_judge::Problem;
 use fs_kinds::{Fault, List, Placement};
 use fs_model::Test;
-use fs_region_refutation::Basis;
 use std::alloc::{AllocError, Global};
 use std::sync::Arc;
 
@@ -53,38 +53,53 @@ fn begun(alloc: Global) -> Result<Listing, AllocError>
 /// asked later.
 fn advance(
     alloc: Global,
-    test: &Test,
+    problem: &Problem,
     placement: &Placement,
     places: &[Place],
     listing: &mut Listing,
     part: Part,
 ) -> Result<(), Fault>
-    requires bounded { IsBounded test.now }
-    requires starts { All IsStart test.now.starts }
-    requires placement { slots_of placement.now ≡ slots test.now }
-    requires places { ArePlacesOf test.now places.now }
-    requires listed { IsListed test.now placement.now places.now (states_in listing.old.known)
+    requires placement { slots_of placement.now ≡ slots problem.now }
+    requires places { ArePlacesOf problem.now places.now }
+    requires listed { IsListed problem.now placement.now places.now (states_in listing.old.known)
         (listing.old.parts.items ++ part ∷ []) }
     ensures ok { OnOk result
-        (IsListed test.now placement.now places.now (states_in listing.new.known) listing.new.parts.items) }
-    ensures err { IfErr result (λ f. f ≢ Memory → IsCandidateFault test.now f) }
+        (IsListed problem.now placement.now places.now (states_in listing.new.known) listing.new.parts.items) }
+    ensures err { IfErr result (λ f. f ≢ Memory → IsCandidateFault problem.now f) }
 {
-    if let Some(state) = sought(alloc, test, placement, places, part.as_slice())? {
+    if let Some(state) = sought(alloc, problem, placement, places, part.as_slice())? {
         split(alloc, &mut listing.parts, part, state.words.as_slice())?;
         keep(alloc, &mut listing.known, state)?;
     }
     Ok(())
 }
 
-/// Nothing, where the runs of the test's harts can be listed.
-fn check_runs(alloc: Global, test: &Arc<Test>) -> Result<(), Fault>
-    requires bounded { IsBounded (arc_value test.now) }
-    requires starts { All IsStart (arc_value test.now).starts }
-    ensures clean { OnOk result ((f : Faults) → IsRunFault (arc_value test.now) f → ⊥) }
-    ensures err { IfErr result (λ f. f ≢ Memory → IsRunFault (arc_value test.now) f) }
+/// The same as of `states`, of a problem: its test, whose runs can be listed.
+fn all_states(
+    alloc: Global,
+    problem: &Problem,
+    placement: &Placement,
+    places: &[Place],
+) -> Result<List<State>, Fault>
+    requires placement { slots_of placement.now ≡ slots problem.now }
+    requires places { ArePlacesOf problem.now places.now }
+    requires clean { (f : Faults) → IsRunFault problem.now f → ⊥ }
+    ensures ok { IfOk result (λ found. AreStates problem.now placement.now places.now (words_of found)) }
+    ensures shown { IfOk result (All (IsShownState problem.now placement.now places.now)) }
+    ensures few { IfOk result (λ found. length found ≤ most_states) }
+    ensures err { IfErr result (λ f. f ≢ Memory → IsStatesFault problem.now placement.now places.now f) }
 {
-    let _runs = Basis::new(alloc, test)?;
-    Ok(())
+    let mut listing = begun(alloc)?;
+    for _ in 0..u64::MAX {
+        if listing.known.len() > MOST_STATES {
+            return Err(Fault::TooManyCandidates);
+        }
+        let Some(part) = listing.parts.pop() else {
+            return Ok(listed(alloc, listing.known)?);
+        };
+        advance(alloc, problem, placement, places, &mut listing, part)?;
+    }
+    Err(Fault::Memory) // no list of so many states takes so many steps
 }
 
 /// Which final states RVWMO allows the test with the placement's fences: of each state in which some execution ends
@@ -96,9 +111,9 @@ fn check_runs(alloc: Global, test: &Arc<Test>) -> Result<(), Fault>
 /// more and there are too many candidates or lists of runs, where no hunt gives a verdict and there are too many
 /// candidates, or where there are more than 200,000 states; or F19.
 ///
-/// The cost: a verdict for each state, and one for each beginning of a state that isn't whole, on the test with
-/// another condition. No verdict shares anything with another one: each is that of `Problem::new` and
-/// `Judge::verdict` of fs_judge. Each is kept in a number of steps that is logarithmic in the states.
+/// The cost: that of `Problem::new` of fs_judge, and a verdict for each state, and for each beginning of a state that
+/// isn't whole, on the test with another condition. Verdicts share the runs alone: each is that of `Problem::asking`
+/// and `Problem::judged`. Each state is kept in a number of steps that is logarithmic in the states.
 pub fn states(
     alloc: Global,
     test: &Arc<Test>,
@@ -115,16 +130,6 @@ pub fn states(
     ensures few { IfOk result (λ found. length found ≤ most_states) }
     ensures err { IfErr result (λ f. f ≢ Memory → IsStatesFault (arc_value test.now) placement.now places.now f) }
 {
-    check_runs(alloc, test)?;
-    let mut listing = begun(alloc)?;
-    for _ in 0..u64::MAX {
-        if listing.known.len() > MOST_STATES {
-            return Err(Fault::TooManyCandidates);
-        }
-        let Some(part) = listing.parts.pop() else {
-            return Ok(listed(alloc, listing.known)?);
-        };
-        advance(alloc, test, placement, places, &mut listing, part)?;
-    }
-    Err(Fault::Memory) // no list of so many states takes so many steps
+    let problem = Problem::new(alloc, Arc::try_clone(test)?)?;
+    all_states(alloc, &problem, placement, places)
 }

@@ -97,13 +97,10 @@ impl<'a> Outlook<'a> {
         truth
     }
 
-    /// The runs of the hart with which the atom of this number is true.
-    pub(crate) fn atom_row(&self, hart: u8, node: usize) -> &'a [u64] {
-        let Some(found) = self.field.harts.get(usize::from(hart)) else {
-            return &[];
-        };
-        match found.atoms.iter().find(|atom| atom.node == node) {
-            Some(atom) => atom.row.as_slice(),
+    /// The runs of its hart with which the atom of this number is true.
+    pub(crate) fn atom_row(&self, node: usize) -> &'a [u64] {
+        match self.field.atoms.get(node) {
+            Some(row) => row.as_slice(),
             None => &[],
         }
     }
@@ -120,7 +117,7 @@ impl<'a> Outlook<'a> {
             },
             Part::Register { hart, .. } => {
                 let row = self.region.row(hart);
-                let atom = self.atom_row(hart, number);
+                let atom = self.atom_row(number);
                 Truth {
                     yes: do_meet(row, atom),
                     no: !is_within(row, atom),

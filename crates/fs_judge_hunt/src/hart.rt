@@ -10,17 +10,10 @@ use crate::forms::{Form, forms};
 use crate::rows::{Row, no_run, put, words_for};
 use crate::rules::{Asked, Forwarded, Numbered, Rule, names_of, no_fence};
 use fs_instr::Reg;
-use fs_kinds::{Fault, MOST_LOCATIONS, OperationName};
+use fs_kinds::{Fault, List, MOST_LOCATIONS, OperationName};
 use fs_model::Test;
 use fs_region_runs::Lone;
 use std::alloc::{AllocError, Global};
-
-/// The runs with which an atom of the condition on a register of the hart is true.
-#[derive(Drop)]
-pub struct Atom {
-    pub node: usize,
-    pub row: Row,
-}
 
 /// The runs of one hart.
 #[derive(Drop)]
@@ -36,7 +29,6 @@ pub struct Hart {
     pub forwarded: Vec<Forwarded>,
     /// The fences that the code has.
     pub written: Vec<Barrier>,
-    pub atoms: Vec<Atom>,
 }
 
 fn all_runs(alloc: Global, words: usize, count: usize) -> Result<Row, AllocError> {
@@ -47,14 +39,8 @@ fn all_runs(alloc: Global, words: usize, count: usize) -> Result<Row, AllocError
     Ok(row)
 }
 
-fn ending_with(
-    alloc: Global,
-    words: usize,
-    runs: &[Lone],
-    register: Reg,
-    word: u32,
-) -> Result<Row, AllocError> {
-    let mut row = no_run(alloc, words)?;
+fn ending_with(alloc: Global, runs: &[Lone], register: Reg, word: u32) -> Result<Row, AllocError> {
+    let mut row = no_run(alloc, words_for(runs.len()))?;
     for (number, run) in runs.iter().enumerate() {
         if run.final_register(register) == word {
             put(&mut row, number);
@@ -63,30 +49,33 @@ fn ending_with(
     Ok(row)
 }
 
-fn atoms(
+/// For each part of a condition that speaks of a register, the runs of its hart with which it is true; for another part
+/// no row. The cost: for each such part the runs of the hart.
+pub fn atom_rows(
     alloc: Global,
-    words: usize,
-    own: u8,
-    runs: &[Lone],
+    runs: &[List<Lone>],
     nodes: &[Node],
-) -> Result<Vec<Atom>, AllocError> {
-    let mut atoms = Vec::new(alloc);
-    for (number, node) in nodes.iter().enumerate() {
-        if let Part::Register {
-            hart,
-            register,
-            word,
-        } = node.part
-        {
-            if hart == own {
-                atoms.push(Atom {
-                    node: number,
-                    row: ending_with(alloc, words, runs, register, word)?,
-                })?;
-            }
-        }
+) -> Result<Vec<Row>, AllocError> {
+    let mut rows = Vec::new(alloc);
+    for node in nodes {
+        rows.push(atom_row(alloc, runs, node.part)?)?;
     }
-    Ok(atoms)
+    Ok(rows)
+}
+
+fn atom_row(alloc: Global, runs: &[List<Lone>], part: Part) -> Result<Row, AllocError> {
+    let Part::Register {
+        hart,
+        register,
+        word,
+    } = part
+    else {
+        return Ok(Vec::new(alloc));
+    };
+    match runs.get(usize::from(hart)) {
+        Some(runs) => ending_with(alloc, runs.as_slice(), register, word),
+        None => Ok(Vec::new(alloc)),
+    }
 }
 
 /// What the runs do at each of the names, with the hart's own stores that loads may have.
@@ -133,15 +122,14 @@ fn rules(
     Ok((rules, forwarded))
 }
 
-/// What the runs of the hart of this number do. The names are all of the test's, and the nodes those of its condition.
-/// The cost: for each name of the hart the runs times the logarithm of how many different things they do there, and for
-/// each two names of it the rules of preserved program order, once for the runs that execute the same instructions and
-/// access the same locations. The error is F19.
+/// What the runs of the hart of this number do. The names are all of the test's. The cost: for each name of the hart
+/// the runs times the logarithm of how many different things they do there, and for each two names of it the rules of
+/// preserved program order, once for the runs that execute the same instructions and access the same locations. The
+/// error is F19.
 pub fn hart_of(
     alloc: Global,
     test: &Test,
     all_names: &[OperationName],
-    nodes: &[Node],
     hart: u8,
     runs: &[Lone],
 ) -> Result<Hart, Fault>
@@ -152,7 +140,6 @@ pub fn hart_of(
     let doings = doings(alloc, test, words, runs, &names)?;
     let forms = forms(alloc, words, runs)?;
     let (rules, forwarded) = rules(alloc, words, runs, &forms, &names)?;
-    let atoms = atoms(alloc, words, hart, runs, nodes)?;
     Ok(Hart {
         words,
         all: all_runs(alloc, words, runs.len())?,
@@ -162,7 +149,6 @@ pub fn hart_of(
         rules,
         forwarded,
         written: written(alloc, test, hart)?,
-        atoms,
     })
 }
 

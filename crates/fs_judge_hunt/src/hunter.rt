@@ -7,26 +7,38 @@ use crate::first::hunt_first;
 use crate::frames::{Hunted, hunt};
 use crate::region::Field;
 use crate::witness::{Execution, execution_of};
-use crate::{Hart, Node, Rule, all_fenced, hart_of, initial_word, may_store_often, nodes};
+use crate::{
+    Hart, Node, Row, Rule, all_fenced, atom_rows, hart_of, initial_word, may_store_often, nodes,
+};
 use fs_cert_evidence::Inference;
 use fs_kinds::{Fault, List, MOST_LOCATIONS, OperationName, Placement};
 use fs_model::{Quantifier, Test};
 use fs_region_runs::Lone;
 use std::alloc::{AllocError, Global};
+use std::sync::Arc;
 
 /// So many stores to one location are many.
 const MANY_STORES: usize = 11;
 
-/// What hunts over a test, made once: what each run of each hart does, as rows of bits. It borrows nothing.
+/// What each run of each hart does, as rows of bits: all that doesn't depend on the condition.
 #[derive(Drop)]
-pub struct Hunter {
+struct Runs {
     harts: Vec<Hart>,
     names: Vec<OperationName>,
-    nodes: Vec<Node>,
     words: Vec<u32>,
+    has_many_stores: bool,
+}
+
+/// What hunts over a test, made once: what its runs do, which tests with the same program share, and with which of them
+/// the parts of its condition are true. It borrows nothing.
+#[derive(Drop)]
+pub struct Hunter {
+    runs: Arc<Runs>,
+    nodes: Vec<Node>,
+    /// For each of the nodes.
+    atoms: Vec<Row>,
     /// The truth value that the condition has where the outcome is shown.
     truth: bool,
-    has_many_stores: bool,
 }
 
 /// What a hunt comes to.
@@ -44,7 +56,6 @@ fn harts(
     alloc: Global,
     test: &Test,
     names: &[OperationName],
-    nodes: &[Node],
     runs: &[List<Lone>],
 ) -> Result<Vec<Hart>, Fault>
     ensures err { IsOkUnless result Memory }
@@ -52,7 +63,7 @@ fn harts(
     let mut harts = Vec::new(alloc);
     let mut number: u8 = 0;
     for runs in runs {
-        harts.push(hart_of(alloc, test, names, nodes, number, runs.as_slice())?)?;
+        harts.push(hart_of(alloc, test, names, number, runs.as_slice())?)?;
         number = number.saturating_add(1);
     }
     Ok(harts)
@@ -73,6 +84,23 @@ fn copied(alloc: Global, names: &[OperationName]) -> Result<Vec<OperationName>, 
     Ok(copy)
 }
 
+/// What hunts over the test, where this is what its runs do.
+fn over(
+    alloc: Global,
+    test: &Test,
+    known: Arc<Runs>,
+    runs: &[List<Lone>],
+) -> Result<Hunter, AllocError> {
+    let nodes = nodes(alloc, &test.condition)?;
+    let atoms = atom_rows(alloc, runs, &nodes)?;
+    Ok(Hunter {
+        runs: known,
+        nodes,
+        atoms,
+        truth: test.quantifier != Quantifier::Forall,
+    })
+}
+
 impl Hunter {
     /// What hunts over the test, with the names of its memory instructions and for each hart all of its runs, in choice
     /// order. The cost is that of `hart_of` of fs_judge_hunt for each hart. The error is F19.
@@ -84,33 +112,43 @@ impl Hunter {
     ) -> Result<Hunter, Fault>
         ensures err { IsOkUnless result Memory }
     {
-        let nodes = nodes(alloc, &test.condition)?;
-        let harts = harts(alloc, test, names, &nodes, runs)?;
+        let harts = harts(alloc, test, names, runs)?;
         let has_many_stores = may_store_often(&harts, MANY_STORES);
-        Ok(Hunter {
+        let known = Runs {
             harts,
             names: copied(alloc, names)?,
-            nodes,
             words: initial_words(alloc, test)?,
-            truth: test.quantifier != Quantifier::Forall,
             has_many_stores,
-        })
+        };
+        Ok(over(alloc, test, Arc::new(alloc, known)?, runs)?)
+    }
+
+    /// What hunts over another test with the same program, and so the same runs. The cost: for each part of its
+    /// condition that speaks of a register, the runs of a hart.
+    pub fn asking(
+        &self,
+        alloc: Global,
+        test: &Test,
+        runs: &[List<Lone>],
+    ) -> Result<Hunter, AllocError> {
+        over(alloc, test, Arc::try_clone(&self.runs)?, runs)
     }
 
     /// May some location get eleven stores or more? That is the sum, over the harts, of the most stores to it in one
     /// run. In constant time.
     pub fn has_many_stores(&self) -> bool {
-        self.has_many_stores
+        self.runs.has_many_stores
     }
 
     fn field<'a>(&'a self, fenced: &'a [Vec<Rule>]) -> Field<'a> {
         Field {
-            harts: &self.harts,
+            harts: &self.runs.harts,
             fenced,
             nodes: &self.nodes,
-            words: &self.words,
-            names: &self.names,
-            count: self.names.len().min(48) as u8,
+            atoms: &self.atoms,
+            words: &self.runs.words,
+            names: &self.runs.names,
+            count: self.runs.names.len().min(48) as u8,
         }
     }
 
@@ -121,7 +159,7 @@ impl Hunter {
         most: usize,
         first: bool,
     ) -> Result<Found, AllocError> {
-        let fenced = all_fenced(alloc, &self.harts, placement)?;
+        let fenced = all_fenced(alloc, &self.runs.harts, placement)?;
         let field = self.field(&fenced);
         let Some(root) = field.root(alloc, self.truth)? else {
             return Ok(Found::Refuted(List::new(Vec::new(alloc))));

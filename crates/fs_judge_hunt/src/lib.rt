@@ -37,7 +37,7 @@ pub use access::{
 pub use condition::{Node, Part, Wanted, left_of, nodes, right_of, within};
 pub use fences::{Barrier, all_fenced};
 pub use forms::{Form, Outline};
-pub use hart::{Atom, Hart, hart_of, may_store_often};
+pub use hart::{Hart, atom_rows, hart_of, may_store_often};
 pub use hunter::{Found, Hunter};
 pub use names::{MOST_NAMES, Origin, Relation, bit, has};
 pub use paths::{cycle, sorted, way};

@@ -95,7 +95,7 @@ impl Outlook<'_> {
 
     fn register_marks(&self, alloc: Global, hart: u8, number: usize) -> Result<Marks, AllocError> {
         let row = self.region.row(hart);
-        let atom = self.atom_row(hart, number);
+        let atom = self.atom_row(number);
         Ok(Marks {
             yes: both(alloc, row, atom)?,
             no: without(alloc, row, atom)?,

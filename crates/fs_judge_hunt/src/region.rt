@@ -1,7 +1,7 @@
 //! Regions: what is known of the candidates that are in one.
 
 use crate::{
-    Hart, Left, MOST_NAMES, Node, Origin, Relation, Rule, Wanted, are_same, both, is_empty,
+    Hart, Left, MOST_NAMES, Node, Origin, Relation, Row, Rule, Wanted, are_same, both, is_empty,
     left_with,
 };
 use fs_kinds::{List, OperationName};
@@ -15,6 +15,8 @@ pub(crate) struct Field<'a> {
     /// Rule 4 in each hart, with the placement.
     pub(crate) fenced: &'a [Vec<Rule>],
     pub(crate) nodes: &'a [Node],
+    /// For each of the nodes that is an atom on a register, the runs of its hart with which it is true.
+    pub(crate) atoms: &'a [Row],
     /// The words that locations begin with.
     pub(crate) words: &'a [u32],
     pub(crate) names: &'a [OperationName],

@@ -1,4 +1,5 @@
 pub mod Alike
+mod Asked
 pub mod Each
 pub mod Listed
 pub mod Lists

@@ -4,6 +4,7 @@ use Rattle.std.specs.List.{slice_index_or}
 use Rattle.fs_kinds.specs.declared.reason.OperationName.{OperationName as Name}
 use Rattle.fs_model.specs.declared.test.Test.{Test}
 use Rattle.fs_model.specs.declared.step.Step.{Step}
+use Rattle.fs_model.specs.OfTests.{program_of}
 use Rattle.fs_model.specs.Test.{IsBounded}
 use Rattle.fs_hart.specs.declared.trace.Trace.{Trace}
 use Rattle.fs_cert_evidence.specs.Regions.{Region, names}
@@ -36,6 +37,17 @@ AreRunsOfEach t lists = (hart : ℕ) → All (IsRun t hart) (slice_index_or list
 -- the runs of each hart, made ready
 abbrev pub AreReady : Test → List (List Trace) → List (List RunOf) → Type 0
 AreReady t lists runs = (hart : ℕ) → slice_index_or runs hart [] ≡ map (lone_of t hart) (slice_index_or lists hart [])
+
+-- ---- of another test with the same program
+
+abbrev pub HasProgramOf : Test → RunOf → Type 0
+HasProgramOf t run = program_of run.test ≡ program_of t
+
+abbrev pub asked_of : Test → RunOf → RunOf
+asked_of t run = record { test = t; hart = run.hart; steps = run.steps }
+
+abbrev pub all_asked : Test → List (List RunOf) → List (List RunOf)
+all_asked t = map (map (asked_of t))
 
 -- ---- what refutations of a test are over
 

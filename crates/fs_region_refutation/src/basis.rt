@@ -3,6 +3,7 @@
 ghost use Rattle.std.specs.Prelude.{◌≡◌, ◌≢◌, All, length, nat_lt, IfOk, OnOk, IfErr};
 ghost use Rattle.std.specs.Arc.{arc_value};
 ghost use Rattle.fs_kinds.specs.declared.fault.Fault.TheVariants.{Memory};
+ghost use Rattle.fs_model.specs.OfTests.{program_of};
 ghost use Rattle.fs_model.specs.Test.{IsBounded, IsStart};
 ghost use Rattle.fs_model.specs.TooMany.{IsRunFault};
 ghost use Rattle.fs_cert_evidence.specs.Regions.{names};
@@ -10,7 +11,7 @@ ghost use Rattle.fs_cert_evidence.specs.Trees.{AreItsRuns};
 ghost use Rattle.fs_values.specs.ThinAir.{CanBeListed};
 ghost use Rattle.fs_region_refutation.specs.Runs.{runs_over, AreOfEach};
 
-use crate::ready::all_ready;
+use crate::ready::{all_asked, all_ready};
 use fs_kinds::{Fault, List, OperationName};
 use fs_model::Test;
 use fs_region_runs::{Lone, names};
@@ -66,6 +67,22 @@ impl Basis {
         let lists = all_runs(alloc, test)?;
         let runs = all_ready(alloc, test, &lists)?;
         let names = names(alloc, test)?;
+        Ok(Basis {
+            test: shared(test)?,
+            runs,
+            names: List::new(names),
+        })
+    }
+
+    /// The same of another test with the same program, whose runs are these. The cost: two counts for each run, which
+    /// are shared.
+    pub fn asking(&self, alloc: Global, test: &Arc<Test>) -> Result<Basis, AllocError>
+        requires bounded { IsBounded (arc_value test.now) }
+        requires same { program_of self.now ≡ program_of (arc_value test.now) }
+        ensures { IfOk result (λ basis. basis ≡ arc_value test.now) }
+    {
+        let runs = all_asked(alloc, test, &self.runs)?;
+        let names = Vec::from_slice(alloc, self.names.as_slice())?;
         Ok(Basis {
             test: shared(test)?,
             runs,

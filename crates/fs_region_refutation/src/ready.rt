@@ -1,11 +1,12 @@
 //! Runs that are made ready to be asked.
 
-ghost use Rattle.std.specs.Prelude.{◌≡◌, All, length, map, IfOk, IsOkUnless};
+ghost use Rattle.std.specs.Prelude.{◌≡◌, ℕ, [], All, length, map, IfOk, IsOkUnless};
 ghost use Rattle.std.specs.Arc.{arc_value};
+ghost use Rattle.std.specs.List.{slice_index_or};
 ghost use Rattle.fs_kinds.specs.declared.fault.Fault.TheVariants.{Memory};
 ghost use Rattle.fs_model.specs.Test.{IsBounded};
 ghost use Rattle.fs_region_runs.specs.Alone.{IsRun};
-ghost use Rattle.fs_region_refutation.specs.Runs.{lone_of, AreReady, AreRunsOfEach};
+ghost use Rattle.fs_region_refutation.specs.Runs.{all_asked, asked_of, lone_of, AreReady, AreRunsOfEach, HasProgramOf};
 
 use fs_hart::{Steps, Trace};
 use fs_kinds::{Fault, List};
@@ -64,4 +65,32 @@ pub(crate) fn all_ready(
         runs.push(ready(alloc, test, hart as u8, traces.as_slice())?)?;
     }
     Ok(runs)
+}
+
+/// The same runs of a test with the same program.
+fn asked(alloc: Global, test: &Arc<Test>, runs: &[Lone]) -> Result<List<Lone>, AllocError>
+    requires { All (HasProgramOf (arc_value test.now)) runs.now }
+    ensures { IfOk result (λ made. made ≡ map (asked_of (arc_value test.now)) runs.now) }
+{
+    let mut made = Vec::new(alloc);
+    for run in runs {
+        made.push(run.asking(test)?)?;
+    }
+    Ok(List::new(made))
+}
+
+/// For each hart the same runs of a test with the same program. Two counts for each run.
+pub(crate) fn all_asked(
+    alloc: Global,
+    test: &Arc<Test>,
+    lists: &[List<Lone>],
+) -> Result<Vec<List<Lone>>, AllocError>
+    requires { (hart : ℕ) → All (HasProgramOf (arc_value test.now)) (slice_index_or lists.now hart []) }
+    ensures { IfOk result (λ made. made.items ≡ all_asked (arc_value test.now) lists.now) }
+{
+    let mut made = Vec::new(alloc);
+    for list in lists {
+        made.push(asked(alloc, test, list.as_slice())?)?;
+    }
+    Ok(made)
 }

@@ -5,5 +5,6 @@ mod Listed
 mod Named
 mod Others
 mod Positions
+pub mod Programs
 mod Ready
 mod Sources

@@ -5,6 +5,7 @@ ghost use Rattle.std.specs.Arc.{arc_value};
 ghost use Rattle.std.specs.Option.{option_copied};
 ghost use Rattle.fs_kinds.specs.declared.fault.Fault.TheVariants.{Memory};
 ghost use Rattle.fs_model.specs.Numbers.{is_same};
+ghost use Rattle.fs_model.specs.OfTests.{program_of};
 ghost use Rattle.fs_model.specs.Test.{IsBounded};
 ghost use Rattle.fs_model.specs.Preserved.{Rule, Rule8};
 ghost use Rattle.fs_model.specs.Shows.{final_register};
@@ -31,19 +32,25 @@ use std::alloc::{AllocError, Global};
 use std::marker::Model;
 use std::sync::Arc;
 
-/// One run of one hart of a test, made ready to be asked what it does at each position of the code, and which rules of
-/// preserved program order hold in it. It keeps the run, its operations and dependencies, and registers for each hart.
-/// Contracts see the test, the hart and the steps.
+/// What a run is asked: all that doesn't depend on the test's condition.
 #[derive(Drop)]
-pub struct Lone {
-    test: Arc<Test>,
-    hart: u8,
+struct Made {
     // The run, and empty runs of the other harts. No load has a source.
     candidate: Candidate,
     // By positions of the code: the place of the step that executes the instruction there.
     places: Table,
     // And the number of the operation that this is.
     numbers: Table,
+}
+
+/// One run of one hart of a test, made ready to be asked what it does at each position of the code, and which rules of
+/// preserved program order hold in it. It keeps the run, its operations and dependencies, and registers for each hart,
+/// and shares them with the same run of tests with the same program. Contracts see the test, the hart and the steps.
+#[derive(Drop)]
+pub struct Lone {
+    test: Arc<Test>,
+    hart: u8,
+    made: Arc<Made>,
 }
 
 /// The same test.
@@ -67,12 +74,13 @@ impl Model for Lone {
     ghost view = { λ l. record {
       test = arc_value l.test;
       hart = l.hart;
-      steps = steps_of (steps_in l.candidate.traces) l.hart;
+      steps = steps_of (steps_in (arc_value l.made).candidate.traces) l.hart;
     } };
 
     ghost coded = { Prim.hlevel (codes, outcome.the_row.coded) };
 
-    ghost invariant = { λ l. IsReady (arc_value l.test) l.hart l.candidate l.places.items l.numbers.items };
+    ghost invariant = { λ l. IsReady (arc_value l.test) l.hart (arc_value l.made).candidate
+        (arc_value l.made).places.items (arc_value l.made).numbers.items };
 }
 
 impl Lone {
@@ -91,12 +99,28 @@ impl Lone {
         let operations = candidate.operations.as_slice();
         let places = places(alloc, positions, steps)?;
         let numbers = numbers(alloc, positions, hart, steps, operations)?;
-        Ok(Lone {
-            test: shared(test)?,
-            hart,
+        let made = Made {
             candidate,
             places,
             numbers,
+        };
+        Ok(Lone {
+            test: shared(test)?,
+            hart,
+            made: Arc::new(alloc, made)?,
+        })
+    }
+
+    /// The same run of a test with the same program. In constant time.
+    pub fn asking(&self, test: &Arc<Test>) -> Result<Lone, AllocError>
+        requires { program_of self.now.test ≡ program_of (arc_value test.now) }
+        ensures { IfOk result (λ lone. lone
+            ≡ record { test = arc_value test.now; hart = self.now.hart; steps = self.now.steps }) }
+    {
+        Ok(Lone {
+            test: shared(test)?,
+            hart: self.hart,
+            made: Arc::try_clone(&self.made)?,
         })
     }
 
@@ -111,14 +135,14 @@ impl Lone {
     pub fn steps(&self) -> &[Step]
         ensures { result.now ≡ self.now.steps }
     {
-        steps_of(self.candidate.traces.as_slice(), Some(self.hart))
+        steps_of(self.made.candidate.traces.as_slice(), Some(self.hart))
     }
 
     /// The step that executes the instruction at this position of the code.
     fn step_at(&self, at: u8) -> Option<&Step>
         ensures { option_copied result ≡ step_at self.now.steps at }
     {
-        step_of(self.steps(), listed_at(&self.places, at))
+        step_of(self.steps(), listed_at(&self.made.places, at))
     }
 
     /// The address that the run accesses at this position of the code. In constant time.
@@ -165,7 +189,7 @@ impl Lone {
         ensures { result ≡ final_register self.now.test (traces_of self.now.test self.now.hart self.now.steps)
             self.now.hart register }
     {
-        match self.candidate.traces.get(usize::from(self.hart)) {
+        match self.made.candidate.traces.get(usize::from(self.hart)) {
             Some(trace) => trace.final_reg(register),
             None => 0,
         }
@@ -176,7 +200,7 @@ impl Lone {
         ensures { result ≡ number_of (execution_of self.now) name }
     {
         if name.hart == self.hart {
-            listed_at(&self.numbers, name.at)
+            listed_at(&self.made.numbers, name.at)
         } else {
             None
         }
@@ -236,7 +260,7 @@ impl Lone {
                     store: self.own_store(second.source),
                 };
                 let (a, b) = (usize::from(a), usize::from(b));
-                is_ordered(&self.candidate, placement, rule, a, b, returned)
+                is_ordered(&self.made.candidate, placement, rule, a, b, returned)
             }
             _ => false,
         }
@@ -249,7 +273,7 @@ impl Lone {
             ≡ is_rule self.now.test region [] Rule8 load store (execution_of self.now) }
     {
         match (self.number_of(load), self.number_of(store)) {
-            (Some(a), Some(b)) => rule(8, &self.candidate, usize::from(a), usize::from(b)),
+            (Some(a), Some(b)) => rule(8, &self.made.candidate, usize::from(a), usize::from(b)),
             _ => false,
         }
     }

@@ -2,7 +2,7 @@
 use Rattle.std.specs.Prelude.{◌≡◌, ℕ, ◌<◌, ◌==◌, ◌⊎◌, Bool, true, false, not, ◌&&◌, Some, List, [], All, length, map, slice_get, Vec}
 use Rattle.std.specs.BTreeMap.{BTreeMap}
 use Rattle.std.specs.declared.alloc.Global.{Global}
-use Rattle.std.specs.List.{Contains, list_all, list_any, slice_index_or}
+use Rattle.std.specs.List.{Contains, list_all, list_any}
 use Rattle.std.specs.List.Sorted.{IsStrictlySortedBy}
 use Rattle.std.specs.Ordering.{nat_cmp}
 use Rattle.std.specs.Cmp.Lexicographic.{slice_cmp}
@@ -10,15 +10,13 @@ use Rattle.fs_kinds.specs.declared.placement.Entry.{Entry}
 use Rattle.fs_model.specs.declared.outcome.Outcome.{Outcome}
 use Rattle.fs_model.specs.declared.test.Test.{Test}
 use Rattle.fs_model.specs.declared.test.Quantifier.TheVariants.{Exists}
-use Rattle.fs_model.specs.declared.step.Choice.{Choice}
 use Rattle.fs_model.specs.Condition.{condition_of}
 use Rattle.fs_model.specs.Numbers.{is_same}
 use Rattle.fs_model.specs.Shows.{holds}
 use Rattle.fs_model.specs.Test.{IsBounded}
 use Rattle.fs_model.specs.Allows.{Shows}
 use Rattle.fs_model.specs.Execution.{Execution}
-use Rattle.fs_model.specs.Operations.{steps_of}
-use Rattle.fs_model.specs.Witness.{Witness, Chooses, IsOfWitness}
+use Rattle.fs_model.specs.Witness.{Witness, IsOfWitness}
 use Rattle.fs_cert_evidence.specs.Evidence.{Shown}
 use Rattle.fs_judge_final_states.specs.declared.part.Atom.{Atom}
 use Rattle.fs_judge_final_states.specs.declared.place.Place.{Place}
@@ -64,12 +62,6 @@ pub record AsksFor (t : Test) (places : List Place) (part : List Atom) (asked : 
       → holds register word (condition_of condition) ≡ is_in part (map (word_of register word) places)
 
 -- ---- witnesses
-
--- there are choices for each hart, which make the execution's runs
-pub record IsGivenBy (t : Test) (choices : List (List Choice)) (e : Execution) : Type 0 where
-  pub lists : length choices ≡ length t.codes
-  pub runs :
-      (hart : ℕ) → hart < length t.codes → Chooses t hart (slice_index_or choices hart []) (steps_of e.traces hart)
 
 -- the witness gives an execution that shows the outcome with these fences and ends in the state
 abbrev pub EndsIn : Test → List Entry → List Place → Witness → List ℕ → Type 0

@@ -9,7 +9,7 @@ use Rattle.fs_judge_final_states.proofs.listing.advance.Goals as goal
 
 pub returns-in_ok-keep-clause-ok : goal.returns-in_ok-keep-clause-ok
 returns-in_ok-keep-clause-ok c =
-    let t = c.args.test.now in
+    let t = c.args.problem.now in
     let p = c.args.placement.now in
     let places = c.args.places.now in
     let parts = c.args.listing.now.parts.items in
@@ -26,7 +26,7 @@ returns-in_ok-keep-clause-ok c =
 
 pub returns-in_default-clause-ok : goal.returns-in_default-clause-ok
 returns-in_default-clause-ok c =
-    let t = c.args.test.now in
+    let t = c.args.problem.now in
     let p = c.args.placement.now in
     let places = c.args.places.now in
     let none : (s : List ℕ) → IsState t p places s → is_in c.as_slice.result.now s ≡ true → ⊥ =

@@ -10,5 +10,5 @@ use Rattle.fs_region_runs.proofs.lone.Lone.number_of.Goals as goal
 pub returns-else-name-self : goal.returns-else-name-self
 returns-else-name-self c =
     subst (λ (run : RunOf). None ≡ number_of (execution_of run) c.args.name) c.self.view_is
-    (sym (other_hart (arc_value c.self.inside.test) c.self.inside.hart (steps_of (steps_in c.self.inside.candidate.traces) c.self.inside.hart) c.args.name
+    (sym (other_hart (arc_value c.self.inside.test) c.self.inside.hart (steps_of (steps_in (arc_value c.self.inside.made).candidate.traces) c.self.inside.hart) c.args.name
     c.if-name-self.false))

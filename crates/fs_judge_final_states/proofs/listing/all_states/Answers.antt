@@ -1,5 +1,4 @@
 use Rattle.std.proofs.Common.{sym, subst, refl, inr, arith, ◌<◌, length, List, All}
-use Rattle.std.specs.Arc.{arc_value}
 use Rattle.std.proofs.lemmas.List.{length-map}
 use Rattle.fs_judge_final_states.specs.declared.part.Atom.{Atom}
 use Rattle.fs_judge_final_states.specs.declared.state.State.{State}
@@ -7,11 +6,11 @@ use Rattle.fs_judge_final_states.specs.States.{most_states, AreStates, IsShownSt
 use Rattle.fs_judge_final_states.specs.inner.Parts.{state_in, states_in, IsListed}
 use Rattle.fs_judge_final_states.proofs.Covered.{ends, none_left}
 use Rattle.fs_judge_final_states.proofs.Many.{many}
-use Rattle.fs_judge_final_states.proofs.listing.states.Goals as goal
+use Rattle.fs_judge_final_states.proofs.listing.all_states.Goals as goal
 
 pub returns-in_default-clause-ok : goal.returns-in_default-clause-ok
 returns-in_default-clause-ok c =
-    let t = arc_value c.args.test.now in
+    let t = c.args.problem.now in
     let p = c.args.placement.now in
     let places = c.args.places.now in
     let known = states_in c.loop.listing.known in
@@ -21,7 +20,7 @@ returns-in_default-clause-ok c =
 
 pub returns-in_default-clause-shown : goal.returns-in_default-clause-shown
 returns-in_default-clause-shown c =
-    subst (λ (ks : List State). All (IsShownState (arc_value c.args.test.now) c.args.placement.now c.args.places.now) ks)
+    subst (λ (ks : List State). All (IsShownState c.args.problem.now c.args.placement.now c.args.places.now) ks)
     (sym c.in_ok-listed.ensures) c.loop.invariant.shown
 
 pub returns-then-len-gt-MOST_STATES-clause-err : goal.returns-then-len-gt-MOST_STATES-clause-err
@@ -31,5 +30,5 @@ returns-then-len-gt-MOST_STATES-clause-err c =
     let more : most_states < length (states_in known) = omega (arith, c.if-len-gt-MOST_STATES.true, c.len.ensures.len, long) in
     λ other. inr (
       refl,
-      (c.in_ok-check_runs.ensures.clean, many (arc_value c.args.test.now) c.args.placement.now c.args.places.now most_states (states_in known) c.loop.listing.parts.items c.loop.invariant more),
+      (c.requires.clean, many c.args.problem.now c.args.placement.now c.args.places.now most_states (states_in known) c.loop.listing.parts.items c.loop.invariant more),
     )
