@@ -13,9 +13,9 @@ use Rattle.fs_model.proofs.ByRule.{any_there}
 use Rattle.fs_model.proofs.WhichOperation.{length_operations}
 use Rattle.fs_cert_evidence.specs.Candidates.{Candidate, IsRaw, runs_of, rf}
 use Rattle.fs_cert_evidence.specs.Judged.{is_judged}
-use Rattle.fs_cand_verdict_laws.proofs.Edges.{edge_low, edge_from}
-use Rattle.fs_cand_verdict_laws.proofs.FenceEdges.{fences_add}
-use Rattle.fs_cand_verdict_laws.proofs.Rules.{judged_ppo}
+use Rattle.fs_verdict_laws.proofs.JudgedEdges.{edge_low, edge_from}
+use Rattle.fs_verdict_laws.proofs.FenceEdges.{fences_add}
+use Rattle.fs_verdict_laws.proofs.Rules.{judged_ppo}
 use Rattle.fs_cand_witness.specs.Fencing.{is_fenced}
 
 -- where the one part gives the other already

@@ -30,9 +30,9 @@ use Rattle.fs_cert_evidence.specs.Judged.{is_judged}
 use Rattle.fs_cert_evidence.specs.Widths.{Width, bears, single, width}
 use Rattle.fs_cand.specs.declared.candidate.Candidate.{Candidate}
 use Rattle.fs_cand.specs.Candidates.{candidate_of, IsMade}
-use Rattle.fs_cand_verdict_laws.specs.Decide.{IsOrdered, IsSorted, of_harts, ordered_by}
-use Rattle.fs_cand_verdict_laws.proofs.Forth.{executed}
-use Rattle.fs_cand_verdict_laws.proofs.Sorting.{sorted_ordered}
+use Rattle.fs_verdict_laws.specs.Decide.{IsOrdered, IsSorted, of_harts, ordered_by}
+use Rattle.fs_verdict_laws.proofs.Forth.{executed}
+use Rattle.fs_verdict_laws.proofs.Sorting.{sorted_ordered}
 use Rattle.fs_cand_witness.specs.Fencing.{is_fenced, orders_at}
 use Rattle.fs_cand_witness.proofs.Joined.{among, joined}
 use Rattle.fs_relation.specs.Edges.{has_edge}

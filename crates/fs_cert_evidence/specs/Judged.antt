@@ -1,7 +1,7 @@
 -- The judged relation of a candidate with fences: what a global memory order of it must respect. It is the union of
 -- preserved program order, external reads-from, coherence order and from-reads, in the field's letters ppo, rfe, co and
 -- fr. Of a showing candidate the memory model has an execution exactly where this union has no cycle (a law of
--- fs_cand_verdict_laws).
+-- fs_verdict_laws).
 use Rattle.std.specs.Prelude.{ℕ, ◌==◌, Bool, false, ◌&&◌, ◌||◌, not, Option, None, Some, List, [], ◌∷◌, ◌++◌, map}
 use Rattle.fs_kinds.specs.declared.placement.Entry.{Entry}
 use Rattle.fs_model.specs.Numbers.{is_same}

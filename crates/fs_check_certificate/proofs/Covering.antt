@@ -17,8 +17,8 @@ use Rattle.fs_board_laws.proofs.Ranked.{first-less}
 use Rattle.fs_board_laws.proofs.Floors.{floor-cost}
 use Rattle.fs_board_laws.proofs.Bounded.{bounded}
 use Rattle.fs_values.specs.ThinAir.{CanBeListed}
-use Rattle.fs_cand_verdict_laws.proofs.Deciding.{cycles_forbid_all}
-use Rattle.fs_region_laws.proofs.Covering.{forbids}
+use Rattle.fs_verdict_laws.proofs.Deciding.{cycles_forbid_all}
+use Rattle.fs_verdict_laws.proofs.Covering.{forbids}
 use Rattle.fs_board_laws.specs.Trees.{IsPart}
 use Rattle.fs_board_laws.proofs.Places.{count_one, at-append, at-more, at-end, once-counted}
 use Rattle.fs_board_laws.proofs.PartsOfTests.{part-child, part-root, under-root}

@@ -10,7 +10,7 @@ ghost use Rattle.fs_model_axioms.specs.Among.{at, stores_at};
 ghost use Rattle.fs_model_axioms.specs.Ordered.{source_at};
 ghost use Rattle.fs_cand.specs.Candidates.{candidate_of, IsMade};
 ghost use Rattle.fs_check.specs.Ordered.{IsOrdered, execution_in};
-ghost use Rattle.fs_cand_verdict_laws.specs.Decide.{candidate_of as candidate_in};
+ghost use Rattle.fs_verdict_laws.specs.Decide.{candidate_of as candidate_in};
 
 use fs_cand::{Candidate, StoreOrder, Stores};
 use fs_check::OrderedCandidate;

@@ -19,13 +19,13 @@ use Rattle.fs_model.proofs.OptionalNumbers.{some_parts}
 use Rattle.fs_model.proofs.WhichOperation.{Access, Initial, Past, which}
 use Rattle.fs_cert_evidence.specs.Candidates.{Candidate, IsRaw, IsShowing, runs_of, stores_to, last_word}
 use Rattle.fs_values.specs.ThinAir.{CanBeListed}
-use Rattle.fs_cand_verdict_laws.specs.Decide.{candidate_of}
-use Rattle.fs_cand_verdict_laws.proofs.Back.{showing}
-use Rattle.fs_cand_verdict_laws.proofs.Edges.{edge_low}
-use Rattle.fs_cand_verdict_laws.proofs.Rules.{judged_co}
-use Rattle.fs_cand_verdict_laws.proofs.Sourced.{stores_first, stores_in, store_to_parts, store_to_from, same_location}
-use Rattle.fs_region_laws.proofs.Steps.{operation_there}
-use Rattle.fs_region_laws.proofs.Coherent.{up_to_last}
+use Rattle.fs_verdict_laws.specs.Decide.{candidate_of}
+use Rattle.fs_verdict_laws.proofs.Back.{showing}
+use Rattle.fs_verdict_laws.proofs.JudgedEdges.{edge_low}
+use Rattle.fs_verdict_laws.proofs.Rules.{judged_co}
+use Rattle.fs_verdict_laws.proofs.Sourced.{stores_first, stores_in, store_to_parts, store_to_from, same_location}
+use Rattle.fs_verdict_laws.proofs.Steps.{operation_there}
+use Rattle.fs_verdict_laws.proofs.Coherent.{up_to_last}
 use Rattle.fs_judge_vacuous_outcomes.specs.Vacuous.{MayEnd, IsWay, IsVacuous}
 
 -- ---- what a run stores is what one of its steps does

@@ -22,7 +22,7 @@ use Rattle.fs_model.specs.Values.{StoresWord}
 use Rattle.fs_cert_evidence.specs.Trees.{AreItsRuns}
 use Rattle.fs_region_runs.specs.Alone.{RunOf}
 use Rattle.fs_region_refutation.specs.Runs.{runs_over, AreOfEach}
-use Rattle.fs_region_laws.proofs.Alone.{own_steps}
+use Rattle.fs_verdict_laws.proofs.Alone.{own_steps}
 use Rattle.fs_values.proofs.Contained.{in_map, from_map}
 use Rattle.fs_judge_vacuous_outcomes.specs.declared.end.End.{End}
 use Rattle.fs_judge_vacuous_outcomes.specs.declared.end.Stored.{Stored}

@@ -6,10 +6,10 @@ ghost use Rattle.fs_model.specs.Allows.{Allows};
 ghost use Rattle.fs_model.specs.Execution.{Execution, IsExecution};
 ghost use Rattle.fs_model.specs.Values.{IsGrounded};
 ghost use Rattle.fs_values.specs.ThinAir.{CanBeListed};
-ghost use Rattle.fs_cand_verdict_laws.specs.Decide.{HasAcyclic};
+ghost use Rattle.fs_verdict_laws.specs.Decide.{HasAcyclic};
 
-use fs_cand_verdict_laws::cycles_decide;
 use fs_values::nothing_out_of_thin_air;
+use fs_verdict_laws::cycles_decide;
 
 /// In a test whose runs can be listed an outcome is forbidden where no showing candidate is acyclic, and no value of an
 /// execution is out of thin air.

@@ -28,8 +28,8 @@ use Rattle.fs_model.proofs.Pigeonhole.{IsAmong, each_among, no_more}
 use Rattle.fs_model.proofs.Runs.{same_instr}
 use Rattle.fs_model.proofs.Tested.{GoesForward-all_reach}
 use Rattle.fs_values.specs.ThinAir.{CanBeListed}
-use Rattle.fs_region_laws.proofs.Covering.{forbids}
-use Rattle.fs_region_laws.proofs.Stronger.{unfenced_refutes}
+use Rattle.fs_verdict_laws.proofs.Covering.{forbids}
+use Rattle.fs_verdict_laws.proofs.Stronger.{unfenced_refutes}
 use Rattle.fs_model_worked_examples.specs.Small.{Place, x, y, lw, plain, sb, parted}
 use Rattle.fs_model_worked_examples.specs.Refutations.{fences, sb_tree, parted_tree}
 use Rattle.fs_model_worked_examples.proofs.AllRuns.{first_is, second_is, value_is, pair_is, behind_is, Is_small, Is_pair, loaded_small, sb_refuted, parted_refuted}

@@ -13,7 +13,7 @@ use Rattle.std.proofs.lemmas.List.Folds.{list_any_at}
 use Rattle.std.proofs.lemmas.List.Kept.{Contains-dedup, Contains-from_dedup, IsStrictlySortedBy-dedup}
 use Rattle.std.proofs.lemmas.List.Sorted.{list_any-IsPermutation, searchable_from_sorted}
 use Rattle.fs_model.specs.Numbers.{is_same}
-use Rattle.fs_region_laws.proofs.Lists.{any_in, any_from}
+use Rattle.fs_verdict_laws.proofs.Lists.{any_in, any_from}
 use Rattle.fs_region_refutation.specs.inner.Pairs.{both, is_among, by_pair}
 
 abbrev Pair : Type 0

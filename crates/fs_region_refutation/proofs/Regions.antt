@@ -18,7 +18,7 @@ use Rattle.fs_region_runs.specs.Alone.{RunOf, source_of}
 use Rattle.fs_region_refutation.specs.declared.region.Sourced.{Sourced}
 use Rattle.fs_region_refutation.specs.declared.region.Region.{Region as CodeRegion}
 use Rattle.fs_region_refutation.specs.Views.{region_of, runs_of, at_hart, list_at, lists_in, source_in, source_after, is_in_order, all_wanted, with_runs, IsOf, AreRunsOf}
-use Rattle.fs_region_laws.proofs.Names.{name_is}
+use Rattle.fs_verdict_laws.proofs.Names.{name_is}
 use Rattle.fs_region_refutation.proofs.Lists.{filter_seen}
 
 abbrev made : (ℕ → List (List Step)) → (Name → Option Source) → (Name → Name → Bool) → List (Condition × Bool) → Region

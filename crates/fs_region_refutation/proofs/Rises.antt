@@ -9,7 +9,7 @@ use Rattle.std.proofs.lemmas.List.Kept.{Contains-dedup_nat, Contains-from_dedup}
 use Rattle.std.proofs.lemmas.List.Sorted.{list_any-IsPermutation}
 use Rattle.std.proofs.lemmas.Map.Keys.{IsStrictlyIncreasing-dedup}
 use Rattle.fs_cert_evidence.specs.Splits.{insert, rising}
-use Rattle.fs_region_laws.proofs.Lists.{any_in, any_from}
+use Rattle.fs_verdict_laws.proofs.Lists.{any_in, any_from}
 
 -- the list rises, from this number on
 abbrev pub IsFrom : ℕ → List ℕ → Type 0

@@ -15,9 +15,9 @@ use Rattle.fs_model.specs.Slots.{is_memory_at}
 use Rattle.fs_model.proofs.AccessSteps.{is_memory_at-past}
 use Rattle.fs_cert_evidence.specs.Regions.{names_in, names}
 use Rattle.fs_cert_evidence.specs.Trees.{is_name}
-use Rattle.fs_region_laws.proofs.Lists.{in_filter, in_numbered}
+use Rattle.fs_verdict_laws.proofs.Lists.{in_filter, in_numbered}
 use Rattle.fs_values.proofs.Contained.{none_in, in_map, in_parts}
-use Rattle.fs_region_laws.proofs.Names.{number_in}
+use Rattle.fs_verdict_laws.proofs.Names.{number_in}
 
 -- ---- the name of a memory instruction is one of them
 

@@ -14,7 +14,7 @@ use Rattle.fs_hart.specs.declared.trace.Trace.{Trace}
 use Rattle.fs_hart.specs.Steps.{steps_in}
 use Rattle.fs_cand.proofs.Distinct.{named}
 use Rattle.fs_cert_evidence.specs.Musts.{alone, number_of, traces_of}
-use Rattle.fs_region_laws.proofs.Alone.{number_named}
+use Rattle.fs_verdict_laws.proofs.Alone.{number_named}
 
 abbrev pub nothing_run : ℕ → List Step
 nothing_run h = []

@@ -19,7 +19,7 @@ use Rattle.fs_model.specs.Trace.{AreSteps, after_step, start_with}
 use Rattle.fs_model.specs.Witness.{name_of, step_name}
 use Rattle.fs_model.proofs.WhichOperation.{length_operations, no_hart_past}
 use Rattle.fs_cand.proofs.RunNames.{in_code}
-use Rattle.fs_region_laws.specs.Local.{place_of}
+use Rattle.fs_verdict_laws.specs.Local.{place_of}
 use Rattle.fs_cert_evidence.specs.Musts.{has_name, number_of}
 use Rattle.fs_cert_evidence.specs.Regions.{step_at}
 use Rattle.fs_region_runs.specs.inner.Tables.{listed_at, name_at, is_at}

@@ -17,10 +17,10 @@ use Rattle.fs_hart.proofs.Forward.{traces_short}
 use Rattle.fs_cand.specs.declared.candidate.Candidate.{Candidate}
 use Rattle.fs_cand.specs.Candidates.{runs_of}
 use Rattle.fs_ppo.specs.Rules.{numbered_rule}
-use Rattle.fs_region_laws.specs.Local.{place_of}
+use Rattle.fs_verdict_laws.specs.Local.{place_of}
 use Rattle.fs_cert_evidence.specs.Regions.{Region}
 use Rattle.fs_cert_evidence.specs.Musts.{alone, holds_of, is_rule, known_source, number_of, source_number, traces_of}
-use Rattle.fs_region_laws.proofs.Alone.{own_steps, number_named}
+use Rattle.fs_verdict_laws.proofs.Alone.{own_steps, number_named}
 use Rattle.fs_region_runs.specs.declared.rules.Returned.{Returned}
 use Rattle.fs_region_runs.specs.declared.source.Sourced.{Sourced}
 use Rattle.fs_region_runs.specs.Alone.{RunOf, Knows, execution_of}

@@ -13,8 +13,8 @@ use Rattle.fs_ppo.proofs.Tests.{same_tests}
 use Rattle.fs_cert_evidence.specs.Regions.{Region, same_name, same_source, names}
 use Rattle.fs_cert_evidence.specs.Musts.{number_of, source_number}
 use Rattle.fs_cert_evidence.specs.Trees.{is_name}
-use Rattle.fs_region_laws.proofs.Names.{name_is, is_itself}
-use Rattle.fs_region_laws.proofs.Alone.{number_named}
+use Rattle.fs_verdict_laws.proofs.Names.{name_is, is_itself}
+use Rattle.fs_verdict_laws.proofs.Alone.{number_named}
 use Rattle.fs_region_runs.specs.declared.source.Source.{Source}
 use Rattle.fs_region_runs.specs.declared.source.Source.TheVariants.{Initial, From}
 use Rattle.fs_region_runs.specs.Alone.{RunOf, execution_of, source_of}

@@ -8,7 +8,7 @@ ghost use Rattle.fs_model.specs.Operations.{PreExecution};
 ghost use Rattle.fs_model.specs.Preserved.{Rule};
 ghost use Rattle.fs_hart.specs.declared.trace.Trace.{Trace};
 ghost use Rattle.fs_hart.specs.Listing.{AreTraces};
-ghost use Rattle.fs_region_laws.specs.Local.{is_local};
+ghost use Rattle.fs_verdict_laws.specs.Local.{is_local};
 ghost use Rattle.fs_cert_evidence.specs.Regions.{Region};
 ghost use Rattle.fs_cert_evidence.specs.Musts.{is_rule};
 ghost use Rattle.fs_region_runs.specs.Alone.{IsRun};

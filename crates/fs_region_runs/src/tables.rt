@@ -5,7 +5,7 @@ ghost use Rattle.std.specs.Option.{option_copied};
 ghost use Rattle.std.specs.List.{position};
 ghost use Rattle.fs_kinds.specs.Limits.{most_instructions, most_numbered};
 ghost use Rattle.fs_model.specs.Numbers.{numbers_below};
-ghost use Rattle.fs_region_laws.specs.Local.{place_of};
+ghost use Rattle.fs_verdict_laws.specs.Local.{place_of};
 ghost use Rattle.fs_region_runs.specs.inner.Tables.{is_at, listed_at};
 
 use fs_hart::Step;

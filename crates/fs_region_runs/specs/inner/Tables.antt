@@ -12,7 +12,7 @@ use Rattle.fs_hart.specs.Steps.{steps_in}
 use Rattle.fs_hart.specs.Runs.{registers_after}
 use Rattle.fs_cand.specs.declared.candidate.Candidate.{Candidate}
 use Rattle.fs_cand.specs.Candidates.{IsMade}
-use Rattle.fs_region_laws.specs.Local.{place_of}
+use Rattle.fs_verdict_laws.specs.Local.{place_of}
 use Rattle.fs_cert_evidence.specs.Musts.{traces_of, alone, number_of}
 
 -- ---- tables

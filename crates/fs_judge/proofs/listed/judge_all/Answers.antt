@@ -4,7 +4,7 @@ use Rattle.fs_model.specs.Allows.{Allows}
 use Rattle.fs_cert_evidence.specs.Candidates.{Candidate}
 use Rattle.fs_cert_evidence.specs.Certificate.{Link, Listed}
 use Rattle.fs_cert_evidence.specs.Cycles.{IsCycle, HasCycles}
-use Rattle.fs_cand_verdict_laws.proofs.Deciding.{cycles_forbid_all}
+use Rattle.fs_verdict_laws.proofs.Deciding.{cycles_forbid_all}
 use Rattle.fs_cert_evidence.specs.Evidence.{ShowsForbidden}
 use Rattle.fs_judge.specs.inner.Findings.{IsFinding}
 use Rattle.fs_judge.proofs.Linked.{longer, more}

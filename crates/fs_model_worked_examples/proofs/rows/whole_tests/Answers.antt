@@ -1,6 +1,6 @@
 use Rattle.std.proofs.Common.{refl}
 use Rattle.fs_kinds.specs.declared.kind.Kind.TheVariants.{WR, RwRw}
-use Rattle.fs_region_laws.proofs.Stronger.{placed_refutes, unfenced_refutes}
+use Rattle.fs_verdict_laws.proofs.Stronger.{placed_refutes, unfenced_refutes}
 use Rattle.fs_model_worked_examples.specs.Small.{sb, parted}
 use Rattle.fs_model_worked_examples.specs.Refutations.{fences, sb_tree, parted_tree}
 use Rattle.fs_model_worked_examples.proofs.AllRuns.{sb_refuted, parted_refuted}

@@ -1,6 +1,6 @@
 use Rattle.std.proofs.Common.{sym, subst, arith}
 use Rattle.fs_cert_evidence.specs.Candidates.{Candidate, IsShowing}
-use Rattle.fs_cand_verdict_laws.proofs.Back.{showing}
+use Rattle.fs_verdict_laws.proofs.Back.{showing}
 use Rattle.fs_check.specs.Ordered.{execution_in}
 use Rattle.fs_judge.proofs.known.Known.of.Goals as goal
 

@@ -4,7 +4,7 @@ use Rattle.std.specs.Arc.{arc_value}
 use Rattle.fs_model.specs.Operations.{steps_of}
 use Rattle.fs_model.specs.declared.step.Step.{Step}
 use Rattle.fs_hart.specs.Steps.{steps_in}
-use Rattle.fs_region_laws.specs.Local.{place_of}
+use Rattle.fs_verdict_laws.specs.Local.{place_of}
 use Rattle.fs_cert_evidence.specs.Regions.{step_at}
 use Rattle.fs_region_runs.specs.Alone.{RunOf}
 use Rattle.fs_region_runs.specs.declared.lone.Made.{Made}

@@ -1,5 +1,0 @@
-use Rattle.fs_cand_verdict_laws.proofs.FenceEdges.{fences_add}
-use Rattle.fs_cand_verdict_laws.proofs.decide.fences_add_edges.Goals as goal
-
-pub returns : goal.returns
-returns c = fences_add

@@ -1,5 +1,0 @@
-use Rattle.fs_region_laws.proofs.Edges.{edge_there}
-use Rattle.fs_region_laws.proofs.laws.musts_hold.Goals as goal
-
-pub returns : goal.returns
-returns c = edge_there
