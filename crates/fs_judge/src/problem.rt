@@ -21,6 +21,7 @@ use crate::verdict::{Verdict, forbidden};
 use fs_cand_listing::check_number;
 use fs_cert_evidence::{Cycles, Inference};
 use fs_judge_hunt::Hunter;
+use fs_judge_runs::{hunter_asking, hunter_of};
 use fs_kinds::{Fault, List, Placement, Slot};
 use fs_model::Test;
 use fs_region_refutation::Basis;
@@ -64,7 +65,7 @@ fn hunter_over(alloc: Global, basis: &Basis) -> Result<Hunter, Fault>
     ensures err { IfErr result (λ f. f ≢ Memory → IsCandidateFault basis.now f) }
 {
     let test = basis.test();
-    let hunter = Hunter::new(alloc, test, basis.names(), basis.runs())?;
+    let hunter = hunter_of(alloc, test, basis.names(), basis.runs())?;
     if hunter.has_many_stores() {
         check_number(alloc, test)?;
     }
@@ -88,7 +89,7 @@ impl Problem {
     }
 
     /// The same of a test whose runs are found. The fault is F15 where some location may get 11 stores or more, and
-    /// there are too many candidates or lists of runs; or F19. The cost is that of `Hunter::new`, and where so many
+    /// there are too many candidates or lists of runs; or F19. The cost is that of `hunter_of`, and where so many
     /// stores are possible that of `check_number`.
     pub fn over(alloc: Global, test: Arc<Test>, basis: Basis) -> Result<Problem, Fault>
         requires same { basis ≡ arc_value test }
@@ -106,7 +107,7 @@ impl Problem {
     }
 
     /// The problem of another test with the same program, whose runs are these. The error is F19. The cost is that of
-    /// `Basis::asking` and of `Hunter::asking`.
+    /// `Basis::asking` and of `hunter_asking`.
     pub fn asking(&self, alloc: Global, test: Arc<Test>) -> Result<Problem, Fault>
         requires bounded { IsBounded (arc_value test) }
         requires same { program_of self.now ≡ program_of (arc_value test) }
@@ -114,7 +115,7 @@ impl Problem {
         ensures err { IsOkUnless result Memory }
     {
         let basis = self.basis.asking(alloc, &test)?;
-        let hunter = self.hunter.asking(alloc, &test, basis.runs())?;
+        let hunter = hunter_asking(alloc, &self.hunter, &test, basis.runs())?;
         Ok(Problem {
             test,
             basis,

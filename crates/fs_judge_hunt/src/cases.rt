@@ -1,8 +1,8 @@
 //! The cases of a condition.
 
+use crate::condition::{Part, Wanted, left_of, right_of};
 use crate::region::Region;
 use crate::splits::Splitter;
-use crate::{Part, Wanted, left_of, right_of};
 use fs_kinds::List;
 use std::alloc::AllocError;
 use std::sync::Arc;

@@ -1,15 +1,16 @@
 //! Which way a region is split.
 
+use crate::access::Takes;
 use crate::cases::is_at_once;
+use crate::condition::{Node, Part, Wanted, within};
 use crate::endings::Outlook;
 use crate::facts::Facts;
+use crate::names::{Origin, Relation, bit, has};
 use crate::region::{Field, Region};
+use crate::rows::{do_meet, has_several, is_within};
 use crate::saturate::{Looked, saturate};
 use crate::splits::{Decision, Splitter};
 use crate::uses::of_filter;
-use crate::{
-    Node, Origin, Part, Relation, Takes, Wanted, bit, do_meet, has, has_several, is_within, within,
-};
 use std::alloc::{AllocError, Global};
 
 /// A split with what it makes of a region, of which so many are left open.

@@ -1,5 +1,6 @@
 //! The condition of a test, with its parts in a list: each before its own parts, the left one first.
 
+use crate::rows::Row;
 use fs_instr::Reg;
 use fs_model::Outcome;
 use std::alloc::{AllocError, Global};
@@ -7,6 +8,7 @@ use std::alloc::{AllocError, Global};
 /// More parts than a condition has.
 const MOST_PARTS: usize = 1 << 24;
 
+/// What a part of a condition says, apart from its own parts.
 #[derive(Clone, Copy)]
 pub enum Part {
     Always,
@@ -27,11 +29,21 @@ pub struct Node {
     pub size: usize,
 }
 
+/// A condition as a hunt asks it, over the runs of a test.
+#[derive(Drop)]
+pub struct Condition {
+    pub nodes: Vec<Node>,
+    /// For each of the nodes that speaks of a register, the runs of its hart with which it is true; for another no row.
+    pub atoms: Vec<Row>,
+    /// The truth value that the condition has where the outcome is shown.
+    pub truth: bool,
+}
+
 /// A part that is to have this truth value.
 #[derive(Clone, Copy)]
-pub struct Wanted {
-    pub node: usize,
-    pub truth: bool,
+pub(crate) struct Wanted {
+    pub(crate) node: usize,
+    pub(crate) truth: bool,
 }
 
 fn part_of(outcome: &Outcome) -> Part {
@@ -111,7 +123,7 @@ pub fn nodes(alloc: Global, condition: &Outcome) -> Result<Vec<Node>, AllocError
 }
 
 /// The part and all of its own parts.
-pub fn within(nodes: &[Node], number: usize) -> &[Node] {
+pub(crate) fn within(nodes: &[Node], number: usize) -> &[Node] {
     let Some(behind) = nodes.get(number..) else {
         return &[];
     };
@@ -120,12 +132,12 @@ pub fn within(nodes: &[Node], number: usize) -> &[Node] {
 }
 
 /// The number of the left part, or the only one.
-pub fn left_of(number: usize) -> usize {
+pub(crate) fn left_of(number: usize) -> usize {
     number.saturating_add(1)
 }
 
 /// The number of the right part.
-pub fn right_of(nodes: &[Node], number: usize) -> usize {
+pub(crate) fn right_of(nodes: &[Node], number: usize) -> usize {
     let left = left_of(number);
     left.saturating_add(nodes.get(left).map_or(1, |node| node.size))
 }

@@ -1,8 +1,11 @@
 //! What the members of a region may end with.
 
+use crate::access::{location_in, word_in};
+use crate::condition::{Node, Part, Wanted, within};
 use crate::facts::Facts;
+use crate::names::has;
 use crate::region::{Field, Region};
-use crate::{Node, Part, Wanted, do_meet, has, is_within, location_in, within, word_in};
+use crate::rows::{do_meet, is_within};
 use std::alloc::{AllocError, Global};
 
 /// May a condition be true, and may it be false?

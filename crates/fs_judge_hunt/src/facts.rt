@@ -1,7 +1,9 @@
 //! What must hold in all candidates of a region, all harts together.
 
+use crate::access::NOWHERE;
+use crate::names::{MOST_NAMES, Origin, Relation, bit, has};
 use crate::region::{Field, Region};
-use crate::{MOST_NAMES, NOWHERE, Origin, Relation, Sum, bit, has};
+use crate::sum::Sum;
 use fs_kinds::MOST_LOCATIONS;
 
 /// What depends on the runs and sources of a region, and not on the order of stores. The sets are of names.

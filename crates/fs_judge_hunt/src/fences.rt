@@ -190,7 +190,7 @@ fn fenced(
 }
 
 /// The same for each hart.
-pub fn all_fenced(
+pub(crate) fn all_fenced(
     alloc: Global,
     harts: &[Hart],
     placement: &Placement,

@@ -3,9 +3,10 @@
 
 use crate::facts::Facts;
 use crate::frames::{Hunted, hunt};
+use crate::names::{bit, has};
 use crate::region::{Field, Region};
+use crate::rows::is_within;
 use crate::splits::{Decision, Splitter};
-use crate::{bit, has, is_within};
 use fs_kinds::MOST_LOCATIONS;
 use std::alloc::{AllocError, Global};
 

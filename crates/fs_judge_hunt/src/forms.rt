@@ -2,10 +2,8 @@
 //! accesses memory, and which of its stores succeed. Runs that are the same in these have one form.
 
 use crate::access::location_of;
-use crate::rows::{Row, no_run, put};
+use crate::rows::Row;
 use fs_model::Step;
-use fs_region_runs::Lone;
-use std::alloc::{AllocError, Global};
 
 /// What the runs of a form have in common, by positions of the code: a bit, or four of them, for each.
 #[derive(Clone, Copy, PartialEq, Eq, PartialOrd, Ord)]
@@ -17,13 +15,6 @@ pub struct Outline {
     /// The locations of accesses at positions below 16, and at others.
     low: u64,
     high: u64,
-}
-
-/// A run with its outline.
-#[derive(Clone, Copy, PartialEq, Eq, PartialOrd, Ord)]
-struct Outlined {
-    outline: Outline,
-    run: usize,
 }
 
 /// Runs of one outline.
@@ -79,29 +70,32 @@ impl Outline {
         }
     }
 
-    fn of(run: &Lone) -> Outline {
+    /// That of a run with these steps.
+    pub fn of(steps: &[Step]) -> Outline {
         let mut outline = Outline::new();
-        for step in run.steps() {
+        for step in steps {
             outline.add(step);
         }
         outline
     }
 
     /// Is the instruction there executed?
-    pub fn executes(&self, at: u8) -> bool {
+    pub(crate) fn executes(&self, at: u8) -> bool {
         self.executed & at_bit(at) != 0
     }
 
-    pub fn loads_at(&self, at: u8) -> bool {
+    /// Does the instruction there load?
+    pub(crate) fn loads_at(&self, at: u8) -> bool {
         self.loads & at_bit(at) != 0
     }
 
-    pub fn stores_at(&self, at: u8) -> bool {
+    /// Does it store?
+    pub(crate) fn stores_at(&self, at: u8) -> bool {
         self.stores & at_bit(at) != 0
     }
 
     /// How many of the stores are to the location.
-    pub fn count_stores(&self, location: u8) -> usize {
+    pub(crate) fn count_stores(&self, location: u8) -> usize {
         let code = u64::from(location.min(14)) + 1;
         let mut count: usize = 0;
         for at in 0..32u8 {
@@ -113,36 +107,4 @@ impl Outline {
         }
         count
     }
-}
-
-fn all_outlined(alloc: Global, runs: &[Lone]) -> Result<Vec<Outlined>, AllocError> {
-    let mut all = Vec::new(alloc);
-    for (number, run) in runs.iter().enumerate() {
-        all.push(Outlined {
-            outline: Outline::of(run),
-            run: number,
-        })?;
-    }
-    Ok(all)
-}
-
-/// The forms of the runs.
-pub fn forms(alloc: Global, words: usize, runs: &[Lone]) -> Result<Vec<Form>, AllocError> {
-    let mut all = all_outlined(alloc, runs)?;
-    all.sort_unstable();
-    let mut forms: Vec<Form> = Vec::new(alloc);
-    for one in &all {
-        let is_new = forms.last().is_none_or(|form| form.outline != one.outline);
-        if is_new {
-            forms.push(Form {
-                outline: one.outline,
-                run: one.run,
-                row: no_run(alloc, words)?,
-            })?;
-        }
-        if let Some(form) = forms.last_mut() {
-            put(&mut form.row, one.run);
-        }
-    }
-    Ok(forms)
 }

@@ -1,8 +1,8 @@
 //! The search: regions are split until each has ended, or one has nothing left to decide.
 
-use crate::Relation;
 use crate::choose::{Chooser, Split};
 use crate::facts::Facts;
+use crate::names::Relation;
 use crate::region::{Field, Region};
 use crate::saturate::{Ending, Looked, Step, saturate};
 use crate::splits::Decision;

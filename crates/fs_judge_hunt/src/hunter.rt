@@ -3,17 +3,18 @@
 ghost use Rattle.std.specs.Prelude.{IsOkUnless};
 ghost use Rattle.fs_kinds.specs.declared.fault.Fault.TheVariants.{Memory};
 
+use crate::access::initial_word;
+use crate::condition::Condition;
+use crate::fences::all_fenced;
 use crate::first::hunt_first;
 use crate::frames::{Hunted, hunt};
+use crate::hart::{Hart, may_store_often};
 use crate::region::Field;
+use crate::rules::Rule;
 use crate::witness::{Execution, execution_of};
-use crate::{
-    Hart, Node, Row, Rule, all_fenced, atom_rows, hart_of, initial_word, may_store_often, nodes,
-};
 use fs_cert_evidence::Inference;
 use fs_kinds::{Fault, List, MOST_LOCATIONS, OperationName, Placement};
-use fs_model::{Quantifier, Test};
-use fs_region_runs::Lone;
+use fs_model::Test;
 use std::alloc::{AllocError, Global};
 use std::sync::Arc;
 
@@ -29,16 +30,12 @@ struct Runs {
     has_many_stores: bool,
 }
 
-/// What hunts over a test, made once: what its runs do, which tests with the same program share, and with which of them
-/// the parts of its condition are true. It borrows nothing.
+/// What hunts over a test, made once: what its runs do, which tests with the same program share, and its condition. It
+/// borrows nothing.
 #[derive(Drop)]
 pub struct Hunter {
     runs: Arc<Runs>,
-    nodes: Vec<Node>,
-    /// For each of the nodes.
-    atoms: Vec<Row>,
-    /// The truth value that the condition has where the outcome is shown.
-    truth: bool,
+    condition: Condition,
 }
 
 /// What a hunt comes to.
@@ -50,23 +47,6 @@ pub enum Found {
     Shown(Execution),
     /// The tree would have more inferences than it may.
     GaveUp,
-}
-
-fn harts(
-    alloc: Global,
-    test: &Test,
-    names: &[OperationName],
-    runs: &[List<Lone>],
-) -> Result<Vec<Hart>, Fault>
-    ensures err { IsOkUnless result Memory }
-{
-    let mut harts = Vec::new(alloc);
-    let mut number: u8 = 0;
-    for runs in runs {
-        harts.push(hart_of(alloc, test, names, number, runs.as_slice())?)?;
-        number = number.saturating_add(1);
-    }
-    Ok(harts)
 }
 
 /// The words that locations begin with.
@@ -84,35 +64,16 @@ fn copied(alloc: Global, names: &[OperationName]) -> Result<Vec<OperationName>, 
     Ok(copy)
 }
 
-/// What hunts over the test, where this is what its runs do.
-fn over(
-    alloc: Global,
-    test: &Test,
-    known: Arc<Runs>,
-    runs: &[List<Lone>],
-) -> Result<Hunter, AllocError> {
-    let nodes = nodes(alloc, &test.condition)?;
-    let atoms = atom_rows(alloc, runs, &nodes)?;
-    Ok(Hunter {
-        runs: known,
-        nodes,
-        atoms,
-        truth: test.quantifier != Quantifier::Forall,
-    })
-}
-
 impl Hunter {
-    /// What hunts over the test, with the names of its memory instructions and for each hart all of its runs, in choice
-    /// order. The cost is that of `hart_of` of fs_judge_hunt for each hart. The error is F19.
+    /// What hunts over the test, with the names of its memory instructions, for each hart what all of its runs do, in
+    /// choice order, and the test's condition over these runs. The cost: for each location the forms of all harts.
     pub fn new(
         alloc: Global,
         test: &Test,
         names: &[OperationName],
-        runs: &[List<Lone>],
-    ) -> Result<Hunter, Fault>
-        ensures err { IsOkUnless result Memory }
-    {
-        let harts = harts(alloc, test, names, runs)?;
+        harts: Vec<Hart>,
+        condition: Condition,
+    ) -> Result<Hunter, AllocError> {
         let has_many_stores = may_store_often(&harts, MANY_STORES);
         let known = Runs {
             harts,
@@ -120,18 +81,19 @@ impl Hunter {
             words: initial_words(alloc, test)?,
             has_many_stores,
         };
-        Ok(over(alloc, test, Arc::new(alloc, known)?, runs)?)
+        Ok(Hunter {
+            runs: Arc::new(alloc, known)?,
+            condition,
+        })
     }
 
-    /// What hunts over another test with the same program, and so the same runs. The cost: for each part of its
-    /// condition that speaks of a register, the runs of a hart.
-    pub fn asking(
-        &self,
-        alloc: Global,
-        test: &Test,
-        runs: &[List<Lone>],
-    ) -> Result<Hunter, AllocError> {
-        over(alloc, test, Arc::try_clone(&self.runs)?, runs)
+    /// What hunts over another test with the same program, and so the same runs, by its condition over them. In
+    /// constant time.
+    pub fn asking(&self, condition: Condition) -> Result<Hunter, AllocError> {
+        Ok(Hunter {
+            runs: Arc::try_clone(&self.runs)?,
+            condition,
+        })
     }
 
     /// May some location get eleven stores or more? That is the sum, over the harts, of the most stores to it in one
@@ -144,8 +106,8 @@ impl Hunter {
         Field {
             harts: &self.runs.harts,
             fenced,
-            nodes: &self.nodes,
-            atoms: &self.atoms,
+            nodes: &self.condition.nodes,
+            atoms: &self.condition.atoms,
             words: &self.runs.words,
             names: &self.runs.names,
             count: self.runs.names.len().min(48) as u8,
@@ -161,7 +123,7 @@ impl Hunter {
     ) -> Result<Found, AllocError> {
         let fenced = all_fenced(alloc, &self.runs.harts, placement)?;
         let field = self.field(&fenced);
-        let Some(root) = field.root(alloc, self.truth)? else {
+        let Some(root) = field.root(alloc, self.condition.truth)? else {
             return Ok(Found::Refuted(List::new(Vec::new(alloc))));
         };
         let hunted = if first {

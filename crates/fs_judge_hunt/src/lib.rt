@@ -32,19 +32,14 @@ mod uses;
 mod witness;
 
 pub use access::{
-    Access, Doing, NOWHERE, Own, Place, Takes, class_of, initial_word, location_in, word_in,
+    Access, Doing, Own, Place, Takes, class_key, class_of, initial_word, location_in, location_of,
+    word_in,
 };
-pub use condition::{Node, Part, Wanted, left_of, nodes, right_of, within};
-pub use fences::{Barrier, all_fenced};
+pub use condition::{Condition, Node, Part, nodes};
+pub use fences::written;
 pub use forms::{Form, Outline};
-pub use hart::{Hart, atom_rows, hart_of, may_store_often};
+pub use hart::Hart;
 pub use hunter::{Found, Hunter};
-pub use names::{MOST_NAMES, Origin, Relation, bit, has};
-pub use paths::{cycle, sorted, way};
-pub use rows::{
-    Group, Row, are_same, both, do_meet, first_run, has_run, has_several, is_empty, is_within,
-    join, narrow, no_run, without,
-};
+pub use rows::{Group, Row, both, do_meet, has_all, is_empty, join, no_run, put, words_for};
 pub use rules::{Forwarded, Numbered, Rule};
-pub use sum::{Left, Sum, Through, left_with};
 pub use witness::Execution;

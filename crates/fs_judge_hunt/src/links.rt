@@ -1,9 +1,12 @@
 //! Links of cycles, and why each operation comes before the next.
 
 use crate::facts::Facts;
+use crate::hart::Hart;
+use crate::names::{Origin, Relation, has};
 use crate::region::{Field, Region};
+use crate::rows::is_within;
+use crate::rules::Rule;
 use crate::uses::add_link;
-use crate::{Hart, Origin, Relation, Rule, has, is_within};
 use fs_cert_evidence::{Cause, Inference, Link};
 use fs_kinds::List;
 use std::alloc::{AllocError, Global};

@@ -1,8 +1,8 @@
 //! What follows from what loads return from: an earlier store isn't later in coherence order.
 
+use crate::names::{Origin, Relation, bit, has};
 use crate::region::Region;
 use crate::saturate::{Ending, Looked, Round};
-use crate::{Origin, Relation, bit, has};
 use fs_cert_evidence::{Cause, Inference};
 use std::alloc::AllocError;
 

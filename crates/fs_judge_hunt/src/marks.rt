@@ -1,10 +1,11 @@
 //! With which runs of a hart the members of a region may end as wanted: for all of its runs at once.
 
+use crate::access::{Place, location_in, word_in};
+use crate::condition::{Node, Part, Wanted, within};
 use crate::endings::{LastWord, Outlook, Truth};
-use crate::{
-    Group, Hart, Node, Part, Place, Row, Wanted, both, has, join, location_in, narrow, no_run,
-    within, without, word_in,
-};
+use crate::hart::Hart;
+use crate::names::has;
+use crate::rows::{Group, Row, both, join, narrow, no_run, without};
 use std::alloc::{AllocError, Global};
 
 /// The runs of a hart with which a condition may be true, and with which it may be false.

@@ -1,67 +1,70 @@
 //! Names of memory instructions as numbers, hart by hart in the order of the code; sets of them as bits, and relations.
 
 /// As many names as a test may have.
-pub const MOST_NAMES: usize = 48;
+pub(crate) const MOST_NAMES: usize = 48;
 
 /// The set of one name.
-pub fn bit(name: u8) -> u64 {
+pub(crate) fn bit(name: u8) -> u64 {
     1u64.wrapping_shl(u32::from(name))
 }
 
 /// Is the name in the set?
-pub fn has(names: u64, name: u8) -> bool {
+pub(crate) fn has(names: u64, name: u8) -> bool {
     names & bit(name) != 0
 }
 
 /// A relation of names.
 #[derive(Clone, Copy)]
-pub struct Relation {
+pub(crate) struct Relation {
     rows: [u64; MOST_NAMES],
 }
 
 impl Relation {
     /// That of no two names.
-    pub fn new() -> Relation {
+    pub(crate) fn new() -> Relation {
         Relation {
             rows: [0; MOST_NAMES],
         }
     }
 
     /// What the name comes before.
-    pub fn row(&self, first: u8) -> u64 {
+    pub(crate) fn row(&self, first: u8) -> u64 {
         self.rows.get(usize::from(first)).copied().unwrap_or(0)
     }
 
-    pub fn has(&self, first: u8, second: u8) -> bool {
+    /// Does the first name come before the second?
+    pub(crate) fn has(&self, first: u8, second: u8) -> bool {
         has(self.row(first), second)
     }
 
     /// Puts the name before each of these.
-    pub fn add_all(&mut self, first: u8, names: u64) {
+    pub(crate) fn add_all(&mut self, first: u8, names: u64) {
         if let Some(row) = self.rows.get_mut(usize::from(first)) {
             *row |= names;
         }
     }
 
-    pub fn add(&mut self, first: u8, second: u8) {
+    /// Puts the first name before the second.
+    pub(crate) fn add(&mut self, first: u8, second: u8) {
         self.add_all(first, bit(second));
     }
 
-    pub fn remove(&mut self, first: u8, second: u8) {
+    /// Takes the pair out.
+    pub(crate) fn remove(&mut self, first: u8, second: u8) {
         if let Some(row) = self.rows.get_mut(usize::from(first)) {
             *row &= !bit(second);
         }
     }
 
     /// Puts the other's pairs into it.
-    pub fn join(&mut self, other: &Relation) {
+    pub(crate) fn join(&mut self, other: &Relation) {
         for (row, more) in self.rows.iter_mut().zip(other.rows.iter()) {
             *row |= *more;
         }
     }
 
     /// Its transitive closure, where it is of so many names.
-    pub fn closure(&self, count: u8) -> Relation {
+    pub(crate) fn closure(&self, count: u8) -> Relation {
         let mut closed = *self;
         for middle in 0..count {
             let beyond = closed.row(middle);
@@ -77,7 +80,7 @@ impl Relation {
 
 /// What a load returns from, as far as it is known.
 #[derive(Clone, Copy, PartialEq, Eq)]
-pub enum Origin {
+pub(crate) enum Origin {
     Unknown,
     Initial,
     From(u8),

@@ -1,8 +1,9 @@
 //! What follows from pairs of an lr.w and an sc.w: no store of another hart is between the two.
 
+use crate::access::NOWHERE;
+use crate::names::{Origin, Relation, has};
 use crate::region::Region;
 use crate::saturate::{Ending, Looked, Round};
-use crate::{NOWHERE, Origin, Relation, has};
 use fs_cert_evidence::Inference;
 use std::alloc::AllocError;
 

@@ -62,7 +62,7 @@ fn next_layer(walk: &mut Walk, relation: &Relation, layer: u64, count: u8) -> u6
 }
 
 /// A shortest way from the first to the last, which is left out, in a relation of so many names. It may be a cycle.
-pub fn way(
+pub(crate) fn way(
     alloc: Global,
     relation: &Relation,
     first: u8,
@@ -84,7 +84,7 @@ pub fn way(
 }
 
 /// A shortest cycle, from its least name on; none where the closure has none.
-pub fn cycle(
+pub(crate) fn cycle(
     alloc: Global,
     relation: &Relation,
     closure: &Relation,
@@ -107,7 +107,7 @@ pub fn cycle(
 }
 
 /// The names of the set in an order in which each comes after what the closure has before it.
-pub fn sorted(
+pub(crate) fn sorted(
     alloc: Global,
     closure: &Relation,
     names: u64,

@@ -1,9 +1,11 @@
 //! Regions: what is known of the candidates that are in one.
 
-use crate::{
-    Hart, Left, MOST_NAMES, Node, Origin, Relation, Row, Rule, Wanted, are_same, both, is_empty,
-    left_with,
-};
+use crate::condition::{Node, Wanted};
+use crate::hart::Hart;
+use crate::names::{MOST_NAMES, Origin, Relation};
+use crate::rows::{Row, are_same, both, is_empty};
+use crate::rules::Rule;
+use crate::sum::{Left, left_with};
 use fs_kinds::{List, OperationName};
 use std::alloc::{AllocError, Global};
 use std::sync::Arc;

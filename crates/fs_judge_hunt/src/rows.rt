@@ -1,7 +1,6 @@
 //! Rows of bits, one for each run of a hart. All rows of a hart have the same number of words.
 
 use std::alloc::{AllocError, Global};
-use std::collections::BTreeMap;
 
 pub type Row = Vec<u64>;
 
@@ -27,7 +26,7 @@ pub fn put(row: &mut [u64], run: usize) {
 }
 
 /// Is the run of this number in the row?
-pub fn has_run(row: &[u64], run: usize) -> bool {
+pub(crate) fn has_run(row: &[u64], run: usize) -> bool {
     let word = row.get(run / 64).copied().unwrap_or(0);
     word.wrapping_shr((run % 64) as u32) & 1 != 0
 }
@@ -38,7 +37,7 @@ pub fn is_empty(row: &[u64]) -> bool {
 }
 
 /// Has the other row each run of this one?
-pub fn is_within(row: &[u64], other: &[u64]) -> bool {
+pub(crate) fn is_within(row: &[u64], other: &[u64]) -> bool {
     row.iter()
         .zip(other)
         .all(|(word, above)| *word & !*above == 0)
@@ -61,7 +60,7 @@ pub fn do_meet(row: &[u64], other: &[u64]) -> bool {
 }
 
 /// Have the two the same runs?
-pub fn are_same(row: &[u64], other: &[u64]) -> bool {
+pub(crate) fn are_same(row: &[u64], other: &[u64]) -> bool {
     row.iter().zip(other).all(|(word, above)| *word == *above)
 }
 
@@ -75,7 +74,7 @@ pub fn both(alloc: Global, row: &[u64], other: &[u64]) -> Result<Row, AllocError
 }
 
 /// The runs of this one that the other one hasn't.
-pub fn without(alloc: Global, row: &[u64], other: &[u64]) -> Result<Row, AllocError> {
+pub(crate) fn without(alloc: Global, row: &[u64], other: &[u64]) -> Result<Row, AllocError> {
     let mut made = Vec::new(alloc);
     for (word, above) in row.iter().zip(other) {
         made.push(*word & !*above)?;
@@ -91,14 +90,14 @@ pub fn join(row: &mut [u64], other: &[u64]) {
 }
 
 /// Drops from the row the runs that the other one hasn't.
-pub fn narrow(row: &mut [u64], other: &[u64]) {
+pub(crate) fn narrow(row: &mut [u64], other: &[u64]) {
     for (word, above) in row.iter_mut().zip(other) {
         *word &= *above;
     }
 }
 
 /// The number of its first run.
-pub fn first_run(row: &[u64]) -> Option<usize> {
+pub(crate) fn first_run(row: &[u64]) -> Option<usize> {
     for (place, word) in row.iter().enumerate() {
         if *word != 0 {
             let within = word.trailing_zeros() as usize;
@@ -109,7 +108,7 @@ pub fn first_run(row: &[u64]) -> Option<usize> {
 }
 
 /// Has it more than one run?
-pub fn has_several(row: &[u64]) -> bool {
+pub(crate) fn has_several(row: &[u64]) -> bool {
     let mut found = false;
     for word in row {
         if *word != 0 {
@@ -127,42 +126,4 @@ pub fn has_several(row: &[u64]) -> bool {
 pub struct Group {
     pub key: u64,
     pub row: Row,
-}
-
-/// Runs by numbers.
-#[derive(Drop)]
-pub struct Grouping {
-    words: usize,
-    rows: BTreeMap<u64, Row>,
-}
-
-impl Grouping {
-    /// No run; rows have so many words.
-    pub fn new(alloc: Global, words: usize) -> Grouping {
-        Grouping {
-            words,
-            rows: BTreeMap::new(alloc),
-        }
-    }
-
-    /// Puts the run into the row of the number.
-    pub fn put(&mut self, alloc: Global, key: u64, run: usize) -> Result<(), AllocError> {
-        if let Some(row) = self.rows.get_mut(&key) {
-            put(row, run);
-            return Ok(());
-        }
-        let mut row = no_run(alloc, self.words)?;
-        put(&mut row, run);
-        self.rows.insert(key, row)?;
-        Ok(())
-    }
-
-    /// The groups, by rising numbers.
-    pub fn groups(self, alloc: Global) -> Result<Vec<Group>, AllocError> {
-        let mut groups = Vec::new(alloc);
-        for (key, row) in self.rows {
-            groups.push(Group { key, row })?;
-        }
-        Ok(groups)
-    }
 }

@@ -3,9 +3,10 @@
 use crate::endings::Outlook;
 use crate::facts::Facts;
 use crate::links::{Edge, inference_of};
+use crate::names::{MOST_NAMES, Relation, bit, has};
+use crate::paths::{cycle, way};
 use crate::region::{Field, Region};
 use crate::uses::of_filter;
-use crate::{MOST_NAMES, Relation, bit, cycle, has, way};
 use fs_cert_evidence::{Cause, Inference};
 use std::alloc::{AllocError, Global};
 

@@ -1,11 +1,12 @@
 //! How a region is split into smaller ones: those that the check of a tree makes, in its order.
 
+use crate::access::{Access, class_of};
 use crate::endings::Outlook;
 use crate::facts::Facts;
+use crate::hart::Hart;
+use crate::names::{Origin, has};
 use crate::region::{Field, Region};
-use crate::{
-    Access, Hart, Origin, Row, both, class_of, do_meet, has, is_empty, join, no_run, without,
-};
+use crate::rows::{Row, both, do_meet, is_empty, join, no_run, without};
 use fs_cert_evidence::Inference;
 use std::alloc::{AllocError, Global};
 

@@ -9,40 +9,40 @@ use std::alloc::{AllocError, Global};
 
 /// A store through which rule 12 puts a name before another one, where that returns from the store.
 #[derive(Clone, Copy)]
-pub struct Through {
-    pub first: u8,
-    pub store: u8,
-    pub second: u8,
+pub(crate) struct Through {
+    pub(crate) first: u8,
+    pub(crate) store: u8,
+    pub(crate) second: u8,
 }
 
 /// What holds in all runs that are left of a hart, or in some. The sets are of names.
 #[derive(Drop)]
-pub struct Sum {
+pub(crate) struct Sum {
     /// Those that load in each run.
-    pub loads: u64,
-    pub stores: u64,
+    pub(crate) loads: u64,
+    pub(crate) stores: u64,
     /// Those that load in some run.
-    pub may_load: u64,
-    pub may_store: u64,
+    pub(crate) may_load: u64,
+    pub(crate) may_store: u64,
     /// The location that each run loads from at the name.
-    pub load_at: [u8; MOST_NAMES],
-    pub store_at: [u8; MOST_NAMES],
+    pub(crate) load_at: [u8; MOST_NAMES],
+    pub(crate) store_at: [u8; MOST_NAMES],
     /// What one rule orders in each run, whatever loads return from.
-    pub ordered: Relation,
+    pub(crate) ordered: Relation,
     /// What rule 2 orders, where the two return from different stores.
-    pub same: Relation,
+    pub(crate) same: Relation,
     /// What rule 3 orders, where the second returns from the first.
-    pub returned: Relation,
+    pub(crate) returned: Relation,
     /// Pairs of an lr.w and an sc.w.
-    pub pairs: Relation,
-    pub through: Vec<Through>,
+    pub(crate) pairs: Relation,
+    pub(crate) through: Vec<Through>,
 }
 
 /// Runs of a hart, and what they have in common.
 #[derive(Drop)]
-pub struct Left {
-    pub row: Row,
-    pub sum: Sum,
+pub(crate) struct Left {
+    pub(crate) row: Row,
+    pub(crate) sum: Sum,
 }
 
 fn blank(alloc: Global) -> Sum {
@@ -139,7 +139,7 @@ impl Sum {
 }
 
 /// These runs of the hart, with what they have in common; of rule 4 there are the rows.
-pub fn left_with(
+pub(crate) fn left_with(
     alloc: Global,
     hart: &Hart,
     fenced: &[Rule],

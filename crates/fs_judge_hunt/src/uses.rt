@@ -1,9 +1,10 @@
 //! Which pairs of stores, one earlier in coherence order, an inference rests on.
 
+use crate::condition::{Part, Wanted, within};
 use crate::endings::Outlook;
 use crate::facts::Facts;
+use crate::names::{Origin, Relation, bit, has};
 use crate::region::Region;
-use crate::{Origin, Part, Relation, Wanted, bit, has, within};
 use fs_cert_evidence::Cause;
 
 /// Adds that the store is later than what the load returns from.

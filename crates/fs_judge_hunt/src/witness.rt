@@ -1,8 +1,11 @@
 //! The execution that a region shows in which nothing is left to decide.
 
+use crate::access::{Doing, Takes};
 use crate::facts::Facts;
+use crate::hart::Hart;
+use crate::paths::sorted;
 use crate::region::{Field, Region};
-use crate::{Doing, Hart, Takes, first_run, has_run, sorted};
+use crate::rows::{first_run, has_run};
 use fs_cert_evidence::{ChoiceLists, Choices};
 use fs_kinds::{List, OperationName};
 use fs_model::Choice;

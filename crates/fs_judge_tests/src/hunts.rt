@@ -6,7 +6,8 @@ ghost use Rattle.fs_model.specs.Test.{IsBounded, IsStart};
 use crate::texts::{ADDERS, ALWAYS, CASES, LAST, LOCK, LOCK3, PAIRS, SEEN, SOURCES, THREE, UNTOLD};
 use fs_cert_evidence::{Names, WitnessFile};
 use fs_check::shown_by;
-use fs_judge_hunt::{Execution, Found, Hunter};
+use fs_judge_hunt::{Execution, Found};
+use fs_judge_runs::hunter_of;
 use fs_kinds::{Fault, Placement};
 use fs_litmus::{Test, read_test};
 use fs_region_refutation::{Basis, reason_against};
@@ -105,7 +106,7 @@ fn hunted(alloc: Global, text: &str, fences: &str, way: Way) -> Result<String, F
     let test = Arc::new(alloc, read_test(alloc, text.as_bytes())?)?;
     let placement = placement_of(alloc, &test, fences)?;
     let basis = Basis::new(alloc, &test)?;
-    let hunter = Hunter::new(alloc, &test, basis.names(), basis.runs())?;
+    let hunter = hunter_of(alloc, &test, basis.names(), basis.runs())?;
     let found = if way.is_first {
         hunter.first(alloc, &placement, way.most)?
     } else {
@@ -243,7 +244,7 @@ fn refuted_by(alloc: Global, text: &str, fences: &str, most: usize) -> Result<us
     let test = Arc::new(alloc, read_test(alloc, text.as_bytes())?)?;
     let placement = placement_of(alloc, &test, fences)?;
     let basis = Basis::new(alloc, &test)?;
-    let hunter = Hunter::new(alloc, &test, basis.names(), basis.runs())?;
+    let hunter = hunter_of(alloc, &test, basis.names(), basis.runs())?;
     match hunter.hunt(alloc, &placement, most)? {
         Found::Refuted(tree) => Ok(tree.len()),
         _ => Ok(0),
