@@ -1,21 +1,19 @@
 -- Tables by positions: what they have, and that past the code there is nothing.
-use Rattle.std.proofs.Common.{◌≡◌, ℕ, zero, suc, ◌<◌, ◌≤◌, ◌==◌, inl, inr, Bool, true, false, ◌&&◌, Option, None, Some, option_map, option_and_then, unwrap_or, List, [], ◌∷◌, map, length, get_or, refl, sym, ◌∙◌, ap, arith}
+use Rattle.std.proofs.Common.{◌≡◌, ℕ, ◌≤◌, ◌==◌, inl, inr, Bool, true, false, ◌&&◌, Option, None, Some, option_map, option_and_then, unwrap_or, List, [], ◌∷◌, map, length, get_or, refl, sym, ◌∙◌, ap, arith}
 use Rattle.std.specs.Prelude.{slice_get, if◌then◌else◌}
 use Rattle.std.specs.List.{position, position_or_len}
 use Rattle.std.proofs.lemmas.Bool.{cases_lt, eqb-true, ne_eqb, lt-ltb, le-ltb}
 use Rattle.std.proofs.lemmas.List.{get_or_past}
 use Rattle.std.proofs.lemmas.List.Folds.{find_at}
 use Rattle.std.proofs.lemmas.List.FromFn.{length-map-range_with_len, get_or-map-range_with_len}
-use Rattle.std.proofs.lemmas.Option.{slice_get_within, slice_get-get_or, slice_get_past}
-use Rattle.fs_instr.specs.declared.instr.Instr.{Instr}
-use Rattle.fs_model.specs.declared.hart.Hart.{Hart}
+use Rattle.std.proofs.lemmas.Option.{slice_get-get_or, slice_get_past}
 use Rattle.fs_model.specs.declared.operation.Operation.{Operation}
 use Rattle.fs_model.specs.declared.step.Step.{Step}
 use Rattle.fs_model.specs.declared.test.Test.{Test}
 use Rattle.fs_model.specs.Execution.{IsTrace, code_of, registers_of}
 use Rattle.fs_model.specs.Numbers.{is_same, numbers_below}
 use Rattle.fs_model.specs.Operations.{PreExecution, accesses, nothing, operation, operations, place, steps_of}
-use Rattle.fs_model.specs.Trace.{AreSteps, after_step, start_with}
+use Rattle.fs_model.specs.Trace.{start_with}
 use Rattle.fs_model.specs.Witness.{name_of, step_name}
 use Rattle.fs_model.proofs.WhichOperation.{length_operations, no_hart_past}
 use Rattle.fs_cand.proofs.RunNames.{in_code}

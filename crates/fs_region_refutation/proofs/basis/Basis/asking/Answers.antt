@@ -20,7 +20,7 @@ invariant_of-result c =
     let u = arc_value c.args.test.now in
     let old = c.self.inside.runs.items in
     let runs : c.in_ok-runs.runs.items ≡ all_asked u old = c.in_ok-runs.ensures ∙ ap (all_asked u) c.deref.ensures.value in
-    let named : c.new.result ≡ c.self.inside.names = c.new.ensures ∙ c.in_ok-names.ensures ∙ c.as_slice.ensures in
+    let named : c.new.result ≡ c.self.inside.names = c.new.ensures ∙ c.in_ok-names.ensures.items ∙ c.as_slice.ensures in
     subst (λ (t : Test). IsBasis t c.in_ok-runs.runs.items c.new.result) (sym c.in_ok-shared.ensures)
     (subst (λ (rs : List (List RunOf)). IsBasis u rs c.new.result) (sym runs)
     (subst (λ (ns : List Name). IsBasis u (all_asked u old) ns) (sym named)
