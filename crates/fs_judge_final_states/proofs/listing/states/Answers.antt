@@ -1,4 +1,4 @@
-use Rattle.std.proofs.Common.{◌≡◌, ◌≢◌, ◌∙◌, IfErr, inl, sym, subst}
+use Rattle.std.proofs.Common.{◌≢◌, ◌∙◌, IfErr, inl, sym, subst}
 use Rattle.std.specs.Arc.{arc_value}
 use Rattle.std.proofs.lemmas.Result.{IfOk-weaker}
 use Rattle.fs_kinds.specs.declared.fault.Fault.{Fault}

@@ -1,6 +1,6 @@
 use Rattle.std.specs.Arc.{arc_value}
 use Rattle.std.proofs.lemmas.Result.{IfErr-weaker}
-use Rattle.fs_judge_final_states.proofs.Asking.{asks_as_well, found_in, none_in, same_fault, same_slots, ok_some, ok_none}
+use Rattle.fs_judge_final_states.proofs.Asking.{asks_as_well, found_in, none_in, same_fault, ok_some, ok_none}
 use Rattle.fs_judge_final_states.proofs.sought.sought.Goals as goal
 
 pub returns-clause-some : goal.returns-clause-some
