@@ -3,7 +3,6 @@ use Rattle.std.proofs.Common.{◌≡◌, ◌∙◌, ℕ, ◌+◌, Option, None, 
 use Rattle.std.specs.List.{range_with_len}
 use Rattle.std.proofs.lemmas.List.FromFn.{map-range_with_len_more}
 use Rattle.fs_model.specs.declared.operation.Operation.{Operation}
-use Rattle.fs_model.specs.declared.test.Test.{Test}
 use Rattle.fs_model.specs.Test.{address_of}
 use Rattle.fs_model.specs.Numbers.{numbers_below}
 use Rattle.fs_model.specs.Operations.{PreExecution, operations, is_load}

@@ -45,6 +45,12 @@ asks t places part condition made same bounded all says deep speaks =
     } in
     record { condition = condition; same = same; bounded = subst IsBounded (sym same) own; holds = says }
 
+-- the same of equal tests
+pub asks_as_well : (t u : Test) (places : List Place) (part : List Atom) (asked given : Test) → t ≡ u → given ≡ asked
+    → AsksFor t places part asked → AsksFor u places part given
+asks_as_well t u places part asked given same is h =
+    subst (λ (x : Test). AsksFor u places part x) (sym is) (subst (λ (x : Test). AsksFor x places part asked) same h)
+
 module _ (t : Test) (places : List Place) (part : List Atom) (asked : Test) (asks_for : AsksFor t places part asked) where
   pub same_starts : All IsStart t.starts → All IsStart asked.starts
   same_starts all = subst (λ (u : Test). All IsStart u.starts) (sym asks_for.same) all

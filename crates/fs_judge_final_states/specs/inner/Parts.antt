@@ -1,5 +1,5 @@
 -- Parts of the states that words at some of the places single out, and the test that asks for one of them.
-use Rattle.std.specs.Prelude.{◌≡◌, ℕ, ◌<◌, ◌==◌, ◌⊎◌, Bool, true, false, not, ◌&&◌, Some, List, [], All, length, map, slice_get, Vec}
+use Rattle.std.specs.Prelude.{◌≡◌, ℕ, ◌<◌, ◌==◌, ◌⊎◌, Bool, true, false, not, ◌&&◌, Some, List, All, length, map, slice_get, Vec}
 use Rattle.std.specs.BTreeMap.{BTreeMap}
 use Rattle.std.specs.declared.alloc.Global.{Global}
 use Rattle.std.specs.List.{Contains, list_all, list_any}

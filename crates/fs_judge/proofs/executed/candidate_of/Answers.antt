@@ -1,7 +1,6 @@
-use Rattle.std.proofs.Common.{◌≡◌, ◌∙◌, ℕ, Option, List, ap, ap₂, subst}
+use Rattle.std.proofs.Common.{◌≡◌, ◌∙◌, ℕ, Option, List, ap₂}
 use Rattle.fs_model.specs.declared.operation.Operation.{Operation}
 use Rattle.fs_model.specs.Operations.{operations}
-use Rattle.fs_cert_evidence.specs.Candidates.{Candidate}
 use Rattle.fs_cand.specs.Candidates.{candidate_of}
 use Rattle.fs_check.specs.Ordered.{runs_in}
 use Rattle.fs_judge.proofs.ByOrder.{sources_from, orders_from, loaded_from, stored_in}

@@ -1,4 +1,4 @@
-use Rattle.std.proofs.Common.{◌≡◌, ◌≢◌, ◌∙◌, ap, subst}
+use Rattle.std.proofs.Common.{◌≢◌, subst}
 use Rattle.fs_kinds.specs.declared.fault.Fault.TheVariants.{Memory}
 use Rattle.fs_model.specs.declared.test.Test.{Test}
 use Rattle.fs_cert_evidence.specs.CandidateFaults.{IsCandidateFault}

@@ -1,6 +1,5 @@
 use Rattle.std.proofs.Common.{Option, sym, subst}
 use Rattle.std.specs.Prelude.{IfSome}
-use Rattle.std.proofs.lemmas.Result.{IfOk-weaker}
 use Rattle.fs_cert_evidence.specs.Shown.{ShowsAs}
 use Rattle.fs_check.specs.Ordered.{execution_in}
 use Rattle.fs_check.specs.declared.ordered.OrderedCandidate.{OrderedCandidate}
@@ -12,4 +11,4 @@ returns-clause-ok c = λ w keeps.
     let shows : ShowsAs c.args.test.now c.args.placement.now w e =
     subst (λ (found : Option OrderedCandidate). IfSome found (λ o. ShowsAs c.args.test.now c.args.placement.now w (execution_in o)))
     c.in-Some.is (c.in_ok-ordered.ensures.some w keeps) in
-    IfOk-weaker c.words_at.result _ _ (λ words is. (e, shows.0, shows.1, sym is)) c.words_at.ensures.ok
+    (e, shows.0, shows.1, sym c.in_ok-words_at.ensures)

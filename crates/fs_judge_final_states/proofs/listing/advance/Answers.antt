@@ -1,4 +1,4 @@
-use Rattle.std.proofs.Common.{◌≡◌, sym, subst, ℕ, true, Option, List}
+use Rattle.std.proofs.Common.{◌≡◌, subst, ℕ, true, Option, List}
 use Rattle.std.specs.Prelude.{IfNone, IfSome}
 use Rattle.fs_judge_final_states.specs.declared.part.Atom.{Atom}
 use Rattle.fs_judge_final_states.specs.declared.state.State.{State}
