@@ -10,7 +10,7 @@ returns-clause-some c =
     let part = c.args.part.now in
     let asked = c.in_ok-asking_problem.asking_problem in
     let asks_for = asks_as_well c.test.result.now t places part (arc_value c.in_ok-asked.asked) asked c.test.ensures.value
-        c.in_ok-asking_problem.ensures.value c.in_ok-asked.ensures.ok in
+    c.in_ok-asking_problem.ensures.value c.in_ok-asked.ensures.ok in
     ok_some c.shown_state.result _ _ (found_in t places part asked asks_for c.args.placement.now) c.shown_state.ensures.some
 
 pub returns-clause-none : goal.returns-clause-none
@@ -20,7 +20,7 @@ returns-clause-none c =
     let part = c.args.part.now in
     let asked = c.in_ok-asking_problem.asking_problem in
     let asks_for = asks_as_well c.test.result.now t places part (arc_value c.in_ok-asked.asked) asked c.test.ensures.value
-        c.in_ok-asking_problem.ensures.value c.in_ok-asked.ensures.ok in
+    c.in_ok-asking_problem.ensures.value c.in_ok-asked.ensures.ok in
     ok_none c.shown_state.result _ _ (none_in t places part asked asks_for c.args.placement.now) c.shown_state.ensures.none
 
 pub returns-clause-err : goal.returns-clause-err
@@ -30,6 +30,6 @@ returns-clause-err c =
     let part = c.args.part.now in
     let asked = c.in_ok-asking_problem.asking_problem in
     let asks_for = asks_as_well c.test.result.now t places part (arc_value c.in_ok-asked.asked) asked c.test.ensures.value
-        c.in_ok-asking_problem.ensures.value c.in_ok-asked.ensures.ok in
+    c.in_ok-asking_problem.ensures.value c.in_ok-asked.ensures.ok in
     IfErr-weaker c.shown_state.result _ _ (λ fault h other. same_fault t places part asked asks_for fault (h other))
     c.shown_state.ensures.err
