@@ -1,6 +1,7 @@
 """All checks, in the order of the lines at the end of a run of all."""
 from checks import (certificate_rows, compare_audit, compare_check, compare_solve, compare_states, compare_test,
-                    devices, hostile, limits, program, refused_memory, solve_answers, states_answers, workers)
+                    devices, hostile, install, limits, program, refused_memory, solve_answers, states_answers,
+                    workers)
 from checks.registry import GATE, NOTHING, Check, flags, made, number
 from running import TOP
 
@@ -17,6 +18,7 @@ CHECKS = [
     Check("release", 60, command=(f"{SCRIPTS}/check-release",), needs=GATE,
           text="Whether the program in bin/ is, byte for byte, what was built from its sources"),
     Check("program", 120, program.check),
+    Check("install", 10, install.check),
     Check("limits", 120, limits.check, words=flags("--heavy")),
     Check("devices", 150, devices.check),
     Check("certificate-rows", 20, certificate_rows.check),

@@ -4,7 +4,7 @@ What it must print stands in scripts/transcripts/*.txt, command by command: the 
 tests as they are printed, prices, witnesses good and bad, answers worked out by hand, certificates. Then come the
 examples with their answers, the commands of the documents with what stands below them, what is printed as JSON, what a
 shell completes, and whether the other commands take what it answers; messages, and how far it is, as it says on a
-terminal; and the help that the launcher prints where there is no program."""
+terminal; the help that the launcher prints where there is no program; and whether `solve` reads measured prices."""
 import glob
 import json
 import os
@@ -227,10 +227,20 @@ def check_help(checks):
     checks.expect("the stored help", Said("", "", 0), made)
 
 
+def check_measured(checks):
+    """What examples/prices/measure.c prints on an emulator is a price list. This is skipped where there is none."""
+    if not (shutil.which("riscv64-linux-gnu-gcc") and shutil.which("qemu-riscv64")):
+        print("skipped, as there is no riscv64-linux-gnu-gcc or no qemu-riscv64: examples/prices/measure.c")
+        return
+    said = checks.shell("riscv64-linux-gnu-gcc -O2 -static -pthread -o measure examples/prices/measure.c && "
+                        "qemu-riscv64 ./measure 1 >measured.json && rvfence solve examples/SB.litmus measured.json")
+    checks.check("prices that were measured", said.out.startswith("fenced ") and said.status == 0, said)
+
+
 def check(run):
     # the launcher builds the program, so that no progress comes between later checks
     ran([f"{TOP}/rvfence", "place", f"{EXAMPLES}/MP.litmus"], seconds=None)
     checks = Transcripts(run)
     for part in (check_transcripts, check_examples, check_idioms, check_documents, check_launcher, check_answers,
-                 check_objects, check_completions, check_messages, check_progress, check_help):
+                 check_objects, check_completions, check_messages, check_progress, check_help, check_measured):
         part(checks)
