@@ -20,6 +20,7 @@ use Rattle.fs_board.specs.contracts.board.Board as Board
 use Rattle.fs_board.proofs.tree.Tree.TheSendSync as tree
 use Rattle.fs_board.proofs.event.LogEntry.TheSendSync as entry
 use Rattle.fs_kinds.proofs.reason.OperationName.TheSendSync as named
+use Rattle.fs_region_runs.proofs.lone.Made.TheSendSync as made
 use Rattle.fs_region_runs.specs.contracts.lone.Lone as Lone
 use Rattle.fs_region_refutation.specs.contracts.basis.Basis as Basis
 use Rattle.fs_board_search.proofs.Problems as problem
@@ -54,10 +55,10 @@ pub desk_sync : (A : RattleType) (g : asked.Ghosts A.Denot) → IsSync (Desk.the
 desk_sync A g = let s = shared_send A g in search (crosses, sendable) depth 40 fits 100000
 
 lone_send : IsSend Lone.the_row
-lone_send = search (test_send, test_sync, list.the_send, crosses, sendable) depth 60 fits 1000000
+lone_send = search (test_send, test_sync, made.the_send, made.the_sync, crosses, sendable) depth 60 fits 1000000
 
 lone_sync : IsSync Lone.the_row
-lone_sync = search (test_send, test_sync, list.the_sync, crosses, sendable) depth 60 fits 1000000
+lone_sync = search (test_send, test_sync, made.the_send, made.the_sync, crosses, sendable) depth 60 fits 1000000
 
 basis_send : IsSend Basis.the_row
 basis_send = search (test_send, test_sync, lone_send, list.the_send, named.the_send, crosses, sendable) depth 40 fits 100000
