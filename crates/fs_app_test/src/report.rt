@@ -5,7 +5,8 @@ ghost use Rattle.std.specs.List.{flat_map};
 ghost use Rattle.fs_kinds.specs.declared.fault.Fault.TheVariants.{Memory};
 ghost use Rattle.fs_model.specs.Printed.{joined};
 ghost use Rattle.fs_app_test.specs.Status.{report_status};
-ghost use Rattle.fs_app_test.specs.Report.{width, padded, kind_text, label, line_text, count_of, count_text, count_piece, pieces, summary, report_text};
+ghost use Rattle.fs_app_test.specs.Report.{width, padded, kind_text, label, line_text, count_of, count_text};
+ghost use Rattle.fs_app_test.specs.Report.{count_piece, pieces, summary, report_text};
 
 use crate::{Kind, Line, counted, is_kind, status_of};
 use fs_app_error_messages::shown_name;

@@ -1,6 +1,7 @@
 //! Partial placements.
 
-ghost use Rattle.std.specs.Prelude.{◌≡◌, IsTrue, IfOk, IfSome, IfNone, true, false, map, filter, ◌&&◌, is_none, unwrap_or, option_map, Some, None, if◌then◌else◌};
+ghost use Rattle.std.specs.Prelude.{◌≡◌, IsTrue, IfOk, IfSome, IfNone, true, false, map, filter, ◌&&◌, is_none};
+ghost use Rattle.std.specs.Prelude.{unwrap_or, option_map, Some, None, if◌then◌else◌};
 ghost use Rattle.std.specs.List.{find, list_any};
 ghost use Rattle.fs_kinds.specs.declared.slot.Slot.{Slot};
 ghost use Rattle.fs_kinds.specs.Placement.{all_with};

@@ -16,7 +16,8 @@ ghost use Rattle.fs_board_laws.specs.Trees.{is_ended, ends_node, IsNode};
 pub fn ended_nodes_stay()
     ensures stays { (t : Test) (prices : PriceTable) (old new : Board) (log : List LogEntry) → Lead t prices old log new
         → (k : ℕ) (node : Node) → IsNode old k node → is_ended node.status ≡ true → IsNode new k node }
-    ensures holder { (t : Test) (prices : PriceTable) (old new : Board) (worker k : ℕ) (event : Event) (reply : Reply) (node : Node)
+    ensures holder { (t : Test) (prices : PriceTable) (old new : Board) (worker k : ℕ) (event : Event) (reply : Reply)
+        (node : Node)
         → Steps t prices old worker event reply new → IsNode new k node → is_ended node.status ≡ true
         → IsNode old k node ⊎ (HoldsNode old worker k node.part × (ends_node k event reply ≡ true)) }
     ensures once { (t : Test) (prices : PriceTable) (old new : Board) (log : List LogEntry) → Lead t prices old log new

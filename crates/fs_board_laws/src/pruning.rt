@@ -47,8 +47,10 @@ pub fn better_is_total_order()
 /// allows the outcome, or is no better than the best placement so far. As long as there is no such placement, all of
 /// them allow it.
 pub fn bounded_part()
-    ensures { (t : Test) (prices : PriceTable) (bound : Option (List Entry)) (part : Part) (es : List Execution) (q : List Entry)
-        → slots_in_part part ≡ slots t → All (Shows t (floor part)) es → is_pruned prices bound part (map (width t) es) ≡ true
+    ensures { (t : Test) (prices : PriceTable) (bound : Option (List Entry)) (part : Part) (es : List Execution)
+        (q : List Entry)
+        → slots_in_part part ≡ slots t → All (Shows t (floor part)) es → is_pruned prices bound part (map (width t)
+            es) ≡ true
         → IsPlacement t prices q → is_under part q ≡ true → Allows t q ⊎ IsNoBetter prices bound q }
 {}
 

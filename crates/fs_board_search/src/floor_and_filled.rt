@@ -93,8 +93,10 @@ pub(crate) fn forbidden_or_stored(
     part: &Part,
     verdict: Verdict,
 ) -> Result<Option<Forbidden>, AllocError>
-    ensures known { (t : Test) (p : List Entry) → IsVerdict t p verdict → AreWitnesses t store.old → AreWitnesses t store.new }
-    ensures ok { (t : Test) (p : List Entry) → IsVerdict t p verdict → IfOk result (λ found. IfSome found (IsPostable t)) }
+    ensures known { (t : Test) (p : List Entry) → IsVerdict t p verdict → AreWitnesses t store.old
+        → AreWitnesses t store.new }
+    ensures ok { (t : Test) (p : List Entry) → IsVerdict t p verdict
+        → IfOk result (λ found. IfSome found (IsPostable t)) }
 {
     match verdict {
         Verdict::Allowed(found) => {

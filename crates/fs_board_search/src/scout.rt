@@ -115,7 +115,8 @@ fn keep_new(
     decisions: &[Decision],
     witness: &Arc<Witness>,
 ) -> Result<(), AllocError>
-    ensures { (t : Test) → ((e : Execution) × IsWitnessFor t (arc_value witness.now) e) → AreWitnesses t store.old → AreWitnesses t store.new }
+    ensures { (t : Test) → ((e : Execution) × IsWitnessFor t (arc_value witness.now) e) → AreWitnesses t store.old
+        → AreWitnesses t store.new }
 {
     if store.has_widths(witness) {
         return Ok(());
@@ -133,7 +134,8 @@ fn keep_all(
     decisions: &[Decision],
     witnesses: &[Arc<Witness>],
 ) -> Result<(), AllocError>
-    ensures { (t : Test) → AreWitnesses t (map arc_value witnesses.now) → AreWitnesses t store.old → AreWitnesses t store.new }
+    ensures { (t : Test) → AreWitnesses t (map arc_value witnesses.now) → AreWitnesses t store.old
+        → AreWitnesses t store.new }
 {
     for witness in witnesses {
         keep_new(alloc, store, prices, decisions, witness)?;
@@ -271,7 +273,8 @@ impl Scout {
         alloc: Global,
         part: &Part,
     ) -> Result<Option<Arc<Forbidden>>, AllocError>
-        ensures { IfOk result (λ found. IfSome found (λ f. IsPostable self.now.test (arc_value f) × (placement_in f ≡ floor part.now))) }
+        ensures { IfOk result (λ found. IfSome found (λ f. IsPostable self.now.test (arc_value f)
+            × (placement_in f ≡ floor part.now))) }
     {
         let Some(planned) = &self.planned else {
             return Ok(None);

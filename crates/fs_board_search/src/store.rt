@@ -217,7 +217,8 @@ impl Store {
         sum: &mut Sum,
         offer: &Offer,
     ) -> Result<(), AllocError>
-        ensures { (t : Test) → AreWitnesses t self.now → AreWitnesses t (map arc_value picked.old.items) → AreWitnesses t (map arc_value picked.new.items) }
+        ensures { (t : Test) → AreWitnesses t self.now → AreWitnesses t (map arc_value picked.old.items)
+            → AreWitnesses t (map arc_value picked.new.items) }
     {
         if !sum.is_apart(offer) {
             return Ok(());
@@ -258,7 +259,8 @@ impl Store {
         bound: Option<&Arc<Forbidden>>,
         part: &Part,
     ) -> Result<Vec<Arc<Witness>>, AllocError>
-        ensures { IfOk result (λ picked. (t : Test) → AreWitnesses t self.now → AreWitnesses t (map arc_value picked.items)) }
+        ensures { IfOk result (λ picked. (t : Test) → AreWitnesses t self.now
+            → AreWitnesses t (map arc_value picked.items)) }
     {
         let decisions = part.as_slice();
         let offers = self.offers(alloc, &Codes::of_floor(decisions), decisions)?;
