@@ -83,7 +83,7 @@ fn check_test(
 fn verdict_output(alloc: Global, verdict: &CheckVerdict) -> Result<Checked, Fault>
     ensures answer { IfOk result (λ made. (t : Tests) (prices : PriceTable) (c : Said) → IsBounded t
         → IsCheckVerdict t prices c verdict.now → PrintsVerdict t prices c (string_bytes
-            made.output.text) made.output.status) }
+        made.output.text) made.output.status) }
     ensures object { IfOk result (λ made. (t : Tests) (prices : PriceTable) (c : Said) → IsBounded t
         → IsCheckVerdict t prices c verdict.now
         → AreOneVerdict (string_bytes made.output.text) (string_bytes made.object)) }

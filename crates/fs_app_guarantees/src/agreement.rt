@@ -29,5 +29,5 @@ pub fn words_place_fences()
 pub fn order_answers_once()
     ensures { (test witness : List ℕ) (words : List (List ℕ)) (text other : List ℕ) (status end : Status)
         → IsOrderAnswer test witness words text status → IsOrderAnswer test witness words other end → (text
-            ≡ other) × (status ≡ end) }
+        ≡ other) × (status ≡ end) }
 {}

@@ -23,5 +23,5 @@ pub fn states_tell_the_outcome()
         → Reads bytes t
         → AreStates t p places states → NamesOnly places (condition_of t.condition)
         → (SomeMakesOutcome t places states → StaysPossible t p) × ((SomeMakesOutcome t places states → ⊥)
-            → IsRuledOut t p) }
+        → IsRuledOut t p) }
 {}

@@ -220,7 +220,7 @@ impl Board {
         requires closed { is_open (status_of status) ≡ false }
         requires may { (n : NodeValue) × (slice_get self.old.board.nodes node ≡ Some n)
             × Steps self.old.question.test self.old.question.prices self.old.board worker (event_of
-                event) Closed (with_status (status_of status) node n.part self.old.board) }
+            event) Closed (with_status (status_of status) node n.part self.old.board) }
         ensures step { IfOk result (λ r. Answers self.old self.new worker (event_of event) (reply_of r)) }
         ensures err { OnErr result (self.new ≡ self.old) }
     {
@@ -243,8 +243,8 @@ impl Board {
         requires widths { AreWitnesses self.old.question.test (map arc_value witnesses.items) }
         requires may { (n : NodeValue) × (slice_get self.old.board.nodes node ≡ Some n)
             × Steps self.old.question.test self.old.question.prices self.old.board worker (event_of
-                event) Closed (with_witnesses (status_of status) node n.part (map witness_in
-                witnesses.items) self.old.board) }
+            event) Closed (with_witnesses (status_of status) node n.part (map witness_in
+            witnesses.items) self.old.board) }
         ensures step { IfOk result (λ r. Answers self.old self.new worker (event_of event) (reply_of r)) }
         ensures err { OnErr result (self.new ≡ self.old) }
     {

@@ -47,8 +47,13 @@ impl Tree {
     /// The tree of one open node.
     pub(crate) fn new(alloc: Global, root: Part, limit: usize) -> Result<Tree, AllocError>
         ensures { IfOk result (λ t. t
-            ≡ record { nodes = record { part = root; status = Open } ∷ []; bound = None; witnesses = []; limit =
-            limit }) }
+            ≡ record {
+              nodes = record { part = root; status = Open } ∷ [];
+              bound = None;
+              witnesses = [];
+              limit =
+                  limit;
+            }) }
     {
         let mut nodes = Vec::new(alloc);
         nodes.push(Node::new(Arc::new(alloc, root)?, Status::Open))?;

@@ -71,5 +71,5 @@ pub fn children_stand()
     ensures { (t : Test) (prices : PriceTable) (limit : ℕ) (log : List LogEntry) (board : Board)
         → IsHistory t prices limit log board → (k : ℕ) (part : Part) (slot : Slot) (first : ℕ)
         → IsNode board k (record
-            { part = part; status = Split slot first }) → IsSplitAt prices board.nodes k part slot first }
+        { part = part; status = Split slot first }) → IsSplitAt prices board.nodes k part slot first }
 {}

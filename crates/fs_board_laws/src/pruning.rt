@@ -50,7 +50,7 @@ pub fn bounded_part()
     ensures { (t : Test) (prices : PriceTable) (bound : Option (List Entry)) (part : Part) (es : List Execution)
         (q : List Entry)
         → slots_in_part part ≡ slots t → All (Shows t (floor part)) es → is_pruned prices bound part (map (width t)
-            es) ≡ true
+        es) ≡ true
         → IsPlacement t prices q → is_under part q ≡ true → Allows t q ⊎ IsNoBetter prices bound q }
 {}
 

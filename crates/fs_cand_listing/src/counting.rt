@@ -124,7 +124,7 @@ fn count_orders_among(operations: &[Operation], count: usize, locations: u8) -> 
 pub(crate) fn count_raw(operations: &[Operation], locations: u8) -> u32
     ensures exact { (x : PreExecution) → operations.now ≡ operations_of x
         → result ≡ capped (product_of_lengths (all_sources x) * product_by number_of_orders
-            (map (own_stores x) (numbers_below locations))) }
+        (map (own_stores x) (numbers_below locations))) }
     ensures most { result ≤ most_candidates + 1 }
 {
     let count = count_accesses(operations);

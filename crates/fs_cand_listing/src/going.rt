@@ -29,7 +29,7 @@ impl Prepared {
         requires number { number < product_by number_of_orders self.now.choices.stores.items }
         ensures { IfOk result (λ orders. orders.items
             ≡ slice_index_or (products
-                (all_orders test.now (pre_execution test.now (steps_in self.now.traces)))) number []) }
+            (all_orders test.now (pre_execution test.now (steps_in self.now.traces)))) number []) }
     {
         let mut orders = Vec::new(alloc);
         let first = self.choices.count as u8;

@@ -29,5 +29,5 @@ pub fn lengths_decide()
 pub fn raw_candidates_are_counted()
     ensures { (t : Test) (traces : List (List Step)) → length (candidates_with t traces)
         ≡ product_of_lengths (all_sources (pre_execution t traces)) * product_of_lengths (all_orders t
-            (pre_execution t traces)) }
+        (pre_execution t traces)) }
 {}

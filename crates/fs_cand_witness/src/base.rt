@@ -39,7 +39,7 @@ pub fn base_rows(candidate: &Candidate) -> Rows
         && (nat_lt b (length candidate.now.operations) && is_judged x [] (candidate_of candidate.now) a b))) }
     ensures raw { (t : Test) → IsMade (initial_words t) candidate.now → IsRaw t (candidate_of candidate.now) → (a b : ℕ)
         → has_edge result a b ≡ is_judged (defined_runs t (candidate_of candidate.now)) [] (candidate_of
-            candidate.now) a b }
+        candidate.now) a b }
 {
     let n = candidate.operations.len();
     let mut rows = Rows::new();

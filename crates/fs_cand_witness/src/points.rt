@@ -78,7 +78,7 @@ fn mask(operations: &[Operation], half: Half, class: Class, hart: u8, place: usi
     requires { length operations.now ≤ 64 }
     ensures { (a : ℕ) → has_bit result a
         ≡ (is_on half hart place (slice_index_or operations.now a nothing)
-            && is_of class (slice_index_or operations.now a nothing)) }
+        && is_of class (slice_index_or operations.now a nothing)) }
 {
     let mut mask: u64 = 0;
     for a in 0..operations.len() {
@@ -114,7 +114,7 @@ fn push_sides(candidate: &Candidate, hart: u8, sides: &mut Vec<Sides>) -> Result
     ensures ok { IfOk result (λ _. OfRuns candidate.now (λ x. (p : List Entry) (a b : ℕ)
         → list_any (orders_at p a b) sides.new.items
         ≡ (list_any (orders_at p a b) sides.old.items
-            || list_any (orders_before_step x p hart a b) (numbers_below (length (steps_of x.traces hart)))))) }
+        || list_any (orders_before_step x p hart a b) (numbers_below (length (steps_of x.traces hart)))))) }
     ensures err { IsOkUnless result Memory }
 {
     let steps = steps_of(candidate.traces.as_slice(), Some(hart));

@@ -78,7 +78,7 @@ fn add(alloc: Global, files: &mut Vec<WitnessFile>, witness: &Witness) -> Result
     ensures once { OnOk result (AreDistinct files.old.items → AreDistinct files.new.items) }
     ensures number { IfOk result (λ n. (ws : List Defined) → AreCopiedWitnesses files.old.items ws
         → (more : List Defined) × AreCopiedWitnesses files.new.items (ws ++ more) × StandsAt (ws ++
-            more) witness.now.witness n) }
+        more) witness.now.witness n) }
 {
     if let Some(number) = number_of(files, witness) {
         return Ok(number as u64);

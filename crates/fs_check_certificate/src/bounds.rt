@@ -191,7 +191,7 @@ pub fn judge_bounded(
 ) -> Bounding
     ensures { (t : Test) (ws : List Witness) → IsBounded t → slots_in_part part.now ≡ slots t → AreShown t ws shown.now
         → breaks.now ≡ all_breaks prices.now (slots
-            t) shown.now → IsBounding t prices.now ws answer.now part.now numbers.now result }
+        t) shown.now → IsBounding t prices.now ws answer.now part.now numbers.now result }
 {
     if let Some(number) = first_unshown(part, shown, numbers) {
         return Bounding::Unshown(number);

@@ -117,7 +117,7 @@ impl Grounds<'_> {
         ensures { (t : Test) (c : Certificate) → self.now.slots.now ≡ slots t → slots_in_part part.now ≡ slots t
             → AreOfTest t stack.old
             → IfOk result (λ why. IsTaken t self.now.prices.now c self.now.answer.now (part.now ∷ stack.old)
-                (SplitAt number) index why stack.new) }
+            (SplitAt number) index why stack.new) }
     {
         let _at = index;
         match self.free_slot(part, number) {
@@ -139,7 +139,7 @@ impl Grounds<'_> {
     ) -> Result<Option<Reason>, AllocError>
         ensures { (t : Test) (c : Certificate) → AreGrounds t self.now.prices.now c self.now.version self.now.slots.now self.now.shown.now self.now.breaks.now → AreOfTest t stack.old
             → IfOk result (λ why. IsTaken t self.now.prices.now c self.now.answer.now stack.old (item_of item.now) index
-                why stack.new) }
+            why stack.new) }
     {
         let Some(part) = stack.pop() else {
             return Ok(Some(Reason::Tree));
@@ -161,7 +161,7 @@ impl Grounds<'_> {
     ) -> Result<Option<Reason>, AllocError>
         ensures { (t : Test) (c : Certificate) → AreGrounds t self.now.prices.now c self.now.version self.now.slots.now self.now.shown.now self.now.breaks.now
             → IfOk result (IsWalked t self.now.prices.now c self.now.answer.now (undecided t ∷ [])
-                (map item_of tree.now)) }
+            (map item_of tree.now)) }
     {
         let mut stack = Stack::new(alloc, self.slots)?;
         for (index, item) in tree.iter().enumerate() {

@@ -163,7 +163,7 @@ fn read_outcome(
     ensures there { IfOk result (λ o. SpeaksOf columns (length names.now) (condition_of o)) }
     ensures deep { IfErr result (λ f. f ≢ Fault.Memory → (s : Syntax) → Means condition.now s
         → are_there columns names.now (atoms_of s) ≡ true → (f
-            ≡ Fault.TooBig Limit.Depth) × (most_depth < depth_of s)) }
+        ≡ Fault.TooBig Limit.Depth) × (most_depth < depth_of s)) }
 {
     let Some(tree) = &condition.tree else {
         return Err(Fault::TooBig { what: Limit::Depth });

@@ -120,7 +120,7 @@ fn after<'a>(
 ) -> Result<Option<Reader<'a>>, AllocError>
     ensures { IfOk result (λ r. option_map reader_of r
         ≡ next_after limited (subformula_of unit.entry) (layer_of layer.entry) (below_of below.entry.items []) (kind_of
-            kind.entry)) }
+        kind.entry)) }
 {
     match kind {
         Kind::Sign(Mark::And) => {

@@ -33,7 +33,7 @@ pub fn reasons()
 pub fn board()
     ensures history { (p q : Box (Unit {0}) Global) → (Allows (sb p q) (fences (Some WR) (Some WR)) → ⊥)
         → (board : Board) × IsHistory (sb p q) prices 14 two_workers board × (board.bound
-            ≡ Some (fences (Some WR) (Some WR))) }
+        ≡ Some (fences (Some WR) (Some WR))) }
     ensures cost { cost prices (fences (Some WR) (Some WR)) ≡ 18 }
 {}
 

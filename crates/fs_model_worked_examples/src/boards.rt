@@ -34,11 +34,11 @@ pub fn equal_costs()
         → (Allows (two_writes p q) (between_stores (Some WRw) (Some WRw)) → ⊥)
         → (Allows (two_writes p q) (between_stores (Some WRw) (Some WW)) → ⊥)
         → (board : Board) × IsHistory (two_writes p q) equal_prices 8 earlier_last board × (board.bound
-            ≡ Some (between_stores (Some WRw) (Some WW))) }
+        ≡ Some (between_stores (Some WRw) (Some WW))) }
     ensures earlier_first { (p q : Box (Unit {0}) Global)
         → (Allows (two_writes p q) (between_stores (Some WRw) (Some WW)) → ⊥)
         → (board : Board) × IsHistory (two_writes p q) equal_prices 8 earlier_first board × (board.bound
-            ≡ Some (between_stores (Some WRw) (Some WW))) }
+        ≡ Some (between_stores (Some WRw) (Some WW))) }
     ensures cost_later { cost equal_prices (between_stores (Some WRw) (Some WRw)) ≡ 4 }
     ensures cost_earlier { cost equal_prices (between_stores (Some WRw) (Some WW)) ≡ 4 }
     ensures cost_greater { cost equal_prices (between_stores (Some WRw) (Some RwRw)) ≡ 5 }

@@ -42,8 +42,16 @@ impl Hand {
         requires owner { ((worker_view owner).owns ≡ true) × (worker_flavor owner ≡ 0) }
         requires thief { ((view right).steals ≡ true) × IsPassOf (stealer_deque thief) right }
         ensures { result
-            ≡ record { number = number; count = count; own = worker_deque owner; victim = stealer_deque thief; pushed =
-            (worker_view owner).pushed; popped = (worker_view owner).popped; stolen = (view right).stolen } }
+            ≡ record {
+              number = number;
+              count = count;
+              own = worker_deque owner;
+              victim = stealer_deque thief;
+              pushed =
+                  (worker_view owner).pushed;
+              popped = (worker_view owner).popped;
+              stolen = (view right).stolen;
+            } }
     {
         Hand {
             number,

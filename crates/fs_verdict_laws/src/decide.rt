@@ -54,7 +54,7 @@ pub fn cycles_decide()
 pub fn fences_add_edges()
     ensures { (t : Test) (p : List Entry) (c : Candidate) (a b : ℕ)
         → is_judged (runs_of t c) p c a b ≡ (is_judged (runs_of t c) [] c a b
-            || rule (runs_of t c) p (rf c) a b Rule4) }
+        || rule (runs_of t c) p (rf c) a b Rule4) }
 {}
 
 /// A law: the judged relation has an edge exactly where some cause gives it.

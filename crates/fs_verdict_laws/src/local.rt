@@ -110,7 +110,7 @@ pub fn runs_serve()
         → m.hart ≡ n.hart
         → (r : Rule) → is_local r ≡ true → (runs : List (List Step)) → always n.hart runs p n.at m.at r ≡ true
         → Contains runs (steps_of c.traces n.hart) → (a b : ℕ) → name_of (runs_of t c) a ≡ Some n → name_of (runs_of t
-            c) b ≡ Some m
+        c) b ≡ Some m
         → is_edge (runs_of t c) p c a b (Preserved r) ≡ true }
     ensures alike { (t : Test) (p : List Entry) (c d : Candidate) → All GoesForward t.codes → IsRaw t c → IsRaw t d
         → (a b i j : ℕ)
@@ -131,20 +131,20 @@ pub fn runs_and_sources_serve()
     ensures two { (t : Test) (p : List Entry) (c : Candidate) → All GoesForward t.codes → IsRaw t c → (n m : Name)
         → m.hart ≡ n.hart
         → (runs : List (List Step)) → Contains runs (steps_of c.traces
-            n.hart) → always n.hart runs p n.at m.at Rule2 ≡ true
+        n.hart) → always n.hart runs p n.at m.at Rule2 ≡ true
         → ((a b : ℕ) → name_of (runs_of t c) a ≡ Some n → name_of (runs_of t c) b ≡ Some m
         → source_name (runs_of t c) c a ≡ source_name (runs_of t c) c b → ⊥)
         → HasLink t p c n m (Preserved Rule2) }
     ensures three { (t : Test) (p : List Entry) (c : Candidate) → All GoesForward t.codes → IsRaw t c → (n m : Name)
         → m.hart ≡ n.hart
         → (runs : List (List Step)) → Contains runs (steps_of c.traces
-            n.hart) → always n.hart runs p n.at m.at Rule3 ≡ true
+        n.hart) → always n.hart runs p n.at m.at Rule3 ≡ true
         → ((b : ℕ) → name_of (runs_of t c) b ≡ Some m → source_name (runs_of t c) c b ≡ Some n)
         → HasLink t p c n m (Preserved Rule3) }
     ensures twelve { (t : Test) (p : List Entry) (c : Candidate) → All GoesForward t.codes → IsRaw t c → (n m : Name)
         → m.hart ≡ n.hart
         → (runs : List (List Step)) → Contains runs (steps_of c.traces
-            n.hart) → always n.hart runs p n.at m.at Rule12 ≡ true
+        n.hart) → always n.hart runs p n.at m.at Rule12 ≡ true
         → ((b : ℕ) → name_of (runs_of t c) b ≡ Some m
         → (k : Name) × (source_name (runs_of t c) c b ≡ Some k) × (k.hart ≡ n.hart)
         × (always_through runs n.at k.at m.at ≡ true))
@@ -158,11 +158,11 @@ pub fn links_make_cycles()
         → (links : List Link)
         → 1 ≤ length links → length links ≤ most_links
         → AllZip (λ link next. HasLink t p c link.operation next.operation link.cause) links (drop 1 links ++ take
-            1 links)
+        1 links)
         → IsCycle t p c links }
     ensures links { (t : Test) (p : List Entry) (c : Candidate) → All GoesForward t.codes → IsRaw t c
         → (links : List Link)
         → IsCycle t p c links
         → AllZip (λ link next. HasLink t p c link.operation next.operation link.cause) links (drop 1 links ++ take 1
-            links) }
+        links) }
 {}
