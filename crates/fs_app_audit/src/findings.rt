@@ -142,13 +142,6 @@ fn take_up(prices: &Prices, fence: Option<(Slot, FenceKind)>, placement: &mut Pl
     placement.with(slot, Some(kind)).is_ok()
 }
 
-/// Do both hold?
-fn both(one: bool, other: bool) -> bool
-    ensures { result ≡ one && other }
-{
-    one && other
-}
-
 /// Takes up the fences in turn. Do all fit?
 fn take_up_all(
     prices: &Prices,
@@ -160,8 +153,7 @@ fn take_up_all(
 {
     let mut all_fit = true;
     for fence in fences {
-        let fits = take_up(prices, *fence, placement);
-        all_fit = both(all_fit, fits);
+        all_fit &= take_up(prices, *fence, placement);
     }
     all_fit
 }

@@ -8,7 +8,7 @@ ghost use Rattle.fs_app_test.specs.Status.{report_status};
 ghost use Rattle.fs_app_test.specs.Report.{width, padded, kind_text, label, line_text, count_of, count_text};
 ghost use Rattle.fs_app_test.specs.Report.{count_piece, pieces, summary, report_text};
 
-use crate::{Kind, Line, counted, is_kind, status_of};
+use crate::{Kind, Line, counted, status_of};
 use fs_app_error_messages::shown_name;
 use fs_app_io::Output;
 use fs_kinds::Fault;
@@ -110,7 +110,7 @@ fn count_of(kind: Kind, lines: &[Line]) -> usize
 {
     lines
         .iter()
-        .filter(|line| is_kind(kind, line.said.kind))
+        .filter(|line| kind == line.said.kind)
         .count()
 }
 
