@@ -108,10 +108,7 @@ pub fn padded(alloc: Global, width: usize, text: &str) -> Result<String, AllocEr
 fn count_of(kind: Kind, lines: &[Line]) -> usize
     ensures { result ≡ count_of kind lines.now }
 {
-    lines
-        .iter()
-        .filter(|line| kind == line.said.kind)
-        .count()
+    lines.iter().filter(|line| kind == line.said.kind).count()
 }
 
 /// That so many are of the kind.

@@ -2,7 +2,7 @@
 
 ghost use Rattle.std.specs.Prelude.{◌≡◌, option_map};
 ghost use Rattle.fs_instr.specs.declared.operands.Operands.{Operands};
-ghost use Rattle.fs_instr.specs.declared.operands.OperandPart.TheVariants.{Immediate, Below, NoOffset};
+ghost use Rattle.fs_instr.specs.declared.operands.OperandPart.TheVariants.{Zero, Immediate, Below, Constant, NoOffset};
 ghost use Rattle.fs_instr.specs.Operands.{filled, toks, take_word, take_name, is_mark, take_sign, take_letters};
 ghost use Rattle.fs_instr.specs.Operands.{take_unsigned, take_number, immediate_of, below_of, constant_of, read_part};
 ghost use Rattle.fs_instr.specs.Operands.{read_parts, blank};
@@ -227,6 +227,37 @@ fn read_below<'b, 'a>(
     Some((label, rest))
 }
 
+fn read_constant<'b, 'a>(
+    operands: &mut Operands,
+    label: Option<&'a str>,
+    tokens: &'b [Token<'a>],
+) -> Option<(Option<&'a str>, &'b [Token<'a>])>
+    ensures { option_map (λ x. (filled operands.new x.0, toks x.1.now)) result
+        ≡ read_part Constant (filled operands.old label.entry) (toks tokens.now) }
+{
+    let (minus, number, rest) = take_number(tokens)?;
+    operands.constant = constant_of(minus, number);
+    Some((label, rest))
+}
+
+#[tactic(auto, unfolding(crate::specs::Operands::take_register))]
+fn read_zero<'b, 'a>(
+    operands: &mut Operands,
+    label: Option<&'a str>,
+    tokens: &'b [Token<'a>],
+) -> Option<(Option<&'a str>, &'b [Token<'a>])>
+    ensures { option_map (λ x. (filled operands.new x.0, toks x.1.now)) result
+        ≡ read_part Zero (filled operands.old label.entry) (toks tokens.now) }
+{
+    let (word, rest) = take_word(tokens)?;
+    let register = Reg::of(word)?;
+    if register.number() == 0 {
+        Some((label, rest))
+    } else {
+        None
+    }
+}
+
 fn read_no_offset<'b, 'a>(
     label: Option<&'a str>,
     tokens: &'b [Token<'a>],
@@ -271,26 +302,14 @@ fn read_part<'b, 'a>(
             operands.second = Reg::of(word)?;
             Some((label, rest))
         }
-        OperandPart::Zero => {
-            let (word, rest) = take_word(tokens)?;
-            let register = Reg::of(word)?;
-            if register.number() == 0 {
-                Some((label, rest))
-            } else {
-                None
-            }
-        }
+        OperandPart::Zero => read_zero(operands, label, tokens),
         OperandPart::Sign(mark) => {
             let rest = take_sign(mark, tokens)?;
             Some((label, rest))
         }
         OperandPart::Immediate => read_immediate(operands, label, tokens),
         OperandPart::Below(limit) => read_below(limit, operands, label, tokens),
-        OperandPart::Constant => {
-            let (minus, number, rest) = take_number(tokens)?;
-            operands.constant = constant_of(minus, number);
-            Some((label, rest))
-        }
+        OperandPart::Constant => read_constant(operands, label, tokens),
         OperandPart::NoOffset => read_no_offset(label, tokens),
         OperandPart::Label => {
             let (word, rest) = take_name(tokens)?;
