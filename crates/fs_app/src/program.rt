@@ -8,7 +8,8 @@ ghost use Rattle.fs_app_place_order.specs.Order.{IsOrderAnswer, IsFirstOrderFaul
 ghost use Rattle.fs_report.specs.Objects.{AreOneAnswer};
 ghost use Rattle.fs_app_solve.specs.Solve.{IsSolved, IsCertified, IsFirstSolveFault};
 ghost use Rattle.fs_app_check.specs.Check.{IsChecked, AreOneVerdict, IsFirstCheckFault};
-ghost use Rattle.fs_app.specs.Answers.{offered, in_form, IsAuditFault, IsAuditText, Answers, AnswersTest, AnswersPlace, AnswersOrder, AnswersSolve, AnswersAudit, AnswersCheck};
+ghost use Rattle.fs_app.specs.Answers.{offered, in_form, IsAuditFault, IsAuditText, Answers, AnswersTest, AnswersPlace};
+ghost use Rattle.fs_app.specs.Answers.{AnswersOrder, AnswersSolve, AnswersAudit, AnswersCheck};
 
 use crate::failure::Failure;
 use crate::input::INPUT_LIMIT;
@@ -470,7 +471,8 @@ fn audited(
     requires most { limit ≤ 1000000 }
     ensures answer { IfOk result (λ output. IsAuditText is_mended papers.now.test.bytes.items
         papers.now.prices.bytes.items (string_bytes output.text) output.status) }
-    ensures fault { IfErr result (IsAuditFault is_mended papers.now.test.bytes.items papers.now.prices.bytes.items limit) }
+    ensures fault { IfErr result
+        (IsAuditFault is_mended papers.now.test.bytes.items papers.now.prices.bytes.items limit) }
 {
     let (test, prices) = (&papers.test.bytes, &papers.prices.bytes);
     if is_mended {

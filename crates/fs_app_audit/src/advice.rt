@@ -5,7 +5,9 @@ ghost use Rattle.std.specs.List.{slice_index_or};
 ghost use Rattle.fs_kinds.specs.Limits.{most_harts, most_instructions};
 ghost use Rattle.fs_kinds.specs.Placement.{has_slot};
 ghost use Rattle.fs_app_audit.specs.Standing.{is_at};
-ghost use Rattle.fs_app_audit.specs.Advice.{graded, kind_there, advice_for, missing, is_device_fence, slot_of, off_slot, advice_at, advice_of, changes_nothing, is_content, is_right_code, is_right};
+ghost use Rattle.fs_app_audit.specs.Advice.{graded, kind_there, advice_for, missing, is_device_fence, slot_of};
+ghost use Rattle.fs_app_audit.specs.Advice.{off_slot, advice_at, advice_of, changes_nothing, is_content, is_right_code};
+ghost use Rattle.fs_app_audit.specs.Advice.{is_right};
 
 use crate::standing::{
     access_after, answering, covers, is_between_accesses, is_fence_at, is_memory_at, is_of,

@@ -6,7 +6,8 @@ ghost use Rattle.fs_model.specs.Fenced.{fenced};
 ghost use Rattle.fs_model.specs.Printed.{printed};
 ghost use Rattle.fs_model.specs.Slots.{slots};
 ghost use Rattle.fs_model.specs.Test.{IsBounded};
-ghost use Rattle.fs_app_audit.specs.Audit.{IsAudited, IsMended, IsFirstAuditFault, IsFirstMendedFault, audit_text, fenced_text};
+ghost use Rattle.fs_app_audit.specs.Audit.{IsAudited, IsMended, IsFirstAuditFault, IsFirstMendedFault, audit_text};
+ghost use Rattle.fs_app_audit.specs.Audit.{fenced_text};
 ghost use Rattle.fs_app_audit.specs.Report.{audit_status};
 ghost use Rattle.fs_app_audit.specs.inner.Made.{IsSound, findings_of};
 

@@ -1,6 +1,7 @@
 //! What `audit` finds of a test file and prices.
 
-ghost use Rattle.std.specs.Prelude.{◌≡◌, ◌≢◌, ◌≤◌, ◌++◌, ◌&&◌, ℕ, All, List as Items, Option, Some, length, OnOk, IfOk, IfErr, IsOkUnless, IsTrue, true, false};
+ghost use Rattle.std.specs.Prelude.{◌≡◌, ◌≢◌, ◌≤◌, ◌++◌, ◌&&◌, ℕ, All, List as Items, Option, Some, length, OnOk, IfOk};
+ghost use Rattle.std.specs.Prelude.{IfErr, IsOkUnless, IsTrue, true, false};
 ghost use Rattle.std.specs.Arc.{arc_value};
 ghost use Rattle.fs_kinds.specs.Limits.{most_harts, most_instructions};
 ghost use Rattle.fs_kinds.specs.Placement.{slots_of};
@@ -17,7 +18,9 @@ ghost use Rattle.fs_litmus.specs.Lines.{StandIn};
 ghost use Rattle.fs_litmus.specs.Reads.{Reads};
 ghost use Rattle.fs_app_place_order.specs.Place.{ArePricesOf};
 ghost use Rattle.fs_app_test.specs.SaidVerdicts.{IsTestedAs};
-ghost use Rattle.fs_app_audit.specs.Audit.{AreFound, IsAdvised, IsKept, IsFirstFault, asked, bare, fence_there, written_fence, code_fences, written_fences, fits_one, with_one, taken_up, all_fit, costs_there, costs_everywhere};
+ghost use Rattle.fs_app_audit.specs.Audit.{AreFound, IsAdvised, IsKept, IsFirstFault, asked, bare, fence_there};
+ghost use Rattle.fs_app_audit.specs.Audit.{written_fence, code_fences, written_fences, fits_one, with_one, taken_up};
+ghost use Rattle.fs_app_audit.specs.Audit.{all_fit, costs_there, costs_everywhere};
 ghost use Rattle.fs_app_audit.specs.inner.Made.{IsSound, findings_of};
 
 use crate::advice::slot_of;
@@ -139,13 +142,6 @@ fn take_up(prices: &Prices, fence: Option<(Slot, FenceKind)>, placement: &mut Pl
     placement.with(slot, Some(kind)).is_ok()
 }
 
-/// Do both hold?
-fn both(one: bool, other: bool) -> bool
-    ensures { result ≡ one && other }
-{
-    one && other
-}
-
 /// Takes up the fences in turn. Do all fit?
 fn take_up_all(
     prices: &Prices,
@@ -157,8 +153,7 @@ fn take_up_all(
 {
     let mut all_fit = true;
     for fence in fences {
-        let fits = take_up(prices, *fence, placement);
-        all_fit = both(all_fit, fits);
+        all_fit &= take_up(prices, *fence, placement);
     }
     all_fit
 }
@@ -172,8 +167,10 @@ fn written_placement(
     requires bounded { IsBounded question.now.test }
     requires harts { length codes.now ≤ most_harts }
     requires lengths { All (λ code. length code ≤ most_instructions) codes.now }
-    ensures taken { IfOk result (λ x. x.0 ≡ taken_up question.now.prices (no_fences question.now.test) (written_fences codes.now)) }
-    ensures fit { IfOk result (λ x. x.1 ≡ all_fit question.now.prices (no_fences question.now.test) (written_fences codes.now)) }
+    ensures taken { IfOk result (λ x. x.0
+        ≡ taken_up question.now.prices (no_fences question.now.test) (written_fences codes.now)) }
+    ensures fit { IfOk result (λ x. x.1
+        ≡ all_fit question.now.prices (no_fences question.now.test) (written_fences codes.now)) }
     ensures err { IsOkUnless result Fault.Memory }
 {
     let slots = slots(alloc, &question.test)?;
@@ -192,8 +189,12 @@ fn own_fences(
     requires bounded { IsBounded (arc_value question.now).test }
     requires harts { length codes.now ≤ most_harts }
     requires lengths { All (λ code. length code ≤ most_instructions) codes.now }
-    ensures taken { IfOk result (λ x. x.0 ≡ taken_up (arc_value question.now).prices (no_fences (arc_value question.now).test) (written_fences codes.now)) }
-    ensures fit { IfOk result (λ x. x.1 ≡ all_fit (arc_value question.now).prices (no_fences (arc_value question.now).test) (written_fences codes.now)) }
+    ensures taken { IfOk result (λ x. x.0
+        ≡ taken_up (arc_value question.now).prices (no_fences (arc_value question.now).test) (written_fences
+        codes.now)) }
+    ensures fit { IfOk result (λ x. x.1
+        ≡ all_fit (arc_value question.now).prices (no_fences (arc_value question.now).test) (written_fences
+        codes.now)) }
     ensures slots { IfOk result (λ x. slots_of x.0 ≡ slots (arc_value question.now).test) }
     ensures offered { IfOk result (λ x. IsTrue (are_offered (arc_value question.now).prices x.0)) }
     ensures err { IsOkUnless result Fault.Memory }
@@ -233,8 +234,10 @@ fn is_kept(
     requires offered { IsTrue (are_offered (arc_value question.now).prices own.now) }
     requires first { IsCheapest (arc_value question.now).test (arc_value question.now).prices first.now.placement }
     requires cost { cost ≡ fences_cost (arc_value question.now).prices first.now.placement }
-    ensures yes { IfOk result (λ is. is ≡ true → IsKept (arc_value question.now).test (arc_value question.now).prices own.now) }
-    ensures no { IfOk result (λ is. is ≡ false → IsKept (arc_value question.now).test (arc_value question.now).prices own.now → ⊥) }
+    ensures yes { IfOk result (λ is. is ≡ true
+        → IsKept (arc_value question.now).test (arc_value question.now).prices own.now) }
+    ensures no { IfOk result (λ is. is ≡ false
+        → IsKept (arc_value question.now).test (arc_value question.now).prices own.now → ⊥) }
     ensures err { IfErr result (λ f. f ≢ Fault.Memory → IsCandidateFault (arc_value question.now).test f) }
 {
     let prices = &question.prices;
@@ -259,7 +262,8 @@ fn kept_or_first(
     requires offered { IsTrue (are_offered (arc_value question.now).prices own.now) }
     requires first { IsCheapest (arc_value question.now).test (arc_value question.now).prices first.now.placement }
     requires cost { cost ≡ fences_cost (arc_value question.now).prices first.now.placement }
-    ensures ok { IfOk result (λ p. IsAdvised (arc_value question.now).test (arc_value question.now).prices own.now (Some p)) }
+    ensures ok { IfOk result
+        (λ p. IsAdvised (arc_value question.now).test (arc_value question.now).prices own.now (Some p)) }
     ensures err { IfErr result (λ f. f ≢ Fault.Memory → IsCandidateFault (arc_value question.now).test f) }
 {
     let is_kept = is_kept(alloc, question, problem, own, first, cost)?;
@@ -324,7 +328,8 @@ fn lines_of(alloc: Global, bytes: &[u8]) -> Result<Vec<List<usize>>, Fault>
 
 /// The test of the bytes with the FENCEs that count.
 fn read_asked(alloc: Global, purpose: Purpose, bytes: &[u8]) -> Result<Arc<Test>, Fault>
-    ensures codes { IfOk result (λ test. (t : Tests) → Reads bytes.now t → (arc_value test).codes ≡ (asked purpose t).codes) }
+    ensures codes { IfOk result (λ test. (t : Tests) → Reads bytes.now t → (arc_value test).codes
+        ≡ (asked purpose t).codes) }
     ensures bounded { IfOk result (λ test. IsBounded (arc_value test)) }
     ensures err { IfErr result (λ f. f ≢ Fault.Memory → IsTestFault bytes.now f) }
 {
@@ -352,7 +357,8 @@ fn bare_question(
     bytes: &[u8],
     prices: Prices,
 ) -> Result<Arc<Question>, Fault>
-    ensures same { IfOk result (λ question. (t : Tests) → Reads bytes.now t → IsSame (arc_value question).test (bare purpose t)) }
+    ensures same { IfOk result (λ question. (t : Tests) → Reads bytes.now t
+        → IsSame (arc_value question).test (bare purpose t)) }
     ensures prices { IfOk result (λ question. (arc_value question).prices ≡ prices) }
     ensures bounded { IfOk result (λ question. IsBounded (arc_value question).test) }
     ensures starts { IfOk result (λ question. All IsStart (arc_value question).test.starts) }
@@ -373,13 +379,16 @@ fn find_judged(
 ) -> Result<Findings, Fault>
     requires reads { Reads bytes.now (arc_value written.test) }
     requires test { IsTest (arc_value written.test) }
-    requires tested { (why : Items ℕ) × (witness : Option Shown) × IsTestedAs (arc_value written.test) written.kind why witness }
+    requires tested { (why : Items ℕ) × (witness : Option Shown)
+        × IsTestedAs (arc_value written.test) written.kind why witness }
     requires table { IsPriceTable prices }
     requires least { 1 ≤ limit }
     requires most { limit ≤ 1000000 }
-    ensures found { IfOk result (λ found. (file : Items ℕ) → ArePricesOf file prices → AreFound purpose bytes.now file (findings_of found)) }
+    ensures found { IfOk result (λ found. (file : Items ℕ) → ArePricesOf file prices
+        → AreFound purpose bytes.now file (findings_of found)) }
     ensures sound { IfOk result IsSound }
-    ensures fault { IfErr result (λ f. (file : Items ℕ) → ArePricesOf file prices → IsFirstFault purpose bytes.now file limit f) }
+    ensures fault { IfErr result (λ f. (file : Items ℕ) → ArePricesOf file prices
+        → IsFirstFault purpose bytes.now file limit f) }
 {
     let question = bare_question(alloc, purpose, bytes, prices)?;
     let asked = read_asked(alloc, purpose, bytes)?;

@@ -3,7 +3,8 @@
 ghost use Rattle.std.specs.Prelude.{◌≡◌, ◌≤◌, All, count_by, length, map, IfOk};
 ghost use Rattle.fs_kinds.specs.Limits.{most_instructions};
 ghost use Rattle.fs_model.specs.Test.{IsBounded};
-ghost use Rattle.fs_app_audit.specs.Unfenced.{kind_of_sides, memory_kind, is_fence, names_devices, is_kept, position, moved, unfenced_code, unfenced};
+ghost use Rattle.fs_app_audit.specs.Unfenced.{kind_of_sides, memory_kind, is_fence, names_devices, is_kept, position};
+ghost use Rattle.fs_app_audit.specs.Unfenced.{moved, unfenced_code, unfenced};
 
 use crate::slices::before;
 use fs_instr::{Instr, Letters};

@@ -1,12 +1,15 @@
 //! What `audit` prints, and its exit status.
 
-ghost use Rattle.std.specs.Prelude.{◌≡◌, ◌≤◌, ◌++◌, [], All, codes, decimal, length, option_copied, IfOk, IfSome, IsTrue, string_bytes};
+ghost use Rattle.std.specs.Prelude.{◌≡◌, ◌≤◌, ◌++◌, [], All, codes, decimal, length, option_copied, IfOk, IfSome};
+ghost use Rattle.std.specs.Prelude.{IsTrue, string_bytes};
 ghost use Rattle.std.specs.List.{slice_index_or};
 ghost use Rattle.fs_kinds.specs.Limits.{most_harts, most_instructions};
 ghost use Rattle.fs_kinds.specs.PriceTable.{are_offered};
 ghost use Rattle.fs_kinds.specs.Slot.{place_name};
 ghost use Rattle.fs_app_test.specs.Report.{padded};
-ghost use Rattle.fs_app_audit.specs.Report.{fence_letters, about, advice_text, line_text, line_of, advised, code_text, lines_text, cost_text, best_text, first_line, below, is_as_advised, audit_status};
+ghost use Rattle.fs_app_audit.specs.Report.{fence_letters, about, advice_text, line_text, line_of, advised, code_text};
+ghost use Rattle.fs_app_audit.specs.Report.{lines_text, cost_text, best_text, first_line, below, is_as_advised};
+ghost use Rattle.fs_app_audit.specs.Report.{audit_status};
 
 use crate::advice::{Advice, advice_of, is_right};
 use crate::names_devices;

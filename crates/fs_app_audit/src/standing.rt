@@ -6,7 +6,8 @@ ghost use Rattle.fs_instr.specs.Instructions.{is_memory, target_of};
 ghost use Rattle.fs_model.specs.Numbers.{numbers_below};
 ghost use Rattle.fs_model.specs.Printed.{goes_to, is_target};
 ghost use Rattle.fs_model.specs.Slots.{is_memory_at};
-ghost use Rattle.fs_app_audit.specs.Standing.{is_at, is_fence_at, leads_on, is_stop, reached, access_after, stands_at, is_between_accesses, covers, is_of, first_at, answering};
+ghost use Rattle.fs_app_audit.specs.Standing.{is_at, is_fence_at, leads_on, is_stop, reached, access_after, stands_at};
+ghost use Rattle.fs_app_audit.specs.Standing.{is_between_accesses, covers, is_of, first_at, answering};
 ghost use Rattle.fs_app_audit.specs.Unfenced.{memory_kind};
 
 use crate::slices::{before, from};

@@ -8,7 +8,8 @@ ghost use Rattle.fs_cert_evidence.specs.Certificate.{Certificate as Said};
 ghost use Rattle.fs_check_certificate.specs.declared.certificate_verdict.CheckVerdict.TheVariants.{Yes, No};
 ghost use Rattle.fs_check_certificate.specs.Checks.{IsCheckVerdict, IsCheckFault};
 ghost use Rattle.fs_app_place_order.specs.Place.{ArePricesOf};
-ghost use Rattle.fs_app_check.specs.Check.{AreOneVerdict, PrintsVerdict, PrintsFileVerdict, IsChecked, IsFirstCheckFault, refusal_line};
+ghost use Rattle.fs_app_check.specs.Check.{AreOneVerdict, PrintsVerdict, PrintsFileVerdict, IsChecked};
+ghost use Rattle.fs_app_check.specs.Check.{IsFirstCheckFault, refusal_line};
 
 use crate::certified::{fenced_answer, none_answer};
 use crate::checked::Checked;
@@ -81,7 +82,8 @@ fn check_test(
 /// The verdict in print, and the status that goes with it.
 fn verdict_output(alloc: Global, verdict: &CheckVerdict) -> Result<Checked, Fault>
     ensures answer { IfOk result (λ made. (t : Tests) (prices : PriceTable) (c : Said) → IsBounded t
-        → IsCheckVerdict t prices c verdict.now → PrintsVerdict t prices c (string_bytes made.output.text) made.output.status) }
+        → IsCheckVerdict t prices c verdict.now → PrintsVerdict t prices c (string_bytes
+        made.output.text) made.output.status) }
     ensures object { IfOk result (λ made. (t : Tests) (prices : PriceTable) (c : Said) → IsBounded t
         → IsCheckVerdict t prices c verdict.now
         → AreOneVerdict (string_bytes made.output.text) (string_bytes made.object)) }

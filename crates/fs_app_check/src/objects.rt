@@ -31,7 +31,8 @@ pub(crate) fn none_object(
     choices: &ChoiceLists,
     order: &List<OperationName>,
 ) -> Result<String, AllocError>
-    ensures { IfOk result (λ text. string_bytes text ≡ json_line (yes_value (none_value (given choices.now order.now)))) }
+    ensures { IfOk result (λ text. string_bytes text
+        ≡ json_line (yes_value (none_value (given choices.now order.now)))) }
 {
     let answer = none_value(alloc, choices, order)?;
     yes_object(alloc, answer)

@@ -8,7 +8,8 @@ ghost use Rattle.fs_litmus_tokens.specs.Tokens.{Lined, Sign, Word, kind_of, view
 ghost use Rattle.fs_litmus_tokens.specs.declared.word.Class.TheVariants as class;
 ghost use Rattle.fs_litmus_tokens.specs.declared.token.Mark.TheVariants as mark;
 ghost use Rattle.fs_litmus_tokens.specs.Values.{IsTarget, IsValue, target_of, value_of};
-ghost use Rattle.fs_app_error_messages.specs.Atoms.{BeginsBad, BeginsTarget, BeginsValue, IsBad, IsBadAfter, is_absent, is_hart_number, is_far, is_out_of_range, opens};
+ghost use Rattle.fs_app_error_messages.specs.Atoms.{BeginsBad, BeginsTarget, BeginsValue, IsBad, IsBadAfter, is_absent};
+ghost use Rattle.fs_app_error_messages.specs.Atoms.{is_hart_number, is_far, is_out_of_range, opens};
 
 use fs_instr::Reg;
 use fs_litmus_tokens::{Class, Kind, Mark, Target, Token, Value, number_of};
@@ -68,8 +69,10 @@ fn take_register<'b, 'a>(
     hart: &'a str,
     tokens: &'b [Token<'a>],
 ) -> Option<(Target<'a>, &'b [Token<'a>])>
-    ensures found { IfSome result (λ x. (line : ℕ) → IsTarget ((Word class.Number hart.entry.now, line) ∷ views tokens.now) (target_of x.0) (views x.1.now)) }
-    ensures absent { IsNone result → (line : ℕ) → ¬ BeginsTarget ((Word class.Number hart.entry.now, line) ∷ views tokens.now) }
+    ensures found { IfSome result (λ x. (line : ℕ)
+        → IsTarget ((Word class.Number hart.entry.now, line) ∷ views tokens.now) (target_of x.0) (views x.1.now)) }
+    ensures absent { IsNone result → (line : ℕ)
+        → ¬ BeginsTarget ((Word class.Number hart.entry.now, line) ∷ views tokens.now) }
 {
     let (colon, rest) = tokens.split_first()?;
     let (register, rest) = rest.split_first()?;
@@ -84,7 +87,8 @@ fn take_register<'b, 'a>(
 
 /// The location whose name stands in brackets.
 fn take_bracketed<'b, 'a>(tokens: &'b [Token<'a>]) -> Option<(Target<'a>, &'b [Token<'a>])>
-    ensures found { IfSome result (λ x. (line : ℕ) → IsTarget ((Sign mark.OpenBracket, line) ∷ views tokens.now) (target_of x.0) (views x.1.now)) }
+    ensures found { IfSome result (λ x. (line : ℕ)
+        → IsTarget ((Sign mark.OpenBracket, line) ∷ views tokens.now) (target_of x.0) (views x.1.now)) }
     ensures absent { IsNone result → (line : ℕ) → ¬ BeginsTarget ((Sign mark.OpenBracket, line) ∷ views tokens.now) }
 {
     let (name, rest) = tokens.split_first()?;
@@ -133,7 +137,8 @@ fn is_number(found: Class) -> bool
 
 /// The value behind a minus.
 fn take_negative<'a>(tokens: &[Token<'a>]) -> Option<Value<'a>>
-    ensures found { IfSome result (λ v. (after : List Lined) × ((line : ℕ) → IsValue ((Sign mark.Minus, line) ∷ views tokens.now) (value_of v) after)) }
+    ensures found { IfSome result (λ v. (after : List Lined)
+        × ((line : ℕ) → IsValue ((Sign mark.Minus, line) ∷ views tokens.now) (value_of v) after)) }
     ensures absent { IsNone result → (line : ℕ) → ¬ BeginsValue ((Sign mark.Minus, line) ∷ views tokens.now) }
 {
     let (number, _) = tokens.split_first()?;

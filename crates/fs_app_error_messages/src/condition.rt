@@ -31,7 +31,8 @@ fn read_columns<'b, 'a>(
     alloc: Global,
     tokens: &'b [Token<'a>],
 ) -> Result<(usize, &'b [Token<'a>]), Stop<'b, 'a>>
-    ensures ok { IfOk result (λ x. (form : Form) × (form.columns ≡ x.0) × Takes IsForm (views tokens.now) form (views x.1.now)) }
+    ensures ok { IfOk result (λ x. (form : Form) × (form.columns ≡ x.0)
+        × Takes IsForm (views tokens.now) form (views x.1.now)) }
     ensures rest { IfOk result (λ x. IsEnd tokens.now x.1.now) }
     ensures condition { IfOk result (λ x. (s : Syntax) × IsCondition (views x.1.now) s) }
     ensures stops { IfErr result (IsTextStop (views tokens.now)) }

@@ -4,7 +4,8 @@ ghost use Rattle.std.specs.Prelude.{◌≡◌, ◌++◌, ◌<◌, string_bytes, 
 ghost use Rattle.fs_litmus.specs.Title.{line_of, is_within_line};
 ghost use Rattle.std.specs.List.{prefix_len};
 ghost use Rattle.fs_app_error_messages.specs.Explained.{IsPlaceless, IsFenceNote};
-ghost use Rattle.fs_app_error_messages.specs.Messages.{source_lines, name_text, message_at, message_of, message, place_of, cut};
+ghost use Rattle.fs_app_error_messages.specs.Messages.{source_lines, name_text, message_at, message_of, message};
+ghost use Rattle.fs_app_error_messages.specs.Messages.{place_of, cut};
 
 use crate::places::{Place, place_of, push_shown};
 use crate::slices::{from, up_to};
@@ -94,7 +95,8 @@ fn message_at(
     offset: usize,
     hint: &str,
 ) -> Result<String, AllocError>
-    ensures { IfOk result (λ text. string_bytes text ≡ message_at name.now bytes.now fault (place_of bytes.now offset) hint.now) }
+    ensures { IfOk result (λ text. string_bytes text
+        ≡ message_at name.now bytes.now fault (place_of bytes.now offset) hint.now) }
 {
     let place = place_of(bytes, offset);
     let mut text = String::new(alloc);

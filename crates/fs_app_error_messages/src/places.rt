@@ -1,6 +1,7 @@
 //! Places in a file as editors count them, and a line of it as it is shown.
 
-ghost use Rattle.std.specs.Prelude.{◌≡◌, ◌+◌, ◌++◌, ◌<◌, ◌≤◌, ◌^◌, length, take, drop, string_bytes, List, ℕ, ◌∷◌, IfOk, OnOk};
+ghost use Rattle.std.specs.Prelude.{◌≡◌, ◌+◌, ◌++◌, ◌<◌, ◌≤◌, ◌^◌, length, take, drop, string_bytes, List, ℕ, ◌∷◌};
+ghost use Rattle.std.specs.Prelude.{IfOk, OnOk};
 ghost use Rattle.fs_app_error_messages.specs.Places.{goes_on, behind, shown_byte, shown};
 ghost use Rattle.fs_app_error_messages.specs.Messages.{place_of};
 

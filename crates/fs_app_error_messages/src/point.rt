@@ -10,7 +10,8 @@ ghost use Rattle.fs_litmus.specs.Title.{after_line, IsBody};
 ghost use Rattle.fs_litmus.specs.Reads.{HasTokens};
 ghost use Rattle.fs_litmus.specs.Faults.{IsTestFault};
 ghost use Rattle.fs_app_error_messages.specs.Apart.{apart};
-ghost use Rattle.fs_app_error_messages.specs.Points.{aim_of, line_of, end_of, is_line_end, IsFaultIn, IsPlaced, IsPoint};
+ghost use Rattle.fs_app_error_messages.specs.Points.{aim_of, line_of, end_of, is_line_end, IsFaultIn, IsPlaced};
+ghost use Rattle.fs_app_error_messages.specs.Points.{IsPoint};
 
 use crate::apart::apart;
 use crate::condition::atom_number;

@@ -37,8 +37,10 @@ fn line_len(bytes: &[u8]) -> Option<usize>
 /// The offset at which the block of initial values begins, with the tokens of a test file, and its line; nothing where
 /// no line below the first begins with `{` past its blanks. Linear in the bytes.
 pub fn body_start(bytes: &[u8]) -> Option<(usize, usize)>
-    ensures value { IfSome result (λ b. (doc : List ℕ) × (after_line bytes.now ≡ Some doc) × IsBody doc 2 (drop b.0 bytes.now) b.1) }
-    ensures absent { IsNone result → (doc body : List ℕ) → (at : ℕ) → after_line bytes.now ≡ Some doc → ¬ IsBody doc 2 body at }
+    ensures value { IfSome result (λ b. (doc : List ℕ) × (after_line bytes.now ≡ Some doc)
+        × IsBody doc 2 (drop b.0 bytes.now) b.1) }
+    ensures absent { IsNone result → (doc body : List ℕ) → (at : ℕ) → after_line bytes.now ≡ Some doc
+        → ¬ IsBody doc 2 body at }
     ensures within { IfSome result (λ b. b.0 ≤ length bytes.now) }
     ensures few { IfSome result (λ b. b.1 ≤ b.0 + 1) }
 {

@@ -8,7 +8,7 @@ use Rattle.fs_model.specs.Test.{IsBounded, IsSame}
 use Rattle.fs_litmus.proofs.ReadsTest.{is_test}
 use Rattle.fs_litmus.proofs.ReadsOnce.{reads_once}
 use Rattle.fs_cert_evidence.specs.Texts.{fenced_lines}
-use Rattle.fs_board_laws.proofs.Ranked.{one_cheapest}
+use Rattle.fs_model_laws.proofs.Ranked.{one_cheapest}
 use Rattle.fs_model_laws.proofs.Filled.{filled-shows}
 use Rattle.fs_model.specs.Allows.{IsCheapest, is_better}
 use Rattle.fs_app_io.specs.declared.status.Status.{Status}

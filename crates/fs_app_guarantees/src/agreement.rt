@@ -14,7 +14,8 @@ ghost use Rattle.fs_app_guarantees.specs.Agreement.{OrderAgrees, HaveOnePlacemen
 /// and kinds (one that costs less, or as much and is earlier) it says yes to some witness file with the fences of that.
 /// It says yes where yes is what it prints if it answers: a run may still lack memory.
 pub fn order_agrees()
-    ensures { (test prices text : List ℕ) (status : Status) → IsSolved test prices text status → OrderAgrees test prices text }
+    ensures { (test prices text : List ℕ) (status : Status) → IsSolved test prices text status
+        → OrderAgrees test prices text }
 {}
 
 /// A law: in a test that is read, each placement over the slots has words for `order` that place it, and words place
@@ -27,5 +28,6 @@ pub fn words_place_fences()
 /// nothing else.
 pub fn order_answers_once()
     ensures { (test witness : List ℕ) (words : List (List ℕ)) (text other : List ℕ) (status end : Status)
-        → IsOrderAnswer test witness words text status → IsOrderAnswer test witness words other end → (text ≡ other) × (status ≡ end) }
+        → IsOrderAnswer test witness words text status → IsOrderAnswer test witness words other end → (text
+        ≡ other) × (status ≡ end) }
 {}

@@ -63,7 +63,8 @@ pub fn same_tests_search_alike()
     ensures steps { (t u : Test) → IsSame t u
         → (prices : PriceTable) (old : Board) (worker : ℕ) (event : Event) (reply : Reply) (new : Board)
         → Steps t prices old worker event reply new ↔ Steps u prices old worker event reply new }
-    ensures histories { (t u : Test) → IsSame t u → (prices : PriceTable) (limit : ℕ) (log : List LogEntry) (board : Board)
+    ensures histories { (t u : Test) → IsSame t u
+        → (prices : PriceTable) (limit : ℕ) (log : List LogEntry) (board : Board)
         → IsHistory t prices limit log board ↔ IsHistory u prices limit log board }
     ensures limits { (t u : Test) → IsSame t u → (prices : PriceTable) (limit : ℕ)
         → IsNodeLimit t prices limit ↔ IsNodeLimit u prices limit }

@@ -9,11 +9,13 @@ ghost use Rattle.fs_app_guarantees.specs.Audits.{IsNothingOrKeepsDevices, IsNoth
 /// again, no execution of it shows its outcome. It is read unless a hart has more than 32 instructions with these
 /// fences.
 pub fn mended_is_ruled_out()
-    ensures { (test prices text : List ℕ) (status : Status) → IsMended test prices text status → IsNothingOrMended text }
+    ensures { (test prices text : List ℕ) (status : Status) → IsMended test prices text status
+        → IsNothingOrMended text }
 {}
 
 /// A law: where `audit --write` prints a test, and it is read again, it has in each hart the FENCEs of the file that
 /// have `i` or `o` among their letters, each with all its letters, in the same order.
 pub fn mended_keeps_devices()
-    ensures { (test prices text : List ℕ) (status : Status) → IsMended test prices text status → IsNothingOrKeepsDevices test text }
+    ensures { (test prices text : List ℕ) (status : Status) → IsMended test prices text status
+        → IsNothingOrKeepsDevices test text }
 {}

@@ -22,6 +22,7 @@ pub fn yes_is_true()
 /// says which may come. F18 isn't among them here, since the certificate is one, nor are F13 to F15, since nothing is
 /// in the way of judging it.
 pub fn certified_is_accepted()
-    ensures { (test prices text certificate verdict : List ℕ) (status end : Status) → IsCertified test prices text status certificate
+    ensures { (test prices text certificate verdict : List ℕ) (status end : Status)
+        → IsCertified test prices text status certificate
         → IsChecked test prices certificate verdict end → IsYesTo text verdict end }
 {}

@@ -20,6 +20,7 @@ pub fn lines_say_one_answer()
 /// Where they say `none`, their executions may differ. The contracts of `run_solve` and `run_certified` say that what
 /// they print is an answer for every number of workers.
 pub fn solve_answers_once()
-    ensures { (test prices text other : List ℕ) (status end : Status) → IsSolved test prices text status → IsSolved test prices other end
+    ensures { (test prices text other : List ℕ) (status end : Status) → IsSolved test prices text status
+        → IsSolved test prices other end
         → IsOneAnswer text other status end }
 {}

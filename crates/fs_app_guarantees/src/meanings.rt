@@ -27,7 +27,8 @@ ghost use Rattle.fs_app_states.specs.Shown.{IsStatesText};
 ghost use Rattle.fs_app_check.specs.Check.{IsChecked, yes_line};
 ghost use Rattle.fs_app_guarantees.specs.Checked.{IsBestAnswer};
 ghost use Rattle.fs_app_guarantees.specs.Headline.{CheapestRulesOut, NothingRulesOut};
-ghost use Rattle.fs_app_guarantees.specs.Meanings.{Accepts, ShowsOutcome, SolveIsTrue, Solves, StatesAreTrue, TestIsTrue, YesIsTrue};
+ghost use Rattle.fs_app_guarantees.specs.Meanings.{Accepts, ShowsOutcome, SolveIsTrue, Solves, StatesAreTrue};
+ghost use Rattle.fs_app_guarantees.specs.Meanings.{TestIsTrue, YesIsTrue};
 ghost use Rattle.fs_app_guarantees.specs.Print.{print, IsPrintable};
 
 /// A law: what `place` prints of a test is the print of its program and outcome, and each test can be printed so; a

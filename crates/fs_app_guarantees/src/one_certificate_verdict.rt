@@ -16,7 +16,8 @@ ghost use Rattle.fs_cert_evidence.specs.Valid.{IsValid};
 pub fn one_verdict()
     ensures answer { (t : Test) (prices : PriceTable) (c : Certificate) (a b : Option (List Entry)) → IsBounded t
         → IsValid t prices c a → IsValid t prices c b → a ≡ b }
-    ensures apart { (t : Test) (prices : PriceTable) (c : Certificate) (a : Option (List Entry)) (why : Reason) → IsBounded t
+    ensures apart { (t : Test) (prices : PriceTable) (c : Certificate) (a : Option (List Entry)) (why : Reason)
+        → IsBounded t
         → IsValid t prices c a → IsRefusal t prices c why → ⊥ }
     ensures once { (t : Test) (prices : PriceTable) (c : Certificate) (why other : Reason) → IsBounded t
         → IsRefusal t prices c why → IsRefusal t prices c other → why ≡ other }

@@ -12,5 +12,6 @@ ghost use Rattle.fs_app_solve.specs.Solve.{IsSolved};
 /// execution shows the outcome whatever fences stand in the slots, and `order` says yes to the one that is printed,
 /// with `rw,rw` in every slot. It ends in no other way where it has an answer.
 pub fn headline()
-    ensures { (test prices text : List ℕ) (status : Status) → IsSolved test prices text status → IsTrueOfFiles test prices text status }
+    ensures { (test prices text : List ℕ) (status : Status) → IsSolved test prices text status
+        → IsTrueOfFiles test prices text status }
 {}

@@ -16,9 +16,12 @@ ghost use Rattle.fs_app_guarantees.specs.States.{NamesOnly, SomeMakesOutcome};
 /// where some state in the list makes it true. Of a test that is read, it then stays possible in the test with these
 /// fences as instructions, and else it is ruled out.
 pub fn states_tell_the_outcome()
-    ensures allowed { (t : Test) (p : List Entry) (places : List Place) (states : List (List ℕ)) → AreStates t p places states
+    ensures allowed { (t : Test) (p : List Entry) (places : List Place) (states : List (List ℕ))
+        → AreStates t p places states
         → NamesOnly places (condition_of t.condition) → Allows t p ↔ SomeMakesOutcome t places states }
-    ensures possible { (bytes : List ℕ) (t : Test) (p : List Entry) (places : List Place) (states : List (List ℕ)) → Reads bytes t
+    ensures possible { (bytes : List ℕ) (t : Test) (p : List Entry) (places : List Place) (states : List (List ℕ))
+        → Reads bytes t
         → AreStates t p places states → NamesOnly places (condition_of t.condition)
-        → (SomeMakesOutcome t places states → StaysPossible t p) × ((SomeMakesOutcome t places states → ⊥) → IsRuledOut t p) }
+        → (SomeMakesOutcome t places states → StaysPossible t p) × ((SomeMakesOutcome t places states → ⊥)
+        → IsRuledOut t p) }
 {}

@@ -164,7 +164,8 @@ pub fn run_certified<R: Threads + Wait + Sync, G: Gate + Sync>(
 
 /// What is printed of an answer, and its certificate.
 fn with_certificate(alloc: Global, found: &Found) -> Result<Certified, Fault>
-    requires { (test prices : List ℕ) × (limit : ℕ) × IsFound test prices limit (arc_value found.now.question) found.now.solved }
+    requires { (test prices : List ℕ) × (limit : ℕ)
+        × IsFound test prices limit (arc_value found.now.question) found.now.solved }
     ensures answer { IfOk result (λ made. (test prices : List ℕ) (limit : ℕ)
         → IsFound test prices limit (arc_value found.now.question) found.now.solved
         → IsSolved test prices (string_bytes made.answered.output.text) made.answered.output.status) }

@@ -6,7 +6,9 @@ ghost use Rattle.std.specs.Str.{bytes_eq};
 ghost use Rattle.fs_kinds.specs.Limits.{most_harts, most_locations};
 ghost use Rattle.fs_model.specs.Printed.{joined, name_of, value_text};
 ghost use Rattle.fs_litmus_tokens.specs.Tokens.{kind_of, views, AreTokens};
-ghost use Rattle.fs_app_states.specs.Names.{hart_named, register_named, number_named, location_named, location_at, register_at, bracketed_at, place_at, place_of, cell_text, state_line, IsNamed};
+ghost use Rattle.fs_app_states.specs.Names.{hart_named, register_named, number_named, location_named, location_at};
+ghost use Rattle.fs_app_states.specs.Names.{register_at, bracketed_at, place_at, place_of, cell_text, state_line};
+ghost use Rattle.fs_app_states.specs.Names.{IsNamed};
 
 use fs_instr::Reg;
 use fs_judge_final_states::Place;

@@ -1,6 +1,7 @@
 //! What the section `locations [..]` of a test file lists, and the names by which the file calls registers.
 
-ghost use Rattle.std.specs.Prelude.{◌≡◌, ◌≢◌, ◌≤◌, ◌++◌, [], Some, length, map, drop, option_map, IfOk, IfErr, OnOk, string_bytes};
+ghost use Rattle.std.specs.Prelude.{◌≡◌, ◌≢◌, ◌≤◌, ◌++◌, [], Some, length, map, drop, option_map, IfOk, IfErr, OnOk};
+ghost use Rattle.std.specs.Prelude.{string_bytes};
 ghost use Rattle.fs_kinds.specs.Limits.{most_harts, most_locations};
 ghost use Rattle.fs_litmus.specs.Faults.{line_at};
 ghost use Rattle.fs_instr.specs.Registers.{register_of};
@@ -8,7 +9,9 @@ ghost use Rattle.fs_model.specs.Numbers.{is_same};
 ghost use Rattle.fs_litmus_tokens.specs.Numbers.{number_of};
 ghost use Rattle.fs_litmus_tokens.specs.Tokens.{kind_of, views};
 ghost use Rattle.fs_app_states.specs.Names.{place_of};
-ghost use Rattle.fs_app_states.specs.Listed.{is_locations_word, is_bracket, begins_with_bracket, behind, part_of, kept, items_from, items_of, AreListed, IsItemFault, named_so, named_at, named_first, first_name, register_text};
+ghost use Rattle.fs_app_states.specs.Listed.{is_locations_word, is_bracket, begins_with_bracket, behind, part_of, kept};
+ghost use Rattle.fs_app_states.specs.Listed.{items_from, items_of, AreListed, IsItemFault, named_so, named_at};
+ghost use Rattle.fs_app_states.specs.Listed.{named_first, first_name, register_text};
 
 use crate::columns::place_of;
 use crate::slices::from;

@@ -1,6 +1,7 @@
 //! Which places of a test are shown, in which order, and under which names.
 
-ghost use Rattle.std.specs.Prelude.{◌≡◌, ◌≢◌, ◌≤◌, ◌<◌, ◌++◌, ◌∷◌, [], Some, length, map, filter, IfOk, IfErr, OnOk, string_bytes};
+ghost use Rattle.std.specs.Prelude.{◌≡◌, ◌≢◌, ◌≤◌, ◌<◌, ◌++◌, ◌∷◌, [], Some, length, map, filter, IfOk, IfErr, OnOk};
+ghost use Rattle.std.specs.Prelude.{string_bytes};
 ghost use Rattle.std.specs.List.{flat_map, list_any, slice_index_or};
 ghost use Rattle.fs_instr.specs.Instructions.{dest_of};
 ghost use Rattle.fs_kinds.specs.Limits.{most_harts, most_locations};
@@ -11,7 +12,8 @@ ghost use Rattle.fs_model.specs.Test.{IsBounded};
 ghost use Rattle.fs_judge_final_states.specs.declared.place.Place.TheVariants.{Register, Location as Locations};
 ghost use Rattle.fs_litmus_tokens.specs.Tokens.{Lined, views};
 ghost use Rattle.fs_app_states.specs.Listed.{AreListed, IsItemFault, items_of};
-ghost use Rattle.fs_app_states.specs.Places.{is_place, speaks_of, may_write, is_shown, all_places, shown_places, place_text, column_of, AreShown, AreColumns, IsColumnsFault};
+ghost use Rattle.fs_app_states.specs.Places.{is_place, speaks_of, may_write, is_shown, all_places, shown_places};
+ghost use Rattle.fs_app_states.specs.Places.{place_text, column_of, AreShown, AreColumns, IsColumnsFault};
 
 use crate::columns::{Column, name_of};
 use crate::listed::{listed, register_text};

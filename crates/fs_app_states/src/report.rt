@@ -1,6 +1,7 @@
 //! What is printed of the states of a test, in herd7's form.
 
-ghost use Rattle.std.specs.Prelude.{◌≡◌, ◌≤◌, ◌++◌, ◌==◌, not, length, count_by, decimal, IfOk, OnOk, IsOkUnless, string_bytes};
+ghost use Rattle.std.specs.Prelude.{◌≡◌, ◌≤◌, ◌++◌, ◌==◌, not, length, count_by, decimal, IfOk, OnOk, IsOkUnless};
+ghost use Rattle.std.specs.Prelude.{string_bytes};
 ghost use Rattle.std.specs.List.{flat_map};
 ghost use Rattle.fs_cert_evidence.specs.Texts.{witness_text};
 ghost use Rattle.fs_kinds.specs.declared.fault.Fault.TheVariants.{Memory};
@@ -11,7 +12,10 @@ ghost use Rattle.fs_model.specs.Slots.{slots};
 ghost use Rattle.fs_model.specs.Test.{IsBounded};
 ghost use Rattle.fs_model.specs.Printed.{ended};
 ghost use Rattle.fs_app_states.specs.Names.{state_line};
-ghost use Rattle.fs_app_states.specs.Report.{word_in, is_true, positive, negative, quantifier_word, is_met, met_word, observation_word, before_break, behind_break, condition_line, title_lines, witness_line, state_lines, counts_lines, last_lines, listing_lines, verdict_lines, states_text};
+ghost use Rattle.fs_app_states.specs.Report.{word_in, is_true, positive, negative, quantifier_word, is_met, met_word};
+ghost use Rattle.fs_app_states.specs.Report.{observation_word, before_break, behind_break, condition_line, title_lines};
+ghost use Rattle.fs_app_states.specs.Report.{witness_line, state_lines, counts_lines, last_lines, listing_lines};
+ghost use Rattle.fs_app_states.specs.Report.{verdict_lines, states_text};
 
 use crate::columns::{Column, push_state};
 use crate::places::is_place;

@@ -56,7 +56,8 @@ fn test_states(
 ) -> Result<String, Fault>
     requires test { IsTest test }
     requires reads { Reads bytes.now test }
-    ensures text { IfOk result (λ text. IsStatesText bytes.now (map string_bytes fences.now) asked (string_bytes text)) }
+    ensures text { IfOk result
+        (λ text. IsStatesText bytes.now (map string_bytes fences.now) asked (string_bytes text)) }
     ensures fault { IfErr result (IsFirstStatesFault bytes.now (map string_bytes fences.now) asked) }
 {
     let columns = columns(alloc, bytes, &test, asked.all)?;

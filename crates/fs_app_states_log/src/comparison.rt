@@ -6,7 +6,8 @@ ghost use Rattle.fs_kinds.specs.Placement.{slots_of};
 ghost use Rattle.fs_model.specs.Slots.{slots};
 ghost use Rattle.fs_model.specs.Test.{IsBounded, IsStart};
 ghost use Rattle.fs_judge_final_states.specs.States.{ArePlacesOf};
-ghost use Rattle.fs_app_states_log.specs.Compared.{states_seen, compared_text, lacking_text, is_in_log, status_of, AreFindings, IsHeld, IsComparedTo, IsCompared};
+ghost use Rattle.fs_app_states_log.specs.Compared.{states_seen, compared_text, lacking_text, is_in_log, status_of};
+ghost use Rattle.fs_app_states_log.specs.Compared.{AreFindings, IsHeld, IsComparedTo, IsCompared};
 ghost use Rattle.fs_app_states_log.specs.Tallies.{counted};
 
 use crate::finding::{allowed_rows, forbidden, not_seen};

@@ -3,8 +3,10 @@
 ghost use Rattle.std.specs.Prelude.{◌≡◌, ◌<◌, ◌≤◌, ◌+◌, length, map, option_map, option_and_then, Ok, IfOk, IfErr};
 ghost use Rattle.std.specs.Result.{result_map_both};
 ghost use Rattle.std.specs.Str.Lines.{lines};
-ghost use Rattle.fs_app_states_log.specs.Blocks.{begins_block, block_at, count_at, line_at, missing, outcome_at, outcome_of, state_at, states_from, title_at};
-ghost use Rattle.fs_app_states_log.specs.Blocks.{pairs_now, read_block, read_state, seen_so, state_of, IsOfLines, IsReadFrom};
+ghost use Rattle.fs_app_states_log.specs.Blocks.{begins_block, block_at, count_at, line_at, missing, outcome_at};
+ghost use Rattle.fs_app_states_log.specs.Blocks.{outcome_of, state_at, states_from, title_at};
+ghost use Rattle.fs_app_states_log.specs.Blocks.{pairs_now, read_block, read_state, seen_so, state_of, IsOfLines};
+ghost use Rattle.fs_app_states_log.specs.Blocks.{IsReadFrom};
 ghost use Rattle.fs_app_states_log.specs.Errors.{IsLog, IsLogError};
 ghost use Rattle.fs_app_states_log.specs.Lines.{count_of, title_of};
 ghost use Rattle.fs_app_states_log.specs.inner.Reading.{IsBlocksError, IsErrorOf, IsLinesError};
@@ -126,7 +128,8 @@ fn state_at<'a>(
     counted: bool,
 ) -> Result<Seen<'a>, LogError>
     requires { index ≤ length lines.now }
-    ensures ok { IfOk result (λ seen. state_at (map (λ line. line.now) lines.now) counted index ≡ Ok (read_state seen)) }
+    ensures ok { IfOk result (λ seen. state_at (map (λ line. line.now) lines.now) counted index
+        ≡ Ok (read_state seen)) }
     ensures err { IfErr result (IsErrorOf (state_at (map (λ line. line.now) lines.now) counted index)) }
 {
     match state_in(alloc, lines, index, counted)? {
@@ -193,7 +196,8 @@ fn read_block<'a>(alloc: Global, lines: &[&'a str], index: usize) -> Result<Bloc
 
 /// The blocks of the lines, none or more.
 fn read_blocks<'a>(alloc: Global, lines: &[&'a str]) -> Result<Vec<Block<'a>>, LogError>
-    ensures ok { IfOk result (λ blocks. IsReadFrom (map (λ line. line.now) lines.now) 0 (Ok (map read_block blocks.items))) }
+    ensures ok { IfOk result
+        (λ blocks. IsReadFrom (map (λ line. line.now) lines.now) 0 (Ok (map read_block blocks.items))) }
     ensures err { IfErr result (IsBlocksError (map (λ line. line.now) lines.now)) }
 {
     let mut blocks = Vec::new(alloc);

@@ -5,8 +5,10 @@ ghost use Rattle.std.specs.Char.{is_ascii_digit, is_ascii_whitespace};
 ghost use Rattle.std.specs.List.{list_all, list_any, slice_split};
 ghost use Rattle.std.specs.Option.{is_some};
 ghost use Rattle.fs_app_states_log.specs.Blocks.{item_now, pair_now, pairs_now, split_now};
-ghost use Rattle.fs_app_states_log.specs.Lines.{cut, before_last, behind_first, begins_blank, behind_test, is_kind, is_number, is_word};
-ghost use Rattle.fs_app_states_log.specs.Lines.{in_brackets, is_looped, is_outcome, is_verdict, item_of, items_in, items_of, number_in, times_in, times_of};
+ghost use Rattle.fs_app_states_log.specs.Lines.{cut, before_last, behind_first, begins_blank, behind_test, is_kind};
+ghost use Rattle.fs_app_states_log.specs.Lines.{is_number, is_word};
+ghost use Rattle.fs_app_states_log.specs.Lines.{in_brackets, is_looped, is_outcome, is_verdict, item_of, items_in};
+ghost use Rattle.fs_app_states_log.specs.Lines.{items_of, number_in, times_in, times_of};
 ghost use Rattle.fs_app_states_log.specs.Lines.{title_of, count_of};
 
 use crate::log::Item;

@@ -3,7 +3,8 @@
 ghost use Rattle.std.specs.Prelude.{◌≡◌, ◌≤◌, ◌++◌, length, map, string_bytes, IfOk, OnOk};
 ghost use Rattle.std.specs.List.{flat_map};
 ghost use Rattle.fs_kinds.specs.Limits.{most_locations};
-ghost use Rattle.fs_app_states_log.specs.Compared.{times_text, forbidden_label, forbidden_line, not_seen_line, first_line, compared_text, lacking_text};
+ghost use Rattle.fs_app_states_log.specs.Compared.{times_text, forbidden_label, forbidden_line, not_seen_line};
+ghost use Rattle.fs_app_states_log.specs.Compared.{first_line, compared_text, lacking_text};
 ghost use Rattle.fs_app_states_log.specs.Tallies.{counted};
 
 use crate::tally::Row;

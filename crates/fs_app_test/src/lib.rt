@@ -23,6 +23,6 @@ pub use objects::test_objects;
 pub use report::{kind_text, padded, test_report};
 pub use said::{Kind, Line, Said};
 pub use said_of_verdict::{forbids, said_of};
-pub use status::{is_kind, status_of};
+pub use status::status_of;
 pub use tested::test_file;
 pub use words::counted;

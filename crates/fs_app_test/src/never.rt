@@ -1,6 +1,7 @@
 //! What nothing makes true in a vacuous test.
 
-ghost use Rattle.std.specs.Prelude.{◌≡◌, ◌≤◌, ◌++◌, [], ℕ, List, Some, None, true, codes, decimal, length, map, slice_get, option_map, if◌then◌else◌, IfOk, string_bytes};
+ghost use Rattle.std.specs.Prelude.{◌≡◌, ◌≤◌, ◌++◌, [], ℕ, List, Some, None, true, codes, decimal, length, map};
+ghost use Rattle.std.specs.Prelude.{slice_get, option_map, if◌then◌else◌, IfOk, string_bytes};
 ghost use Rattle.std.specs.List.{list_any, slice_index_or};
 ghost use Rattle.fs_kinds.specs.Limits.{most_locations};
 ghost use Rattle.fs_model.specs.Condition.{condition_of};
@@ -12,7 +13,8 @@ ghost use Rattle.fs_model.specs.Shows.{is_outcome};
 ghost use Rattle.fs_cert_evidence.specs.Trees.{AreItsRuns};
 ghost use Rattle.fs_region_refutation.specs.Runs.{runs_over, AreOfEach};
 ghost use Rattle.fs_app_test.specs.inner.Parts.{ends_with};
-ghost use Rattle.fs_app_test.specs.Words.{stores_word, ends_as, is_stored, can_have, of_two, first_never, never_in_outcome, never_words};
+ghost use Rattle.fs_app_test.specs.Words.{stores_word, ends_as, is_stored, can_have, of_two, first_never};
+ghost use Rattle.fs_app_test.specs.Words.{never_in_outcome, never_words};
 
 use crate::test_words::value_text;
 use fs_instr::Reg;
@@ -166,7 +168,8 @@ fn first_never<'a>(
 
 /// The atom, where something is so.
 fn where_so(is_so: bool, atom: &Outcome) -> Option<&Outcome>
-    ensures { option_map (λ atom. condition_of atom.now) result ≡ (if is_so then Some (condition_of atom.now) else None) }
+    ensures { option_map (λ atom. condition_of atom.now) result
+        ≡ (if is_so then Some (condition_of atom.now) else None) }
 {
     if is_so { Some(atom) } else { None }
 }

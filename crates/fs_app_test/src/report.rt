@@ -5,9 +5,10 @@ ghost use Rattle.std.specs.List.{flat_map};
 ghost use Rattle.fs_kinds.specs.declared.fault.Fault.TheVariants.{Memory};
 ghost use Rattle.fs_model.specs.Printed.{joined};
 ghost use Rattle.fs_app_test.specs.Status.{report_status};
-ghost use Rattle.fs_app_test.specs.Report.{width, padded, kind_text, label, line_text, count_of, count_text, count_piece, pieces, summary, report_text};
+ghost use Rattle.fs_app_test.specs.Report.{width, padded, kind_text, label, line_text, count_of, count_text};
+ghost use Rattle.fs_app_test.specs.Report.{count_piece, pieces, summary, report_text};
 
-use crate::{Kind, Line, counted, is_kind, status_of};
+use crate::{Kind, Line, counted, status_of};
 use fs_app_error_messages::shown_name;
 use fs_app_io::Output;
 use fs_kinds::Fault;
@@ -107,10 +108,7 @@ pub fn padded(alloc: Global, width: usize, text: &str) -> Result<String, AllocEr
 fn count_of(kind: Kind, lines: &[Line]) -> usize
     ensures { result ≡ count_of kind lines.now }
 {
-    lines
-        .iter()
-        .filter(|line| is_kind(kind, line.said.kind))
-        .count()
+    lines.iter().filter(|line| kind == line.said.kind).count()
 }
 
 /// That so many are of the kind.

@@ -1,28 +1,16 @@
 //! The exit status.
 
 ghost use Rattle.std.specs.Prelude.{◌≡◌};
-ghost use Rattle.fs_app_test.specs.Status.{is_kind, has, report_status};
+ghost use Rattle.fs_app_test.specs.Status.{has, report_status};
 
 use crate::said::{Kind, Line};
 use fs_app_io::Status;
-
-/// Is the kind the other?
-pub fn is_kind(kind: Kind, other: Kind) -> bool
-    ensures { result ≡ is_kind kind other }
-{
-    match kind {
-        Kind::Forbidden => matches!(other, Kind::Forbidden),
-        Kind::Allowed => matches!(other, Kind::Allowed),
-        Kind::Vacuous => matches!(other, Kind::Vacuous),
-        Kind::Faulty => matches!(other, Kind::Faulty),
-    }
-}
 
 /// Is some line of the kind?
 fn has(kind: Kind, lines: &[Line]) -> bool
     ensures { result ≡ has kind lines.now }
 {
-    lines.iter().any(|line| is_kind(kind, line.said.kind))
+    lines.iter().any(|line| kind == line.said.kind)
 }
 
 /// The exit status: 1 where an outcome is possible; else 2 where a file has a fault; else 4 where an outcome is

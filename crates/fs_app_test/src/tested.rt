@@ -20,7 +20,8 @@ use std::alloc::{AllocError, Global};
 /// `TooManyCandidates`, as of `judge_test`. The error is `Memory`. The cost is that of `read_test` and of `judge_test`.
 pub fn test_file(alloc: Global, name: &str, file: Result<Vec<u8>, Fault>) -> Result<Line, Fault>
     ensures name { IfOk result (λ line. string_bytes line.name ≡ name.now) }
-    ensures said { IfOk result (λ line. SaysOfFile file line.said.kind (string_bytes line.said.why) (witness_in line.said.witness)) }
+    ensures said { IfOk result
+        (λ line. SaysOfFile file line.said.kind (string_bytes line.said.why) (witness_in line.said.witness)) }
     ensures err { IsOkUnless result Memory }
 {
     let said = said_of(alloc, file)?;
@@ -41,7 +42,8 @@ fn said_of(alloc: Global, file: Result<Vec<u8>, Fault>) -> Result<Said, Fault>
 
 /// The same of the bytes of a file.
 fn test_bytes(alloc: Global, bytes: &[u8]) -> Result<Said, Fault>
-    ensures ok { IfOk result (λ said. SaysOfBytes bytes.now said.kind (string_bytes said.why) (witness_in said.witness)) }
+    ensures ok { IfOk result
+        (λ said. SaysOfBytes bytes.now said.kind (string_bytes said.why) (witness_in said.witness)) }
     ensures err { IsOkUnless result Memory }
 {
     match judge_bytes(alloc, bytes) {

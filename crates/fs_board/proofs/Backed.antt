@@ -5,7 +5,7 @@ use Rattle.fs_model.specs.declared.test.Test.{Test}
 use Rattle.std.specs.declared.sync.Arc.{Arc}
 use Rattle.std.specs.Arc.{arc_value}
 use Rattle.fs_cert_evidence.specs.Evidence.{Shown, Refuted, ShowsForbidden, witness_in, placement_in}
-use Rattle.fs_board_laws.proofs.Places.{at-append}
+use Rattle.fs_model_laws.proofs.Places.{at-append}
 use Rattle.fs_board.specs.Growth.{AreWitnesses, IsBacked}
 
 pub best_kept : (better : Bool) (f : Refuted) (bound : Option Refuted)

@@ -9,11 +9,11 @@ use Rattle.fs_model.specs.Slots.{slots}
 use Rattle.fs_model.specs.Execution.{Execution}
 use Rattle.fs_model.specs.Witness.{Witness}
 use Rattle.fs_cert_evidence.specs.Parts.{Part}
-use Rattle.fs_board_laws.specs.Bounds.{slots_in_part}
+use Rattle.fs_model_laws.specs.Bounds.{slots_in_part}
 use Rattle.fs_cert_evidence.specs.Board.{Node, Status, Witnessed, Bounded, Event, CutWitness, CutBound, Closed, NotCovered, Cheaper, is_held_by, part_at}
 use Rattle.fs_cert_evidence.specs.Histories.{with_witnesses}
 use Rattle.fs_cert_evidence.specs.Evidence.{Shown, IsWitnessFor, witness_in}
-use Rattle.fs_board_laws.proofs.Leaves.{history-parts}
+use Rattle.fs_model_laws.proofs.Leaves.{history-parts}
 use Rattle.fs_board.specs.Growth.{AreWitnesses}
 use Rattle.fs_board.specs.View.{Search, IsReplay}
 use Rattle.fs_cert_evidence.specs.Breaks.{is_kept}

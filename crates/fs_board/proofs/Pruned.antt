@@ -10,9 +10,9 @@ use Rattle.fs_kinds.specs.PriceTable.{PriceTable, entry_cost}
 use Rattle.fs_cert_evidence.specs.Parts.{Part, Decision, options}
 use Rattle.fs_cert_evidence.specs.Pruning.{breaks, breaking_ways, breaking_at, is_empty, is_breakable, least, least_break, is_no_better, is_pruned}
 use Rattle.fs_cert_evidence.specs.Widths.{Width}
-use Rattle.fs_board_laws.specs.Bounds.{slots_in_part}
+use Rattle.fs_model_laws.specs.Bounds.{slots_in_part}
 use Rattle.fs_cert_evidence.specs.Evidence.{Shown, pairs_at, widths_of}
-use Rattle.fs_board_laws.proofs.Places.{count-map}
+use Rattle.fs_model_laws.proofs.Places.{count-map}
 use Rattle.fs_cert_evidence.specs.Breaks.{lesser_of}
 use Rattle.fs_board.specs.inner.Breaks.{widths_in, everywhere, least_in, breaks_at, is_breakable_at, is_bounded}
 use Rattle.fs_cert_evidence.proofs.LeastCosts.{least_append}

@@ -1,6 +1,7 @@
 //! The board: the tree, and the log of all events.
 
-ghost use Rattle.std.specs.Prelude.{◌≡◌, ℕ, ◌+◌, ◌<◌, ◌≤◌, length, [], ◌∷◌, ◌++◌, Some, IfSome, IfNone, IfOk, OnOk, OnErr, IsOkUnless, option_map, vec_len, slice_get, true, false, map, drop};
+ghost use Rattle.std.specs.Prelude.{◌≡◌, ℕ, ◌+◌, ◌<◌, ◌≤◌, length, [], ◌∷◌, ◌++◌, Some, IfSome, IfNone, IfOk, OnOk};
+ghost use Rattle.std.specs.Prelude.{OnErr, IsOkUnless, option_map, vec_len, slice_get, true, false, map, drop};
 ghost use Rattle.std.specs.Vec.{vec_capacity};
 ghost use Rattle.std.specs.Arc.{arc_value};
 ghost use Rattle.fs_model.specs.Test.{IsBounded};
@@ -8,7 +9,10 @@ ghost use Rattle.fs_model.specs.Allows.{Allows};
 ghost use Rattle.fs_model.specs.Execution.{Execution};
 ghost use Rattle.fs_cert_evidence.specs.Parts.{Part as PartValue, floor};
 ghost use Rattle.fs_cert_evidence.specs.Pruning.{is_no_better};
-ghost use Rattle.fs_cert_evidence.specs.Board.{Node as NodeValue, Event as EventValue, Reply as ReplyValue, Take, Claim, Adopt, SplitAt, CutCost, CutWitness, CutBound, Post, Peek, Given, Seen, Closed, Held, is_open, is_held, has_node, part_at, opening, with_status};
+ghost use Rattle.fs_cert_evidence.specs.Board.{Node as NodeValue, Event as EventValue, Reply as ReplyValue, Take};
+ghost use Rattle.fs_cert_evidence.specs.Board.{Claim, Adopt, SplitAt, CutCost, CutWitness, CutBound, Post, Peek, Given};
+ghost use Rattle.fs_cert_evidence.specs.Board.{Seen, Closed, Held, is_open, is_held, has_node, part_at, opening};
+ghost use Rattle.fs_cert_evidence.specs.Board.{with_status};
 ghost use Rattle.fs_cert_evidence.specs.Histories.{Steps, IsHistory, with_witnesses};
 ghost use Rattle.fs_board.specs.Counts.{count_of};
 ghost use Rattle.fs_cert_evidence.specs.Evidence.{Shown, IsWitnessFor, ShowsForbidden, witness_in, placement_in};
@@ -75,7 +79,8 @@ impl Board {
     pub fn new(alloc: Global, question: Arc<Question>, limit: usize) -> Result<Board, Fault>
         requires bounded { IsBounded (arc_value question).test }
         requires limit { limit ≤ 1000000 }
-        ensures ok { IfOk result (λ b. b ≡ record { question = arc_value question; board = opening (arc_value question).test limit; log = [] }) }
+        ensures ok { IfOk result (λ b. b
+            ≡ record { question = arc_value question; board = opening (arc_value question).test limit; log = [] }) }
         ensures err { IsOkUnless result Fault.Memory }
     {
         let places = slots(alloc, &question.test)?;
@@ -157,7 +162,8 @@ impl Board {
     /// All events with their replies, in order: a legal history that leads to the board.
     pub fn log(&self) -> &[LogEntry]
         ensures value { result.now ≡ self.now.log }
-        ensures legal { IsHistory self.now.question.test self.now.question.prices self.now.board.limit self.now.log self.now.board }
+        ensures legal { IsHistory self.now.question.test self.now.question.prices self.now.board.limit self.now.log
+            self.now.board }
     {
         self.log.as_slice()
     }
@@ -170,7 +176,8 @@ impl Board {
         reply: Reply,
         copy: Reply,
     ) -> Result<Reply, AllocError>
-        requires step { Steps self.old.question.test self.old.question.prices self.old.board worker (event_of event) (reply_of reply) self.old.board }
+        requires step { Steps self.old.question.test self.old.question.prices self.old.board worker (event_of event)
+            (reply_of reply) self.old.board }
         requires copy { reply_of copy ≡ reply_of reply }
         ensures given { IfOk result (λ r. r ≡ reply) }
         ensures step { IfOk result (λ r. Answers self.old self.new worker (event_of event) (reply_of r)) }
@@ -189,7 +196,8 @@ impl Board {
         part: Arc<Part>,
     ) -> Result<Reply, AllocError>
         requires there { (n : NodeValue) × (slice_get self.old.board.nodes node ≡ Some n) × (n.part ≡ arc_value part) }
-        requires may { Steps self.old.question.test self.old.question.prices self.old.board worker (event_of event) (Given node (arc_value part)) (with_status (Held worker) node (arc_value part) self.old.board) }
+        requires may { Steps self.old.question.test self.old.question.prices self.old.board worker (event_of event)
+            (Given node (arc_value part)) (with_status (Held worker) node (arc_value part) self.old.board) }
         ensures step { IfOk result (λ r. Answers self.old self.new worker (event_of event) (reply_of r)) }
         ensures err { OnErr result (self.new ≡ self.old) }
     {
@@ -211,7 +219,8 @@ impl Board {
     ) -> Result<Reply, AllocError>
         requires closed { is_open (status_of status) ≡ false }
         requires may { (n : NodeValue) × (slice_get self.old.board.nodes node ≡ Some n)
-            × Steps self.old.question.test self.old.question.prices self.old.board worker (event_of event) Closed (with_status (status_of status) node n.part self.old.board) }
+            × Steps self.old.question.test self.old.question.prices self.old.board worker (event_of
+            event) Closed (with_status (status_of status) node n.part self.old.board) }
         ensures step { IfOk result (λ r. Answers self.old self.new worker (event_of event) (reply_of r)) }
         ensures err { OnErr result (self.new ≡ self.old) }
     {
@@ -233,7 +242,9 @@ impl Board {
         requires closed { is_open (status_of status) ≡ false }
         requires widths { AreWitnesses self.old.question.test (map arc_value witnesses.items) }
         requires may { (n : NodeValue) × (slice_get self.old.board.nodes node ≡ Some n)
-            × Steps self.old.question.test self.old.question.prices self.old.board worker (event_of event) Closed (with_witnesses (status_of status) node n.part (map witness_in witnesses.items) self.old.board) }
+            × Steps self.old.question.test self.old.question.prices self.old.board worker (event_of
+            event) Closed (with_witnesses (status_of status) node n.part (map witness_in
+            witnesses.items) self.old.board) }
         ensures step { IfOk result (λ r. Answers self.old self.new worker (event_of event) (reply_of r)) }
         ensures err { OnErr result (self.new ≡ self.old) }
     {
@@ -347,7 +358,8 @@ impl Board {
         witness: Arc<Witness>,
     ) -> Result<Reply, AllocError>
         requires { (e : Execution) × IsWitnessFor self.old.question.test (arc_value witness) e }
-        ensures step { IfOk result (λ r. Answers self.old self.new worker (CutWitness node (witness_in witness)) (reply_of r)) }
+        ensures step { IfOk result
+            (λ r. Answers self.old self.new worker (CutWitness node (witness_in witness)) (reply_of r)) }
         ensures err { OnErr result (self.new ≡ self.old) }
     {
         let Some(part) = self.tree.held_by(worker, node) else {
@@ -376,8 +388,10 @@ impl Board {
         node: usize,
         witnesses: &[Arc<Witness>],
     ) -> Result<Reply, AllocError>
-        requires { (k : ℕ) (w : Shown) → slice_get (map arc_value witnesses.now) k ≡ Some w → (e : Execution) × IsWitnessFor self.old.question.test w e }
-        ensures step { IfOk result (λ r. Answers self.old self.new worker (CutBound node (map witness_in witnesses.now)) (reply_of r)) }
+        requires { (k : ℕ) (w : Shown) → slice_get (map arc_value witnesses.now) k ≡ Some w → (e : Execution)
+            × IsWitnessFor self.old.question.test w e }
+        ensures step { IfOk result
+            (λ r. Answers self.old self.new worker (CutBound node (map witness_in witnesses.now)) (reply_of r)) }
         ensures err { OnErr result (self.new ≡ self.old) }
     {
         let listed = List::new(share(alloc, witnesses)?);
@@ -393,7 +407,8 @@ impl Board {
         witnesses: List<Arc<Witness>>,
     ) -> Result<Reply, AllocError>
         requires { AreWitnesses self.old.question.test (map arc_value witnesses) }
-        ensures step { IfOk result (λ r. Answers self.old self.new worker (CutBound node (map witness_in witnesses)) (reply_of r)) }
+        ensures step { IfOk result
+            (λ r. Answers self.old self.new worker (CutBound node (map witness_in witnesses)) (reply_of r)) }
         ensures err { OnErr result (self.new ≡ self.old) }
     {
         let Some(part) = self.tree.held_by(worker, node) else {
@@ -419,7 +434,8 @@ impl Board {
     /// bound?
     fn is_bounded(&self, part: &[Decision], entries: &[Entry], witnesses: &[Arc<Witness>]) -> bool
         requires { entries.now ≡ floor part.now }
-        ensures { result ≡ is_bounded self.now.question.prices self.now.board.bound part.now (map widths_in witnesses.now) }
+        ensures { result
+            ≡ is_bounded self.now.question.prices self.now.board.bound part.now (map widths_in witnesses.now) }
     {
         let prices = &self.question.prices;
         if !break_apart(prices, part, witnesses) {
@@ -431,7 +447,8 @@ impl Board {
     /// Is what costs at least so much, and isn't before these entries of a floor, no better than the bound? So it is
     /// where nothing forbids the outcome, and then there is no cost.
     fn is_no_better(&self, entries: &[Entry], least: Option<u128>) -> bool
-        ensures { (part : PartValue) → entries.now ≡ floor part → result ≡ is_no_better self.now.question.prices self.now.board.bound part least }
+        ensures { (part : PartValue) → entries.now ≡ floor part → result
+            ≡ is_no_better self.now.question.prices self.now.board.bound part least }
     {
         let Some(least) = least else {
             return true;
@@ -456,7 +473,8 @@ impl Board {
     ) -> Result<Reply, AllocError>
         requires cycles { ShowsForbidden self.old.question.test (arc_value forbidden) }
         requires forbids { Allows self.old.question.test (placement_in forbidden) → ⊥ }
-        ensures step { IfOk result (λ r. Answers self.old self.new worker (Post node (placement_in forbidden)) (reply_of r)) }
+        ensures step { IfOk result
+            (λ r. Answers self.old self.new worker (Post node (placement_in forbidden)) (reply_of r)) }
         ensures err { OnErr result (self.new ≡ self.old) }
     {
         let Some(part) = self.tree.held_by(worker, node) else {
@@ -499,7 +517,8 @@ impl Board {
     /// What a peek shows.
     fn seen(&self, alloc: Global, from: usize) -> Result<Reply, AllocError>
         ensures tells { IfOk result (Tells self.now.question) }
-        ensures value { IfOk result (λ r. reply_of r ≡ Seen self.now.board.bound (length self.now.board.witnesses) (drop from self.now.board.witnesses)) }
+        ensures value { IfOk result (λ r. reply_of r
+            ≡ Seen self.now.board.bound (length self.now.board.witnesses) (drop from self.now.board.witnesses)) }
     {
         let bound = self.tree.share_bound()?;
         let witnesses = self.tree.witnesses();

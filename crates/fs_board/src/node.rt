@@ -119,7 +119,8 @@ pub(crate) fn children_of(
     slot: Slot,
     kinds: &[Option<Kind>],
 ) -> Result<Vec<Node>, AllocError>
-    ensures { IfOk result (λ nodes. nodes.items ≡ map open_node (map (decide slot part.now) (filter (is_offered prices.now) kinds.now))) }
+    ensures { IfOk result (λ nodes. nodes.items
+        ≡ map open_node (map (decide slot part.now) (filter (is_offered prices.now) kinds.now))) }
 {
     let mut nodes = Vec::new(alloc);
     for kind in kinds {

@@ -1,8 +1,10 @@
 //! The nodes of the tree, the bound and the witnesses.
 
-ghost use Rattle.std.specs.Prelude.{◌≡◌, ◌<◌, ◌≤◌, ◌^◌, ◌+◌, ◌==◌, ◌++◌, ◌∷◌, [], length, map, true, false, not, Some, None, IfSome, IfNone, IfOk, OnOk, OnErr, All, option_map, slice_get, if◌then◌else◌};
+ghost use Rattle.std.specs.Prelude.{◌≡◌, ◌<◌, ◌≤◌, ◌^◌, ◌+◌, ◌==◌, ◌++◌, ◌∷◌, [], length, map, true, false, not, Some};
+ghost use Rattle.std.specs.Prelude.{None, IfSome, IfNone, IfOk, OnOk, OnErr, All, option_map, slice_get, if◌then◌else◌};
 ghost use Rattle.std.specs.Arc.{arc_value};
-ghost use Rattle.fs_cert_evidence.specs.Board.{Node as NodeValue, Open, Split, Witnessed, Bounded, Posted, is_open, is_held, is_held_by, has_node, part_at};
+ghost use Rattle.fs_cert_evidence.specs.Board.{Node as NodeValue, Open, Split, Witnessed, Bounded, Posted, is_open};
+ghost use Rattle.fs_cert_evidence.specs.Board.{is_held, is_held_by, has_node, part_at};
 ghost use Rattle.fs_board.specs.Counts.{count_of};
 ghost use Rattle.fs_board.specs.Growth.{board_of, marked, grown, with_bound, with_more};
 ghost use Rattle.fs_board.specs.View.{status_of};
@@ -44,7 +46,14 @@ impl Model for Tree {
 impl Tree {
     /// The tree of one open node.
     pub(crate) fn new(alloc: Global, root: Part, limit: usize) -> Result<Tree, AllocError>
-        ensures { IfOk result (λ t. t ≡ record { nodes = record { part = root; status = Open } ∷ []; bound = None; witnesses = []; limit = limit }) }
+        ensures { IfOk result (λ t. t
+            ≡ record {
+              nodes = record { part = root; status = Open } ∷ [];
+              bound = None;
+              witnesses = [];
+              limit =
+                  limit;
+            }) }
     {
         let mut nodes = Vec::new(alloc);
         nodes.push(Node::new(Arc::new(alloc, root)?, Status::Open))?;
@@ -76,7 +85,8 @@ impl Tree {
 
     /// A node that a worker holds, where there is one. It takes time of nodes.
     pub(crate) fn any_held(&self) -> Option<usize>
-        ensures some { IfSome result (λ k. (n : NodeValue) × (slice_get self.now.nodes k ≡ Some n) × (is_held n.status ≡ true)) }
+        ensures some { IfSome result (λ k. (n : NodeValue) × (slice_get self.now.nodes k ≡ Some n)
+            × (is_held n.status ≡ true)) }
         ensures none { IfNone result (has_node is_held (board_of self.now) ≡ false) }
     {
         for k in 0..self.nodes.len() {
@@ -112,7 +122,8 @@ impl Tree {
     pub(crate) fn any_open(&mut self) -> Option<usize>
         ensures same { self.new ≡ self.old }
         ensures there { IfSome result (λ k. k < length self.new.nodes) }
-        ensures some { IfSome result (λ k. (n : NodeValue) × (slice_get self.new.nodes k ≡ Some n) × (is_open n.status ≡ true)) }
+        ensures some { IfSome result (λ k. (n : NodeValue) × (slice_get self.new.nodes k ≡ Some n)
+            × (is_open n.status ≡ true)) }
         ensures none { IfNone result (has_node is_open (board_of self.new) ≡ false) }
     {
         while self.next < self.nodes.len() {
@@ -172,7 +183,8 @@ impl Tree {
     pub(crate) fn mark(&mut self, node: usize, status: Status)
         requires there { node < length self.old.nodes }
         requires closed { is_open (status_of status) ≡ false }
-        ensures { (n : NodeValue) → slice_get self.old.nodes node ≡ Some n → self.new ≡ marked (status_of status) node n.part self.old }
+        ensures { (n : NodeValue) → slice_get self.old.nodes node ≡ Some n → self.new
+            ≡ marked (status_of status) node n.part self.old }
     {
         let place = &mut self.nodes[node];
         let was = place.status();
@@ -229,7 +241,8 @@ impl Tree {
     ) -> Result<(), AllocError>
         requires there { node < length self.old.nodes }
         requires opened { All (λ n. n.status ≡ Open) children.items }
-        ensures ok { OnOk result ((n : NodeValue) → slice_get self.old.nodes node ≡ Some n → self.new ≡ grown (marked (Split slot (length self.old.nodes)) node n.part self.old) children.items) }
+        ensures ok { OnOk result ((n : NodeValue) → slice_get self.old.nodes node ≡ Some n → self.new
+            ≡ grown (marked (Split slot (length self.old.nodes)) node n.part self.old) children.items) }
         ensures err { OnErr result (self.new ≡ self.old) }
     {
         let first = self.nodes.len();
@@ -262,7 +275,8 @@ impl Tree {
     ) -> Result<(), AllocError>
         requires there { node < length self.old.nodes }
         requires closed { is_open (status_of status) ≡ false }
-        ensures ok { OnOk result ((n : NodeValue) → slice_get self.old.nodes node ≡ Some n → self.new ≡ with_more (map arc_value witnesses.items) (marked (status_of status) node n.part self.old)) }
+        ensures ok { OnOk result ((n : NodeValue) → slice_get self.old.nodes node ≡ Some n → self.new
+            ≡ with_more (map arc_value witnesses.items) (marked (status_of status) node n.part self.old)) }
         ensures err { OnErr result (self.new ≡ self.old) }
     {
         self.add_witnesses(witnesses)?;
@@ -280,7 +294,9 @@ impl Tree {
     /// Closes the node as posted. Its placement is the bound from now on, where it is better.
     pub(crate) fn post(&mut self, node: usize, forbidden: Arc<Forbidden>, better: bool)
         requires { node < length self.old.nodes }
-        ensures { (n : NodeValue) → slice_get self.old.nodes node ≡ Some n → self.new ≡ with_bound (if better then Some (arc_value forbidden) else self.old.bound) (marked Posted node n.part self.old) }
+        ensures { (n : NodeValue) → slice_get self.old.nodes node ≡ Some n → self.new
+            ≡ with_bound (if better then Some (arc_value forbidden) else self.old.bound) (marked Posted node n.part
+            self.old) }
     {
         if !better {
             self.mark(node, Status::Posted);

@@ -18,10 +18,10 @@ use Rattle.fs_cert_evidence.specs.Parts.{floor, undecided}
 use Rattle.fs_cert_evidence.specs.Board.{is_finished}
 use Rattle.fs_cert_evidence.specs.Histories.{IsHistory}
 use Rattle.fs_cert_evidence.specs.Sizes.{HasNoRunFault, tree_size}
-use Rattle.fs_board_laws.specs.Closing.{IsFinalAnswer}
-use Rattle.fs_board_laws.proofs.PartsOfTests.{under-root}
-use Rattle.fs_board_laws.proofs.Final.{final}
-use Rattle.fs_board_laws.proofs.Floors.{floor-best}
+use Rattle.fs_model_laws.specs.Closing.{IsFinalAnswer}
+use Rattle.fs_model_laws.proofs.PartsOfTests.{under-root}
+use Rattle.fs_model_laws.proofs.Final.{final}
+use Rattle.fs_model_laws.proofs.Floors.{floor-best}
 use Rattle.fs_cert_evidence.specs.Evidence.{Question}
 use Rattle.fs_board.specs.View.{Search}
 pub use Rattle.fs_board_search.proofs.Handed.{handed}

@@ -1,4 +1,4 @@
--- Parts, their floors, and stored witnesses.
+-- Parts that are filled, and what shows it of them.
 use Rattle.std.proofs.Common.{◌≡◌, ℕ, zero, suc, Bool, true, false, Option, Some, None, List, [], ◌∷◌, ◌++◌, refl, sym, ap, ap₂, subst, ◌∙◌, inl, inr}
 use Rattle.std.specs.Prelude.{slice_get, is_none, unwrap_or, ◌||◌}
 use Rattle.std.specs.List.{list_any}
@@ -14,22 +14,10 @@ use Rattle.fs_model.specs.Execution.{Execution}
 use Rattle.fs_model.specs.Allows.{Shows}
 use Rattle.fs_cert_evidence.specs.Shown.{IsShownBy}
 use Rattle.fs_cert_evidence.specs.Parts.{Part, Decision, filled_with, floor, filled}
-use Rattle.fs_board_laws.specs.Bounds.{slots_in_part}
-use Rattle.fs_board_laws.proofs.Places.{at-append}
+use Rattle.fs_model_laws.specs.Bounds.{slots_in_part}
+use Rattle.fs_model_laws.proofs.Places.{at-append}
 use Rattle.fs_cert_evidence.specs.Evidence.{Shown, IsWitnessFor}
 use Rattle.fs_board.specs.Growth.{AreWitnesses}
-
-pub slots-filled : (kind : Option Kind) (part : Part) → slots_of (filled_with kind part) ≡ slots_in_part part
-slots-filled kind [] = refl
-slots-filled kind (d ∷ part) = ap (λ (ss : List Slot). d.slot ∷ ss) (slots-filled kind part)
-
--- with a kind put at a slot a placement has the same slots
-pub slots_with : (s : Slot) (kind : Option Kind) (p q : List Entry) → q ≡ with_kind s kind p → slots_of q ≡ slots_of p
-slots_with s kind p q is = ap slots_of is ∙ slots_of-with_kind s kind p
-
--- a placement that is the floor has the slots of the part
-pub floor-slots : (part : Part) (p : List Entry) (ss : List Slot) → p ≡ floor part → slots_in_part part ≡ ss → slots_of p ≡ ss
-floor-slots part p ss is same = ap slots_of is ∙ (slots-filled None part ∙ same)
 
 entry-same : (d : Decision) → is_none d.decided ≡ false → unwrap_or d.decided None ≡ unwrap_or d.decided (Some RwRw)
 entry-same d some = elim d.decided as (λ o. is_none o ≡ false → unwrap_or o None ≡ unwrap_or o (Some RwRw)) [
@@ -47,28 +35,6 @@ floor-filled [] e = refl
 floor-filled (d ∷ part) e =
     let both = or-false (is_none d.decided) (list_any (λ d. is_none d.decided) part) e in
     ap₂ (λ (k : Option Kind) (p : List Entry). record { slot = d.slot; kind = k } ∷ p) (entry-same d both.0) (floor-filled part both.1)
-
--- ---- stored witnesses
-
-at-last : (w v : Shown) (k : ℕ) → slice_get (w ∷ []) k ≡ Some v → w ≡ v
-at-last w v zero at = cc
-at-last w v (suc k) at = absurd (cc)
-
-pub no-witnesses : (t : Test) → AreWitnesses t []
-no-witnesses t k w at = absurd (cc)
-
-pub one-more : (t : Test) (ws : List Shown) (w : Shown) (more : List Shown) → more ≡ ws ++ w ∷ [] → AreWitnesses t ws
-    → (e : Execution) × IsWitnessFor t w e → AreWitnesses t more
-one-more t ws w more is each new = λ k v at.
-    elim (at-append ws (w ∷ []) k v (ap (λ l. slice_get l k) (sym is) ∙ at)) [
-      | inl old ↦ each k v old
-      | inr last ↦ subst (λ (x : Shown). (e : Execution) × IsWitnessFor t x e) (at-last w v last.0 last.1) new
-    ]
-
--- a witness of the list once more in another list
-pub picked-more : (t : Test) (ws vs more : List Shown) (w : Shown) (k : ℕ) → more ≡ vs ++ w ∷ [] → slice_get ws k ≡ Some w
-    → AreWitnesses t ws → AreWitnesses t vs → AreWitnesses t more
-picked-more t ws vs more w k is at all each = one-more t vs w more is each (all k w at)
 
 -- ---- verdicts on a node that has no undecided slot
 

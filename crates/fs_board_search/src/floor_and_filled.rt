@@ -8,14 +8,14 @@ ghost use Rattle.fs_model.specs.declared.test.Test.{Test};
 ghost use Rattle.fs_model.specs.Slots.{slots};
 ghost use Rattle.fs_model.specs.Execution.{Execution};
 ghost use Rattle.fs_cert_evidence.specs.CandidateFaults.{IsCandidateFault};
-ghost use Rattle.fs_board_laws.specs.Bounds.{slots_in_part};
+ghost use Rattle.fs_model_laws.specs.Bounds.{slots_in_part};
 ghost use Rattle.fs_board.specs.Growth.{AreWitnesses};
 ghost use Rattle.fs_cert_evidence.specs.Evidence.{IsWitnessFor};
 ghost use Rattle.fs_judge.specs.Verdicts.{IsVerdict};
 ghost use Rattle.fs_board_search.specs.Tries.{IsPostable};
 
-use crate::Store;
 use fs_board::Part;
+use fs_board_plan::Store;
 use fs_cert_evidence::{Forbidden, Witness};
 use fs_judge::{Judge, Verdict};
 use fs_kinds::{Fault, Kind, Prices, Slot};
@@ -93,8 +93,10 @@ pub(crate) fn forbidden_or_stored(
     part: &Part,
     verdict: Verdict,
 ) -> Result<Option<Forbidden>, AllocError>
-    ensures known { (t : Test) (p : List Entry) → IsVerdict t p verdict → AreWitnesses t store.old → AreWitnesses t store.new }
-    ensures ok { (t : Test) (p : List Entry) → IsVerdict t p verdict → IfOk result (λ found. IfSome found (IsPostable t)) }
+    ensures known { (t : Test) (p : List Entry) → IsVerdict t p verdict → AreWitnesses t store.old
+        → AreWitnesses t store.new }
+    ensures ok { (t : Test) (p : List Entry) → IsVerdict t p verdict
+        → IfOk result (λ found. IfSome found (IsPostable t)) }
 {
     match verdict {
         Verdict::Allowed(found) => {

@@ -1,29 +1,21 @@
 //! The search by one worker for the cheapest placement that forbids a test's outcome: which node of the board is next,
-//! what is tried at it and closes it, where it is split, and the answer of the finished board. Beside it what a search
-//! knows: a judge, the executions that it has met, which of them bound a node together, and the cheapest placement that
-//! breaks them all.
+//! what is tried at it and closes it, where it is split, and the answer of the finished board.
 #![tactic(auto)]
 
 mod answer;
 mod closing;
-mod codes;
 mod floor_and_filled;
 mod next_node;
-mod plan;
 mod scout;
 mod solving;
-mod store;
 mod sweep;
 mod taken;
 mod watch;
 
 pub use answer::{Answer, Solved};
-pub use codes::Codes;
 pub use fs_judge::Problem;
-pub use plan::{MOST_STEPS, cheapest_breaking};
 pub use scout::{Scout, TRIES, Way};
 pub use solving::{conclude, problem_of, solve, solve_problem};
-pub use store::{Limit, Offer, Store, Sum, cost};
 pub use sweep::{search, search_alone};
 pub use taken::{Child, Taken};
 pub use watch::{Unwatched, Watch};

@@ -20,7 +20,8 @@ pub(crate) const WORKER: u8 = 0;
 
 /// The node that was handed out, and its part.
 fn given(reply: Reply) -> Option<(usize, Arc<Part>)>
-    ensures { MatchOption result (is_given (reply_of reply) ≡ false) (λ got. reply_of reply ≡ Given got.0 (arc_value got.1)) }
+    ensures { MatchOption result (is_given (reply_of reply) ≡ false) (λ got. reply_of reply
+        ≡ Given got.0 (arc_value got.1)) }
 {
     match reply {
         Reply::Node(node, part) => Some((node, part)),
@@ -41,7 +42,8 @@ fn hold(board: &Board, node: usize, part: Arc<Part>, slot: Option<Slot>) -> Take
 fn claim_child(board: &mut Board, children: &mut Vec<Child>) -> Result<Option<Taken>, AllocError>
     ensures goes { GoesOn board.old board.new }
     ensures done { done board.old.board ≤ done board.new.board }
-    ensures ok { IfOk result (λ taken. MatchOption taken (GoesOn board.old board.new) (λ t. IsTaken board.new t.node (arc_value t.part))) }
+    ensures ok { IfOk result
+        (λ taken. MatchOption taken (GoesOn board.old board.new) (λ t. IsTaken board.new t.node (arc_value t.part))) }
 {
     while let Some(child) = children.pop() {
         let reply = board.claim(WORKER, child.node)?;
@@ -70,7 +72,8 @@ fn adopt(board: &mut Board, node: usize) -> Result<Taken, AllocError>
 fn take_any(board: &mut Board) -> Result<Option<Taken>, AllocError>
     ensures goes { GoesOn board.old board.new }
     ensures done { done board.old.board ≤ done board.new.board }
-    ensures ok { IfOk result (λ taken. MatchOption taken (is_finished board.new.board ≡ true) (λ t. IsTaken board.new t.node (arc_value t.part))) }
+    ensures ok { IfOk result (λ taken. MatchOption taken (is_finished board.new.board
+        ≡ true) (λ t. IsTaken board.new t.node (arc_value t.part))) }
 {
     let reply = board.take(WORKER)?;
     if let Some((node, part)) = given(reply) {
@@ -90,7 +93,8 @@ pub(crate) fn next_node(
 ) -> Result<Option<Taken>, AllocError>
     ensures goes { GoesOn board.old board.new }
     ensures done { done board.old.board ≤ done board.new.board }
-    ensures ok { IfOk result (λ taken. MatchOption taken (is_finished board.new.board ≡ true) (λ t. IsTaken board.new t.node (arc_value t.part))) }
+    ensures ok { IfOk result (λ taken. MatchOption taken (is_finished board.new.board
+        ≡ true) (λ t. IsTaken board.new t.node (arc_value t.part))) }
 {
     match claim_child(board, children)? {
         Some(taken) => Ok(Some(taken)),

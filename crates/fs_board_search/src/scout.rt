@@ -7,7 +7,7 @@ ghost use Rattle.fs_model.specs.Slots.{slots};
 ghost use Rattle.fs_model.specs.declared.test.Test.{Test};
 ghost use Rattle.fs_cert_evidence.specs.CandidateFaults.{IsCandidateFault};
 ghost use Rattle.fs_cert_evidence.specs.Parts.{floor, is_undecided};
-ghost use Rattle.fs_board_laws.specs.Bounds.{slots_in_part};
+ghost use Rattle.fs_model_laws.specs.Bounds.{slots_in_part};
 ghost use Rattle.fs_model.specs.Execution.{Execution};
 ghost use Rattle.fs_cert_evidence.specs.Evidence.{IsWitnessFor, placement_in};
 ghost use Rattle.fs_board.specs.Growth.{AreWitnesses};
@@ -20,8 +20,8 @@ use crate::floor_and_filled::{
 };
 use crate::taken::{Child, Taken, push_children};
 use crate::watch::Watch;
-use crate::{MOST_STEPS, Store, cheapest_breaking};
 use fs_board::{Decision, Event, Part, Reply};
+use fs_board_plan::{MOST_STEPS, Store, cheapest_breaking};
 use fs_cert_evidence::{Forbidden, Question, Witness, is_same};
 use fs_judge::{Judge, Problem, Verdict};
 use fs_kinds::{Fault, Kind, List, Placement, Prices, Slot};
@@ -115,7 +115,8 @@ fn keep_new(
     decisions: &[Decision],
     witness: &Arc<Witness>,
 ) -> Result<(), AllocError>
-    ensures { (t : Test) → ((e : Execution) × IsWitnessFor t (arc_value witness.now) e) → AreWitnesses t store.old → AreWitnesses t store.new }
+    ensures { (t : Test) → ((e : Execution) × IsWitnessFor t (arc_value witness.now) e) → AreWitnesses t store.old
+        → AreWitnesses t store.new }
 {
     if store.has_widths(witness) {
         return Ok(());
@@ -133,7 +134,8 @@ fn keep_all(
     decisions: &[Decision],
     witnesses: &[Arc<Witness>],
 ) -> Result<(), AllocError>
-    ensures { (t : Test) → AreWitnesses t (map arc_value witnesses.now) → AreWitnesses t store.old → AreWitnesses t store.new }
+    ensures { (t : Test) → AreWitnesses t (map arc_value witnesses.now) → AreWitnesses t store.old
+        → AreWitnesses t store.new }
 {
     for witness in witnesses {
         keep_new(alloc, store, prices, decisions, witness)?;
@@ -271,7 +273,8 @@ impl Scout {
         alloc: Global,
         part: &Part,
     ) -> Result<Option<Arc<Forbidden>>, AllocError>
-        ensures { IfOk result (λ found. IfSome found (λ f. IsPostable self.now.test (arc_value f) × (placement_in f ≡ floor part.now))) }
+        ensures { IfOk result (λ found. IfSome found (λ f. IsPostable self.now.test (arc_value f)
+            × (placement_in f ≡ floor part.now))) }
     {
         let Some(planned) = &self.planned else {
             return Ok(None);

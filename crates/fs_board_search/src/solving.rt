@@ -1,6 +1,7 @@
 //! The answer to a question.
 
-ghost use Rattle.std.specs.Prelude.{◌≡◌, ◌≢◌, ◌≤◌, IfOk, IfErr, IfSome, MatchOption, OnOk, IsOkUnless, IsTrue, All, Some, None, true};
+ghost use Rattle.std.specs.Prelude.{◌≡◌, ◌≢◌, ◌≤◌, IfOk, IfErr, IfSome, MatchOption, OnOk, IsOkUnless, IsTrue, All};
+ghost use Rattle.std.specs.Prelude.{Some, None, true};
 ghost use Rattle.std.specs.Arc.{arc_value};
 ghost use Rattle.fs_kinds.specs.Placement.{all_with};
 ghost use Rattle.fs_kinds.specs.PriceTable.{IsPriceTable, are_offered, cost};

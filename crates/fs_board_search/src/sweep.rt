@@ -131,7 +131,8 @@ pub fn search_alone<W: Watch>(
 ) -> Result<Option<Vec<Arc<Witness>>>, Fault>
     requires { board.old.question.test ≡ arc_value problem }
     ensures goes { GoesOn board.old board.new }
-    ensures met { IfOk result (λ found. IfSome found (λ met. AreWitnesses (arc_value problem) (map arc_value met.items))) }
+    ensures met { IfOk result
+        (λ found. IfSome found (λ met. AreWitnesses (arc_value problem) (map arc_value met.items))) }
     ensures finished { IfOk result (λ found. IfNone found (is_finished board.new.board ≡ true)) }
     ensures err { IfErr result (λ f. f ≢ Fault.Memory → IsSearchFault board.old f) }
 {

@@ -2,7 +2,7 @@
 ghost use Rattle.std.specs.Prelude.{◌≡◌, IfOk, IfSome};
 ghost use Rattle.std.specs.Arc.{arc_value};
 ghost use Rattle.fs_model.specs.Slots.{slots};
-ghost use Rattle.fs_board_laws.specs.Bounds.{slots_in_part};
+ghost use Rattle.fs_model_laws.specs.Bounds.{slots_in_part};
 
 use fs_board::{Board, Event, Reply};
 use fs_board_search::{Problem, Scout, Taken, Way};
@@ -14,7 +14,8 @@ use std::test::Fail;
 
 /// The root of a new board.
 fn root(alloc: Global, board: &mut Board) -> Result<Option<Taken>, AllocError>
-    ensures { IfOk result (λ found. IfSome found (λ t. slots_in_part (arc_value t.part) ≡ slots board.old.question.test)) }
+    ensures { IfOk result (λ found. IfSome found (λ t. slots_in_part (arc_value t.part)
+        ≡ slots board.old.question.test)) }
 {
     let reply = board.ask(alloc, 0, &Event::Take)?;
     let Reply::Node(node, part) = reply else {

@@ -4,7 +4,8 @@ ghost use Rattle.std.specs.Prelude.{◌≡◌, length};
 ghost use Rattle.std.specs.List.{list_any, list_all};
 ghost use Rattle.fs_model.specs.Numbers.{numbers_below};
 ghost use Rattle.fs_hart.specs.Steps.{steps_in};
-ghost use Rattle.fs_cand_listing.specs.inner.Tested.{pair_among, any_pair_among, foreign_among, closely_among, atomic_among, all_atomic_among};
+ghost use Rattle.fs_cand_listing.specs.inner.Tested.{pair_among, any_pair_among, foreign_among, closely_among};
+ghost use Rattle.fs_cand_listing.specs.inner.Tested.{atomic_among, all_atomic_among};
 
 use crate::coherence::{source_in, stands_in};
 use fs_hart::{Trace, steps_of};
@@ -26,7 +27,8 @@ fn is_pair(traces: &[Trace], operations: &[Operation], r: usize, w: usize) -> bo
 }
 
 fn is_pair_with_any(traces: &[Trace], operations: &[Operation], r: usize) -> bool
-    ensures { result ≡ list_any (pair_among (steps_in traces.now) operations.now r) (numbers_below (length operations.now)) }
+    ensures { result
+        ≡ list_any (pair_among (steps_in traces.now) operations.now r) (numbers_below (length operations.now)) }
 {
     (0..operations.len()).any(|w| is_pair(traces, operations, r, w))
 }
@@ -96,7 +98,9 @@ fn are_atomic_with(
     orders: &[List<u8>],
     r: usize,
 ) -> bool
-    ensures { result ≡ list_all (atomic_among (steps_in traces.now) operations.now sources.now orders.now r) (numbers_below (length operations.now)) }
+    ensures { result
+        ≡ list_all (atomic_among (steps_in traces.now) operations.now sources.now orders.now r) (numbers_below
+        (length operations.now)) }
 {
     (0..operations.len()).all(|w| is_atomic(traces, operations, sources, orders, r, w))
 }

@@ -87,7 +87,8 @@ pub(crate) fn push_orders(
     requires once { AreEachOnce stores.now }
     requires few { product_by number_of_orders stores.now ≤ most_candidates }
     requires number { number < product_by number_of_orders stores.now }
-    ensures { OnOk result (orders.new.items ≡ orders.old.items ++ slice_index_or (products (orders_from first stores.now)) number []) }
+    ensures { OnOk result (orders.new.items
+        ≡ orders.old.items ++ slice_index_or (products (orders_from first stores.now)) number []) }
 {
     let Some((list, rest)) = stores.split_first() else {
         return Ok(());

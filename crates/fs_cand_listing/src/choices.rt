@@ -4,7 +4,8 @@ ghost use Rattle.std.specs.Prelude.{◌≡◌, ◌≤◌, ◌<◌, ◌-◌, map,
 ghost use Rattle.fs_model.specs.Numbers.{is_same, numbers_below};
 ghost use Rattle.fs_model.specs.Operations.{PreExecution, accesses, operations as operations_of};
 ghost use Rattle.fs_cand_listing.specs.RawCandidates.{all_sources};
-ghost use Rattle.fs_cand_listing.specs.inner.Listed.{is_source_among, number_of_sources, sources_within, sources_among, stores_among, own_among};
+ghost use Rattle.fs_cand_listing.specs.inner.Listed.{is_source_among, number_of_sources, sources_within, sources_among};
+ghost use Rattle.fs_cand_listing.specs.inner.Listed.{stores_among, own_among};
 ghost use Rattle.fs_cand_listing.specs.inner.Chosen.{AreChoices};
 
 use fs_kinds::List;
@@ -132,7 +133,8 @@ fn all_sources(
 ) -> Result<Vec<List<Option<u8>>>, AllocError>
     requires few { length operations.now ≤ 256 }
     requires count { count ≤ length operations.now }
-    ensures { IfOk result (λ lists. lists.items ≡ map (sources_among operations.now count) (numbers_below (length operations.now))) }
+    ensures { IfOk result (λ lists. lists.items
+        ≡ map (sources_among operations.now count) (numbers_below (length operations.now))) }
 {
     let mut lists = Vec::new(alloc);
     for a in 0..operations.len() {
@@ -177,7 +179,8 @@ impl Choices {
         locations: u8,
     ) -> Result<Choices, AllocError>
         requires { length operations.now ≤ 256 }
-        ensures { IfOk result (λ choices. (x : PreExecution) → operations.now ≡ operations_of x → AreChoices x locations choices) }
+        ensures { IfOk result (λ choices. (x : PreExecution) → operations.now ≡ operations_of x
+            → AreChoices x locations choices) }
     {
         let count = count_accesses(operations);
         Ok(Choices {

@@ -3,7 +3,8 @@
 ghost use Rattle.std.specs.Prelude.{◌≡◌, ◌&&◌, not, length};
 ghost use Rattle.std.specs.List.{list_any, list_all};
 ghost use Rattle.fs_model.specs.Numbers.{numbers_below};
-ghost use Rattle.fs_cand_listing.specs.inner.Tested.{stands_in, source_in, older_among, newer_among, coherent_among, all_coherent_among};
+ghost use Rattle.fs_cand_listing.specs.inner.Tested.{stands_in, source_in, older_among, newer_among, coherent_among};
+ghost use Rattle.fs_cand_listing.specs.inner.Tested.{all_coherent_among};
 
 use fs_kinds::List;
 use fs_model::{Operation, stands_before};

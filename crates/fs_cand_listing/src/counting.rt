@@ -94,7 +94,8 @@ impl Choices {
 
 /// How many ways there are to choose the sources of these operations, or one more than there may be.
 fn count_sources_among(operations: &[Operation]) -> u32
-    ensures exact { result ≡ capped (product_by (number_of_sources operations.now) (numbers_below (length operations.now))) }
+    ensures exact { result
+        ≡ capped (product_by (number_of_sources operations.now) (numbers_below (length operations.now))) }
     ensures most { result ≤ most_candidates + 1 }
 {
     let mut count = 1;
@@ -122,7 +123,8 @@ fn count_orders_among(operations: &[Operation], count: usize, locations: u8) -> 
 /// than there may be. The square of the operations, and nothing is listed.
 pub(crate) fn count_raw(operations: &[Operation], locations: u8) -> u32
     ensures exact { (x : PreExecution) → operations.now ≡ operations_of x
-        → result ≡ capped (product_of_lengths (all_sources x) * product_by number_of_orders (map (own_stores x) (numbers_below locations))) }
+        → result ≡ capped (product_of_lengths (all_sources x) * product_by number_of_orders
+        (map (own_stores x) (numbers_below locations))) }
     ensures most { result ≤ most_candidates + 1 }
 {
     let count = count_accesses(operations);

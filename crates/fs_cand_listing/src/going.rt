@@ -28,7 +28,8 @@ impl Prepared {
         requires few { product_by number_of_orders self.now.choices.stores.items ≤ most_candidates }
         requires number { number < product_by number_of_orders self.now.choices.stores.items }
         ensures { IfOk result (λ orders. orders.items
-            ≡ slice_index_or (products (all_orders test.now (pre_execution test.now (steps_in self.now.traces)))) number []) }
+            ≡ slice_index_or (products
+            (all_orders test.now (pre_execution test.now (steps_in self.now.traces)))) number []) }
     {
         let mut orders = Vec::new(alloc);
         let first = self.choices.count as u8;
@@ -61,7 +62,8 @@ impl Prepared {
         requires prepared { IsPrepared test.now self.now }
         requires few { count_with test.now self.now.traces ≤ most_candidates }
         requires first { first < product_of_lengths self.now.choices.sources.items }
-        ensures { OnOk result (kept.new.items ≡ kept.old.items ++ map (place runs) (showing_from test.now self.now.traces
+        ensures { OnOk result (kept.new.items
+            ≡ kept.old.items ++ map (place runs) (showing_from test.now self.now.traces
             (first * product_by number_of_orders self.now.choices.stores.items) (product_by number_of_orders self.now.choices.stores.items))) }
     {
         let sources = self.sources(alloc, first)?;

@@ -52,7 +52,8 @@ impl Prepared {
     /// Do the runs with these coherence orders show the outcome?
     fn has_outcome(&self, test: &Test, orders: &[List<u8>]) -> bool
         requires { IsPrepared test.now self.now }
-        ensures { (sources : List (Option ℕ)) → result ≡ has_outcome test.now (candidate (steps_in self.now.traces) sources orders.now) }
+        ensures { (sources : List (Option ℕ)) → result
+            ≡ has_outcome test.now (candidate (steps_in self.now.traces) sources orders.now) }
     {
         has_outcome(
             test,

@@ -60,7 +60,8 @@ fn holds(
     orders: &[List<u8>],
     condition: &Outcome,
 ) -> bool
-    ensures { result ≡ holds (register_in traces.now) (word_among operations.now orders.now) (condition_of condition.now) }
+    ensures { result
+        ≡ holds (register_in traces.now) (word_among operations.now orders.now) (condition_of condition.now) }
 {
     match condition {
         Outcome::Always => true,

@@ -16,7 +16,8 @@ use fs_relation::Rows;
 /// The operations below n to which an edge leads from a.
 fn row_of(candidate: &Candidate, a: usize, n: usize) -> u64
     requires { n ≤ 64 }
-    ensures { OfRuns candidate.now (λ x. (b : ℕ) → has_bit result b ≡ (nat_lt b n && is_judged x [] (candidate_of candidate.now) a b)) }
+    ensures { OfRuns candidate.now (λ x. (b : ℕ) → has_bit result b
+        ≡ (nat_lt b n && is_judged x [] (candidate_of candidate.now) a b)) }
 {
     let mut row: u64 = 0;
     for b in 0..n {
@@ -37,7 +38,8 @@ pub fn base_rows(candidate: &Candidate) -> Rows
         ≡ (nat_lt a (length candidate.now.operations)
         && (nat_lt b (length candidate.now.operations) && is_judged x [] (candidate_of candidate.now) a b))) }
     ensures raw { (t : Test) → IsMade (initial_words t) candidate.now → IsRaw t (candidate_of candidate.now) → (a b : ℕ)
-        → has_edge result a b ≡ is_judged (defined_runs t (candidate_of candidate.now)) [] (candidate_of candidate.now) a b }
+        → has_edge result a b ≡ is_judged (defined_runs t (candidate_of candidate.now)) [] (candidate_of
+        candidate.now) a b }
 {
     let n = candidate.operations.len();
     let mut rows = Rows::new();

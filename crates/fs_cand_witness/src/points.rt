@@ -77,7 +77,8 @@ fn is_among(operation: &Operation, half: Half, class: Class, hart: u8, place: us
 fn mask(operations: &[Operation], half: Half, class: Class, hart: u8, place: usize) -> u64
     requires { length operations.now ≤ 64 }
     ensures { (a : ℕ) → has_bit result a
-        ≡ (is_on half hart place (slice_index_or operations.now a nothing) && is_of class (slice_index_or operations.now a nothing)) }
+        ≡ (is_on half hart place (slice_index_or operations.now a nothing)
+        && is_of class (slice_index_or operations.now a nothing)) }
 {
     let mut mask: u64 = 0;
     for a in 0..operations.len() {
@@ -92,8 +93,10 @@ fn mask(operations: &[Operation], half: Half, class: Class, hart: u8, place: usi
 fn sides_at(candidate: &Candidate, slot: Slot, place: usize) -> Sides
     requires { length candidate.now.operations ≤ 64 }
     ensures slot { result.slot ≡ slot }
-    ensures before { OfRuns candidate.now (λ x. (a : ℕ) → before result a ≡ classes_on Half.Before slot.hart place (operation x a)) }
-    ensures after { OfRuns candidate.now (λ x. (a : ℕ) → after result a ≡ classes_on Half.After slot.hart place (operation x a)) }
+    ensures before { OfRuns candidate.now (λ x. (a : ℕ) → before result a
+        ≡ classes_on Half.Before slot.hart place (operation x a)) }
+    ensures after { OfRuns candidate.now (λ x. (a : ℕ) → after result a
+        ≡ classes_on Half.After slot.hart place (operation x a)) }
 {
     let operations = candidate.operations.as_slice();
     Sides {
@@ -110,7 +113,8 @@ fn push_sides(candidate: &Candidate, hart: u8, sides: &mut Vec<Sides>) -> Result
     requires { length candidate.now.operations ≤ 64 }
     ensures ok { IfOk result (λ _. OfRuns candidate.now (λ x. (p : List Entry) (a b : ℕ)
         → list_any (orders_at p a b) sides.new.items
-        ≡ (list_any (orders_at p a b) sides.old.items || list_any (orders_before_step x p hart a b) (numbers_below (length (steps_of x.traces hart)))))) }
+        ≡ (list_any (orders_at p a b) sides.old.items
+        || list_any (orders_before_step x p hart a b) (numbers_below (length (steps_of x.traces hart)))))) }
     ensures err { IsOkUnless result Memory }
 {
     let steps = steps_of(candidate.traces.as_slice(), Some(hart));

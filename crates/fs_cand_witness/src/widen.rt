@@ -4,7 +4,8 @@ ghost use Rattle.std.specs.Prelude.{◌≡◌, ◌≤◌, ℕ, Some, slice_get};
 ghost use Rattle.std.specs.List.{list_any};
 ghost use Rattle.fs_kinds.specs.Slot.{is_same_slot};
 ghost use Rattle.fs_cand_witness.specs.declared.points.Sides.{Sides};
-ghost use Rattle.fs_cand_witness.specs.inner.Widening.{AreTried, HasOrder, IsMadeAt, IsMadeBy, IsMadeOf, IsTried, IsWider};
+ghost use Rattle.fs_cand_witness.specs.inner.Widening.{AreTried, HasOrder, IsMadeAt, IsMadeBy, IsMadeOf, IsTried};
+ghost use Rattle.fs_cand_witness.specs.inner.Widening.{IsWider};
 
 use crate::Sides;
 use crate::widths::are_ordered;

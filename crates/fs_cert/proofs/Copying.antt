@@ -17,8 +17,8 @@ use Rattle.fs_cert_evidence.specs.CertificateFile.{IsChoiceOfWord, most_number}
 use Rattle.fs_cert_evidence.specs.WitnessFile.{in_range, KeepsWitness}
 use Rattle.fs_cert_evidence.specs.WitnessFile.{IsInRange}
 use Rattle.fs_cert_json.specs.Kept.{AreInRangeNames}
-use Rattle.fs_board_laws.proofs.Ranked.{order}
-use Rattle.fs_board_laws.proofs.Places.{at-more}
+use Rattle.fs_model_laws.proofs.Ranked.{order}
+use Rattle.fs_model_laws.proofs.Places.{at-more}
 use Rattle.fs_cert.specs.inner.Copies.{IsCopiedChoice, AreCopiedChoices, IsCopiedName, IsCopiedWitness, AreCopiedWitnesses, StandsAt, AreNumbered, IsNumbering}
 use Rattle.fs_cert.proofs.Zips.{zip_push}
 

@@ -10,7 +10,7 @@ use Rattle.fs_cert_evidence.specs.CertificateFile.{most_number}
 use Rattle.fs_cert_json.specs.Kept.{item_of}
 use Rattle.fs_cert_json.specs.declared.certificate.Item.{Item as CodeItem}
 use Rattle.fs_cert_evidence.specs.Board as board
-use Rattle.fs_board_laws.proofs.Places.{count_one, count-cons}
+use Rattle.fs_model_laws.proofs.Places.{count_one, count-cons}
 use Rattle.fs_cert.specs.inner.Items.{AreSmall, AreBelow, AreSayable, HasNumbers, IsSayable}
 
 take_small : (ns : List ℕ) (n : ℕ) → AreSmall ns → AreSmall (take n ns)

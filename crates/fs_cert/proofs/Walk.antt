@@ -23,16 +23,16 @@ use Rattle.fs_cert_evidence.specs.Pruning.{is_pruned}
 use Rattle.fs_cert_evidence.specs.Certificate as said
 use Rattle.fs_cert_evidence.specs.Certificate.{Certificate, First, Second, Fourth, Item, Version}
 use Rattle.fs_cert_evidence.specs.Valid.{Covers, Refutes, RefutesBy, is_costly}
-use Rattle.fs_board_laws.specs.Bounds.{slots_in_part}
+use Rattle.fs_model_laws.specs.Bounds.{slots_in_part}
 use Rattle.fs_cert_evidence.specs.Board.{Board, Node, Status, Open, Held, Split, Costly, Witnessed, Bounded, Posted, is_open, is_held, is_finished, has_node, opening}
 use Rattle.fs_cert_evidence.specs.Histories.{LogEntry, Lead, IsHistory}
-use Rattle.fs_board_laws.specs.Trees.{IsNode, IsSplitAt}
-use Rattle.fs_board_laws.specs.Closing.{IsClosedFor}
-use Rattle.fs_board_laws.proofs.Places.{at-more}
-use Rattle.fs_board_laws.proofs.Moves.{node_of, Move, Stays, Marks, Splits, moves}
-use Rattle.fs_board_laws.proofs.Leaves.{history-parts}
-use Rattle.fs_board_laws.proofs.Closed.{history-right}
-use Rattle.fs_board_laws.proofs.Splitting.{history-split}
+use Rattle.fs_model_laws.specs.Trees.{IsNode, IsSplitAt}
+use Rattle.fs_model_laws.specs.Closing.{IsClosedFor}
+use Rattle.fs_model_laws.proofs.Places.{at-more}
+use Rattle.fs_model_laws.proofs.Moves.{node_of, Move, Stays, Marks, Splits, moves}
+use Rattle.fs_model_laws.proofs.Leaves.{history-parts}
+use Rattle.fs_model_laws.proofs.Closed.{history-right}
+use Rattle.fs_model_laws.proofs.Splitting.{history-split}
 use Rattle.fs_board.specs.View.{Search}
 use Rattle.fs_cert.specs.inner.Copies.{StandsAt, AreNumbered}
 use Rattle.fs_cert.specs.inner.Items.{number_in, item_at, below, AreBelow, HasNumbers, IsTreeOf}

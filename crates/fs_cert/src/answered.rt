@@ -49,7 +49,8 @@ pub(crate) fn answer_of(
     placement: &Placement,
 ) -> Result<CertifiedAnswer, AllocError>
     requires { IsTrue (are_offered prices.now placement.now) }
-    ensures value { IfOk result (λ answer. answer_of answer ≡ Fenced (cost prices.now placement.now) (fence_words placement.now)) }
+    ensures value { IfOk result (λ answer. answer_of answer
+        ≡ Fenced (cost prices.now placement.now) (fence_words placement.now)) }
     ensures most { cost prices.now placement.now ≤ most_number }
 {
     let cost = prices.cost(placement);

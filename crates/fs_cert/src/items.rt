@@ -77,7 +77,8 @@ pub(crate) fn item_at(
 fn bounded(alloc: Global, numbers: &[u64], first: usize, count: usize) -> Result<Item, AllocError>
     requires small { AreSmall numbers.now }
     requires there { HasNumbers (length numbers.now) (status_of (Status.Bounded first count)) }
-    ensures value { (ss : List SlotValue) → IfOk result (λ item. item_of item ≡ item_at ss numbers.now (status_of (Status.Bounded first count))) }
+    ensures value { (ss : List SlotValue)
+        → IfOk result (λ item. item_of item ≡ item_at ss numbers.now (status_of (Status.Bounded first count))) }
     ensures small { IfOk result (λ item. IsSayable (item_of item)) }
 {
     if count == 0 {

@@ -45,7 +45,8 @@ fn are_names(names: &[Option<OperationName>], operations: &[OperationName]) -> b
 fn says(file: &WitnessFile, choices: &ChoiceLists, order: &List<OperationName>) -> bool
     ensures choices { IsTrue result → file.now.choices ≡ choices.now }
     ensures order { IsTrue result → file.now.order ≡ map (λ operation. Some operation) order.now }
-    ensures no { file.now.choices ≡ choices.now → file.now.order ≡ map (λ operation. Some operation) order.now → IsTrue result }
+    ensures no { file.now.choices ≡ choices.now → file.now.order ≡ map (λ operation. Some operation) order.now
+        → IsTrue result }
 {
     are_same(&file.choices, choices) && are_names(file.order.as_slice(), order.as_slice())
 }
@@ -60,7 +61,8 @@ fn is_of(file: &WitnessFile, witness: &Witness) -> bool
 
 /// The number of the witness among these, where it is there.
 fn number_of(files: &[WitnessFile], witness: &Witness) -> Option<usize>
-    ensures some { IfSome result (λ n. (ws : List Defined) → AreCopiedWitnesses files.now ws → slice_get ws n ≡ Some witness.now.witness) }
+    ensures some { IfSome result (λ n. (ws : List Defined) → AreCopiedWitnesses files.now ws → slice_get ws n
+        ≡ Some witness.now.witness) }
     ensures none { IfNone result (HasNoCopy files.now witness.now.witness) }
 {
     for (number, file) in files.iter().enumerate() {
@@ -75,7 +77,8 @@ fn number_of(files: &[WitnessFile], witness: &Witness) -> Option<usize>
 fn add(alloc: Global, files: &mut Vec<WitnessFile>, witness: &Witness) -> Result<u64, AllocError>
     ensures once { OnOk result (AreDistinct files.old.items → AreDistinct files.new.items) }
     ensures number { IfOk result (λ n. (ws : List Defined) → AreCopiedWitnesses files.old.items ws
-        → (more : List Defined) × AreCopiedWitnesses files.new.items (ws ++ more) × StandsAt (ws ++ more) witness.now.witness n) }
+        → (more : List Defined) × AreCopiedWitnesses files.new.items (ws ++ more) × StandsAt (ws ++
+        more) witness.now.witness n) }
 {
     if let Some(number) = number_of(files, witness) {
         return Ok(number as u64);

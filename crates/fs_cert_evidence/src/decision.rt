@@ -58,7 +58,9 @@ impl Decision {
 
     /// The same, or where it is this slot's the slot decided so.
     pub fn decided_at(&self, slot: Slot, kind: Option<Kind>) -> Decision
-        ensures { result ≡ (if is_same_slot self.now.slot slot then record { slot = self.now.slot; decided = Some kind } else self.now) }
+        ensures { result
+            ≡ (if is_same_slot self.now.slot slot then record { slot = self.now.slot; decided = Some kind } else
+            self.now) }
     {
         let decided = if self.slot == slot {
             Some(kind)

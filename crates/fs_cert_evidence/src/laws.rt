@@ -9,7 +9,8 @@ ghost use Rattle.fs_cert_evidence.specs.WitnessFile.{IsWitnessFile};
 
 /// A law: a witness file says one witness at most.
 pub fn file_says_one_witness()
-    ensures { (harts : ℕ) (bytes : List ℕ) (w v : Witness) → IsWitnessFile harts bytes w → IsWitnessFile harts bytes v → w ≡ v }
+    ensures { (harts : ℕ) (bytes : List ℕ) (w v : Witness) → IsWitnessFile harts bytes w → IsWitnessFile harts bytes v
+        → w ≡ v }
 {}
 
 /// A law: what is printed for an operation is its name.

@@ -11,7 +11,8 @@ use fs_kinds::{Fault, OperationName, read_place};
 /// zeros and of any length. It is none where a number passes 255, since no operation has such a name. F17 where the
 /// text is no name.
 pub fn read_name(text: &str) -> Result<Option<OperationName>, Fault>
-    ensures ok { IfOk result (λ found. (name : OperationName) × IsOperationName text.now name × (found ≡ in_range name)) }
+    ensures ok { IfOk result (λ found. (name : OperationName) × IsOperationName text.now name
+        × (found ≡ in_range name)) }
     ensures bad { OnErr result ((name : OperationName) → ¬ IsOperationName text.now name) }
     ensures err { IsOkUnless result Fault.BadWitness }
 {

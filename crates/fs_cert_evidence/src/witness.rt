@@ -109,7 +109,8 @@ fn read_choice_lists(alloc: Global, value: &Value) -> Result<ChoiceLists, Fault>
 /// The choices of one hart that the value says.
 fn read_choices(alloc: Global, value: &Value) -> Result<Choices, Fault>
     ensures ok { IfOk result (λ choices. IsArrayOf IsChoice (view value.now) choices) }
-    ensures bad { IsErrOf result Fault.BadWitness → (choices : List Choice) → ¬ IsArrayOf IsChoice (view value.now) choices }
+    ensures bad { IsErrOf result Fault.BadWitness → (choices : List Choice)
+        → ¬ IsArrayOf IsChoice (view value.now) choices }
     ensures err { IfErr result IsWitnessFault }
 {
     let Some(items) = value.as_array() else {
@@ -147,7 +148,8 @@ fn word_in(value: &Value) -> Option<u32>
 fn read_order(alloc: Global, value: &Value) -> Result<Names, Fault>
     ensures ok { IfOk result (λ order. (names : List OperationName) × IsArrayOf IsName (view value.now) names
         × (order ≡ map in_range names)) }
-    ensures bad { IsErrOf result Fault.BadWitness → (names : List OperationName) → ¬ IsArrayOf IsName (view value.now) names }
+    ensures bad { IsErrOf result Fault.BadWitness → (names : List OperationName)
+        → ¬ IsArrayOf IsName (view value.now) names }
     ensures err { IfErr result IsWitnessFault }
 {
     let Some(items) = value.as_array() else {

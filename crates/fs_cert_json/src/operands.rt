@@ -28,7 +28,8 @@ pub(crate) enum Operands {
 
 /// The inference that a letter and the values after it say.
 pub(crate) fn inference_in(letter: &str, others: &[Value]) -> Option<Inference>
-    ensures { MatchOption result ((inference : said.Inference) → ¬ IsSaidBy letter.now (items_view others.now) inference)
+    ensures { MatchOption result ((inference : said.Inference)
+        → ¬ IsSaidBy letter.now (items_view others.now) inference)
         (λ kept. IsSaidBy letter.now (items_view others.now) (inference_of kept)) }
 {
     let operands = operands_in(others)?;
@@ -50,7 +51,8 @@ fn inference_of(letter: &str, operands: Operands) -> Option<Inference>
 
 /// The inference with this letter that speaks of a number.
 fn of_number(letter: &str, number: u64) -> Option<Inference>
-    ensures { MatchOption result ((inference : said.Inference) → ¬ IsMadeOf letter.now (operands.Number number) inference)
+    ensures { MatchOption result ((inference : said.Inference)
+        → ¬ IsMadeOf letter.now (operands.Number number) inference)
         (λ kept. IsMadeOf letter.now (operands.Number number) (inference_of kept)) }
 {
     match letter {
@@ -74,7 +76,8 @@ fn of_one(letter: &str, name: OperationName) -> Option<Inference>
 
 /// The inference with this letter that speaks of two operations.
 fn of_two(letter: &str, first: OperationName, second: OperationName) -> Option<Inference>
-    ensures { MatchOption result ((inference : said.Inference) → ¬ IsMadeOf letter.now (operands.Two first second) inference)
+    ensures { MatchOption result ((inference : said.Inference)
+        → ¬ IsMadeOf letter.now (operands.Two first second) inference)
         (λ kept. IsMadeOf letter.now (operands.Two first second) (inference_of kept)) }
 {
     match letter {

@@ -28,7 +28,8 @@ impl Certificate {
     /// object, F19. Where a key comes twice, its last value counts. Memory is linear in the bytes, and so is time but
     /// for objects of many keys, which are sorted.
     pub fn from_bytes(alloc: Global, bytes: &[u8]) -> Result<Certificate, Fault>
-        ensures ok { IfOk result (λ kept. (c : said.Certificate) × IsCertificateFile bytes.now c × KeepsCertificate kept c) }
+        ensures ok { IfOk result (λ kept. (c : said.Certificate) × IsCertificateFile bytes.now c
+            × KeepsCertificate kept c) }
         ensures bad { IsErrOf result Fault.BadCertificate → (c : said.Certificate) → ¬ IsCertificateFile bytes.now c }
         ensures err { IfErr result IsCertificateFault }
     {
@@ -39,8 +40,10 @@ impl Certificate {
 
 /// The certificate that the value says.
 fn read_certificate(alloc: Global, value: &Value) -> Result<Certificate, Fault>
-    ensures ok { IfOk result (λ kept. (c : said.Certificate) × IsCertificateValue (view value.now) c × KeepsCertificate kept c) }
-    ensures bad { IsErrOf result Fault.BadCertificate → (c : said.Certificate) → ¬ IsCertificateValue (view value.now) c }
+    ensures ok { IfOk result (λ kept. (c : said.Certificate) × IsCertificateValue (view value.now) c
+        × KeepsCertificate kept c) }
+    ensures bad { IsErrOf result Fault.BadCertificate → (c : said.Certificate)
+        → ¬ IsCertificateValue (view value.now) c }
     ensures err { IfErr result IsCertificateFault }
 {
     let Some(sections) = sections_of(value) else {
@@ -104,7 +107,8 @@ fn read_cycles(alloc: Global, version: Version, value: &Value) -> Result<Certifi
 fn read_witnesses(alloc: Global, value: &Value) -> Result<List<WitnessFile>, Fault>
     ensures ok { IfOk result (λ kept. (ws : List Witness) × IsArrayOf IsWitnessValue (view value.now) ws
         × AllZip KeepsWitness kept ws) }
-    ensures bad { IsErrOf result Fault.BadCertificate → (ws : List Witness) → ¬ IsArrayOf IsWitnessValue (view value.now) ws }
+    ensures bad { IsErrOf result Fault.BadCertificate → (ws : List Witness)
+        → ¬ IsArrayOf IsWitnessValue (view value.now) ws }
     ensures err { IfErr result IsCertificateFault }
 {
     let Some(items) = value.as_array() else {

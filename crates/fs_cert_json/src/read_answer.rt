@@ -17,7 +17,8 @@ use std::alloc::Global;
 /// The answer that the value says.
 pub(crate) fn read_answer(alloc: Global, value: &Value) -> Result<CertifiedAnswer, Fault>
     ensures ok { IfOk result (λ answer. IsAnswerValue (view value.now) (answer_of answer)) }
-    ensures bad { IsErrOf result Fault.BadCertificate → (answer : said.Answer) → ¬ IsAnswerValue (view value.now) answer }
+    ensures bad { IsErrOf result Fault.BadCertificate → (answer : said.Answer)
+        → ¬ IsAnswerValue (view value.now) answer }
     ensures err { IfErr result IsCertificateFault }
 {
     match value.as_str() {
@@ -31,7 +32,8 @@ pub(crate) fn read_answer(alloc: Global, value: &Value) -> Result<CertifiedAnswe
 fn read_fenced(alloc: Global, value: &Value) -> Result<CertifiedAnswer, Fault>
     requires { as_str (view value.now) ≡ None }
     ensures ok { IfOk result (λ answer. IsAnswerValue (view value.now) (answer_of answer)) }
-    ensures bad { IsErrOf result Fault.BadCertificate → (answer : said.Answer) → ¬ IsAnswerValue (view value.now) answer }
+    ensures bad { IsErrOf result Fault.BadCertificate → (answer : said.Answer)
+        → ¬ IsAnswerValue (view value.now) answer }
     ensures err { IfErr result IsCertificateFault }
 {
     if key_count(value) != Some(2) {
@@ -53,7 +55,8 @@ fn read_fenced(alloc: Global, value: &Value) -> Result<CertifiedAnswer, Fault>
 /// The texts that the value says.
 fn read_texts(alloc: Global, value: &Value) -> Result<List<String>, Fault>
     ensures ok { IfOk result (λ texts. IsArrayOf IsText (view value.now) (map string_bytes texts)) }
-    ensures bad { IsErrOf result Fault.BadCertificate → (texts : List (List ℕ)) → ¬ IsArrayOf IsText (view value.now) texts }
+    ensures bad { IsErrOf result Fault.BadCertificate → (texts : List (List ℕ))
+        → ¬ IsArrayOf IsText (view value.now) texts }
     ensures err { IfErr result IsCertificateFault }
 {
     let Some(items) = value.as_array() else {

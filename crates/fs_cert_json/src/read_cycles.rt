@@ -46,8 +46,10 @@ pub(crate) fn read_listed(
 
 /// The cycle that the value says.
 fn read_cycle(alloc: Global, value: &Value) -> Result<List<CertificateLink>, Fault>
-    ensures ok { IfOk result (λ kept. (links : List said.Link) × IsCycleValue (view value.now) links × KeepsCycle kept links) }
-    ensures bad { IsErrOf result Fault.BadCertificate → (links : List said.Link) → ¬ IsCycleValue (view value.now) links }
+    ensures ok { IfOk result (λ kept. (links : List said.Link) × IsCycleValue (view value.now) links
+        × KeepsCycle kept links) }
+    ensures bad { IsErrOf result Fault.BadCertificate → (links : List said.Link)
+        → ¬ IsCycleValue (view value.now) links }
     ensures err { IfErr result IsCertificateFault }
 {
     let Some(items) = link_values(value) else {

@@ -37,7 +37,8 @@ pub(crate) fn read_inferences(alloc: Global, value: &Value) -> Result<List<Infer
 /// The inference that the value says.
 fn read_inference(alloc: Global, value: &Value) -> Result<Inference, Fault>
     ensures ok { IfOk result (λ kept. IsInference (view value.now) (inference_of kept)) }
-    ensures bad { IsErrOf result Fault.BadCertificate → (inference : said.Inference) → ¬ IsInference (view value.now) inference }
+    ensures bad { IsErrOf result Fault.BadCertificate → (inference : said.Inference)
+        → ¬ IsInference (view value.now) inference }
     ensures err { IfErr result IsCertificateFault }
 {
     let Some((letter, others)) = letter_in(value) else {

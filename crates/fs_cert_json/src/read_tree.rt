@@ -47,7 +47,8 @@ pub(crate) fn read_tree(alloc: Global, version: Version, value: &Value) -> Resul
 /// The item that the value says.
 fn read_item(alloc: Global, version: Version, value: &Value) -> Result<Item, Fault>
     ensures ok { IfOk result (λ item. IsItem (version_of version) (view value.now) (item_of item)) }
-    ensures bad { IsErrOf result Fault.BadCertificate → (item : said.Item) → ¬ IsItem (version_of version) (view value.now) item }
+    ensures bad { IsErrOf result Fault.BadCertificate → (item : said.Item)
+        → ¬ IsItem (version_of version) (view value.now) item }
     ensures err { IfErr result IsCertificateFault }
 {
     if let Some(slot) = number_in(value) {
@@ -69,7 +70,8 @@ fn read_leaf(
     letter: &Value,
     argument: &Value,
 ) -> Result<Item, Fault>
-    ensures ok { IfOk result (λ item. IsLeaf (version_of version) (view letter.now) (view argument.now) (item_of item)) }
+    ensures ok { IfOk result
+        (λ item. IsLeaf (version_of version) (view letter.now) (view argument.now) (item_of item)) }
     ensures bad { IsErrOf result Fault.BadCertificate → (item : said.Item)
         → ¬ IsLeaf (version_of version) (view letter.now) (view argument.now) item }
     ensures err { IfErr result IsCertificateFault }
@@ -93,7 +95,8 @@ fn read_leaf(
 /// The numbers that the value says.
 fn read_numbers(alloc: Global, value: &Value) -> Result<List<u64>, Fault>
     ensures ok { IfOk result (λ numbers. IsArrayOf IsNumber (view value.now) numbers) }
-    ensures bad { IsErrOf result Fault.BadCertificate → (numbers : List ℕ) → ¬ IsArrayOf IsNumber (view value.now) numbers }
+    ensures bad { IsErrOf result Fault.BadCertificate → (numbers : List ℕ)
+        → ¬ IsArrayOf IsNumber (view value.now) numbers }
     ensures err { IfErr result IsCertificateFault }
 {
     let Some(items) = value.as_array() else {

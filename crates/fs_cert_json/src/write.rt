@@ -25,7 +25,8 @@ impl Certificate {
         ensures text { IfOk result (λ text. (c : said.Certificate) → KeepsCertificate self.now c → AreInRange c
             → string_bytes text ≡ certificate_text c) }
         // The file that has this text says that certificate.
-        ensures file { IfOk result (λ text. (c : said.Certificate) → KeepsCertificate self.now c → AreInRange c → CanBeSaid c
+        ensures file { IfOk result (λ text. (c : said.Certificate) → KeepsCertificate self.now c → AreInRange c
+            → CanBeSaid c
             → IsCertificateFile (string_bytes text) c) }
     {
         let value = certificate_value(alloc, self)?;

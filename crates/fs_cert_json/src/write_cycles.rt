@@ -5,7 +5,8 @@ ghost use Rattle.serde_json.specs.View.{view};
 ghost use Rattle.fs_cert_evidence.specs.CertificateFile.{cause_word};
 ghost use Rattle.fs_cert_evidence.specs.Evidence.{cause_of};
 ghost use Rattle.serde_json.specs.Data.{string};
-ghost use Rattle.fs_cert_json.specs.inner.Written.{WritesCycle, WritesCycles, WritesLink, WritesName, name_value as named};
+ghost use Rattle.fs_cert_json.specs.inner.Written.{WritesCycle, WritesCycles, WritesLink, WritesName};
+ghost use Rattle.fs_cert_json.specs.inner.Written.{name_value as named};
 
 use crate::cause::word_of;
 use crate::certificate::CertificateLink;

@@ -92,7 +92,8 @@ fn links_value(alloc: Global, links: &[Link]) -> Result<Value, AllocError>
 
 /// The JSON array of an operation's name and the word of a cause.
 fn link_value(alloc: Global, operation: OperationName, cause: Cause) -> Result<Value, AllocError>
-    ensures { IfOk result (λ value. view value ≡ link_value (record { operation = operation; cause = cause_of cause })) }
+    ensures { IfOk result (λ value. view value
+        ≡ link_value (record { operation = operation; cause = cause_of cause })) }
 {
     let name = operation_value(alloc, operation)?;
     let word = cause_value(alloc, cause)?;

@@ -3,7 +3,8 @@
 ghost use Rattle.std.specs.Prelude.{◌≡◌, IfOk, map};
 ghost use Rattle.serde_json.specs.View.{view};
 ghost use Rattle.fs_cert_evidence.specs.Texts.{array_of, choice_value};
-ghost use Rattle.fs_cert_json.specs.inner.Written.{WritesNames, WritesWitness, WritesWitnesses, choices_value, witness_object};
+ghost use Rattle.fs_cert_json.specs.inner.Written.{WritesNames, WritesWitness, WritesWitnesses, choices_value};
+ghost use Rattle.fs_cert_json.specs.inner.Written.{witness_object};
 
 use crate::write_cycles::name_value;
 use fs_cert_evidence::{Choices, WitnessFile};

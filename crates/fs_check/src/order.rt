@@ -1,6 +1,7 @@
 //! Is a witness an execution that the memory model allows?
 
-ghost use Rattle.std.specs.Prelude.{◌≡◌, ◌<◌, ◌≤◌, [], All, IfOk, IfErr, IsErrOf, IfSome, IfNone, IsOkUnless, Some, length, map, option_map};
+ghost use Rattle.std.specs.Prelude.{◌≡◌, ◌<◌, ◌≤◌, [], All, IfOk, IfErr, IsErrOf, IfSome, IfNone, IsOkUnless, Some};
+ghost use Rattle.std.specs.Prelude.{length, map, option_map};
 ghost use Rattle.fs_kinds.specs.Limits.{most_harts, most_numbered};
 ghost use Rattle.fs_kinds.specs.declared.fault.Fault.TheVariants.{Memory};
 ghost use Rattle.fs_model.specs.Test.{IsBounded, IsStart};
@@ -13,7 +14,8 @@ ghost use Rattle.fs_model.specs.Witness.{Witness, name_of};
 ghost use Rattle.fs_cand.specs.Candidates.{IsMade, AreShort};
 ghost use Rattle.fs_model_axioms.specs.Final.{AreFinal};
 ghost use Rattle.fs_check.specs.Ordered.{IsOrdered, execution_in, runs_in};
-ghost use Rattle.fs_check.specs.Verdicts.{IsVerdict, IsWholeFile, IsFoundBy, HasNoOrder, IsFoundOrder, IsArranged, IsJudgement, IsLoadReason, IsRuleReason, IsAtomicReason, KeepsAtomicity};
+ghost use Rattle.fs_check.specs.Verdicts.{IsVerdict, IsWholeFile, IsFoundBy, HasNoOrder, IsFoundOrder, IsArranged};
+ghost use Rattle.fs_check.specs.Verdicts.{IsJudgement, IsLoadReason, IsRuleReason, IsAtomicReason, KeepsAtomicity};
 ghost use Rattle.fs_cert_evidence.specs.Shown.{ShowsAs, IsShownBy};
 ghost use Rattle.fs_cert_evidence.specs.WitnessFile.{IsWitnessFile, IsWitnessFault, KeepsWitness};
 
@@ -53,7 +55,8 @@ pub fn check_order(
     requires starts { All IsStart test.now.starts }
     ensures ok { IfOk result (λ verdict.
         (w : Witness) × IsWitnessFile (length test.now.codes) witness.now w × IsVerdict test.now placement.now w verdict) }
-    ensures bad { IsErrOf result Fault.BadWitness → (w : Witness) → ¬ IsWitnessFile (length test.now.codes) witness.now w }
+    ensures bad { IsErrOf result Fault.BadWitness → (w : Witness)
+        → ¬ IsWitnessFile (length test.now.codes) witness.now w }
     ensures err { IfErr result IsWitnessFault }
 {
     let file = read_witness(alloc, test.codes.as_slice().len(), witness)?;
@@ -149,8 +152,10 @@ fn ordered_by(
     requires whole { IsWholeFile test.now file.now traces }
     ensures ordered { IfOk result (λ found. IfSome found (IsOrdered test.now)) }
     ensures last { IfOk result (λ found. IfSome found (λ o. AreFinal test.now o.candidate.traces)) }
-    ensures some { (w : Witness) → KeepsWitness file.now w → IfOk result (λ found. IfSome found (IsFoundBy test.now file.now w)) }
-    ensures none { (w : Witness) → KeepsWitness file.now w → IfOk result (λ found. IfNone found (HasNoOrder test.now w)) }
+    ensures some { (w : Witness) → KeepsWitness file.now w
+        → IfOk result (λ found. IfSome found (IsFoundBy test.now file.now w)) }
+    ensures none { (w : Witness) → KeepsWitness file.now w
+        → IfOk result (λ found. IfNone found (HasNoOrder test.now w)) }
     ensures err { IsOkUnless result Memory }
 {
     let candidate = candidate(alloc, test, traces)?;

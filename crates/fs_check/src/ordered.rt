@@ -110,7 +110,10 @@ impl OrderedCandidate {
     /// The least rule that the order breaks.
     pub(crate) fn broken_rule(&self, test: &Test, placement: &Placement) -> Option<u8>
         requires { IsOrdered test.now self.now }
-        ensures { result ≡ find (λ n. is_some (rule_broken_after (runs_in test.now self.now) placement.now self.now.order.listed n)) (range_with_len 1 13) }
+        ensures { result
+            ≡ find (λ n. is_some
+            (rule_broken_after (runs_in test.now self.now) placement.now self.now.order.listed
+            n)) (range_with_len 1 13) }
     {
         (1..14).find(|n| self.rule_broken_after(test, placement, *n).is_some())
     }

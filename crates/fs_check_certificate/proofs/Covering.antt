@@ -12,18 +12,18 @@ use Rattle.fs_model.specs.Allows.{Shows, Allows, IsPlacement, IsCheapest, is_bet
 use Rattle.fs_cert_evidence.specs.Parts.{Part, undecided, floor, is_under, is_undecided, child_parts}
 use Rattle.fs_cert_evidence.specs.Certificate.{Certificate, Version, First, Second, Fourth, Cycles, Listed, Inferred, Item, SplitAt, Costly, Refuted, Bounded, IsBest, IsRight}
 use Rattle.fs_cert_evidence.specs.Valid.{Forbid, Covers, IsValid, IsValidFor, is_costly}
-use Rattle.fs_board_laws.specs.Bounds.{IsNoBetter}
-use Rattle.fs_board_laws.proofs.Ranked.{first-less}
-use Rattle.fs_board_laws.proofs.Floors.{floor-cost}
-use Rattle.fs_board_laws.proofs.Bounded.{bounded}
+use Rattle.fs_model_laws.specs.Bounds.{IsNoBetter}
+use Rattle.fs_model_laws.proofs.Ranked.{first-less}
+use Rattle.fs_model_laws.proofs.Floors.{floor-cost}
+use Rattle.fs_model_laws.proofs.Bounded.{bounded}
 use Rattle.fs_values.specs.ThinAir.{CanBeListed}
 use Rattle.fs_verdict_laws.proofs.Deciding.{cycles_forbid_all}
 use Rattle.fs_verdict_laws.proofs.Covering.{forbids}
-use Rattle.fs_board_laws.specs.Trees.{IsPart}
-use Rattle.fs_board_laws.proofs.Places.{count_one, at-append, at-more, at-end, once-counted}
-use Rattle.fs_board_laws.proofs.PartsOfTests.{part-child, part-root, under-root}
-use Rattle.fs_board_laws.proofs.Children.{one-child}
-use Rattle.fs_board_laws.proofs.Final.{filling-shows, all-shown}
+use Rattle.fs_model_laws.specs.Trees.{IsPart}
+use Rattle.fs_model_laws.proofs.Places.{count_one, at-append, at-more, at-end, once-counted}
+use Rattle.fs_model_laws.proofs.PartsOfTests.{part-child, part-root, under-root}
+use Rattle.fs_model_laws.proofs.Children.{one-child}
+use Rattle.fs_model_laws.proofs.Final.{filling-shows, all-shown}
 
 -- one of the parts has the placement under it
 record IsUnderSome (parts : List Part) (q : List Entry) : Type 0 where

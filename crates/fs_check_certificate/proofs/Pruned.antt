@@ -10,7 +10,7 @@ use Rattle.fs_cert_evidence.specs.Pruning.{breaking_at, is_breakable, least, lea
 use Rattle.fs_cert_evidence.specs.Widths.{Width}
 use Rattle.fs_cert_evidence.specs.Evidence.{pairs_at, widths_of}
 use Rattle.fs_check_certificate.specs.Leaves.{slots_in_part}
-use Rattle.fs_board_laws.proofs.Places.{count-map}
+use Rattle.fs_model_laws.proofs.Places.{count-map}
 use Rattle.fs_cert_evidence.specs.Breaks.{lesser_of}
 use Rattle.fs_check_certificate.specs.Breaks.{break_at, breaks_of, breaks_at, least_in, is_open, is_breakable_at, is_bounded}
 use Rattle.fs_cert_evidence.proofs.LeastCosts.{least_append}

@@ -1,6 +1,7 @@
 //! The placement that a certificate answers.
 
-ghost use Rattle.std.specs.Prelude.{◌≡◌, ◌≢◌, ◌<◌, map, length, string_bytes, slice_get, Some, None, IfSome, IfNone, IfOk, IsOkUnless, IsTrue};
+ghost use Rattle.std.specs.Prelude.{◌≡◌, ◌≢◌, ◌<◌, map, length, string_bytes, slice_get, Some, None, IfSome, IfNone};
+ghost use Rattle.std.specs.Prelude.{IfOk, IsOkUnless, IsTrue};
 ghost use Rattle.std.specs.List.{AllByRecursion};
 ghost use Rattle.fs_kinds.specs.declared.fault.Fault.TheVariants.{Memory};
 ghost use Rattle.fs_kinds.specs.declared.kind.Kind.{Kind};
@@ -25,9 +26,11 @@ fn kind_of(word: &str, slot: Slot) -> Option<Kind>
 
 /// The kind of the fence that the word of this number names, where it names one at this slot.
 fn kind_at(words: &[String], number: usize, slot: Slot) -> Option<Kind>
-    ensures named { IfSome result (λ kind. slice_get (map string_bytes words.now) number ≡ Some (fence_word slot kind)) }
+    ensures named { IfSome result (λ kind. slice_get (map string_bytes words.now) number
+        ≡ Some (fence_word slot kind)) }
     ensures low { IfSome result (λ kind. number < length words.now) }
-    ensures none { IfNone result ((kind : Kind) → slice_get (map string_bytes words.now) number ≢ Some (fence_word slot kind)) }
+    ensures none { IfNone result ((kind : Kind) → slice_get (map string_bytes words.now) number
+        ≢ Some (fence_word slot kind)) }
 {
     match words.get(number) {
         Some(word) => kind_of(word.as_str(), slot),

@@ -190,7 +190,8 @@ pub fn judge_bounded(
     numbers: &[u64],
 ) -> Bounding
     ensures { (t : Test) (ws : List Witness) → IsBounded t → slots_in_part part.now ≡ slots t → AreShown t ws shown.now
-        → breaks.now ≡ all_breaks prices.now (slots t) shown.now → IsBounding t prices.now ws answer.now part.now numbers.now result }
+        → breaks.now ≡ all_breaks prices.now (slots
+        t) shown.now → IsBounding t prices.now ws answer.now part.now numbers.now result }
 {
     if let Some(number) = first_unshown(part, shown, numbers) {
         return Bounding::Unshown(number);

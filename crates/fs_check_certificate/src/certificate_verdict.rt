@@ -98,7 +98,8 @@ fn check_certificate(
 ) -> Result<CheckVerdict, Fault>
     requires test { IsBounded (arc_value test) }
     requires starts { All IsStart (arc_value test).starts }
-    ensures ok { (c : Said) → KeepsCertificate certificate c → IfOk result (IsCheckVerdict (arc_value test) prices.now c) }
+    ensures ok { (c : Said) → KeepsCertificate certificate c
+        → IfOk result (IsCheckVerdict (arc_value test) prices.now c) }
     ensures clean { (c : Said) → KeepsCertificate certificate c
         → OnOk result (HasNoCyclesFault c.cycles (arc_value test)) }
     ensures err { (c : Said) → KeepsCertificate certificate c

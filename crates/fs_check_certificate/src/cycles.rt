@@ -67,7 +67,8 @@ fn index_of(
     traces: &[Trace],
     wanted: Option<OperationName>,
 ) -> Option<usize>
-    ensures { result ≡ position (λ operation. is_same_name (name_in (steps_in traces.now) operation) wanted) operations.now }
+    ensures { result
+        ≡ position (λ operation. is_same_name (name_in (steps_in traces.now) operation) wanted) operations.now }
 {
     operations
         .iter()
@@ -91,7 +92,8 @@ fn numbers(
     candidate: &Candidate,
     links: &[CertificateLink],
 ) -> Result<Option<Vec<usize>>, Fault>
-    ensures ok { IfOk result (λ found. option_map (λ numbers. numbers.items) found ≡ numbers_of (names_in candidate.now) (wanted links.now)) }
+    ensures ok { IfOk result (λ found. option_map (λ numbers. numbers.items) found
+        ≡ numbers_of (names_in candidate.now) (wanted links.now)) }
     ensures err { IsOkUnless result Memory }
 {
     let mut found = Vec::new(alloc);
@@ -125,7 +127,8 @@ fn have_edges(
     numbers: &[usize],
 ) -> bool
     requires { length numbers.now ≡ length links.now }
-    ensures { OfRuns candidate.now (λ x. result ≡ have_edges x placement.now (candidate_of candidate.now) links.now numbers.now) }
+    ensures { OfRuns candidate.now (λ x. result
+        ≡ have_edges x placement.now (candidate_of candidate.now) links.now numbers.now) }
 {
     for (place, link) in links.iter().enumerate() {
         let next = follower(numbers, place);
@@ -144,7 +147,8 @@ fn is_cycle(
     placement: &Placement,
     links: &[CertificateLink],
 ) -> Result<bool, Fault>
-    ensures ok { OfRuns candidate.now (λ x. IfOk result (λ is. is ≡ is_cycle x placement.now (candidate_of candidate.now) links.now)) }
+    ensures ok { OfRuns candidate.now (λ x. IfOk result (λ is. is
+        ≡ is_cycle x placement.now (candidate_of candidate.now) links.now)) }
     ensures err { IsOkUnless result Memory }
 {
     if links.is_empty() || links.len() > MOST_LINKS {

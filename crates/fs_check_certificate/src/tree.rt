@@ -58,7 +58,8 @@ impl Grounds<'_> {
 
     /// Why the leaf that the witness of this number is to refute fails.
     fn refuted_reason(&self, part: &[Decision], number: u64, index: usize) -> Option<Reason>
-        ensures { (t : Test) (c : Certificate) → IsBounded t → slots_in_part part.now ≡ slots t → AreShown t c.witnesses self.now.shown.now
+        ensures { (t : Test) (c : Certificate) → IsBounded t → slots_in_part part.now ≡ slots t
+            → AreShown t c.witnesses self.now.shown.now
             → IsLeaf t self.now.prices.now c self.now.answer.now part.now (Refuted number) index result }
     {
         let _at = index;
@@ -71,7 +72,8 @@ impl Grounds<'_> {
 
     /// Why the leaf that the witnesses of these numbers are to bound fails.
     fn bounded_reason(&self, part: &[Decision], numbers: &[u64], index: usize) -> Option<Reason>
-        ensures { (t : Test) (c : Certificate) → IsBounded t → slots_in_part part.now ≡ slots t → AreShown t c.witnesses self.now.shown.now
+        ensures { (t : Test) (c : Certificate) → IsBounded t → slots_in_part part.now ≡ slots t
+            → AreShown t c.witnesses self.now.shown.now
             → self.now.breaks.now ≡ all_breaks self.now.prices.now (slots t) self.now.shown.now
             → IsLeaf t self.now.prices.now c self.now.answer.now part.now (Bounded numbers.now) index result }
     {
@@ -91,7 +93,8 @@ impl Grounds<'_> {
 
     /// The slot of this number, where the part leaves it undecided.
     fn free_slot(&self, part: &[Decision], number: u64) -> Option<Slot>
-        ensures some { IfSome result (λ slot. (slice_get self.now.slots.now number ≡ Some slot) × (is_undecided slot part.now ≡ true)) }
+        ensures some { IfSome result (λ slot. (slice_get self.now.slots.now number ≡ Some slot)
+            × (is_undecided slot part.now ≡ true)) }
         ensures none { (t : Test) → self.now.slots.now ≡ slots t → IfNone result (is_free t number part.now ≡ false) }
     {
         let slot = *self.slots.get(number as usize)?;
@@ -111,8 +114,10 @@ impl Grounds<'_> {
         number: u64,
         index: usize,
     ) -> Result<Option<Reason>, AllocError>
-        ensures { (t : Test) (c : Certificate) → self.now.slots.now ≡ slots t → slots_in_part part.now ≡ slots t → AreOfTest t stack.old
-            → IfOk result (λ why. IsTaken t self.now.prices.now c self.now.answer.now (part.now ∷ stack.old) (SplitAt number) index why stack.new) }
+        ensures { (t : Test) (c : Certificate) → self.now.slots.now ≡ slots t → slots_in_part part.now ≡ slots t
+            → AreOfTest t stack.old
+            → IfOk result (λ why. IsTaken t self.now.prices.now c self.now.answer.now (part.now ∷ stack.old)
+            (SplitAt number) index why stack.new) }
     {
         let _at = index;
         match self.free_slot(part, number) {
@@ -133,7 +138,8 @@ impl Grounds<'_> {
         index: usize,
     ) -> Result<Option<Reason>, AllocError>
         ensures { (t : Test) (c : Certificate) → AreGrounds t self.now.prices.now c self.now.version self.now.slots.now self.now.shown.now self.now.breaks.now → AreOfTest t stack.old
-            → IfOk result (λ why. IsTaken t self.now.prices.now c self.now.answer.now stack.old (item_of item.now) index why stack.new) }
+            → IfOk result (λ why. IsTaken t self.now.prices.now c self.now.answer.now stack.old (item_of item.now) index
+            why stack.new) }
     {
         let Some(part) = stack.pop() else {
             return Ok(Some(Reason::Tree));
@@ -154,7 +160,8 @@ impl Grounds<'_> {
         tree: &[Item],
     ) -> Result<Option<Reason>, AllocError>
         ensures { (t : Test) (c : Certificate) → AreGrounds t self.now.prices.now c self.now.version self.now.slots.now self.now.shown.now self.now.breaks.now
-            → IfOk result (IsWalked t self.now.prices.now c self.now.answer.now (undecided t ∷ []) (map item_of tree.now)) }
+            → IfOk result (IsWalked t self.now.prices.now c self.now.answer.now (undecided t ∷ [])
+            (map item_of tree.now)) }
     {
         let mut stack = Stack::new(alloc, self.slots)?;
         for (index, item) in tree.iter().enumerate() {

@@ -45,7 +45,8 @@ fn refutes_all(alloc: Global, test: &Test, certificate: &Certificate) -> Result<
     requires test { IsBounded test.now }
     requires starts { All IsStart test.now.starts }
     ensures ok { (c : Said) → KeepsCertificate certificate.now c
-        → IfOk result (λ shown. Decides shown (Refutes test.now c.witnesses (all_with (Some Kind.RwRw) (slots test.now)) 0)) }
+        → IfOk result (λ shown. Decides shown
+        (Refutes test.now c.witnesses (all_with (Some Kind.RwRw) (slots test.now)) 0)) }
     ensures err { IsOkUnless result Memory }
 {
     let slots = slots(alloc, test)?;

@@ -164,7 +164,8 @@ fn widths(
     slots: &[Slot],
 ) -> Result<Vec<Pairs>, Fault>
     requires { IsOrdered test.now ordered.now }
-    ensures ok { IfOk result (λ widths. widths.items ≡ widths_of (width test.now (execution_in ordered.now)) slots.now) }
+    ensures ok { IfOk result (λ widths. widths.items
+        ≡ widths_of (width test.now (execution_in ordered.now)) slots.now) }
     ensures err { IsOkUnless result Memory }
 {
     let turned = turned(alloc, test, ordered)?;
@@ -208,7 +209,8 @@ pub(crate) fn shown_widths(
 ) -> Result<Vec<Option<List<Pairs>>>, Fault>
     requires test { IsBounded test.now }
     requires starts { All IsStart test.now.starts }
-    ensures ok { (ws : List Witness) → AllZip KeepsWitness witnesses.now ws → IfOk result (λ shown. AreShown test.now ws shown.items) }
+    ensures ok { (ws : List Witness) → AllZip KeepsWitness witnesses.now ws
+        → IfOk result (λ shown. AreShown test.now ws shown.items) }
     ensures err { IsOkUnless result Memory }
 {
     let slots = slots(alloc, test)?;

@@ -56,7 +56,8 @@ impl Tracker {
 
     /// The dependencies of the instruction as the next step.
     pub fn masks(&self, instr: &Instr) -> Masks
-        ensures { (run : List Step) (j : ℕ) → instr_at run j ≡ instr.now → IsTracked run j self.now → AreMasks run j result }
+        ensures { (run : List Step) (j : ℕ) → instr_at run j ≡ instr.now → IsTracked run j self.now
+            → AreMasks run j result }
     {
         Masks {
             address: self.read_mask(instr.address_source()),
@@ -68,7 +69,8 @@ impl Tracker {
     /// Takes the instruction as step j.
     pub fn take(&mut self, instr: &Instr, j: usize)
         requires { j < 32 }
-        ensures { (run : List Step) → instr_at run j ≡ instr.now → IsTracked run j self.old → IsTracked run (j + 1) self.new }
+        ensures { (run : List Step) → instr_at run j ≡ instr.now → IsTracked run j self.old
+            → IsTracked run (j + 1) self.new }
     {
         let sources = self.sources_mask(instr);
         if instr.is_conditional() {

@@ -40,7 +40,8 @@ pub(crate) fn options(
     state: &Hart,
     instr: &Instr,
 ) -> Result<Option<Vec<Option<Choice>>>, AllocError>
-    ensures some { IfOk result (λ found. IfSome found (λ choices. choices.items ≡ options sets.now state.now instr.now)) }
+    ensures some { IfOk result (λ found. IfSome found (λ choices. choices.items
+        ≡ options sets.now state.now instr.now)) }
     ensures astray { IfOk result (λ found. IsNone found ↔ GoesAstray locations state.now instr.now) }
 {
     match *instr {

@@ -1,6 +1,7 @@
 //! What choices make of a hart.
 
-ghost use Rattle.std.specs.Prelude.{◌≡◌, ℕ, List, ◌<◌, ◌≤◌, All, length, slice_get, if◌then◌else◌, None, IfOk, IsOkUnless};
+ghost use Rattle.std.specs.Prelude.{◌≡◌, ℕ, List, ◌<◌, ◌≤◌, All, length, slice_get, if◌then◌else◌, None, IfOk};
+ghost use Rattle.std.specs.Prelude.{IsOkUnless};
 ghost use Rattle.fs_kinds.specs.Limits.{most_instructions};
 ghost use Rattle.fs_kinds.specs.declared.fault.Fault.TheVariants.{Memory};
 ghost use Rattle.fs_model.specs.Test.{IsBounded, IsStart};

@@ -1,7 +1,9 @@
 //! Instructions: the forms, the table that reads and prints them, and the roles of their registers.
 
 ghost use Rattle.std.specs.Prelude.{◌≡◌};
-ghost use Rattle.fs_instr.specs.Instructions.{parts_of, instr_of, op_of_instr, operands_of, targeted, target_of, is_memory, is_conditional, roles_of, dest_of, sources_of, address_of, data_of, carries_of};
+ghost use Rattle.fs_instr.specs.Instructions.{parts_of, instr_of, op_of_instr, operands_of, targeted, target_of};
+ghost use Rattle.fs_instr.specs.Instructions.{is_memory, is_conditional, roles_of, dest_of, sources_of, address_of};
+ghost use Rattle.fs_instr.specs.Instructions.{data_of, carries_of};
 
 use crate::letters::Letters;
 use crate::names::{AmoOp, Ann, BranchOp, ImmOp, Op, RegOp, ShiftOp};

@@ -3,7 +3,10 @@
 
 ghost use Rattle.std.specs.Prelude.{◌≡◌, Some, map};
 ghost use Rattle.fs_instr.specs.Rows.{look_up};
-ghost use Rattle.fs_instr.specs.Names.{register_names, immediate_names, branch_names, single_names, plain_names, acquiring_names, releasing_names, both_names, both_apart_names, register_text, immediate_text, branch_text, single_text, plain, acquiring, releasing, both, annotation_of, name_text, op_of, all_names};
+ghost use Rattle.fs_instr.specs.Names.{register_names, immediate_names, branch_names, single_names, plain_names};
+ghost use Rattle.fs_instr.specs.Names.{acquiring_names, releasing_names, both_names, both_apart_names, register_text};
+ghost use Rattle.fs_instr.specs.Names.{immediate_text, branch_text, single_text, plain, acquiring, releasing, both};
+ghost use Rattle.fs_instr.specs.Names.{annotation_of, name_text, op_of, all_names};
 ghost use Rattle.std.specs.List.{IsDistinct};
 ghost use Rattle.std.specs.Str.{bytes_eq};
 

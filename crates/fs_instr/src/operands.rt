@@ -2,8 +2,10 @@
 
 ghost use Rattle.std.specs.Prelude.{◌≡◌, option_map};
 ghost use Rattle.fs_instr.specs.declared.operands.Operands.{Operands};
-ghost use Rattle.fs_instr.specs.declared.operands.OperandPart.TheVariants.{Immediate, Below, NoOffset};
-ghost use Rattle.fs_instr.specs.Operands.{filled, toks, take_word, take_name, is_mark, take_sign, take_letters, take_unsigned, take_number, immediate_of, below_of, constant_of, read_part, read_parts, blank};
+ghost use Rattle.fs_instr.specs.declared.operands.OperandPart.TheVariants.{Zero, Immediate, Below, Constant, NoOffset};
+ghost use Rattle.fs_instr.specs.Operands.{filled, toks, take_word, take_name, is_mark, take_sign, take_letters};
+ghost use Rattle.fs_instr.specs.Operands.{take_unsigned, take_number, immediate_of, below_of, constant_of, read_part};
+ghost use Rattle.fs_instr.specs.Operands.{read_parts, blank};
 
 use crate::letters::Letters;
 use crate::reg::Reg;
@@ -203,7 +205,8 @@ fn read_immediate<'b, 'a>(
     label: Option<&'a str>,
     tokens: &'b [Token<'a>],
 ) -> Option<(Option<&'a str>, &'b [Token<'a>])>
-    ensures { option_map (λ x. (filled operands.new x.0, toks x.1.now)) result ≡ read_part Immediate (filled operands.old label.entry) (toks tokens.now) }
+    ensures { option_map (λ x. (filled operands.new x.0, toks x.1.now)) result
+        ≡ read_part Immediate (filled operands.old label.entry) (toks tokens.now) }
 {
     let (minus, number, rest) = take_number(tokens)?;
     operands.imm = immediate_of(minus, number)?;
@@ -216,18 +219,51 @@ fn read_below<'b, 'a>(
     label: Option<&'a str>,
     tokens: &'b [Token<'a>],
 ) -> Option<(Option<&'a str>, &'b [Token<'a>])>
-    ensures { option_map (λ x. (filled operands.new x.0, toks x.1.now)) result ≡ read_part (Below limit) (filled operands.old label.entry) (toks tokens.now) }
+    ensures { option_map (λ x. (filled operands.new x.0, toks x.1.now)) result
+        ≡ read_part (Below limit) (filled operands.old label.entry) (toks tokens.now) }
 {
     let (minus, number, rest) = take_number(tokens)?;
     operands.constant = below_of(limit, minus, number)?;
     Some((label, rest))
 }
 
+fn read_constant<'b, 'a>(
+    operands: &mut Operands,
+    label: Option<&'a str>,
+    tokens: &'b [Token<'a>],
+) -> Option<(Option<&'a str>, &'b [Token<'a>])>
+    ensures { option_map (λ x. (filled operands.new x.0, toks x.1.now)) result
+        ≡ read_part Constant (filled operands.old label.entry) (toks tokens.now) }
+{
+    let (minus, number, rest) = take_number(tokens)?;
+    operands.constant = constant_of(minus, number);
+    Some((label, rest))
+}
+
+#[tactic(auto, unfolding(crate::specs::Operands::take_register))]
+fn read_zero<'b, 'a>(
+    operands: &mut Operands,
+    label: Option<&'a str>,
+    tokens: &'b [Token<'a>],
+) -> Option<(Option<&'a str>, &'b [Token<'a>])>
+    ensures { option_map (λ x. (filled operands.new x.0, toks x.1.now)) result
+        ≡ read_part Zero (filled operands.old label.entry) (toks tokens.now) }
+{
+    let (word, rest) = take_word(tokens)?;
+    let register = Reg::of(word)?;
+    if register.number() == 0 {
+        Some((label, rest))
+    } else {
+        None
+    }
+}
+
 fn read_no_offset<'b, 'a>(
     label: Option<&'a str>,
     tokens: &'b [Token<'a>],
 ) -> Option<(Option<&'a str>, &'b [Token<'a>])>
-    ensures { (o : Operands) → option_map (λ x. (filled o x.0, toks x.1.now)) result ≡ read_part NoOffset (filled o label.entry) (toks tokens.now) }
+    ensures { (o : Operands) → option_map (λ x. (filled o x.0, toks x.1.now)) result
+        ≡ read_part NoOffset (filled o label.entry) (toks tokens.now) }
 {
     if take_sign(Mark::OpenParen, tokens).is_some() {
         return Some((label, tokens));
@@ -247,7 +283,8 @@ fn read_part<'b, 'a>(
     label: Option<&'a str>,
     tokens: &'b [Token<'a>],
 ) -> Option<(Option<&'a str>, &'b [Token<'a>])>
-    ensures { option_map (λ x. (filled operands.new x.0, toks x.1.now)) result ≡ read_part part (filled operands.old label.entry) (toks tokens.now) }
+    ensures { option_map (λ x. (filled operands.new x.0, toks x.1.now)) result
+        ≡ read_part part (filled operands.old label.entry) (toks tokens.now) }
 {
     match part {
         OperandPart::Rd => {
@@ -265,26 +302,14 @@ fn read_part<'b, 'a>(
             operands.second = Reg::of(word)?;
             Some((label, rest))
         }
-        OperandPart::Zero => {
-            let (word, rest) = take_word(tokens)?;
-            let register = Reg::of(word)?;
-            if register.number() == 0 {
-                Some((label, rest))
-            } else {
-                None
-            }
-        }
+        OperandPart::Zero => read_zero(operands, label, tokens),
         OperandPart::Sign(mark) => {
             let rest = take_sign(mark, tokens)?;
             Some((label, rest))
         }
         OperandPart::Immediate => read_immediate(operands, label, tokens),
         OperandPart::Below(limit) => read_below(limit, operands, label, tokens),
-        OperandPart::Constant => {
-            let (minus, number, rest) = take_number(tokens)?;
-            operands.constant = constant_of(minus, number);
-            Some((label, rest))
-        }
+        OperandPart::Constant => read_constant(operands, label, tokens),
         OperandPart::NoOffset => read_no_offset(label, tokens),
         OperandPart::Label => {
             let (word, rest) = take_name(tokens)?;
@@ -309,7 +334,8 @@ fn read_all<'b, 'a>(
     label: Option<&'a str>,
     tokens: &'b [Token<'a>],
 ) -> Option<Option<&'a str>>
-    ensures { option_map (λ l. filled operands.new l) result ≡ read_parts parts.now (filled operands.old label.entry) (toks tokens.now) }
+    ensures { option_map (λ l. filled operands.new l) result
+        ≡ read_parts parts.now (filled operands.old label.entry) (toks tokens.now) }
 {
     match parts.split_first() {
         Some((part, more)) => {

@@ -3,7 +3,8 @@
 ghost use Rattle.std.specs.Prelude.{◌≡◌, ◌<◌, map, nat_lt, true};
 ghost use Rattle.std.specs.List.{list_all};
 ghost use Rattle.fs_instr.specs.Rows.{look_up};
-ghost use Rattle.fs_instr.specs.Registers.{low_x, middle_x, high_x, first_names, arguments, last_names, named, register_of};
+ghost use Rattle.fs_instr.specs.Registers.{low_x, middle_x, high_x, first_names, arguments, last_names, named};
+ghost use Rattle.fs_instr.specs.Registers.{register_of};
 
 use std::marker::Model;
 

@@ -52,7 +52,8 @@ fn store_order(
     order: &[u8],
     locations: u8,
 ) -> Result<StoreOrder, AllocError>
-    ensures { IfOk result (λ all. all ≡ map (λ location. filter (stores_at operations.now (address_of location)) order.now)
+    ensures { IfOk result (λ all. all
+        ≡ map (λ location. filter (stores_at operations.now (address_of location)) order.now)
         (numbers_below locations)) }
 {
     let mut all = Vec::new(alloc);

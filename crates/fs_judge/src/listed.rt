@@ -43,7 +43,8 @@ fn judged_at(
     requires test { showing.now.test ≡ test.now }
     requires listing { IsListing test.now showing.now.candidates }
     requires number { number < length showing.now.candidates }
-    ensures ok { (c : Defined) → slice_get showing.now.candidates number ≡ Some c → IfOk result (IsFinding test.now placement.now c) }
+    ensures ok { (c : Defined) → slice_get showing.now.candidates number ≡ Some c
+        → IfOk result (IsFinding test.now placement.now c) }
     ensures err { IsOkUnless result Memory }
 {
     let candidate = showing.get(alloc, number)?;

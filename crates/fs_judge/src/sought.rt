@@ -62,7 +62,8 @@ fn all_named(
 
 /// The execution as a witness.
 fn witness_of(alloc: Global, execution: Execution) -> Result<WitnessFile, AllocError>
-    ensures { IfOk result (λ file. KeepsWitness file (record { choices = execution.choices; order = execution.order })) }
+    ensures { IfOk result
+        (λ file. KeepsWitness file (record { choices = execution.choices; order = execution.order })) }
 {
     let order = all_named(alloc, execution.order.as_slice())?;
     Ok(WitnessFile {

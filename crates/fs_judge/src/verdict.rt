@@ -22,7 +22,8 @@ pub enum Verdict {
 
 /// The placement forbids the outcome, as this shows. The error is F19.
 pub(crate) fn forbidden(placement: &Placement, cycles: Cycles) -> Result<Verdict, Fault>
-    ensures ok { (t : Test) → ShowsForbidden t (record { placement = placement.now; cycles = cycles_of cycles }) → (Allows t placement.now → ⊥)
+    ensures ok { (t : Test) → ShowsForbidden t (record { placement = placement.now; cycles = cycles_of cycles })
+        → (Allows t placement.now → ⊥)
         → IfOk result (IsVerdict t placement.now) }
     ensures err { IsOkUnless result Memory }
 {

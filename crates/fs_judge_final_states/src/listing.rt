@@ -12,7 +12,8 @@ ghost use Rattle.fs_model.specs.Slots.{slots};
 ghost use Rattle.fs_model.specs.Test.{IsBounded, IsStart};
 ghost use Rattle.fs_model.specs.TooMany.{IsRunFault};
 ghost use Rattle.fs_cert_evidence.specs.CandidateFaults.{IsCandidateFault};
-ghost use Rattle.fs_judge_final_states.specs.States.{AreStates, ArePlacesOf, IsShownState, IsStatesFault, most_states, words_of};
+ghost use Rattle.fs_judge_final_states.specs.States.{AreStates, ArePlacesOf, IsShownState, IsStatesFault, most_states};
+ghost use Rattle.fs_judge_final_states.specs.States.{words_of};
 ghost use Rattle.fs_judge_final_states.specs.inner.Parts.{states_in, IsListed};
 
 use crate::known::{Known, keep, listed};

@@ -1,6 +1,7 @@
 //! The kinds of fence, and which pairs of operations they order.
 ghost use Rattle.std.specs.Prelude.{◌≡◌, ◌≢◌, ◌<◌, IfSome, IfNone, Some, slice_get, ◌&&◌};
-ghost use Rattle.fs_kinds.specs.Kind.{ReadRead, ReadWrite, WriteRead, WriteWrite, pairs_of, orders, no_stronger, table_index, word, kind_of};
+ghost use Rattle.fs_kinds.specs.Kind.{ReadRead, ReadWrite, WriteRead, WriteWrite, pairs_of, orders, no_stronger};
+ghost use Rattle.fs_kinds.specs.Kind.{table_index, word, kind_of};
 
 /// A kind of fence, as `fence p,s` of the base instruction set with letters from `r` and `w`, or
 /// `fence.tso`. The variants stand in table order.

@@ -1,12 +1,14 @@
 //! Prices of fences.
-ghost use Rattle.std.specs.Prelude.{◌≡◌, ◌≤◌, ◌<◌, ◌^◌, IsTrue, IfSome, IsSome, IfOk, OnOk, OnErr, IfErr, IsErrOf, IsOkUnless, Some, None, unwrap_or};
+ghost use Rattle.std.specs.Prelude.{◌≡◌, ◌≤◌, ◌<◌, ◌^◌, IsTrue, IfSome, IsSome, IfOk, OnOk, OnErr, IfErr, IsErrOf};
+ghost use Rattle.std.specs.Prelude.{IsOkUnless, Some, None, unwrap_or};
 ghost use Rattle.std.specs.Map.{lookup};
 ghost use Rattle.serde_json.specs.Data.{Members};
 ghost use Rattle.serde_json.specs.View.{view};
 ghost use Rattle.fs_kinds.specs.Kind.{word};
 ghost use Rattle.fs_kinds.specs.Slot.{IsSlot, slot_name, is_same_slot};
 ghost use Rattle.fs_kinds.specs.PriceTable.{most_price, most_weight, is_offered, are_offered, entry_cost, cost};
-ghost use Rattle.fs_kinds.specs.PriceObject.{whole, IsWeight, AreWeights, weight_at, price_in, IsPrice, ArePrices, IsPriceValue, IsTableOf, IsPriceFault, IsWeightFault};
+ghost use Rattle.fs_kinds.specs.PriceObject.{whole, IsWeight, AreWeights, weight_at, price_in, IsPrice, ArePrices};
+ghost use Rattle.fs_kinds.specs.PriceObject.{IsPriceValue, IsTableOf, IsPriceFault, IsWeightFault};
 ghost use Rattle.fs_kinds.specs.declared.slot.Slot.{Slot};
 
 use crate::fault::Fault;

@@ -34,7 +34,8 @@ pub fn declared_names<'a>(
     entries: &[Entry<'a>],
     atoms: &[Atom<'a>],
 ) -> Result<Names<'a>, AllocError>
-    ensures { IfOk result (λ n. n ≡ declared (declared [] (entry_bindings (entries_of entries.now))) (map atom_of atoms.now)) }
+    ensures { IfOk result (λ n. n
+        ≡ declared (declared [] (entry_bindings (entries_of entries.now))) (map atom_of atoms.now)) }
 {
     let mut names = Names::new(alloc);
     declare_entries(&mut names, entries)?;

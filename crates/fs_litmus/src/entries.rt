@@ -1,6 +1,7 @@
 //! The block of initial values, as settings.
 
-ghost use Rattle.std.specs.Prelude.{◌≡◌, ◌≢◌, ◌++◌, ◌∷◌, IfOk, IfErr, IfSome, IsTrue, not, option_and_then, Some, [], List};
+ghost use Rattle.std.specs.Prelude.{◌≡◌, ◌≢◌, ◌++◌, ◌∷◌, IfOk, IfErr, IfSome, IsTrue, not, option_and_then, Some, []};
+ghost use Rattle.std.specs.Prelude.{List};
 ghost use Rattle.std.specs.List.{list_any};
 ghost use Rattle.fs_litmus_syntax.specs.Init.{entries_of};
 ghost use Rattle.fs_kinds.specs.FaultOrder.{IsFirst};
@@ -60,8 +61,10 @@ pub fn read_settings(
     entries: &[Entry],
 ) -> Result<Vec<Setting>, Fault>
     requires rising { Rising 0 (entry_lines (entries_of entries.now)) }
-    ensures ok { IfOk result (λ v. settings_after columns names.now [] (entry_bindings (entries_of entries.now)) ≡ Some v.items) }
-    ensures first { IfErr result (λ f. f ≢ Fault.Memory → IsFirst (IsEntryFault columns names.now (entries_of entries.now)) f) }
+    ensures ok { IfOk result (λ v. settings_after columns names.now [] (entry_bindings (entries_of entries.now))
+        ≡ Some v.items) }
+    ensures first { IfErr result (λ f. f ≢ Fault.Memory
+        → IsFirst (IsEntryFault columns names.now (entries_of entries.now)) f) }
 {
     let mut settings = Vec::new(alloc);
     let mut seen = IndexSet::new(alloc);

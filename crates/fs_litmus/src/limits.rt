@@ -1,6 +1,7 @@
 //! The limits of a test.
 
-ghost use Rattle.std.specs.Prelude.{◌≡◌, ◌≤◌, ◌<◌, List, All, length, map, nat_le, sum_by, count_by, true, false, MatchOption, IfOk, IfSome};
+ghost use Rattle.std.specs.Prelude.{◌≡◌, ◌≤◌, ◌<◌, List, All, length, map, nat_le, sum_by, count_by, true, false};
+ghost use Rattle.std.specs.Prelude.{MatchOption, IfOk, IfSome};
 ghost use Rattle.std.specs.List.{Any, list_all};
 ghost use Rattle.std.specs.Option.{IfNone};
 ghost use Rattle.fs_kinds.specs.Limits.{most_instructions, most_accesses};
@@ -17,7 +18,8 @@ use std::alloc::{AllocError, Global};
 
 /// The code that is kept; nothing where it has too many instructions.
 fn kept_code(alloc: Global, kept: &HartCode) -> Result<Option<Code>, AllocError>
-    ensures { IfOk result (λ o. MatchOption o (is_short kept.now ≡ false) (λ c. (c ≡ instrs_of kept.now) × (is_short kept.now ≡ true))) }
+    ensures { IfOk result (λ o. MatchOption o (is_short kept.now ≡ false) (λ c. (c ≡ instrs_of kept.now)
+        × (is_short kept.now ≡ true))) }
 {
     match kept {
         HartCode::Short(instrs) => Ok(Some(Code::new(Vec::from_slice(alloc, instrs)?))),
@@ -27,7 +29,8 @@ fn kept_code(alloc: Global, kept: &HartCode) -> Result<Option<Code>, AllocError>
 
 /// The code of each hart; nothing where one has too many instructions.
 fn kept_codes(alloc: Global, kept: &[HartCode]) -> Result<Option<Vec<Code>>, AllocError>
-    ensures some { IfOk result (λ o. IfSome o (λ v. (v.items ≡ map instrs_of kept.now) × (list_all is_short kept.now ≡ true))) }
+    ensures some { IfOk result (λ o. IfSome o (λ v. (v.items ≡ map instrs_of kept.now)
+        × (list_all is_short kept.now ≡ true))) }
     ensures none { IfOk result (λ o. IfNone o (list_all is_short kept.now ≡ false)) }
 {
     let mut codes = Vec::new(alloc);
@@ -42,9 +45,12 @@ fn kept_codes(alloc: Global, kept: &[HartCode]) -> Result<Option<Vec<Code>>, All
 
 /// The code of each hart; nothing where one has too many instructions.
 pub fn short_codes(alloc: Global, kept: &[HartCode]) -> Result<Option<Vec<Code>>, AllocError>
-    ensures codes { IfOk result (λ o. IfSome o (λ v. (codes : List (List Instr)) → AreKept codes kept.now → v.items ≡ codes)) }
-    ensures within { IfOk result (λ o. IfSome o (λ v. (codes : List (List Instr)) → AreKept codes kept.now → All (λ code. length code ≤ most_instructions) codes)) }
-    ensures long { IfOk result (λ o. IfNone o ((codes : List (List Instr)) → AreKept codes kept.now → Any (λ code. most_instructions < length code) codes)) }
+    ensures codes { IfOk result (λ o. IfSome o (λ v. (codes : List (List Instr)) → AreKept codes kept.now → v.items
+        ≡ codes)) }
+    ensures within { IfOk result (λ o. IfSome o (λ v. (codes : List (List Instr)) → AreKept codes kept.now
+        → All (λ code. length code ≤ most_instructions) codes)) }
+    ensures long { IfOk result (λ o. IfNone o ((codes : List (List Instr)) → AreKept codes kept.now
+        → Any (λ code. most_instructions < length code) codes)) }
 {
     match kept_codes(alloc, kept)? {
         Some(codes) => Ok(Some(codes)),

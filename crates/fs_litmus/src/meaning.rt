@@ -1,6 +1,7 @@
 //! What a form and its condition mean, as a test.
 
-ghost use Rattle.std.specs.Prelude.{◌≡◌, ◌≢◌, ◌≤◌, ◌<◌, List, [], Some, true, All, length, map, sum_by, count_by, IfOk, IfErr};
+ghost use Rattle.std.specs.Prelude.{◌≡◌, ◌≢◌, ◌≤◌, ◌<◌, List, [], Some, true, All, length, map, sum_by, count_by, IfOk};
+ghost use Rattle.std.specs.Prelude.{IfErr};
 ghost use Rattle.fs_kinds.specs.Limits.{most_harts, most_instructions, most_accesses, most_locations, most_depth};
 ghost use Rattle.fs_litmus_syntax.specs.Body.{cells_of, flatten};
 ghost use Rattle.fs_litmus_syntax.specs.Form.{form_of};
@@ -92,10 +93,13 @@ fn build(
 /// The codes of a form, where they are within the limits.
 fn read_short_codes(alloc: Global, kept: &[HartCode]) -> Result<Vec<Code>, Fault>
     ensures codes { IfOk result (λ v. (codes : List (List Instr)) → AreKept codes kept.now → v.items ≡ codes) }
-    ensures within { IfOk result (λ v. (codes : List (List Instr)) → AreKept codes kept.now → All (λ code. length code ≤ most_instructions) codes) }
+    ensures within { IfOk result (λ v. (codes : List (List Instr)) → AreKept codes kept.now
+        → All (λ code. length code ≤ most_instructions) codes) }
     ensures accesses { IfOk result (λ v. sum_by (count_by is_memory) v.items ≤ most_accesses) }
-    ensures clean { IfOk result (λ v. (codes : List (List Instr)) → AreKept codes kept.now → (f : Fault) → ¬ IsCodeLimit codes f) }
-    ensures first { IfErr result (λ f. f ≢ Fault.Memory → (codes : List (List Instr)) → AreKept codes kept.now → IsFirst (IsCodeLimit codes) f) }
+    ensures clean { IfOk result (λ v. (codes : List (List Instr)) → AreKept codes kept.now → (f : Fault)
+        → ¬ IsCodeLimit codes f) }
+    ensures first { IfErr result (λ f. f ≢ Fault.Memory → (codes : List (List Instr)) → AreKept codes kept.now
+        → IsFirst (IsCodeLimit codes) f) }
 {
     let Some(codes) = short_codes(alloc, kept)? else {
         return Err(Fault::TooBig {
@@ -132,8 +136,10 @@ fn read_bindings(
     requires rising { Rising 0 (entry_lines (form_of form.now).entries) }
     ensures ok { IfOk result (λ v. settings_after form.now.columns names.now []
         (entry_bindings (form_of form.now).entries) ≡ Some v.items) }
-    ensures there { IfOk result (λ v. (s : Syntax) → Means condition.now s → are_there form.now.columns names.now (atoms_of s) ≡ true) }
-    ensures clean { IfOk result (λ v. (s : Syntax) → Means condition.now s → (f : Fault) → ¬ IsBindingFault (form_of form.now) s f) }
+    ensures there { IfOk result (λ v. (s : Syntax) → Means condition.now s
+        → are_there form.now.columns names.now (atoms_of s) ≡ true) }
+    ensures clean { IfOk result (λ v. (s : Syntax) → Means condition.now s → (f : Fault)
+        → ¬ IsBindingFault (form_of form.now) s f) }
     ensures first { IfErr result (λ f. f ≢ Fault.Memory → (s : Syntax) → Means condition.now s
         → IsFirst (IsBindingFault (form_of form.now) s) f) }
 {
@@ -156,7 +162,8 @@ fn read_outcome(
     ensures value { IfOk result (λ o. (s : Syntax) → Means condition.now s → IsOutcome columns names.now s o) }
     ensures there { IfOk result (λ o. SpeaksOf columns (length names.now) (condition_of o)) }
     ensures deep { IfErr result (λ f. f ≢ Fault.Memory → (s : Syntax) → Means condition.now s
-        → are_there columns names.now (atoms_of s) ≡ true → (f ≡ Fault.TooBig Limit.Depth) × (most_depth < depth_of s)) }
+        → are_there columns names.now (atoms_of s) ≡ true → (f
+        ≡ Fault.TooBig Limit.Depth) × (most_depth < depth_of s)) }
 {
     let Some(tree) = &condition.tree else {
         return Err(Fault::TooBig { what: Limit::Depth });
@@ -175,7 +182,8 @@ fn read_kept(alloc: Global, form: &Form) -> Result<Vec<HartCode>, Fault>
     ensures only { IfOk result (λ kept. (codes : List (List Instr))
         → AreCodes form.now.columns (flatten (form_of form.now).rows) codes → AreKept codes kept.items) }
     ensures clean { IfOk result (λ kept. (f : Fault) → ¬ IsFault form.now.columns (flatten (form_of form.now).rows) f) }
-    ensures first { IfErr result (λ f. f ≢ Fault.Memory → IsFirst (IsFault form.now.columns (flatten (form_of form.now).rows)) f) }
+    ensures first { IfErr result (λ f. f ≢ Fault.Memory
+        → IsFirst (IsFault form.now.columns (flatten (form_of form.now).rows)) f) }
 {
     read_codes(alloc, form.columns, &form.cells)
 }
@@ -204,7 +212,8 @@ fn within_limits(
     ensures means { IfOk result (λ t. (s : Syntax) → Means condition.now s → MeanTest (form_of form.now) s t) }
     ensures limits { IfOk result (λ t. (s : Syntax) → Means condition.now s → IsWithinLimits (form_of form.now) s t) }
     ensures bounded { IfOk result (λ t. (s : Syntax) → Means condition.now s → IsBounded t) }
-    ensures clean { IfOk result (λ t. (s : Syntax) → Means condition.now s → (f : Fault) → ¬ IsFormFault (form_of form.now) s f) }
+    ensures clean { IfOk result (λ t. (s : Syntax) → Means condition.now s → (f : Fault)
+        → ¬ IsFormFault (form_of form.now) s f) }
     ensures first { IfErr result (λ f. f ≢ Fault.Memory → (s : Syntax) → Means condition.now s
         → IsFirst (IsFormFault (form_of form.now) s) f) }
 {
@@ -234,7 +243,8 @@ pub fn interpret<'a>(
     ensures means { IfOk result (λ t. (s : Syntax) → Means condition.now s → MeanTest (form_of form.now) s t) }
     ensures limits { IfOk result (λ t. (s : Syntax) → Means condition.now s → IsWithinLimits (form_of form.now) s t) }
     ensures bounded { IfOk result (λ t. (s : Syntax) → Means condition.now s → IsBounded t) }
-    ensures clean { IfOk result (λ t. (s : Syntax) → Means condition.now s → (f : Fault) → ¬ IsFormFault (form_of form.now) s f) }
+    ensures clean { IfOk result (λ t. (s : Syntax) → Means condition.now s → (f : Fault)
+        → ¬ IsFormFault (form_of form.now) s f) }
     ensures first { IfErr result (λ f. f ≢ Fault.Memory → (s : Syntax) → Means condition.now s
         → IsFirst (IsFormFault (form_of form.now) s) f) }
 {

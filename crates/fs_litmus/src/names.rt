@@ -44,7 +44,8 @@ impl<'a> Names<'a> {
 
     /// Declares the locations that a binding names, its target's before its value's.
     pub fn declare(&mut self, target: Target<'a>, value: Value<'a>) -> Result<(), AllocError>
-        ensures { OnOk result (self.new ≡ with_value (with_target self.old (target_of target.entry)) (value_of value.entry)) }
+        ensures { OnOk result (self.new
+            ≡ with_value (with_target self.old (target_of target.entry)) (value_of value.entry)) }
     {
         if let Target::Location(name) = target {
             self.insert(name)?;

@@ -59,7 +59,8 @@ fn words_of(
     hart: u32,
     count: u8,
 ) -> Result<Vec<u32>, AllocError>
-    ensures { IfOk result (λ v. v.items ≡ map (λ r. word_at settings.now (Holder.Register hart r)) (range_with_len 0 count)) }
+    ensures { IfOk result (λ v. v.items
+        ≡ map (λ r. word_at settings.now (Holder.Register hart r)) (range_with_len 0 count)) }
 {
     let mut words = Vec::new(alloc);
     for register in 0..count {

@@ -3,7 +3,8 @@
 ghost use Rattle.std.specs.Prelude.{◌≡◌, ℕ, List, ◌+◌, ◌<◌, ◌≤◌, ◌^◌, ◌++◌, length, Some, IfSome, IsNone, option_map};
 ghost use Rattle.std.specs.List.{prefix_len, list_all};
 ghost use Rattle.fs_litmus_tokens.specs.Bytes.{is_blank, begins};
-ghost use Rattle.fs_litmus.specs.Title.{last_line, is_within_line, line_of, after_line, unindented, ends_in_blank, begins_with_blank, IsTrimmed, HasTitle, IsBody};
+ghost use Rattle.fs_litmus.specs.Title.{last_line, is_within_line, line_of, after_line, unindented, ends_in_blank};
+ghost use Rattle.fs_litmus.specs.Title.{begins_with_blank, IsTrimmed, HasTitle, IsBody};
 
 /// The block of initial values and all that comes after it, and the number of the line that it begins in.
 #[derive(Clone, Copy)]
@@ -144,8 +145,10 @@ pub fn find_body(bytes: &[u8], line: usize) -> Option<Body<'_>>
 /// The block of initial values and what comes after it, in a text whose first line is the title; nothing where no later
 /// line begins with `{` past its blanks.
 pub fn skip_title(bytes: &[u8]) -> Option<Body<'_>>
-    ensures value { IfSome result (λ b. (doc : List ℕ) × (after_line bytes.now ≡ Some doc) × IsBody doc 2 b.text.now b.line) }
-    ensures absent { IsNone result → (doc body : List ℕ) → (at : ℕ) → after_line bytes.now ≡ Some doc → ¬ IsBody doc 2 body at }
+    ensures value { IfSome result (λ b. (doc : List ℕ) × (after_line bytes.now ≡ Some doc)
+        × IsBody doc 2 b.text.now b.line) }
+    ensures absent { IsNone result → (doc body : List ℕ) → (at : ℕ) → after_line bytes.now ≡ Some doc
+        → ¬ IsBody doc 2 body at }
     ensures room { IfSome result (λ b. b.line + length b.text.now < 2 ^ 64) }
 {
     find_body(after_line(bytes)?, 2)

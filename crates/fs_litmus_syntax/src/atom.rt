@@ -62,7 +62,8 @@ fn number<'a>(target: Target<'a>, negative: bool, digits: &'a str) -> AtomStep<'
 
 /// A word of an atom.
 fn word_step<'a>(place: AtomPlace<'a>, class: Class, word: &'a str) -> AtomStep<'a>
-    ensures { atom_step_of result ≡ machine.next_atom (atom_place_of place.entry) (kind_of (Kind.Word class word.entry)) }
+    ensures { atom_step_of result
+        ≡ machine.next_atom (atom_place_of place.entry) (kind_of (Kind.Word class word.entry)) }
 {
     match (place, class) {
         (AtomPlace::AfterColon(hart), _) => AtomStep::Go(AtomPlace::AfterTarget(

@@ -6,7 +6,8 @@ ghost use Rattle.indexmap.specs.IndexMap.{get_by};
 ghost use Rattle.fs_kinds.specs.Limits.{most_instructions};
 ghost use Rattle.fs_instr.specs.declared.instr.Instr.{Instr};
 ghost use Rattle.fs_litmus_syntax.specs.inner.Listings.{item_at};
-ghost use Rattle.fs_litmus_syntax.specs.Labels.{position, is_ahead, stray_of, number_after, with_label, resolved, instruction_count, IsStray};
+ghost use Rattle.fs_litmus_syntax.specs.Labels.{position, is_ahead, stray_of, number_after, with_label, resolved};
+ghost use Rattle.fs_litmus_syntax.specs.Labels.{instruction_count, IsStray};
 ghost use Rattle.fs_kinds.specs.FaultOrder.{IsFirstOf};
 
 use crate::listing::{Listing, Mark};
@@ -27,7 +28,8 @@ fn is_ahead(name: &str, number: usize, positions: &IndexMap<&str, usize>) -> boo
 
 /// The fault of a mark, which stands after this many instructions.
 fn stray_of(mark: Mark<'_>, number: usize, positions: &IndexMap<&str, usize>) -> Option<Fault>
-    ensures { (code : List Instr) → result ≡ stray_of (λ w. get_by (λ k. bytes_eq w k.now) positions.now) number (item_at code mark.entry) }
+    ensures { (code : List Instr) → result
+        ≡ stray_of (λ w. get_by (λ k. bytes_eq w k.now) positions.now) number (item_at code mark.entry) }
 {
     match mark {
         Mark::Instruction {

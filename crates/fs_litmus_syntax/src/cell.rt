@@ -40,7 +40,8 @@ fn front_label<'a>(tokens: &[Token<'a>]) -> Option<(&'a str, usize)>
 /// Appends the labels at the front of a cell to the hart's listing; how many tokens they are.
 fn read_labels<'a>(cell: &[Token<'a>], listing: &mut Listing<'a>) -> Result<usize, AllocError>
     ensures room { IfOk result (λ taken. taken ≤ length cell.now) }
-    ensures labels { IfOk result (λ taken. AddsLabels (views cell.now) listing.old listing.new (views (drop taken cell.now))) }
+    ensures labels { IfOk result
+        (λ taken. AddsLabels (views cell.now) listing.old listing.new (views (drop taken cell.now))) }
 {
     let mut taken = 0;
     while let Some((name, line)) = front_label(skip(cell, taken)) {

@@ -53,9 +53,11 @@ pub fn read_codes(
     cells: &[&[Token<'_>]],
 ) -> Result<Vec<HartCode>, Fault>
     // The rows mean these codes.
-    ensures codes { IfOk result (λ kept. (codes : List (List Instr)) × AreCodes columns (cells_of cells.now) codes × AreKept codes kept.items) }
+    ensures codes { IfOk result (λ kept. (codes : List (List Instr)) × AreCodes columns (cells_of cells.now) codes
+        × AreKept codes kept.items) }
     // They mean no others.
-    ensures only { IfOk result (λ kept. (codes : List (List Instr)) → AreCodes columns (cells_of cells.now) codes → AreKept codes kept.items) }
+    ensures only { IfOk result (λ kept. (codes : List (List Instr)) → AreCodes columns (cells_of cells.now) codes
+        → AreKept codes kept.items) }
     // Then no hart has a fault.
     ensures clean { IfOk result (λ kept. (f : Fault) → ¬ IsFault columns (cells_of cells.now) f) }
     // Else the first fault of all harts is given.

@@ -5,7 +5,9 @@ ghost use Rattle.fs_litmus_tokens.specs.Tokens.{view, kind_of, views};
 ghost use Rattle.fs_litmus_tokens.specs.Values.{target_of, value_of};
 ghost use Rattle.fs_litmus_tokens.specs.Sections.{Takes};
 ghost use Rattle.fs_litmus_syntax.specs.Reading.{IsEnd, Refuses};
-ghost use Rattle.fs_litmus_syntax.specs.Init.{IsInit, entry_of, entries_of, position_of, turn_of, move_of, target_begun, entry_begun, type_followed, target_followed, valued, value_begun, minus_followed, entry_ended, next_in};
+ghost use Rattle.fs_litmus_syntax.specs.Init.{IsInit, entry_of, entries_of, position_of, turn_of, move_of};
+ghost use Rattle.fs_litmus_syntax.specs.Init.{target_begun, entry_begun, type_followed, target_followed, valued};
+ghost use Rattle.fs_litmus_syntax.specs.Init.{value_begun, minus_followed, entry_ended, next_in};
 
 use fs_litmus_tokens::{Class, Kind, Mark, Stop, Target, Token, Value};
 use std::alloc::{AllocError, Global};

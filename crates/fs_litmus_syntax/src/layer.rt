@@ -42,7 +42,8 @@ fn product<'a>(
     unit: Subformula<'a>,
 ) -> Result<Subformula<'a>, AllocError>
     ensures { IfOk result (λ p. subformula_of p
-        ≡ joined limited.both (option_map subformula_of before.entry) (denied limited.deny denials (subformula_of unit.entry))) }
+        ≡ joined limited.both (option_map subformula_of before.entry) (denied limited.deny denials
+        (subformula_of unit.entry))) }
 {
     let subformula = denied(alloc, denials, unit)?;
     match before {

@@ -37,7 +37,8 @@ fn hart_lines(
     cells: &[&[Token<'_>]],
 ) -> Result<List<usize>, AllocError>
     requires { 0 < columns }
-    ensures { IfOk result (λ lines. (items : Items Item) → AreCells (column columns 0 (cells_of cells.now)) items → lines ≡ lines_of items) }
+    ensures { IfOk result (λ lines. (items : Items Item) → AreCells (column columns 0 (cells_of cells.now)) items
+        → lines ≡ lines_of items) }
 {
     let (listing, _) = read_column(alloc, columns, cells)?;
     Ok(List::new(lines_of(alloc, &listing)?))

@@ -67,7 +67,8 @@ impl<'a> Listing<'a> {
         target: Option<&'a str>,
         line: usize,
     ) -> Result<(), AllocError>
-        ensures { IfOk result (λ _. self.new ≡ self.old ++ Instruction instr (option_map (λ w. w.now) target.entry) line ∷ []) }
+        ensures { IfOk result (λ _. self.new
+            ≡ self.old ++ Instruction instr (option_map (λ w. w.now) target.entry) line ∷ []) }
     {
         let number = self.code.len();
         self.code.push(instr)?;

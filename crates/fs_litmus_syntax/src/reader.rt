@@ -4,9 +4,11 @@ ghost use Rattle.std.specs.Prelude.{◌≡◌, ◌<◌, ◌+◌, ◌++◌, [], I
 ghost use Rattle.fs_litmus_tokens.specs.Tokens.{kind_of, views};
 ghost use Rattle.fs_litmus_syntax.specs.Grammar.{Syntax, IsCondition};
 ghost use Rattle.fs_litmus_syntax.specs.Answer.{Means, StopsAt};
-ghost use Rattle.fs_litmus_syntax.specs.Machine.{next_begin, next_after, named, closed, finished, next_atom, atoms_at, put_off, place_after, next, last_unit, end_of, read, start};
+ghost use Rattle.fs_litmus_syntax.specs.Machine.{next_begin, next_after, named, closed, finished, next_atom, atoms_at};
+ghost use Rattle.fs_litmus_syntax.specs.Machine.{put_off, place_after, next, last_unit, end_of, read, start};
 ghost use Rattle.fs_litmus_syntax.specs.Limited.{limited};
-ghost use Rattle.fs_litmus_syntax.specs.Views.{subformula_of, atom_of, atom_place_of, layer_of, below_of, place_of, reader_of, Gives};
+ghost use Rattle.fs_litmus_syntax.specs.Views.{subformula_of, atom_of, atom_place_of, layer_of, below_of, place_of};
+ghost use Rattle.fs_litmus_syntax.specs.Views.{reader_of, Gives};
 
 use crate::atom::{AtomPlace, AtomStep};
 use crate::condition::{Atom, Condition, Tree};
@@ -117,7 +119,8 @@ fn after<'a>(
     kind: Kind<'a>,
 ) -> Result<Option<Reader<'a>>, AllocError>
     ensures { IfOk result (λ r. option_map reader_of r
-        ≡ next_after limited (subformula_of unit.entry) (layer_of layer.entry) (below_of below.entry.items []) (kind_of kind.entry)) }
+        ≡ next_after limited (subformula_of unit.entry) (layer_of layer.entry) (below_of below.entry.items []) (kind_of
+        kind.entry)) }
 {
     match kind {
         Kind::Sign(Mark::And) => {

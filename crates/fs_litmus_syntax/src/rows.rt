@@ -1,11 +1,14 @@
 //! The rows of cells, the locations and the quantifier.
 
-ghost use Rattle.std.specs.Prelude.{◌≡◌, ◌+◌, ◌-◌, ◌<◌, ◌≤◌, length, slice_range, slice_index_or, option_map, IfOk, IfErr};
+ghost use Rattle.std.specs.Prelude.{◌≡◌, ◌+◌, ◌-◌, ◌<◌, ◌≤◌, length, slice_range, slice_index_or, option_map, IfOk};
+ghost use Rattle.std.specs.Prelude.{IfErr};
 ghost use Rattle.fs_litmus_tokens.specs.Tokens.{view, kind_of, views};
 ghost use Rattle.fs_litmus_tokens.specs.Sections.{Takes};
 ghost use Rattle.fs_litmus_syntax.specs.Reading.{IsEnd, Refuses};
 ghost use Rattle.fs_litmus_syntax.specs.Body.{IsBody, flatten, cells_of};
-ghost use Rattle.fs_litmus_syntax.specs.Rows.{body_of, position_of, turn_of, move_of, IsFine, IsFineTransition, cell_token_of, quantifier_begun, rows_stopped, after_rows, cell_next, next_in};
+ghost use Rattle.fs_litmus_syntax.specs.Rows.{body_of, position_of, turn_of, move_of, IsFine, IsFineTransition};
+ghost use Rattle.fs_litmus_syntax.specs.Rows.{cell_token_of, quantifier_begun, rows_stopped, after_rows, cell_next};
+ghost use Rattle.fs_litmus_syntax.specs.Rows.{next_in};
 
 use fs_litmus_tokens::{Class, Kind, Mark, Stop, Token};
 use std::alloc::{AllocError, Global};

@@ -15,7 +15,8 @@ use fs_verdict_laws::cycles_decide;
 /// execution is out of thin air.
 fn verdicts_rest_on_candidates()
     ensures forbidden { (t : Test) → CanBeListed t → (p : List Entry) → (HasAcyclic t p → ⊥) → Allows t p → ⊥ }
-    ensures grounded { (t : Test) → CanBeListed t → (p : List Entry) (e : Execution) → IsExecution t p e → IsGrounded t e }
+    ensures grounded { (t : Test) → CanBeListed t → (p : List Entry) (e : Execution) → IsExecution t p e
+        → IsGrounded t e }
 {
     cycles_decide();
     nothing_out_of_thin_air();

@@ -1,6 +1,7 @@
 //! Bytes to tokens.
 
-ghost use Rattle.std.specs.Prelude.{◌≡◌, ℕ, List, Bool, ◌+◌, ◌≤◌, ◌∷◌, [], ◌^◌, ◌<◌, length, map, IfOk, nat_eq, option_map, IfSome, IsTrue, slice_index};
+ghost use Rattle.std.specs.Prelude.{◌≡◌, ℕ, List, Bool, ◌+◌, ◌≤◌, ◌∷◌, [], ◌^◌, ◌<◌, length, map, IfOk, nat_eq};
+ghost use Rattle.std.specs.Prelude.{option_map, IfSome, IsTrue, slice_index};
 ghost use Rattle.std.specs.List.{prefix_len};
 ghost use Rattle.fs_litmus_tokens.specs.Bytes.{is_letter, is_blank, comment_end, begins, tail};
 ghost use Rattle.fs_litmus_tokens.specs.Tokens.{piece, AreTokens, piece_of, view, views, Shrinks, Lined, mark_of};
@@ -102,7 +103,8 @@ fn run_len(b: &[u8]) -> usize
 fn comment_end(bytes: &[u8], line: usize) -> Option<(&[u8], usize)>
     requires { line + length bytes.now < 2 ^ 64 }
     ensures value { option_map (λ x. (x.0.now, x.1)) result ≡ comment_end bytes.now line }
-    ensures shrinks { IfSome result (λ x. (length x.0.now ≤ length bytes.now) × (x.1 + length x.0.now ≤ line + length bytes.now)) }
+    ensures shrinks { IfSome result (λ x. (length x.0.now ≤ length bytes.now)
+        × (x.1 + length x.0.now ≤ line + length bytes.now)) }
 {
     let mut rest = bytes;
     let mut line = line;

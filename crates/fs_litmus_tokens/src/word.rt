@@ -3,7 +3,8 @@
 ghost use Rattle.std.specs.Prelude.{◌≡◌};
 ghost use Rattle.std.specs.Char.{is_ascii_digit, is_ascii_hexdigit};
 ghost use Rattle.std.specs.List.{list_all};
-ghost use Rattle.fs_litmus_tokens.specs.Words.{is_digits, is_hexadecimal, is_number, is_name, begins_name, has_dot, keyword_of, class_of};
+ghost use Rattle.fs_litmus_tokens.specs.Words.{is_digits, is_hexadecimal, is_number, is_name, begins_name, has_dot};
+ghost use Rattle.fs_litmus_tokens.specs.Words.{keyword_of, class_of};
 
 /// What a word may be read as, by its spelling alone (herd7's format of litmus tests). Each class but `Number` and
 /// `Other` has names only: a word that begins with a letter or `_` and has no `.`, so a keyword may name a location

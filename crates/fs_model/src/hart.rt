@@ -64,7 +64,8 @@ impl Hart {
 
     /// The step of an instruction that accesses nothing, or of an sc.w that fails.
     fn quiet(&self, instr: &Instr) -> Step
-        ensures { result ≡ record { at = self.now.at; instr = instr.now; address = None; loaded = None; stored = None } }
+        ensures { result
+            ≡ record { at = self.now.at; instr = instr.now; address = None; loaded = None; stored = None } }
     {
         Step {
             at: self.at,

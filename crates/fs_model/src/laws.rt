@@ -8,7 +8,10 @@ ghost use Rattle.fs_model.specs.Choices.{MakeOneRun, StopOnce, NeverDoBoth};
 /// A law: the choices of a hart decide its run. They make at most one whole run, or stop in at most one way, and not
 /// both.
 pub fn choices_decide()
-    ensures whole { (n : ℕ) (code : List Instr) (registers : List ℕ) (choices : List Choice) → MakeOneRun n code registers choices }
-    ensures stopped { (n : ℕ) (code : List Instr) (registers : List ℕ) (choices : List Choice) → StopOnce n code registers choices }
-    ensures apart { (n : ℕ) (code : List Instr) (registers : List ℕ) (choices : List Choice) → NeverDoBoth n code registers choices }
+    ensures whole { (n : ℕ) (code : List Instr) (registers : List ℕ) (choices : List Choice)
+        → MakeOneRun n code registers choices }
+    ensures stopped { (n : ℕ) (code : List Instr) (registers : List ℕ) (choices : List Choice)
+        → StopOnce n code registers choices }
+    ensures apart { (n : ℕ) (code : List Instr) (registers : List ℕ) (choices : List Choice)
+        → NeverDoBoth n code registers choices }
 {}

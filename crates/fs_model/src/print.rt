@@ -1,6 +1,7 @@
 //! Tests in print.
 
-ghost use Rattle.std.specs.Prelude.{◌≡◌, ◌≢◌, ◌≤◌, ◌<◌, ◌++◌, All, length, map, string_bytes, IfOk, OnOk, IfErr, Err, IsTrue, ◌↔◌};
+ghost use Rattle.std.specs.Prelude.{◌≡◌, ◌≢◌, ◌≤◌, ◌<◌, ◌++◌, All, length, map, string_bytes, IfOk, OnOk, IfErr, Err};
+ghost use Rattle.std.specs.Prelude.{IsTrue, ◌↔◌};
 ghost use Rattle.fs_kinds.specs.declared.fault.Fault.TheVariants.{BadFence, Memory};
 ghost use Rattle.fs_kinds.specs.Placement.{slots_of};
 ghost use Rattle.fs_kinds.specs.Slot.{is_same_slot};
@@ -10,7 +11,9 @@ ghost use Rattle.fs_model.specs.Condition.{condition_of, SpeaksOf};
 ghost use Rattle.fs_model.specs.Fenced.{fenced};
 ghost use Rattle.fs_model.specs.Slots.{slots};
 ghost use Rattle.fs_model.specs.Test.{IsBounded};
-ghost use Rattle.fs_model.specs.Printed.{name_of, value_text, location_text, locations_text, line_of, register_is, register_text, start_text, starts_text, quantifier_text, condition_text, printed};
+ghost use Rattle.fs_model.specs.Printed.{name_of, value_text, location_text, locations_text, line_of, register_is};
+ghost use Rattle.fs_model.specs.Printed.{register_text, start_text, starts_text, quantifier_text, condition_text};
+ghost use Rattle.fs_model.specs.Printed.{printed};
 
 use crate::accesses::slots;
 use crate::columns::{columns, header, write_rows};
@@ -144,7 +147,8 @@ fn write_start(
     text: &mut String,
 ) -> Result<(), AllocError>
     requires { length locations.now ≤ most_locations }
-    ensures { OnOk result (string_bytes text.new ≡ string_bytes text.old ++ start_text locations.now (hart, start.now)) }
+    ensures { OnOk result (string_bytes text.new
+        ≡ string_bytes text.old ++ start_text locations.now (hart, start.now)) }
 {
     let mut pieces = Vec::new(alloc);
     for (register, word) in start.iter().enumerate() {
@@ -167,7 +171,8 @@ fn write_register_is(
     text: &mut String,
 ) -> Result<(), AllocError>
     requires { length locations.now ≤ most_locations }
-    ensures { OnOk result (string_bytes text.new ≡ string_bytes text.old ++ register_is locations.now hart (register, word)) }
+    ensures { OnOk result (string_bytes text.new
+        ≡ string_bytes text.old ++ register_is locations.now hart (register, word)) }
 {
     write!(text, "{hart}:x{register}=")?;
     write_value(locations, word, text)
@@ -202,7 +207,8 @@ fn write_condition(
 ) -> Result<(), AllocError>
     requires locations { length locations.now ≤ most_locations }
     requires atoms { SpeaksOf most_harts (length locations.now) (condition_of condition.now) }
-    ensures { OnOk result (string_bytes text.new ≡ string_bytes text.old ++ condition_text locations.now (condition_of condition.now)) }
+    ensures { OnOk result (string_bytes text.new
+        ≡ string_bytes text.old ++ condition_text locations.now (condition_of condition.now)) }
 {
     match condition {
         Outcome::Always => text.push_str("true"),

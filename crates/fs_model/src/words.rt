@@ -1,6 +1,7 @@
 //! The placement that FENCE words name.
 
-ghost use Rattle.std.specs.Prelude.{◌≡◌, ◌≢◌, ◌⊎◌, map, string_bytes, Any, IfOk, IfErr, IsErrOf, Some, None, option_copied};
+ghost use Rattle.std.specs.Prelude.{◌≡◌, ◌≢◌, ◌⊎◌, map, string_bytes, Any, IfOk, IfErr, IsErrOf, Some, None};
+ghost use Rattle.std.specs.Prelude.{option_copied};
 ghost use Rattle.fs_kinds.specs.declared.fault.Fault.TheVariants.{BadFence, Memory};
 ghost use Rattle.fs_model.specs.Placed.{word_of, IsNoFence, is_offered, placed, IsPlaced};
 ghost use Rattle.fs_model.specs.Slots.{slots};
@@ -23,7 +24,8 @@ pub fn read_fences(
     words: &[String],
 ) -> Result<Placement, Fault>
     requires { IsBounded test.now }
-    ensures ok { IfOk result (λ p. IsPlaced (option_copied prices.entry) (slots test.now) (map string_bytes words.now) (Some p)) }
+    ensures ok { IfOk result
+        (λ p. IsPlaced (option_copied prices.entry) (slots test.now) (map string_bytes words.now) (Some p)) }
     ensures bad_fence { IsErrOf result BadFence → Any IsNoFence (map string_bytes words.now)
         ⊎ IsPlaced (option_copied prices.entry) (slots test.now) (map string_bytes words.now) None }
     ensures err { IfErr result (λ fault. (fault ≡ BadFence) ⊎ (fault ≡ Memory)) }

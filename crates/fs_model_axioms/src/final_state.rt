@@ -69,7 +69,8 @@ fn holds(
     order: &GlobalOrder,
     condition: &Outcome,
 ) -> bool
-    ensures { result ≡ holds (register_in traces.now) (word_among operations.now order.now) (condition_of condition.now) }
+    ensures { result
+        ≡ holds (register_in traces.now) (word_among operations.now order.now) (condition_of condition.now) }
 {
     match condition {
         Outcome::Always => true,

@@ -40,7 +40,8 @@ impl GlobalOrder {
     /// is F19.
     pub fn new(alloc: Global, operations: &[Operation], order: &[u8]) -> Result<GlobalOrder, Fault>
         requires { length operations.now ≤ most_numbered }
-        ensures ok { (x : PreExecution) → operations.now ≡ operations_of x → IfOk result (λ made. made ≡ gmo x order.now) }
+        ensures ok { (x : PreExecution) → operations.now ≡ operations_of x
+            → IfOk result (λ made. made ≡ gmo x order.now) }
         ensures err { IsOkUnless result Memory }
     {
         let listed = list(alloc, count_accesses(operations), operations.len(), order)?;

@@ -6,7 +6,8 @@ ghost use Rattle.fs_kinds.specs.declared.fault.Fault.TheVariants.{Memory};
 ghost use Rattle.fs_model.specs.Test.{IsBounded, IsStart};
 ghost use Rattle.fs_hart.specs.declared.trace.Trace.{Trace};
 ghost use Rattle.fs_model_brute_force.specs.Decisions.{Decides};
-ghost use Rattle.fs_model_brute_force.specs.Allowing.{AllowsOver, AreWhole, AreChosen, ShowsAmong, AreListed, HaveRuns, IsListingFault};
+ghost use Rattle.fs_model_brute_force.specs.Allowing.{AllowsOver, AreWhole, AreChosen, ShowsAmong, AreListed, HaveRuns};
+ghost use Rattle.fs_model_brute_force.specs.Allowing.{IsListingFault};
 
 use crate::orders::shows_in_some_order;
 use fs_hart::{Steps, Trace, Words, traces_over};
@@ -72,7 +73,8 @@ fn shows_among(
     traces: &mut Vec<Trace>,
 ) -> Result<bool, Fault>
     requires test { IsBounded test.now }
-    requires whole { (chosen : List Trace) → AreChosen lists.now chosen → AreWhole test.now (traces.old.items ++ chosen) }
+    requires whole { (chosen : List Trace) → AreChosen lists.now chosen
+        → AreWhole test.now (traces.old.items ++ chosen) }
     ensures traces { OnOk result (traces.new.items ≡ traces.old.items) }
     ensures ok { IfOk result (λ shows. Decides shows (ShowsAmong test.now placement.now lists.now traces.old.items)) }
     ensures err { IsOkUnless result Memory }

@@ -31,7 +31,8 @@ fn count(test: &Test, traces: &[Trace], ordered: &Ordered) -> usize
 /// Does a, where it is a load, return the word of its source?
 fn returns_source(test: &Test, traces: &[Trace], ordered: &Ordered, a: usize) -> bool
     requires { ordered.now.operations ≡ operations_of (pre_execution_of test.now traces.now) }
-    ensures { let x = pre_execution_of test.now traces.now in result ≡ returns_source x (source_in x ordered.now.listed) a }
+    ensures { let x = pre_execution_of test.now traces.now in result
+        ≡ returns_source x (source_in x ordered.now.listed) a }
 {
     ordered.returns_source(a)
 }
@@ -152,7 +153,8 @@ pub fn obeys_axioms(
     requires harts { length traces.now ≤ most_harts }
     requires steps { All (λ trace. length trace.steps ≤ most_instructions) traces.now }
     requires few { length (operations_of (pre_execution_of test.now traces.now)) ≤ most_numbered }
-    ensures ok { IfOk result (λ obeys. Decides obeys (ObeysAxioms (pre_execution_of test.now traces.now) placement.now order.now)) }
+    ensures ok { IfOk result
+        (λ obeys. Decides obeys (ObeysAxioms (pre_execution_of test.now traces.now) placement.now order.now)) }
     ensures err { IsOkUnless result Memory }
 {
     let ordered = Ordered::new(alloc, operations(alloc, test, traces)?, order)?;

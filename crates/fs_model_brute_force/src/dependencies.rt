@@ -6,7 +6,8 @@ ghost use Rattle.fs_kinds.specs.Limits.{most_numbered};
 ghost use Rattle.fs_instr.specs.Instructions.{sources_of};
 ghost use Rattle.fs_model.specs.Numbers.{between};
 ghost use Rattle.fs_model.specs.Operations.{instr_at};
-ghost use Rattle.fs_model.specs.Dependencies.{writes, depends_within, depends, address_depends, data_depends, control_depends};
+ghost use Rattle.fs_model.specs.Dependencies.{writes, depends_within, depends, address_depends, data_depends};
+ghost use Rattle.fs_model.specs.Dependencies.{control_depends};
 ghost use Rattle.fs_model_brute_force.specs.inner.Dependencies.{writes_last, leads_through};
 
 use crate::steps::{address_source, data_source, first_source, instr_at, second_source, writes};

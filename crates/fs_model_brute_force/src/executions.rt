@@ -70,7 +70,8 @@ pub(crate) fn traces_show(
 ) -> Result<bool, Fault>
     requires test { IsBounded test.now }
     requires last { AreFinal test.now traces.now }
-    requires runs { (hart : ℕ) → hart < length test.now.codes → IsTrace test.now hart (steps_of (steps_in traces.now) hart) }
+    requires runs { (hart : ℕ) → hart < length test.now.codes
+        → IsTrace test.now hart (steps_of (steps_in traces.now) hart) }
     ensures ok { IfOk result (λ shown.
         Decides shown (ShowsOutcome test.now placement.now (record { traces = steps_in traces.now; order = order.now }))) }
     ensures err { IsOkUnless result Memory }

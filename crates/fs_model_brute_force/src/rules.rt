@@ -8,7 +8,8 @@ ghost use Rattle.fs_hart.specs.Steps.{steps_in};
 ghost use Rattle.fs_model_axioms.specs.Among.{at};
 ghost use Rattle.fs_model_axioms.specs.Ordered.{source_at};
 ghost use Rattle.fs_model_brute_force.specs.Among.{is_case, rule_among, any_rule, is_rule};
-ghost use Rattle.fs_model_brute_force.specs.Among.{overlaps, is_store_between, any_store_between, reads_differ, returns_amo_or_sc, is_rcsc};
+ghost use Rattle.fs_model_brute_force.specs.Among.{overlaps, is_store_between, any_store_between, reads_differ};
+ghost use Rattle.fs_model_brute_force.specs.Among.{returns_amo_or_sc, is_rcsc};
 ghost use Rattle.fs_model_brute_force.specs.Among.{passes_on, any_passes_on, any_address_between};
 
 use crate::dependencies::{address_depends, control_depends, data_depends};

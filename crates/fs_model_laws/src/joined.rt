@@ -29,7 +29,8 @@ pub fn rule_4_with_placements()
 
 /// A law: a FENCE orders by its letters what it orders by pairs of classes, and so rule 4 is the same by either.
 pub fn rule_4_by_letters()
-    ensures orders { (first second : Classes) (i : Instr) → letters.orders first second i ≡ rules.instr_orders first second i }
+    ensures orders { (first second : Classes) (i : Instr) → letters.orders first second i
+        ≡ rules.instr_orders first second i }
     ensures between { (x : PreExecution) (a b : ℕ) → letters.fence_between x a b ≡ rules.fence_between x a b }
 {}
 

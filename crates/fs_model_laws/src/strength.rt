@@ -9,13 +9,15 @@ ghost use Rattle.fs_model.specs.Slots.{slots};
 ghost use Rattle.fs_model.specs.Execution.{Execution, IsExecution};
 ghost use Rattle.fs_model.specs.Allows.{Shows, RefutesAll};
 ghost use Rattle.fs_cert_evidence.specs.Widths.{IsExactWidth};
-ghost use Rattle.fs_model_laws.specs.Strength.{KeepsNoMore, KeepsTheSame, AllowsNoLess, AllAreRefuted, IsAlwaysAllowed, HasNoAnswer};
+ghost use Rattle.fs_model_laws.specs.Strength.{KeepsNoMore, KeepsTheSame, AllowsNoLess, AllAreRefuted, IsAlwaysAllowed};
+ghost use Rattle.fs_model_laws.specs.Strength.{HasNoAnswer};
 
 /// A law: whatever is allowed under stronger fences is allowed under weaker ones, by the same execution. So it is for
 /// two placements with the same slots, and for any two lists of fences, where a slot that isn't listed has no fence.
 /// The test without fences allows whatever it allows with any.
 pub fn weaker_fences_allow_more()
-    ensures placements { (t : Test) (p q : List Entry) → slots_of p ≡ slots_of q → is_weaker p q ≡ true → AllowsNoLess t p q }
+    ensures placements { (t : Test) (p q : List Entry) → slots_of p ≡ slots_of q → is_weaker p q ≡ true
+        → AllowsNoLess t p q }
     ensures lists { (t : Test) (p q : List Entry) → KeepsNoMore p q → AllowsNoLess t p q }
     ensures unfenced { (t : Test) (q : List Entry) → AllowsNoLess t [] q }
 {}
@@ -25,9 +27,11 @@ pub fn weaker_fences_allow_more()
 /// whatever the prices. There is such an execution if and only if the outcome is allowed with every placement that the
 /// prices offer.
 pub fn full_fences_decide()
-    ensures shown { (t : Test) (e : Execution) → RefutesAll t e → (p : List Entry) → slots_of p ≡ slots t → Shows t p e }
+    ensures shown { (t : Test) (e : Execution) → RefutesAll t e → (p : List Entry) → slots_of p ≡ slots t
+        → Shows t p e }
     ensures unanswered { (t : Test) → AllAreRefuted t → (prices : PriceTable) → HasNoAnswer t prices }
-    ensures decides { (t : Test) (prices : PriceTable) → IsPriceTable prices → AllAreRefuted t ↔ IsAlwaysAllowed t prices }
+    ensures decides { (t : Test) (prices : PriceTable) → IsPriceTable prices
+        → AllAreRefuted t ↔ IsAlwaysAllowed t prices }
 {}
 
 /// A law: of the kinds of fence only the pairs that they keep in order matter, and a slot that has none in a placement

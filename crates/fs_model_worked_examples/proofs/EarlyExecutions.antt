@@ -25,8 +25,8 @@ use Rattle.fs_model_worked_examples.specs.StoreBuffering.{sb, buffered, fences}
 use Rattle.fs_model_worked_examples.specs.Rows.{prices}
 use Rattle.fs_model_worked_examples.proofs.StoreBuffering.{x, first, second}
 use Rattle.fs_model_worked_examples.specs.EarlyReads.{root, reads_early, first_slot, second_slot, first_early, second_early, KeepsAt}
-use Rattle.fs_board_laws.proofs.Bounded.{bounded}
-use Rattle.fs_board_laws.proofs.Ranked.{first-less, nil≢cons}
+use Rattle.fs_model_laws.proofs.Bounded.{bounded}
+use Rattle.fs_model_laws.proofs.Ranked.{first-less, nil≢cons}
 
 abbrev no_pair : ℕ → ℕ → Bool
 no_pair a b = not (po x a b && paired x a b)

@@ -22,7 +22,8 @@ ghost use Rattle.fs_model_worked_examples.specs.Rows.{loads_first, against_rule_
 /// rule 4 speaks against it, and without a choice for hart 1 its choices do.
 pub fn reasons()
     ensures unfenced { (p q : Box (Unit {0}) Global) → IsYes (sb p q) (fences None None) loads_first }
-    ensures fenced { (p q : Box (Unit {0}) Global) → IsReason (sb p q) (fences (Some WR) None) loads_first against_rule_4 }
+    ensures fenced { (p q : Box (Unit {0}) Global)
+        → IsReason (sb p q) (fences (Some WR) None) loads_first against_rule_4 }
     ensures short { (p q : Box (Unit {0}) Global) → IsReason (sb p q) (fences None None) one_choice (Choices 1) }
 {}
 
@@ -31,7 +32,8 @@ pub fn reasons()
 /// `w,r` is closed.
 pub fn board()
     ensures history { (p q : Box (Unit {0}) Global) → (Allows (sb p q) (fences (Some WR) (Some WR)) → ⊥)
-        → (board : Board) × IsHistory (sb p q) prices 14 two_workers board × (board.bound ≡ Some (fences (Some WR) (Some WR))) }
+        → (board : Board) × IsHistory (sb p q) prices 14 two_workers board × (board.bound
+        ≡ Some (fences (Some WR) (Some WR))) }
     ensures cost { cost prices (fences (Some WR) (Some WR)) ≡ 18 }
 {}
 
@@ -40,5 +42,6 @@ pub fn board()
 pub fn cycles()
     ensures showing { (p q : Box (Unit {0}) Global) → IsShowing (corr p q) stale }
     ensures cycle { (p q : Box (Unit {0}) Global) → IsCycle (corr p q) [] stale circle }
-    ensures reason { (p q : Box (Unit {0}) Global) → is_edge (runs_of (corr p q) stale) [] stale 1 2 (Preserved Rule1) ≡ false }
+    ensures reason { (p q : Box (Unit {0}) Global) → is_edge (runs_of (corr p q) stale) [] stale 1 2 (Preserved Rule1)
+        ≡ false }
 {}

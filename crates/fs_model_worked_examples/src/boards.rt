@@ -16,7 +16,8 @@ ghost use Rattle.fs_model_worked_examples.specs.Rows.{prices};
 ghost use Rattle.fs_model_worked_examples.specs.Limits.{until_full, split_once};
 ghost use Rattle.fs_model_worked_examples.specs.MessagePassing.{mp11};
 ghost use Rattle.fs_model_worked_examples.specs.Witnessed.{closed_root, held_root};
-ghost use Rattle.fs_model_worked_examples.specs.Ties.{two_writes, equal_prices, between_stores, earlier_last, earlier_first};
+ghost use Rattle.fs_model_worked_examples.specs.Ties.{two_writes, equal_prices, between_stores, earlier_last};
+ghost use Rattle.fs_model_worked_examples.specs.Ties.{earlier_first};
 
 /// A law: in store buffering a board with limit 13 has no room for a second split, since the last child would be node
 /// 14. To split a node one must hold it: not so a node that is open, that another worker holds, or that isn't there. A
@@ -29,11 +30,15 @@ pub fn full_board()
 /// forbids the outcome, and `w,rw` with `w,w` too. Posted after the other, the second one lowers the bound, since it is
 /// earlier in order; and once it is the bound, the first one is pruned.
 pub fn equal_costs()
-    ensures earlier_last { (p q : Box (Unit {0}) Global) → (Allows (two_writes p q) (between_stores (Some WRw) (Some WRw)) → ⊥)
+    ensures earlier_last { (p q : Box (Unit {0}) Global)
+        → (Allows (two_writes p q) (between_stores (Some WRw) (Some WRw)) → ⊥)
         → (Allows (two_writes p q) (between_stores (Some WRw) (Some WW)) → ⊥)
-        → (board : Board) × IsHistory (two_writes p q) equal_prices 8 earlier_last board × (board.bound ≡ Some (between_stores (Some WRw) (Some WW))) }
-    ensures earlier_first { (p q : Box (Unit {0}) Global) → (Allows (two_writes p q) (between_stores (Some WRw) (Some WW)) → ⊥)
-        → (board : Board) × IsHistory (two_writes p q) equal_prices 8 earlier_first board × (board.bound ≡ Some (between_stores (Some WRw) (Some WW))) }
+        → (board : Board) × IsHistory (two_writes p q) equal_prices 8 earlier_last board × (board.bound
+        ≡ Some (between_stores (Some WRw) (Some WW))) }
+    ensures earlier_first { (p q : Box (Unit {0}) Global)
+        → (Allows (two_writes p q) (between_stores (Some WRw) (Some WW)) → ⊥)
+        → (board : Board) × IsHistory (two_writes p q) equal_prices 8 earlier_first board × (board.bound
+        ≡ Some (between_stores (Some WRw) (Some WW))) }
     ensures cost_later { cost equal_prices (between_stores (Some WRw) (Some WRw)) ≡ 4 }
     ensures cost_earlier { cost equal_prices (between_stores (Some WRw) (Some WW)) ≡ 4 }
     ensures cost_greater { cost equal_prices (between_stores (Some WRw) (Some RwRw)) ≡ 5 }

@@ -13,9 +13,12 @@ ghost use Rattle.fs_model_worked_examples.specs.Rows.{prices};
 ghost use Rattle.fs_model_worked_examples.specs.StoreBuffering.{sb};
 ghost use Rattle.fs_model_worked_examples.specs.Bounded.{both_fences, bounded_by};
 ghost use Rattle.fs_model_worked_examples.specs.CoherentReads.{corr, stale};
-ghost use Rattle.fs_model_worked_examples.specs.CoherentCertificates.{unfenced, right_circle, wrong_rule, wrong_edge, no_operation, certificate, with_tree, leaf, six_leaves};
+ghost use Rattle.fs_model_worked_examples.specs.CoherentCertificates.{unfenced, right_circle, wrong_rule, wrong_edge};
+ghost use Rattle.fs_model_worked_examples.specs.CoherentCertificates.{no_operation, certificate, with_tree, leaf};
+ghost use Rattle.fs_model_worked_examples.specs.CoherentCertificates.{six_leaves};
 ghost use Rattle.fs_model_worked_examples.specs.MessagePassing.{mp, mp11, overtaken, passes};
-ghost use Rattle.fs_model_worked_examples.specs.PassingCertificates.{fenced, seven_leaves, nothing_helps, nothing_inferred};
+ghost use Rattle.fs_model_worked_examples.specs.PassingCertificates.{fenced, seven_leaves, nothing_helps};
+ghost use Rattle.fs_model_worked_examples.specs.PassingCertificates.{nothing_inferred};
 
 /// A law: in coherent reads one candidate alone shows a store and then the initial word. The outcome says what the
 /// loads return, and so which stores they return; and the initial store is first in coherence order. The same goes for
@@ -28,31 +31,41 @@ pub fn one_candidate()
 /// A law: certificates that coherent reads need no fence, in both versions. The tree is one leaf, or is split at its
 /// slot, with seven leaves for none and the six kinds.
 pub fn valid_certificates()
-    ensures first { (p q : Box (Unit {0}) Global) → IsValidFor (corr p q) prices (certificate First 0 (right_circle ∷ []) leaf) unfenced }
-    ensures second { (p q : Box (Unit {0}) Global) → IsValidFor (corr p q) prices (certificate Second 0 (right_circle ∷ []) leaf) unfenced }
-    ensures first_split { (p q : Box (Unit {0}) Global) → IsValidFor (corr p q) prices (certificate First 0 (right_circle ∷ []) (six_leaves 0 leaf)) unfenced }
-    ensures second_split { (p q : Box (Unit {0}) Global) → IsValidFor (corr p q) prices (certificate Second 0 (right_circle ∷ []) (six_leaves 0 leaf)) unfenced }
+    ensures first { (p q : Box (Unit {0}) Global)
+        → IsValidFor (corr p q) prices (certificate First 0 (right_circle ∷ []) leaf) unfenced }
+    ensures second { (p q : Box (Unit {0}) Global)
+        → IsValidFor (corr p q) prices (certificate Second 0 (right_circle ∷ []) leaf) unfenced }
+    ensures first_split { (p q : Box (Unit {0}) Global)
+        → IsValidFor (corr p q) prices (certificate First 0 (right_circle ∷ []) (six_leaves 0 leaf)) unfenced }
+    ensures second_split { (p q : Box (Unit {0}) Global)
+        → IsValidFor (corr p q) prices (certificate Second 0 (right_circle ∷ []) (six_leaves 0 leaf)) unfenced }
 {}
 
 /// A law: trees that are refused. A leaf is missing, or is one too many; the slot isn't there; a second tree stands
 /// after the first. A leaf that a witness should refute is refused for the witness, where there is none.
 pub fn refused_trees()
     ensures fewer { (p q : Box (Unit {0}) Global) → IsRefusal (corr p q) prices (with_tree (six_leaves 0 [])) Tree }
-    ensures more { (p q : Box (Unit {0}) Global) → IsRefusal (corr p q) prices (with_tree (six_leaves 0 (Costly ∷ leaf))) Tree }
+    ensures more { (p q : Box (Unit {0}) Global)
+        → IsRefusal (corr p q) prices (with_tree (six_leaves 0 (Costly ∷ leaf))) Tree }
     ensures no_slot { (p q : Box (Unit {0}) Global) → IsRefusal (corr p q) prices (with_tree (six_leaves 1 leaf)) Tree }
     ensures two_trees { (p q : Box (Unit {0}) Global) → IsRefusal (corr p q) prices (with_tree (Costly ∷ leaf)) Tree }
     ensures no_tree { (p q : Box (Unit {0}) Global) → IsRefusal (corr p q) prices (with_tree []) Tree }
-    ensures no_witness { (p q : Box (Unit {0}) Global) → IsRefusal (corr p q) prices (with_tree (Refuted 0 ∷ [])) (Witness 0) }
+    ensures no_witness { (p q : Box (Unit {0}) Global)
+        → IsRefusal (corr p q) prices (with_tree (Refuted 0 ∷ [])) (Witness 0) }
 {}
 
 /// A law: answers and cycles that are refused. An answer without fences doesn't cost 1; there is no cycle for the
 /// candidate; or a step of its cycle has a wrong reason or a wrong name.
 pub fn refused_cycles()
-    ensures cost { (p q : Box (Unit {0}) Global) → IsRefusal (corr p q) prices (certificate First 1 (right_circle ∷ []) leaf) Answer }
+    ensures cost { (p q : Box (Unit {0}) Global)
+        → IsRefusal (corr p q) prices (certificate First 1 (right_circle ∷ []) leaf) Answer }
     ensures none { (p q : Box (Unit {0}) Global) → IsRefusal (corr p q) prices (certificate First 0 [] leaf) Cycles }
-    ensures rule { (p q : Box (Unit {0}) Global) → IsRefusal (corr p q) prices (certificate First 0 (wrong_rule ∷ []) leaf) (Cycle 0) }
-    ensures edge { (p q : Box (Unit {0}) Global) → IsRefusal (corr p q) prices (certificate First 0 (wrong_edge ∷ []) leaf) (Cycle 0) }
-    ensures name { (p q : Box (Unit {0}) Global) → IsRefusal (corr p q) prices (certificate First 0 (no_operation ∷ []) leaf) (Cycle 0) }
+    ensures rule { (p q : Box (Unit {0}) Global)
+        → IsRefusal (corr p q) prices (certificate First 0 (wrong_rule ∷ []) leaf) (Cycle 0) }
+    ensures edge { (p q : Box (Unit {0}) Global)
+        → IsRefusal (corr p q) prices (certificate First 0 (wrong_edge ∷ []) leaf) (Cycle 0) }
+    ensures name { (p q : Box (Unit {0}) Global)
+        → IsRefusal (corr p q) prices (certificate First 0 (no_operation ∷ []) leaf) (Cycle 0) }
 {}
 
 /// A law: message passing with `w,w` and `r,r`, which cost 5. The certificate's cycle is one, but a leaf at the root
@@ -70,17 +83,26 @@ pub fn cheap_leaves()
 pub fn certificates_of_none()
     ensures valid { (p q : Box (Unit {0}) Global) → IsValidForNone (mp11 p q) (nothing_helps [] (passes ∷ [])) }
     ensures no_witness { (p q : Box (Unit {0}) Global) → IsRefusal (mp11 p q) prices (nothing_helps [] []) Answer }
-    ensures tree { (p q : Box (Unit {0}) Global) → IsRefusal (mp11 p q) prices (nothing_helps (Costly ∷ []) (passes ∷ [])) Answer }
-    ensures other_test { (p q : Box (Unit {0}) Global) → IsRefusal (mp p q) prices (nothing_helps [] (passes ∷ [])) (Witness 0) }
+    ensures tree { (p q : Box (Unit {0}) Global)
+        → IsRefusal (mp11 p q) prices (nothing_helps (Costly ∷ []) (passes ∷ [])) Answer }
+    ensures other_test { (p q : Box (Unit {0}) Global)
+        → IsRefusal (mp p q) prices (nothing_helps [] (passes ∷ [])) (Witness 0) }
     ensures fourth { (p q : Box (Unit {0}) Global) → IsValidForNone (mp11 p q) (nothing_inferred []) }
-    ensures inference { (p q : Box (Unit {0}) Global) → IsRefusal (mp11 p q) prices (nothing_inferred (Filter 0 ∷ [])) Answer }
+    ensures inference { (p q : Box (Unit {0}) Global)
+        → IsRefusal (mp11 p q) prices (nothing_inferred (Filter 0 ∷ [])) Answer }
 {}
 
 /// A law: leaves of store buffering that witnesses are to bound. Where one of two witnesses isn't there, the leaf fails
 /// for that witness and not for its bound. The other one alone leaves a bound of 9, since `w,r` before one load breaks
 /// it; that is less than 18.
 pub fn bounded_leaves()
-    ensures missing { (p q : Box (Unit {0}) Global) → Fails (sb p q) prices (bounded_by (0 ∷ 1 ∷ [])) both_fences (undecided (sb p q) ∷ []) (Bounded (0 ∷ 1 ∷ []) ∷ []) 0 (Witness 1) }
-    ensures before_node { (p q : Box (Unit {0}) Global) → Fails (sb p q) prices (bounded_by (0 ∷ 1 ∷ [])) both_fences (undecided (sb p q) ∷ []) (Bounded (0 ∷ 1 ∷ []) ∷ []) 0 (Node 0) → ⊥ }
-    ensures cheap { (p q : Box (Unit {0}) Global) → Fails (sb p q) prices (bounded_by (0 ∷ [])) both_fences (undecided (sb p q) ∷ []) (Bounded (0 ∷ []) ∷ []) 0 (Node 0) }
+    ensures missing { (p q : Box (Unit {0}) Global)
+        → Fails (sb p q) prices (bounded_by (0 ∷ 1 ∷ [])) both_fences (undecided (sb p q) ∷ []) (Bounded (0 ∷ 1 ∷ []) ∷
+        []) 0 (Witness 1) }
+    ensures before_node { (p q : Box (Unit {0}) Global)
+        → Fails (sb p q) prices (bounded_by (0 ∷ 1 ∷ [])) both_fences (undecided (sb p q) ∷ []) (Bounded (0 ∷ 1 ∷ []) ∷
+        []) 0 (Node 0) → ⊥ }
+    ensures cheap { (p q : Box (Unit {0}) Global)
+        → Fails (sb p q) prices (bounded_by (0 ∷ [])) both_fences (undecided (sb p q) ∷ []) (Bounded (0 ∷ []) ∷
+        []) 0 (Node 0) }
 {}

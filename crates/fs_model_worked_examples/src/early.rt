@@ -12,7 +12,8 @@ ghost use Rattle.fs_cert_evidence.specs.Parts.{floor};
 ghost use Rattle.fs_cert_evidence.specs.Pruning.{are_apart, is_pruned, lower_bound};
 ghost use Rattle.fs_model_worked_examples.specs.StoreBuffering.{sb, fences};
 ghost use Rattle.fs_model_worked_examples.specs.Rows.{prices};
-ghost use Rattle.fs_model_worked_examples.specs.EarlyReads.{root, reads_early, keeps_all, first_slot, second_slot, first_early, second_early, KeepsAt};
+ghost use Rattle.fs_model_worked_examples.specs.EarlyReads.{root, reads_early, keeps_all, first_slot, second_slot};
+ghost use Rattle.fs_model_worked_examples.specs.EarlyReads.{first_early, second_early, KeepsAt};
 
 /// A law: two executions, of which one reads early in hart 0 and one in hart 1, cost 9 each to break. So they bound
 /// what has nothing decided by 18. It is pruned against a placement that costs 17. It isn't against `w,r` twice, which

@@ -8,10 +8,23 @@ ghost use Rattle.fs_model.specs.Preserved.{Rule2, Rule3, Rule4, Rule5, Rule8, Ru
 ghost use Rattle.fs_cert_evidence.specs.Judged.{Preserved, ReadsFrom, Coherence, FromReads};
 ghost use Rattle.fs_cert_evidence.specs.Regions.{Initial, From};
 ghost use Rattle.fs_cert_evidence.specs.Musts.{must};
-ghost use Rattle.fs_cert_evidence.specs.Certificate.{ByChoice, BySource, ByOrder, ByCases, Filter, Stale, Reversed, Parted};
+ghost use Rattle.fs_cert_evidence.specs.Certificate.{ByChoice, BySource, ByOrder, ByCases, Filter, Stale, Reversed};
+ghost use Rattle.fs_cert_evidence.specs.Certificate.{Parted};
 ghost use Rattle.fs_cert_evidence.specs.Trees.{IsRefuted, follows, left_after, refutes_test, root};
-ghost use Rattle.fs_model_worked_examples.specs.Small.{Place, sb, sb_or, sb_runs, mp, mp_forall, mp_runs, corr, corr_runs, parted, reversed, pair_runs, inner, inner_runs, guarded, guarded_end, guarded_runs, swaps, swap_runs, own, last, own_runs, returned, returned_runs, carried, carried_runs, through, through_runs, swapped, swapped_runs, denied, either, not_both, seen_runs, behind, behind_runs, spinlock, spinlock_runs};
-ghost use Rattle.fs_model_worked_examples.specs.Refutations.{P0, P1, fences, fence_in, link, but_last, ending_in, left_by, child, sources_left, sb_tree, sb_or_tree, mp_tree, mp_forall_tree, corr_tree, parted_tree, reversed_tree, guarded_rest, guarded_tree, guarded_by_store, swap_cycle, swap_tree, own_tree, last_tree, carried_tree, turned_cycle, far_cycle, lock_fences, spinlock_tree};
+ghost use Rattle.fs_model_worked_examples.specs.Small.{Place, sb, sb_or, sb_runs, mp, mp_forall, mp_runs, corr};
+ghost use Rattle.fs_model_worked_examples.specs.Small.{corr_runs, parted, reversed, pair_runs, inner, inner_runs};
+ghost use Rattle.fs_model_worked_examples.specs.Small.{guarded, guarded_end, guarded_runs, swaps, swap_runs, own, last};
+ghost use Rattle.fs_model_worked_examples.specs.Small.{own_runs, returned, returned_runs, carried, carried_runs};
+ghost use Rattle.fs_model_worked_examples.specs.Small.{through, through_runs, swapped, swapped_runs, denied, either};
+ghost use Rattle.fs_model_worked_examples.specs.Small.{not_both, seen_runs, behind, behind_runs, spinlock};
+ghost use Rattle.fs_model_worked_examples.specs.Small.{spinlock_runs};
+ghost use Rattle.fs_model_worked_examples.specs.Refutations.{P0, P1, fences, fence_in, link, but_last, ending_in};
+ghost use Rattle.fs_model_worked_examples.specs.Refutations.{left_by, child, sources_left, sb_tree, sb_or_tree};
+ghost use Rattle.fs_model_worked_examples.specs.Refutations.{mp_tree, mp_forall_tree, corr_tree, parted_tree};
+ghost use Rattle.fs_model_worked_examples.specs.Refutations.{reversed_tree, guarded_rest, guarded_tree};
+ghost use Rattle.fs_model_worked_examples.specs.Refutations.{guarded_by_store, swap_cycle, swap_tree, own_tree};
+ghost use Rattle.fs_model_worked_examples.specs.Refutations.{last_tree, carried_tree, turned_cycle, far_cycle};
+ghost use Rattle.fs_model_worked_examples.specs.Refutations.{lock_fences, spinlock_tree};
 
 /// A law: trees that refute small tests. Store buffering, with fences `w,r`, and by cases of a disjunction; message
 /// passing with `w,w` and `r,r`, also as `forall`; coherent reads, without a fence; an lr.w and sc.w with a store

@@ -1,7 +1,8 @@
 //! A deque between its owner, who pushes and pops, and one thief.
 
 ghost use Rattle.std.specs.Prelude.{◌≡◌, ℕ, ◌+◌, true, false, [], ◌∷◌, ◌++◌, IfOk, IfSome, OnOk, OnErr, IfNone};
-ghost use Rattle.crossbeam_deque.specs.Handles.{view, IsPassOf, worker_deque, stealer_deque, worker_view, worker_flavor};
+ghost use Rattle.crossbeam_deque.specs.Handles.{view, IsPassOf, worker_deque, stealer_deque, worker_view};
+ghost use Rattle.crossbeam_deque.specs.Handles.{worker_flavor};
 ghost use Rattle.fs_pool.specs.Ring.{count_of};
 ghost use Rattle.fs_pool.specs.inner.Conserved.{tally, Conserves};
 
@@ -101,8 +102,10 @@ pub type Right = Pass<usize, Tally>;
 
 /// An empty deque: its owner, a thief, and the thief's right to steal.
 pub fn new_deque(alloc: Global) -> Result<(Owner, Thief, Right), AllocError>
-    ensures deque { IfOk result (λ r. (stealer_deque r.1 ≡ worker_deque r.0) × IsPassOf (worker_deque r.0) r.2 × (worker_flavor r.0 ≡ 0)) }
-    ensures tallies { IfOk result (λ r. (worker_view r.0 ≡ tally true false [] [] []) × (view r.2 ≡ tally false true [] [] [])) }
+    ensures deque { IfOk result (λ r. (stealer_deque r.1 ≡ worker_deque r.0) × IsPassOf (worker_deque r.0) r.2
+        × (worker_flavor r.0 ≡ 0)) }
+    ensures tallies { IfOk result (λ r. (worker_view r.0 ≡ tally true false [] [] [])
+        × (view r.2 ≡ tally false true [] [] [])) }
 {
     let mut owner = Owner::fifo_as(alloc, FIRST_CAPACITY)?;
     let thief = owner.stealer()?;
@@ -113,8 +116,10 @@ pub fn new_deque(alloc: Global) -> Result<(Owner, Thief, Right), AllocError>
 /// Pushes a number at the back. At `Err` nothing is changed.
 pub fn push(owner: &mut Owner, number: usize) -> Result<(), AllocError>
     requires { (worker_view owner.old).owns ≡ true }
-    ensures same { (worker_deque owner.new ≡ worker_deque owner.old) × (worker_flavor owner.new ≡ worker_flavor owner.old) }
-    ensures ok { OnOk result (worker_view owner.new ≡ record (worker_view owner.old) { pushed = (worker_view owner.old).pushed ++ number ∷ [] }) }
+    ensures same { (worker_deque owner.new ≡ worker_deque owner.old)
+        × (worker_flavor owner.new ≡ worker_flavor owner.old) }
+    ensures ok { OnOk result (worker_view owner.new
+        ≡ record (worker_view owner.old) { pushed = (worker_view owner.old).pushed ++ number ∷ [] }) }
     ensures err { OnErr result (worker_view owner.new ≡ worker_view owner.old) }
 {
     match owner.push_as::<Pushed>(number) {
@@ -127,17 +132,22 @@ pub fn push(owner: &mut Owner, number: usize) -> Result<(), AllocError>
 pub fn pop(owner: &mut Owner) -> Option<usize>
     requires owns { (worker_view owner.old).owns ≡ true }
     requires fifo { worker_flavor owner.old ≡ 0 }
-    ensures same { (worker_deque owner.new ≡ worker_deque owner.old) × (worker_flavor owner.new ≡ worker_flavor owner.old) }
-    ensures some { IfSome result (λ x. worker_view owner.new ≡ record (worker_view owner.old) { popped = (worker_view owner.old).popped ++ x ∷ [] }) }
+    ensures same { (worker_deque owner.new ≡ worker_deque owner.old)
+        × (worker_flavor owner.new ≡ worker_flavor owner.old) }
+    ensures some { IfSome result (λ x. worker_view owner.new
+        ≡ record (worker_view owner.old) { popped = (worker_view owner.old).popped ++ x ∷ [] }) }
     ensures none { IfNone result (worker_view owner.new ≡ worker_view owner.old) }
-    ensures empty { IfNone result ((worker_view owner.old).steals ≡ true → (x : ℕ) → count_of x (worker_view owner.old).pushed ≡ count_of x (worker_view owner.old).popped + count_of x (worker_view owner.old).stolen) }
+    ensures empty { IfNone result ((worker_view owner.old).steals ≡ true → (x : ℕ)
+        → count_of x (worker_view owner.old).pushed ≡ count_of x (worker_view
+        owner.old).popped + count_of x (worker_view owner.old).stolen) }
 {
     owner.pop_as::<Popped>()
 }
 
 /// Is the deque empty at this moment? The thief may come between this and the next call.
 pub fn is_empty(owner: &mut Owner) -> bool
-    ensures same { (worker_deque owner.new ≡ worker_deque owner.old) × (worker_flavor owner.new ≡ worker_flavor owner.old) }
+    ensures same { (worker_deque owner.new ≡ worker_deque owner.old)
+        × (worker_flavor owner.new ≡ worker_flavor owner.old) }
     ensures view { worker_view owner.new ≡ worker_view owner.old }
 {
     owner.len_as::<Counted>() == 0
@@ -148,7 +158,8 @@ pub fn steal(thief: &Thief, right: &mut Right) -> Option<usize>
     requires table { IsPassOf (stealer_deque thief.now) right.old }
     requires steals { (view right.old).steals ≡ true }
     ensures table { IsPassOf (stealer_deque thief.now) right.new }
-    ensures some { IfSome result (λ x. view right.new ≡ record (view right.old) { stolen = (view right.old).stolen ++ x ∷ [] }) }
+    ensures some { IfSome result (λ x. view right.new
+        ≡ record (view right.old) { stolen = (view right.old).stolen ++ x ∷ [] }) }
     ensures none { IfNone result (view right.new ≡ view right.old) }
 {
     match thief.steal_as::<Stolen>(right) {
@@ -162,7 +173,8 @@ pub fn steal(thief: &Thief, right: &mut Right) -> Option<usize>
 pub fn drain(mut owner: Owner, right: Right, numbers: &mut Vec<usize>) -> Result<(), AllocError>
     requires owner { ((worker_view owner).owns ≡ true) × (worker_flavor owner ≡ 0) }
     requires thief { IsPassOf (worker_deque owner) right × ((view right).steals ≡ true) }
-    ensures { OnOk result ((x : ℕ) → count_of x numbers.old.items + count_of x (worker_view owner).pushed ≡ count_of x (worker_view owner).popped + count_of x (view right).stolen + count_of x numbers.new.items) }
+    ensures { OnOk result ((x : ℕ) → count_of x numbers.old.items + count_of x (worker_view owner).pushed
+        ≡ count_of x (worker_view owner).popped + count_of x (view right).stolen + count_of x numbers.new.items) }
 {
     owner.absorb::<Roles>(right);
     while let Some(number) = pop(&mut owner) {

@@ -1,6 +1,7 @@
 //! The desk: the board under its lock.
 
-ghost use Rattle.std.specs.Prelude.{◌≡◌, ◌<◌, ◌≤◌, ◌++◌, ◌∷◌, [], ℕ, Some, IfOk, IfErr, length, vec_len, map, slice_get};
+ghost use Rattle.std.specs.Prelude.{◌≡◌, ◌<◌, ◌≤◌, ◌++◌, ◌∷◌, [], ℕ, Some, IfOk, IfErr, length, vec_len, map};
+ghost use Rattle.std.specs.Prelude.{slice_get};
 ghost use Rattle.std.specs.Vec.{vec_capacity};
 ghost use Rattle.std.specs.Arc.{arc_value};
 ghost use Rattle.fs_kinds.specs.declared.fault.Fault.TheVariants.{Memory};

@@ -1,7 +1,9 @@
 //! A ring of hands: each worker owns a deque, and steals from the next worker's.
 
-ghost use Rattle.std.specs.Prelude.{◌≡◌, ◌≢◌, ℕ, ◌<◌, true, [], ◌∷◌, ◌++◌, IfOk, IfErr, IfSome, IfNone, OnOk, OnErr, IsOkUnless, IsTrue, length, slice_get, Some, None};
-ghost use Rattle.crossbeam_deque.specs.Handles.{view, IsPassOf, worker_deque, stealer_deque, worker_view, worker_flavor};
+ghost use Rattle.std.specs.Prelude.{◌≡◌, ◌≢◌, ℕ, ◌<◌, true, [], ◌∷◌, ◌++◌, IfOk, IfErr, IfSome, IfNone, OnOk, OnErr};
+ghost use Rattle.std.specs.Prelude.{IsOkUnless, IsTrue, length, slice_get, Some, None};
+ghost use Rattle.crossbeam_deque.specs.Handles.{view, IsPassOf, worker_deque, stealer_deque, worker_view};
+ghost use Rattle.crossbeam_deque.specs.Handles.{worker_flavor};
 ghost use Rattle.fs_pool.specs.Ring.{Hand as HandValue, AreLinked, AreAll, IsFresh, AreLeft};
 
 use crate::deque::{Owner, Right, Thief, drain, is_empty, new_deque, pop, push, steal};
@@ -23,7 +25,8 @@ pub struct Hand {
 
 impl Model for Hand {
     ghost use Rattle.std.specs.Prelude.{◌≡◌, true};
-    ghost use Rattle.crossbeam_deque.specs.Handles.{view as view_of, IsPassOf, worker_deque, stealer_deque, worker_view, worker_flavor};
+    ghost use Rattle.crossbeam_deque.specs.Handles.{view as view_of, IsPassOf, worker_deque, stealer_deque};
+    ghost use Rattle.crossbeam_deque.specs.Handles.{worker_view, worker_flavor};
     ghost use Rattle.fs_pool.specs.Ring.{Hand as HandValue};
 
     ghost Value = { HandValue };
@@ -38,7 +41,17 @@ impl Hand {
     fn new(number: u8, count: u8, owner: Owner, thief: Thief, right: Right) -> Self
         requires owner { ((worker_view owner).owns ≡ true) × (worker_flavor owner ≡ 0) }
         requires thief { ((view right).steals ≡ true) × IsPassOf (stealer_deque thief) right }
-        ensures { result ≡ record { number = number; count = count; own = worker_deque owner; victim = stealer_deque thief; pushed = (worker_view owner).pushed; popped = (worker_view owner).popped; stolen = (view right).stolen } }
+        ensures { result
+            ≡ record {
+              number = number;
+              count = count;
+              own = worker_deque owner;
+              victim = stealer_deque thief;
+              pushed =
+                  (worker_view owner).pushed;
+              popped = (worker_view owner).popped;
+              stolen = (view right).stolen;
+            } }
     {
         Hand {
             number,
@@ -51,7 +64,8 @@ impl Hand {
 
     /// The owner of its deque, and its right to steal from the next one.
     fn into_parts(self) -> (Owner, Right)
-        ensures owner { ((worker_view result.0).owns ≡ true) × (worker_flavor result.0 ≡ 0) × (worker_deque result.0 ≡ self.own) }
+        ensures owner { ((worker_view result.0).owns ≡ true) × (worker_flavor result.0 ≡ 0)
+            × (worker_deque result.0 ≡ self.own) }
         ensures right { ((view result.1).steals ≡ true) × IsPassOf self.victim result.1 }
         ensures pushed { (worker_view result.0).pushed ≡ self.pushed }
         ensures popped { (worker_view result.0).popped ≡ self.popped }

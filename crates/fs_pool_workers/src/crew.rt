@@ -191,7 +191,8 @@ fn begin<G: Gate>(
 ) -> Result<Option<Vec<Arc<Witness>>>, Fault>
     requires { board.old.question.test ≡ arc_value problem.now }
     ensures goes { GoesOn board.old board.new }
-    ensures met { IfOk result (λ found. IfSome found (λ met. AreWitnesses (arc_value problem.now) (map arc_value met.items))) }
+    ensures met { IfOk result
+        (λ found. IfSome found (λ met. AreWitnesses (arc_value problem.now) (map arc_value met.items))) }
     ensures err { IfErr result (λ f. f ≢ Fault.Memory → IsSolveFault board.old.question board.old.board.limit f) }
 {
     let shared = Arc::try_clone(problem)?;

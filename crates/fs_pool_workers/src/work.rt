@@ -4,7 +4,7 @@
 ghost use Rattle.std.specs.Prelude.{◌≡◌, IfOk, IfSome, map};
 ghost use Rattle.std.specs.Arc.{arc_value};
 ghost use Rattle.fs_model.specs.Slots.{slots};
-ghost use Rattle.fs_board_laws.specs.Bounds.{slots_in_part};
+ghost use Rattle.fs_model_laws.specs.Bounds.{slots_in_part};
 ghost use Rattle.fs_board.specs.Asking.{IsMade};
 ghost use Rattle.fs_board.specs.Growth.{AreWitnesses};
 

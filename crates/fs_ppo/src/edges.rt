@@ -40,7 +40,8 @@ pub fn is_edge(
     b: usize,
     cause: Cause,
 ) -> bool
-    ensures { OfRuns candidate.now (λ x. result ≡ is_edge x placement.now (candidate_of candidate.now) a b (cause_of cause)) }
+    ensures { OfRuns candidate.now (λ x. result
+        ≡ is_edge x placement.now (candidate_of candidate.now) a b (cause_of cause)) }
 {
     match cause {
         Cause::Rule1 => rule(1, candidate, a, b),

@@ -106,7 +106,8 @@ fn any_placed_orders(
     requires start { i < most_numbered }
     requires end { j < most_numbered }
     ensures { result
-        ≡ list_any (λ k. kind_orders pair.first pair.second (placed_at steps.now hart placement.now k)) (between i (j + 1)) }
+        ≡ list_any (λ k. kind_orders pair.first pair.second (placed_at steps.now hart placement.now k)) (between i
+        (j + 1)) }
 {
     (i + 1..j + 1).any(|k| kind_orders(placed_before(steps, hart, k, placement), pair))
 }

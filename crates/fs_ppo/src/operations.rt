@@ -3,7 +3,8 @@
 ghost use Rattle.std.specs.Prelude.{◌≡◌, ◌&&◌, is_some};
 ghost use Rattle.std.specs.List.{list_any};
 ghost use Rattle.fs_model.specs.Numbers.{is_same};
-ghost use Rattle.fs_model.specs.Operations.{operation, place, is_load, is_store, same_word, precedes, po, any_between, is_acquire, is_release, is_rcsc, is_amo_or_sc, classes, trace_of};
+ghost use Rattle.fs_model.specs.Operations.{operation, place, is_load, is_store, same_word, precedes, po, any_between};
+ghost use Rattle.fs_model.specs.Operations.{is_acquire, is_release, is_rcsc, is_amo_or_sc, classes, trace_of};
 ghost use Rattle.fs_cand.specs.Candidates.{rf};
 ghost use Rattle.fs_ppo.specs.Rules.{OfRuns};
 

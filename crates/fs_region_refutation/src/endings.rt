@@ -10,7 +10,8 @@ ghost use Rattle.fs_cert_evidence.specs.Regions.{stored_at};
 ghost use Rattle.fs_cert_evidence.specs.Musts.{has_truth, passes, stores_such, must_be};
 ghost use Rattle.fs_region_refutation.specs.Views.{region_of, runs_of, IsOf};
 ghost use Rattle.fs_region_refutation.specs.inner.Asked.{ends_so, EndsSome};
-ghost use Rattle.fs_region_refutation.specs.inner.Each.{AreNames, is_ending, stores_under, ends_with, joins, may_each, may_all_with, registers_each, ends_each};
+ghost use Rattle.fs_region_refutation.specs.inner.Each.{AreNames, is_ending, stores_under, ends_with, joins, may_each};
+ghost use Rattle.fs_region_refutation.specs.inner.Each.{may_all_with, registers_each, ends_each};
 
 use crate::basis::Basis;
 use crate::musts::{Access, accesses, must_be};

@@ -5,7 +5,8 @@ ghost use Rattle.fs_kinds.specs.declared.reason.OperationName.{OperationName as 
 ghost use Rattle.fs_model.specs.declared.test.Test.{Test};
 ghost use Rattle.fs_cert_evidence.specs.Splits.{with_source, with_order, with_wanted};
 ghost use Rattle.fs_region_runs.specs.Alone.{source_of};
-ghost use Rattle.fs_region_refutation.specs.Views.{region_of, known_source, runs_of, all_wanted, with_runs, source_in, source_after, lists_in, list_at, IsOf, AreRunsOf};
+ghost use Rattle.fs_region_refutation.specs.Views.{region_of, known_source, runs_of, all_wanted, with_runs, source_in};
+ghost use Rattle.fs_region_refutation.specs.Views.{source_after, lists_in, list_at, IsOf, AreRunsOf};
 
 use crate::musts::is_same_name;
 use fs_kinds::{List, OperationName};

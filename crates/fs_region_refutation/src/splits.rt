@@ -1,15 +1,19 @@
 //! How a region is split into smaller ones.
 
-ghost use Rattle.std.specs.Prelude.{◌≡◌, ◌≢◌, ℕ, ◌++◌, ◌+◌, ◌∷◌, ◌<◌, [], List, Bool, map, filter, length, nat_lt, take, drop, false, slice_get, unwrap_or, if◌then◌else◌, IfOk, OnOk};
+ghost use Rattle.std.specs.Prelude.{◌≡◌, ◌≢◌, ℕ, ◌++◌, ◌+◌, ◌∷◌, ◌<◌, [], List, Bool, map, filter, length, nat_lt};
+ghost use Rattle.std.specs.Prelude.{take, drop, false, slice_get, unwrap_or, if◌then◌else◌, IfOk, OnOk};
 ghost use Rattle.std.specs.List.{list_any};
 ghost use Rattle.fs_model.specs.declared.test.Test.{Test};
 ghost use Rattle.fs_model.specs.declared.step.Step.{Step};
 ghost use Rattle.fs_model.specs.Condition.{condition_of};
 ghost use Rattle.fs_cert_evidence.specs.Regions.{From, same_source};
-ghost use Rattle.fs_cert_evidence.specs.Splits.{keep, agree, chosen_at, rising, by_choice, from_store, from_initial, from_nothing, from_source, is_left, can_be_source, sources_for, by_source, by_order, ways, ways_of, by_cases, by_outcome, with_source};
+ghost use Rattle.fs_cert_evidence.specs.Splits.{keep, agree, chosen_at, rising, by_choice, from_store, from_initial};
+ghost use Rattle.fs_cert_evidence.specs.Splits.{from_nothing, from_source, is_left, can_be_source, sources_for};
+ghost use Rattle.fs_cert_evidence.specs.Splits.{by_source, by_order, ways, ways_of, by_cases, by_outcome, with_source};
 ghost use Rattle.fs_cert_evidence.specs.Trees.{is_open};
 ghost use Rattle.fs_region_runs.specs.Alone.{source_of};
-ghost use Rattle.fs_region_refutation.specs.Views.{region_of, regions_of, all_wanted, list_at, runs_of, known_source, IsOf, AreOf};
+ghost use Rattle.fs_region_refutation.specs.Views.{region_of, regions_of, all_wanted, list_at, runs_of, known_source};
+ghost use Rattle.fs_region_refutation.specs.Views.{IsOf, AreOf};
 
 use crate::basis::Basis;
 use crate::endings::may_all_each;

@@ -71,7 +71,8 @@ impl Rows {
     /// Has just the edges of both from each number below n, and from the others those that it had. n words.
     pub fn join(&mut self, first: &Rows, second: &Rows, n: usize)
         requires { n ≤ 64 }
-        ensures below { (x y : ℕ) → x < n → has_edge self.new x y ≡ (has_edge first.now x y || has_edge second.now x y) }
+        ensures below { (x y : ℕ) → x < n → has_edge self.new x y
+            ≡ (has_edge first.now x y || has_edge second.now x y) }
         ensures above { (x y : ℕ) → n ≤ x → has_edge self.new x y ≡ has_edge self.old x y }
     {
         for a in 0..n {

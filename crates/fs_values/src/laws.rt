@@ -19,7 +19,8 @@ pub fn same_sets_fail_alike()
 
 /// A law: after a round that adds nothing, no later round adds a word or meets another fault.
 pub fn rounds_come_to_an_end()
-    ensures values { (t : Test) (n : ℕ) → AddsNothing t n → (m : ℕ) → n ≤ m → AreSameSets (IsValueAfter t n) (IsValueAfter t m) }
+    ensures values { (t : Test) (n : ℕ) → AddsNothing t n → (m : ℕ) → n ≤ m
+        → AreSameSets (IsValueAfter t n) (IsValueAfter t m) }
     ensures faults { (t : Test) (n : ℕ) → AddsNothing t n → (m : ℕ) → n ≤ m
         → (hart : ℕ) (f : Fault) → IsHartFault t (IsValueAfter t n) hart f ↔ IsHartFault t (IsValueAfter t m) hart f }
 {}

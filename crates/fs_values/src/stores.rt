@@ -59,7 +59,8 @@ pub(crate) fn stores_over(alloc: Global, test: &Test, sets: &[Words]) -> Result<
     requires test { IsBounded test.now }
     requires starts { All IsStart test.now.starts }
     requires sets { All IsStrictlyIncreasing sets.now }
-    ensures ok { IfOk result (λ stores. AreStoresBelow test.now (IsOffered sets.now) (length test.now.codes) stores.items) }
+    ensures ok { IfOk result
+        (λ stores. AreStoresBelow test.now (IsOffered sets.now) (length test.now.codes) stores.items) }
     ensures clean { OnOk result (HasNoFault test.now (IsOffered sets.now)) }
     ensures err { IfErr result (λ fault. fault ≢ Memory → IsFirstHartFault test.now (IsOffered sets.now) fault) }
 {

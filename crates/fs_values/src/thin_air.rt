@@ -5,13 +5,15 @@ ghost use Rattle.fs_model.specs.declared.test.Test.{Test};
 ghost use Rattle.fs_model.specs.Test.{IsBounded};
 ghost use Rattle.fs_model.specs.Values.{IsValueAfter};
 ghost use Rattle.fs_values.specs.Readings.{SaysTheSame};
-ghost use Rattle.fs_values.specs.ThinAir.{BeginsWithWords, HasRunsOverValues, IsAlwaysGrounded, KeepsStores, MeetsNoFault, NeverAstray, RestsOnNoCycle};
+ghost use Rattle.fs_values.specs.ThinAir.{BeginsWithWords, HasRunsOverValues, IsAlwaysGrounded, KeepsStores};
+ghost use Rattle.fs_values.specs.ThinAir.{MeetsNoFault, NeverAstray, RestsOnNoCycle};
 
 /// A law: a run stores what it stores by the words of the loads on which the store rests alone. Where these are words
 /// of a set, some run all of whose loads take words of the set stores the same word at the same location, if none over
 /// the set goes astray.
 pub fn stores_rest_on_their_loads()
-    ensures tests { (t : Test) (test : ℕ → ℕ → Bool) → IsBounded t → BeginsWithWords t → KeepsStores t (λ k word. test k word ≡ true) }
+    ensures tests { (t : Test) (test : ℕ → ℕ → Bool) → IsBounded t → BeginsWithWords t
+        → KeepsStores t (λ k word. test k word ≡ true) }
     ensures rounds { (t : Test) (n : ℕ) → IsBounded t → BeginsWithWords t → KeepsStores t (IsValueAfter t n) }
 {}
 

@@ -14,18 +14,21 @@ ghost use Rattle.fs_cert_evidence.specs.Listings.{IsListing};
 ghost use Rattle.fs_cert_evidence.specs.Certificate.{Link};
 ghost use Rattle.fs_cert_evidence.specs.Cycles.{IsCycle, HasCycles, most_links};
 ghost use Rattle.fs_values.specs.ThinAir.{CanBeListed};
-ghost use Rattle.fs_verdict_laws.specs.Decide.{IsOrdered, IsExecuted, IsSorted, IsRound, IsAcyclic, HasOrdered, HasAcyclic, candidate_of, ordered_by, of_harts};
+ghost use Rattle.fs_verdict_laws.specs.Decide.{IsOrdered, IsExecuted, IsSorted, IsRound, IsAcyclic, HasOrdered};
+ghost use Rattle.fs_verdict_laws.specs.Decide.{HasAcyclic, candidate_of, ordered_by, of_harts};
 
 /// A law: a showing candidate with an order that respects its judged relation is an execution that shows the outcome,
 /// by the candidate's sources and coherence orders. The order of each execution respects the judged relation of its own
 /// sources and coherence orders, and where it shows the outcome they are a showing candidate. So in a test whose runs
 /// can be listed the outcome is allowed exactly where some showing candidate has such an order.
 pub fn candidates_decide()
-    ensures executed { (t : Test) (p : List Entry) (c : Candidate) (order : List ℕ) → IsShowing t c → IsOrdered t p c order
+    ensures executed { (t : Test) (p : List Entry) (c : Candidate) (order : List ℕ) → IsShowing t c
+        → IsOrdered t p c order
         → IsExecuted t p c order }
     ensures ordered { (t : Test) (p : List Entry) (e : Execution) → IsExecution t p e
         → IsOrdered t p (candidate_of t e) e.order }
-    ensures showing { (t : Test) → CanBeListed t → (p : List Entry) (e : Execution) → Shows t p e → IsShowing t (candidate_of t e) }
+    ensures showing { (t : Test) → CanBeListed t → (p : List Entry) (e : Execution) → Shows t p e
+        → IsShowing t (candidate_of t e) }
     ensures exactly { (t : Test) (p : List Entry) (c : Candidate) (order : List ℕ) → IsShowing t c
         → IsOrdered t p c order ↔ (IsExecution t p (ordered_by c order) × (candidate_of t (ordered_by c order) ≡ c)) }
     ensures decides { (t : Test) → CanBeListed t → (p : List Entry) → Allows t p ↔ HasOrdered t p }
@@ -50,7 +53,8 @@ pub fn cycles_decide()
 /// A law: the placed fences add to the judged relation without them the edges of rule 4, and no others.
 pub fn fences_add_edges()
     ensures { (t : Test) (p : List Entry) (c : Candidate) (a b : ℕ)
-        → is_judged (runs_of t c) p c a b ≡ (is_judged (runs_of t c) [] c a b || rule (runs_of t c) p (rf c) a b Rule4) }
+        → is_judged (runs_of t c) p c a b ≡ (is_judged (runs_of t c) [] c a b
+        || rule (runs_of t c) p (rf c) a b Rule4) }
 {}
 
 /// A law: the judged relation has an edge exactly where some cause gives it.
@@ -62,7 +66,8 @@ pub fn causes_make_edges()
 /// A law: no edge of the judged relation enters an initial store. So a list of all operations that goes the way of each
 /// edge, as sorting the relation gives it, is an order once the initial stores are taken out.
 pub fn edges_enter_harts()
-    ensures enters { (t : Test) (p : List Entry) (c : Candidate) (a b : ℕ) → IsRaw t c → is_judged (runs_of t c) p c a b ≡ true
+    ensures enters { (t : Test) (p : List Entry) (c : Candidate) (a b : ℕ) → IsRaw t c
+        → is_judged (runs_of t c) p c a b ≡ true
         → b < length (accesses (runs_of t c)) }
     ensures sorted { (t : Test) (p : List Entry) (c : Candidate) (sorted : List ℕ) → IsRaw t c → IsSorted t p c sorted
         → IsOrdered t p c (of_harts t c sorted) }
@@ -72,11 +77,14 @@ pub fn edges_enter_harts()
 /// outcome. Where the outcome is forbidden, and no showing candidate has more than 64 operations, there are such
 /// cycles.
 pub fn cycles_forbid()
-    ensures rounds { (t : Test) (p : List Entry) (c : Candidate) (numbers order : List ℕ) → IsRound (is_judged (runs_of t c) p c) numbers
+    ensures rounds { (t : Test) (p : List Entry) (c : Candidate) (numbers order : List ℕ)
+        → IsRound (is_judged (runs_of t c) p c) numbers
         → IsOrdered t p c order → ⊥ }
-    ensures cycles { (t : Test) (p : List Entry) (c : Candidate) (links : List Link) (order : List ℕ) → IsCycle t p c links
+    ensures cycles { (t : Test) (p : List Entry) (c : Candidate) (links : List Link) (order : List ℕ)
+        → IsCycle t p c links
         → IsOrdered t p c order → ⊥ }
-    ensures forbids { (t : Test) → CanBeListed t → (p : List Entry) (cycles : List (List Link)) → HasCycles t p cycles → Allows t p → ⊥ }
+    ensures forbids { (t : Test) → CanBeListed t → (p : List Entry) (cycles : List (List Link)) → HasCycles t p cycles
+        → Allows t p → ⊥ }
     ensures exist { (t : Test) (p : List Entry) (cs : List Candidate) → IsListing t cs
         → ((c : Candidate) → IsShowing t c → length (operations (runs_of t c)) ≤ most_links) → (Allows t p → ⊥)
         → (cycles : List (List Link)) × HasCycles t p cycles }

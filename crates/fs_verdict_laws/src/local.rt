@@ -1,6 +1,7 @@
 //! The laws of locality.
 
-ghost use Rattle.std.specs.Prelude.{◌≡◌, ◌↔◌, ◌≤◌, ℕ, Bool, true, false, ◌&&◌, not, Option, Some, None, List, ◌++◌, All, length, take, drop};
+ghost use Rattle.std.specs.Prelude.{◌≡◌, ◌↔◌, ◌≤◌, ℕ, Bool, true, false, ◌&&◌, not, Option, Some, None, List, ◌++◌};
+ghost use Rattle.std.specs.Prelude.{All, length, take, drop};
 ghost use Rattle.std.specs.List.{Contains, AllZip};
 ghost use Rattle.fs_kinds.specs.declared.placement.Entry.{Entry};
 ghost use Rattle.fs_kinds.specs.declared.reason.OperationName.{OperationName as Name};
@@ -15,7 +16,8 @@ ghost use Rattle.fs_cert_evidence.specs.Candidates.{Candidate, IsRaw, runs_of, r
 ghost use Rattle.fs_cert_evidence.specs.Judged.{Preserved, is_edge};
 ghost use Rattle.fs_cert_evidence.specs.Certificate.{Link};
 ghost use Rattle.fs_cert_evidence.specs.Cycles.{IsCycle, most_links};
-ghost use Rattle.fs_verdict_laws.specs.Local.{access_at, is_local, local_rule, through, place_of, named_rule, always, never, named_through, always_through, source_name, HasLink};
+ghost use Rattle.fs_verdict_laws.specs.Local.{access_at, is_local, local_rule, through, place_of, named_rule, always};
+ghost use Rattle.fs_verdict_laws.specs.Local.{never, named_through, always_through, source_name, HasLink};
 
 /// A law: an operation of a hart is what its run has at its place. What a rule asks of two operations of one hart,
 /// the run of that hart alone decides by their places, for all rules but three: of rules 2 and 3 a fact on sources is
@@ -54,11 +56,14 @@ pub fn rules_are_local()
 
 /// A law: no rule orders operations of two harts, nor an initial store or what is no operation.
 pub fn rules_keep_to_harts()
-    ensures apart { (x : PreExecution) (p : List Entry) (rf : ℕ → Option ℕ) (a b : ℕ) (r : Rule) → same_hart x a b ≡ false
+    ensures apart { (x : PreExecution) (p : List Entry) (rf : ℕ → Option ℕ) (a b : ℕ) (r : Rule)
+        → same_hart x a b ≡ false
         → rule x p rf a b r ≡ false }
-    ensures first { (x : PreExecution) (p : List Entry) (rf : ℕ → Option ℕ) (a b : ℕ) (r : Rule) → length (accesses x) ≤ a
+    ensures first { (x : PreExecution) (p : List Entry) (rf : ℕ → Option ℕ) (a b : ℕ) (r : Rule)
+        → length (accesses x) ≤ a
         → rule x p rf a b r ≡ false }
-    ensures second { (x : PreExecution) (p : List Entry) (rf : ℕ → Option ℕ) (a b : ℕ) (r : Rule) → length (accesses x) ≤ b
+    ensures second { (x : PreExecution) (p : List Entry) (rf : ℕ → Option ℕ) (a b : ℕ) (r : Rule)
+        → length (accesses x) ≤ b
         → rule x p rf a b r ≡ false }
 {}
 
@@ -66,24 +71,30 @@ pub fn rules_keep_to_harts()
 /// by a rule that looks at the run alone, exactly where the rule holds of that hart's run by names. Of rules 2 and 3
 /// a fact on sources is left. So the candidate has a link of a cycle exactly where the run says so.
 pub fn names_decide()
-    ensures places { (t : Test) (p : List Entry) (c : Candidate) → All GoesForward t.codes → IsRaw t c → (a : ℕ) (n : Name)
+    ensures places { (t : Test) (p : List Entry) (c : Candidate) → All GoesForward t.codes → IsRaw t c
+        → (a : ℕ) (n : Name)
         → name_of (runs_of t c) a ≡ Some n → place_of (steps_of c.traces n.hart) n.at ≡ Some (place (runs_of t c) a) }
-    ensures edges { (t : Test) (p : List Entry) (c : Candidate) → All GoesForward t.codes → IsRaw t c → (a b : ℕ) (n m : Name) (r : Rule)
+    ensures edges { (t : Test) (p : List Entry) (c : Candidate) → All GoesForward t.codes → IsRaw t c
+        → (a b : ℕ) (n m : Name) (r : Rule)
         → name_of (runs_of t c) a ≡ Some n → name_of (runs_of t c) b ≡ Some m → m.hart ≡ n.hart → is_local r ≡ true
         → is_edge (runs_of t c) p c a b (Preserved r) ≡ named_rule n.hart (steps_of c.traces n.hart) p n.at m.at r }
-    ensures two { (t : Test) (p : List Entry) (c : Candidate) → All GoesForward t.codes → IsRaw t c → (a b : ℕ) (n m : Name)
+    ensures two { (t : Test) (p : List Entry) (c : Candidate) → All GoesForward t.codes → IsRaw t c
+        → (a b : ℕ) (n m : Name)
         → name_of (runs_of t c) a ≡ Some n → name_of (runs_of t c) b ≡ Some m → m.hart ≡ n.hart
         → is_edge (runs_of t c) p c a b (Preserved Rule2)
         ≡ (named_rule n.hart (steps_of c.traces n.hart) p n.at m.at Rule2 && not (is_same (rf c a) (rf c b))) }
-    ensures three { (t : Test) (p : List Entry) (c : Candidate) → All GoesForward t.codes → IsRaw t c → (a b : ℕ) (n m : Name)
+    ensures three { (t : Test) (p : List Entry) (c : Candidate) → All GoesForward t.codes → IsRaw t c
+        → (a b : ℕ) (n m : Name)
         → name_of (runs_of t c) a ≡ Some n → name_of (runs_of t c) b ≡ Some m → m.hart ≡ n.hart
         → is_edge (runs_of t c) p c a b (Preserved Rule3)
         ≡ (named_rule n.hart (steps_of c.traces n.hart) p n.at m.at Rule3 && is_same (rf c b) (Some a)) }
-    ensures twelve { (t : Test) (p : List Entry) (c : Candidate) → All GoesForward t.codes → IsRaw t c → (a b s : ℕ) (n m k : Name)
+    ensures twelve { (t : Test) (p : List Entry) (c : Candidate) → All GoesForward t.codes → IsRaw t c
+        → (a b s : ℕ) (n m k : Name)
         → name_of (runs_of t c) a ≡ Some n → name_of (runs_of t c) b ≡ Some m → m.hart ≡ n.hart
         → rf c b ≡ Some s → name_of (runs_of t c) s ≡ Some k → k.hart ≡ n.hart
         → is_edge (runs_of t c) p c a b (Preserved Rule12) ≡ named_through (steps_of c.traces n.hart) n.at k.at m.at }
-    ensures links { (t : Test) (p : List Entry) (c : Candidate) → All GoesForward t.codes → IsRaw t c → (n m : Name) → m.hart ≡ n.hart
+    ensures links { (t : Test) (p : List Entry) (c : Candidate) → All GoesForward t.codes → IsRaw t c → (n m : Name)
+        → m.hart ≡ n.hart
         → (r : Rule) → is_local r ≡ true
         → HasLink t p c n m (Preserved r) ↔ (named_rule n.hart (steps_of c.traces n.hart) p n.at m.at r ≡ true) }
 {}
@@ -91,19 +102,24 @@ pub fn names_decide()
 /// A law: where the rule holds by names of each run in a list, each candidate whose run of that hart is in the list
 /// has the link, and the edge between its operations of these names.
 pub fn runs_serve()
-    ensures links { (t : Test) (p : List Entry) (c : Candidate) → All GoesForward t.codes → IsRaw t c → (n m : Name) → m.hart ≡ n.hart
+    ensures links { (t : Test) (p : List Entry) (c : Candidate) → All GoesForward t.codes → IsRaw t c → (n m : Name)
+        → m.hart ≡ n.hart
         → (r : Rule) → is_local r ≡ true → (runs : List (List Step)) → always n.hart runs p n.at m.at r ≡ true
         → Contains runs (steps_of c.traces n.hart) → HasLink t p c n m (Preserved r) }
-    ensures edges { (t : Test) (p : List Entry) (c : Candidate) → All GoesForward t.codes → IsRaw t c → (n m : Name) → m.hart ≡ n.hart
+    ensures edges { (t : Test) (p : List Entry) (c : Candidate) → All GoesForward t.codes → IsRaw t c → (n m : Name)
+        → m.hart ≡ n.hart
         → (r : Rule) → is_local r ≡ true → (runs : List (List Step)) → always n.hart runs p n.at m.at r ≡ true
-        → Contains runs (steps_of c.traces n.hart) → (a b : ℕ) → name_of (runs_of t c) a ≡ Some n → name_of (runs_of t c) b ≡ Some m
+        → Contains runs (steps_of c.traces n.hart) → (a b : ℕ) → name_of (runs_of t c) a ≡ Some n → name_of (runs_of t
+        c) b ≡ Some m
         → is_edge (runs_of t c) p c a b (Preserved r) ≡ true }
-    ensures alike { (t : Test) (p : List Entry) (c d : Candidate) → All GoesForward t.codes → IsRaw t c → IsRaw t d → (a b i j : ℕ)
+    ensures alike { (t : Test) (p : List Entry) (c d : Candidate) → All GoesForward t.codes → IsRaw t c → IsRaw t d
+        → (a b i j : ℕ)
         (n m : Name) (r : Rule) → is_local r ≡ true → m.hart ≡ n.hart → steps_of c.traces n.hart ≡ steps_of d.traces n.hart
         → name_of (runs_of t c) a ≡ Some n → name_of (runs_of t c) b ≡ Some m → name_of (runs_of t d) i ≡ Some n
         → name_of (runs_of t d) j ≡ Some m
         → is_edge (runs_of t c) p c a b (Preserved r) ≡ is_edge (runs_of t d) p d i j (Preserved r) }
-    ensures none { (t : Test) (p : List Entry) (c : Candidate) → All GoesForward t.codes → IsRaw t c → (n m : Name) → m.hart ≡ n.hart
+    ensures none { (t : Test) (p : List Entry) (c : Candidate) → All GoesForward t.codes → IsRaw t c → (n m : Name)
+        → m.hart ≡ n.hart
         → (r : Rule) (runs : List (List Step)) → never n.hart runs p n.at m.at r ≡ true
         → Contains runs (steps_of c.traces n.hart) → HasLink t p c n m (Preserved r) → ⊥ }
 {}
@@ -112,17 +128,23 @@ pub fn runs_serve()
 /// stores of different names; the load returns from the first operation; or it returns from one of some stores
 /// between, each of which depends on the first operation in each of the runs.
 pub fn runs_and_sources_serve()
-    ensures two { (t : Test) (p : List Entry) (c : Candidate) → All GoesForward t.codes → IsRaw t c → (n m : Name) → m.hart ≡ n.hart
-        → (runs : List (List Step)) → Contains runs (steps_of c.traces n.hart) → always n.hart runs p n.at m.at Rule2 ≡ true
+    ensures two { (t : Test) (p : List Entry) (c : Candidate) → All GoesForward t.codes → IsRaw t c → (n m : Name)
+        → m.hart ≡ n.hart
+        → (runs : List (List Step)) → Contains runs (steps_of c.traces
+        n.hart) → always n.hart runs p n.at m.at Rule2 ≡ true
         → ((a b : ℕ) → name_of (runs_of t c) a ≡ Some n → name_of (runs_of t c) b ≡ Some m
         → source_name (runs_of t c) c a ≡ source_name (runs_of t c) c b → ⊥)
         → HasLink t p c n m (Preserved Rule2) }
-    ensures three { (t : Test) (p : List Entry) (c : Candidate) → All GoesForward t.codes → IsRaw t c → (n m : Name) → m.hart ≡ n.hart
-        → (runs : List (List Step)) → Contains runs (steps_of c.traces n.hart) → always n.hart runs p n.at m.at Rule3 ≡ true
+    ensures three { (t : Test) (p : List Entry) (c : Candidate) → All GoesForward t.codes → IsRaw t c → (n m : Name)
+        → m.hart ≡ n.hart
+        → (runs : List (List Step)) → Contains runs (steps_of c.traces
+        n.hart) → always n.hart runs p n.at m.at Rule3 ≡ true
         → ((b : ℕ) → name_of (runs_of t c) b ≡ Some m → source_name (runs_of t c) c b ≡ Some n)
         → HasLink t p c n m (Preserved Rule3) }
-    ensures twelve { (t : Test) (p : List Entry) (c : Candidate) → All GoesForward t.codes → IsRaw t c → (n m : Name) → m.hart ≡ n.hart
-        → (runs : List (List Step)) → Contains runs (steps_of c.traces n.hart) → always n.hart runs p n.at m.at Rule12 ≡ true
+    ensures twelve { (t : Test) (p : List Entry) (c : Candidate) → All GoesForward t.codes → IsRaw t c → (n m : Name)
+        → m.hart ≡ n.hart
+        → (runs : List (List Step)) → Contains runs (steps_of c.traces
+        n.hart) → always n.hart runs p n.at m.at Rule12 ≡ true
         → ((b : ℕ) → name_of (runs_of t c) b ≡ Some m
         → (k : Name) × (source_name (runs_of t c) c b ≡ Some k) × (k.hart ≡ n.hart)
         × (always_through runs n.at k.at m.at ≡ true))
@@ -132,11 +154,15 @@ pub fn runs_and_sources_serve()
 /// A law: a cycle is its links. The candidate has it exactly where it has each link, with the next one's operation,
 /// by itself.
 pub fn links_make_cycles()
-    ensures cycle { (t : Test) (p : List Entry) (c : Candidate) → All GoesForward t.codes → IsRaw t c → (links : List Link)
+    ensures cycle { (t : Test) (p : List Entry) (c : Candidate) → All GoesForward t.codes → IsRaw t c
+        → (links : List Link)
         → 1 ≤ length links → length links ≤ most_links
-        → AllZip (λ link next. HasLink t p c link.operation next.operation link.cause) links (drop 1 links ++ take 1 links)
+        → AllZip (λ link next. HasLink t p c link.operation next.operation link.cause) links (drop 1 links ++ take
+        1 links)
         → IsCycle t p c links }
-    ensures links { (t : Test) (p : List Entry) (c : Candidate) → All GoesForward t.codes → IsRaw t c → (links : List Link)
+    ensures links { (t : Test) (p : List Entry) (c : Candidate) → All GoesForward t.codes → IsRaw t c
+        → (links : List Link)
         → IsCycle t p c links
-        → AllZip (λ link next. HasLink t p c link.operation next.operation link.cause) links (drop 1 links ++ take 1 links) }
+        → AllZip (λ link next. HasLink t p c link.operation next.operation link.cause) links (drop 1 links ++ take 1
+        links) }
 {}

@@ -1,4 +1,4 @@
-use Rattle.std.proofs.Common.{arith, length, ◌<◌}
+use Rattle.std.proofs.Common.{arith, length, ◌<◌, ◌&&◌, refl}
 use Rattle.fs_app_audit.proofs.Taken.{at-same, fit-more, taken-more}
 use Rattle.fs_app_audit.proofs.findings.take_up_all.Goals as goal
 
@@ -8,10 +8,11 @@ loop-fence-preserved c =
     let fences = c.args.fences.now in
     let now = c.loop-fence in
     let low : now.fence-index < length fences = omega arith in
-    let placement = c.take_up-fits.new.placement in
+    let fits = c.take_up-all_fit in
+    let placement = fits.new.placement in
     record {
-      fit = fit-more prices now.placement placement fences now.fence-index _ _ now.all_fit c.take_up-fits.result c.both-all_fit.result
-          low (at-same fences now.fence-index _ _ low) now.invariant.fit c.take_up-fits.ensures.fits c.take_up-fits.ensures.taken c.both-all_fit.ensures;
+      fit = fit-more prices now.placement placement fences now.fence-index _ _ now.all_fit fits.result (now.all_fit && fits.result)
+          low (at-same fences now.fence-index _ _ low) now.invariant.fit fits.ensures.fits fits.ensures.taken refl;
       taken = taken-more prices now.placement placement fences now.fence-index _ _
-          low (at-same fences now.fence-index _ _ low) now.invariant.taken c.take_up-fits.ensures.taken;
+          low (at-same fences now.fence-index _ _ low) now.invariant.taken fits.ensures.taken;
     }

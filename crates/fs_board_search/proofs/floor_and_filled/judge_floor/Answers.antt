@@ -1,4 +1,4 @@
-use Rattle.fs_board_search.proofs.Parts.{floor-slots}
+use Rattle.fs_board_plan.proofs.Parts.{floor-slots}
 use Rattle.fs_board_search.proofs.floor_and_filled.judge_floor.Goals as goal
 
 pub verdict-requires : goal.verdict-requires

@@ -3,7 +3,7 @@ use Rattle.std.specs.Prelude.{IfSome}
 use Rattle.fs_model.specs.Execution.{Execution}
 use Rattle.fs_model.specs.Allows.{Shows}
 use Rattle.fs_cert_evidence.specs.Evidence.{Shown, IsWitnessFor}
-use Rattle.fs_board_search.proofs.Parts.{one-more}
+use Rattle.fs_board_plan.proofs.Parts.{one-more}
 use Rattle.fs_board_search.proofs.floor_and_filled.look_at_filled.Goals as goal
 
 pub returns-clause-known : goal.returns-clause-known

@@ -1,7 +1,7 @@
 use Rattle.std.proofs.Common.{◌≡◌, map, length, sym, ap, subst, ◌∙◌}
 use Rattle.fs_kinds.specs.PriceTable.{are_offered}
 use Rattle.fs_cert_evidence.specs.Evidence.{Question, witness_in}
-use Rattle.fs_board_laws.proofs.Closed.{history-right}
+use Rattle.fs_model_laws.proofs.Closed.{history-right}
 use Rattle.fs_cert.specs.Certified.{Certifies, AreDistinct}
 use Rattle.fs_cert.specs.inner.Copies.{AreCopiedWitnesses, AreNumbered, StandsAt}
 use Rattle.fs_cert.specs.inner.Fenced.{IsFenced}

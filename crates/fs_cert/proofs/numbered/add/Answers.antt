@@ -1,6 +1,6 @@
 use Rattle.std.proofs.Common.{get_or, ◌≢◌, ap, ◌∙◌, ◌++◌, ◌∷◌, [], refl, sym, subst, arith}
 use Rattle.std.specs.Prelude.{slice_get}
-use Rattle.fs_board_laws.proofs.Places.{at-end}
+use Rattle.fs_model_laws.proofs.Places.{at-end}
 use Rattle.fs_cert.specs.inner.Copies.{IsCopiedWitness, AreCopiedWitnesses}
 use Rattle.fs_cert.proofs.Zips.{zip_push}
 use Rattle.fs_cert.specs.Certified.{AreDistinct}

@@ -5,11 +5,12 @@ use Rattle.fs_model.specs.declared.test.Test.{Test}
 use Rattle.fs_model.specs.Slots.{slots}
 use Rattle.fs_cert_evidence.specs.Parts.{Part, floor, filled}
 use Rattle.fs_cert_evidence.specs.Shown.{IsShownBy}
-use Rattle.fs_board_laws.specs.Bounds.{slots_in_part}
+use Rattle.fs_model_laws.specs.Bounds.{slots_in_part}
 use Rattle.fs_cert_evidence.specs.Evidence.{Question}
 use Rattle.fs_judge.specs.Verdicts.{IsVerdict}
 use Rattle.fs_board_search.proofs.Handed.{candidates-handed}
-use Rattle.fs_board_search.proofs.Parts.{floor-slots, leaf-shown}
+use Rattle.fs_board_plan.proofs.Parts.{floor-slots}
+use Rattle.fs_board_search.proofs.Parts.{leaf-shown}
 use Rattle.fs_board_search.proofs.scout.Scout.last_verdict.Goals as goal
 
 pub verdict-requires : goal.verdict-requires

@@ -1,0 +1,42 @@
+-- Floors of parts, and lists of witnesses.
+use Rattle.std.proofs.Common.{◌≡◌, ℕ, zero, suc, Option, Some, None, List, [], ◌∷◌, ◌++◌, refl, sym, ap, subst, ◌∙◌, inl, inr}
+use Rattle.std.specs.Prelude.{slice_get}
+use Rattle.fs_kinds.specs.declared.kind.Kind.{Kind}
+use Rattle.fs_kinds.specs.declared.placement.Entry.{Entry}
+use Rattle.fs_kinds.specs.declared.slot.Slot.{Slot}
+use Rattle.fs_kinds.specs.Placement.{slots_of}
+use Rattle.fs_model.specs.declared.test.Test.{Test}
+use Rattle.fs_model.specs.Execution.{Execution}
+use Rattle.fs_cert_evidence.specs.Parts.{Part, filled_with, floor}
+use Rattle.fs_model_laws.specs.Bounds.{slots_in_part}
+use Rattle.fs_model_laws.proofs.Places.{at-append}
+use Rattle.fs_cert_evidence.specs.Evidence.{Shown, IsWitnessFor}
+use Rattle.fs_board.specs.Growth.{AreWitnesses}
+
+pub slots-filled : (kind : Option Kind) (part : Part) → slots_of (filled_with kind part) ≡ slots_in_part part
+slots-filled kind [] = refl
+slots-filled kind (d ∷ part) = ap (λ (ss : List Slot). d.slot ∷ ss) (slots-filled kind part)
+
+-- a placement that is the floor has the slots of the part
+pub floor-slots : (part : Part) (p : List Entry) (ss : List Slot) → p ≡ floor part → slots_in_part part ≡ ss → slots_of p ≡ ss
+floor-slots part p ss is same = ap slots_of is ∙ (slots-filled None part ∙ same)
+
+at-last : (w v : Shown) (k : ℕ) → slice_get (w ∷ []) k ≡ Some v → w ≡ v
+at-last w v zero at = cc
+at-last w v (suc k) at = absurd (cc)
+
+pub no-witnesses : (t : Test) → AreWitnesses t []
+no-witnesses t k w at = absurd (cc)
+
+pub one-more : (t : Test) (ws : List Shown) (w : Shown) (more : List Shown) → more ≡ ws ++ w ∷ [] → AreWitnesses t ws
+    → (e : Execution) × IsWitnessFor t w e → AreWitnesses t more
+one-more t ws w more is each new = λ k v at.
+    elim (at-append ws (w ∷ []) k v (ap (λ l. slice_get l k) (sym is) ∙ at)) [
+      | inl old ↦ each k v old
+      | inr last ↦ subst (λ (x : Shown). (e : Execution) × IsWitnessFor t x e) (at-last w v last.0 last.1) new
+    ]
+
+-- a witness of the list once more in another list
+pub picked-more : (t : Test) (ws vs more : List Shown) (w : Shown) (k : ℕ) → more ≡ vs ++ w ∷ [] → slice_get ws k ≡ Some w
+    → AreWitnesses t ws → AreWitnesses t vs → AreWitnesses t more
+picked-more t ws vs more w k is at all each = one-more t vs w more is each (all k w at)

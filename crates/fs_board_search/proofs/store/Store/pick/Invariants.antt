@@ -1,8 +1,0 @@
-use Rattle.std.proofs.Common.{map}
-use Rattle.std.specs.Arc.{arc_value}
-use Rattle.fs_model.specs.declared.test.Test.{Test}
-use Rattle.fs_board.specs.Growth.{AreWitnesses}
-use Rattle.fs_board_search.proofs.store.Store.pick.Given as goal
-
-abbrev pub invariant-loop-offer : goal.invariant-loop-offer
-invariant-loop-offer l = (t : Test) → AreWitnesses t l.self → AreWitnesses t (map arc_value l.picked.items)
