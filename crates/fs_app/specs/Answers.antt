@@ -43,14 +43,18 @@ pub record AnswersOrder (order : Order) (papers : Papers) (output : Output) : Ty
   pub witness_name : papers.evidence.name.now ≡ order.witness.now
   pub answer : IsOrderAnswer papers.test.bytes.items papers.evidence.bytes.items (map string_bytes order.fences.items) (string_bytes output.text) output.status
 
+-- the lines of an answer to the test and the prices, or the object of one
+pub record IsSolvedIn (is_json : Bool) (test prices text : List ℕ) (status : Status) : Type 0 where
+  pub lines : List ℕ
+  pub object : List ℕ
+  pub answer : IsSolved test prices lines status
+  pub alike : AreOneAnswer lines object
+  pub text : text ≡ in_form is_json lines object
+
 pub record AnswersSolve (solve : Solve) (papers : Papers) (output : Output) : Type 0 where
   pub test_name : papers.test.name.now ≡ solve.test.now
   pub prices_name : papers.prices.name.now ≡ solve.prices.now
-  pub lines : List ℕ
-  pub object : List ℕ
-  pub answer : IsSolved papers.test.bytes.items papers.prices.bytes.items lines output.status
-  pub alike : AreOneAnswer lines object
-  pub text : string_bytes output.text ≡ in_form solve.json lines object
+  pub answer : IsSolvedIn solve.json papers.test.bytes.items papers.prices.bytes.items (string_bytes output.text) output.status
 
 -- with `--write` the mended test
 abbrev pub IsAuditText : (is_mended : Bool) (test prices text : List ℕ) (status : Status) → Type 0

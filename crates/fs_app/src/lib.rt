@@ -15,10 +15,7 @@ pub use fs_app_audit::{run_audit, run_mended};
 pub use fs_app_check::{Checked, run_check};
 pub use fs_app_io::{Output, Status, read_bytes, write_text};
 pub use fs_app_place_order::{run_order, run_place};
-pub use fs_app_solve::{
-    Answered, Certified, Gate, Open, Unwatched, Watch, run_certified, run_certified_alone,
-    run_solve, run_solve_alone,
-};
+pub use fs_app_solve::{Found, Gate, Open, Unwatched, Watch, run_solve, run_solve_alone};
 pub use fs_app_states::{Shown, run_states};
 pub use fs_app_states_log::{Compared, LogError, compare, left_over, read_log};
 pub use fs_app_test::{Kind, Line, Said, test_file, test_objects, test_report, vacuous_note};

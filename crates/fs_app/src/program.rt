@@ -5,10 +5,9 @@ ghost use Rattle.std.specs.Option.{option_copied};
 ghost use Rattle.fs_app_io.specs.declared.status.Status.TheVariants.{Success};
 ghost use Rattle.fs_app_place_order.specs.Place.{IsFencedText, IsFirstPlaceFault};
 ghost use Rattle.fs_app_place_order.specs.Order.{IsOrderAnswer, IsFirstOrderFault};
-ghost use Rattle.fs_report.specs.Objects.{AreOneAnswer};
-ghost use Rattle.fs_app_solve.specs.Solve.{IsSolved, IsCertified, IsFirstSolveFault};
+ghost use Rattle.fs_app_solve.specs.Found.{IsFound};
 ghost use Rattle.fs_app_check.specs.Check.{IsChecked, AreOneVerdict, IsFirstCheckFault};
-ghost use Rattle.fs_app.specs.Answers.{offered, in_form, IsAuditFault, IsAuditText, Answers, AnswersTest, AnswersPlace};
+ghost use Rattle.fs_app.specs.Answers.{IsSolvedIn, offered, in_form, IsAuditFault, IsAuditText, Answers, AnswersTest, AnswersPlace};
 ghost use Rattle.fs_app.specs.Answers.{AnswersOrder, AnswersSolve, AnswersAudit, AnswersCheck};
 
 use crate::failure::Failure;
@@ -29,9 +28,7 @@ use fs_app_command_line::{
 use fs_app_error_messages::shown_name;
 use fs_app_io::{Output, Status};
 use fs_app_place_order::{run_order, run_place};
-use fs_app_solve::{
-    Answered, Certified, run_certified, run_certified_alone, run_solve, run_solve_alone,
-};
+use fs_app_solve::{Found, run_solve, run_solve_alone};
 use fs_app_test::{test_objects, test_report, vacuous_note};
 use fs_kinds::Fault;
 use std::alloc::Global;
@@ -40,9 +37,6 @@ use std::rt::{Clock, Env, Files};
 use std::sync::Wait;
 use std::thread::Threads;
 use std::{env, io};
-
-/// What `solve` prints where no fence is needed.
-const UNFENCED: &str = "fenced 0\n";
 
 /// Certificates are read up to this many bytes.
 const CERTIFICATE_LIMIT: usize = 1_073_741_824;
@@ -329,51 +323,39 @@ fn answer_solve<'a, R: Files + Input + Eprint + AllocGlobal + Clock + Threads + 
     papers.read_test(rt, solve.test)?;
     papers.read_prices(rt, solve.prices)?;
     let mut progress = Progress::new(rt, voice.shows_progress);
-    let answered = answered(rt, solve, papers, &mut progress)?;
-    if voice.notes {
-        note_vacuous(rt, &papers.test.bytes, answered.output.text.as_str())?;
+    let found = found(rt, solve, papers, &mut progress);
+    progress.wipe();
+    let found = found?;
+    if let Some(path) = solve.certificate {
+        let certificate = found.certificate(rt.alloc())?;
+        write_whole(rt, path, certificate.as_bytes())?;
     }
-    Ok(in_form(answered.output, answered.object, solve.json))
+    if voice.notes && found.is_free() {
+        note_vacuous(rt, &papers.test.bytes)?;
+    }
+    printed(rt.alloc(), &found, solve.json)
 }
 
-/// What `solve` prints of the test and the prices that were read, once its certificate is written where one is asked
-/// for.
-fn answered<R: Files + Eprint + AllocGlobal + Clock + Threads + Wait + Sync>(
-    rt: &R,
-    solve: &Solve<'_>,
-    papers: &Papers<'_>,
-    progress: &mut Progress<'_, R>,
-) -> Result<Answered, Fault>
-    ensures answer { IfOk result (λ made. IsSolved papers.now.test.bytes.items papers.now.prices.bytes.items
-        (string_bytes made.output.text) made.output.status) }
-    ensures object { IfOk result (λ made. AreOneAnswer (string_bytes made.output.text) (string_bytes made.object)) }
+/// What was found, in lines or as an object.
+fn printed(alloc: Global, found: &Found, is_json: bool) -> Result<Output, Fault>
+    ensures { IfOk result (λ output. (test prices : List ℕ) (limit : ℕ)
+        → IsFound test prices limit (arc_value found.now.question) found.now.solved
+        → IsSolvedIn is_json test prices (string_bytes output.text) output.status) }
 {
-    let (test, prices) = (&papers.test.bytes, &papers.prices.bytes);
-    // the command line has no other numbers; here it is said once more for the proof
-    let workers = solve.workers.clamp(1, MOST_WORKERS);
-    let limit = solve.nodes.clamp(1, MOST_NODES) as usize;
-    let Some(path) = solve.certificate else {
-        let answered = solved(rt, test, prices, workers, limit, progress);
-        progress.wipe();
-        return answered;
-    };
-    let certified = certified(rt, test, prices, workers, limit, progress);
-    progress.wipe();
-    let certified = certified?;
-    write_whole(rt, path, certified.certificate.as_bytes())?;
-    Ok(certified.answered)
+    let output = found.output(alloc)?;
+    if !is_json {
+        return Ok(output);
+    }
+    let object = found.object(alloc)?;
+    Ok(Output {
+        text: object,
+        status: output.status,
+    })
 }
 
 /// Says on standard error that the test is vacuous, where it is. Then it needs no fence, so of other answers nothing is
 /// asked.
-fn note_vacuous<R: Files + Eprint + AllocGlobal>(
-    rt: &R,
-    test: &[u8],
-    answer: &str,
-) -> Result<(), Fault> {
-    if answer != UNFENCED {
-        return Ok(());
-    }
+fn note_vacuous<R: Files + Eprint + AllocGlobal>(rt: &R, test: &[u8]) -> Result<(), Fault> {
     if let Some(note) = vacuous_note(rt.alloc(), test)? {
         tell(rt, &note);
     }
@@ -395,55 +377,24 @@ fn in_form(output: Output, object: String, is_json: bool) -> Output
     }
 }
 
-/// What `solve` prints. One worker needs no thread, and its search is proved to end.
-fn solved<R: Eprint + AllocGlobal + Clock + Threads + Wait + Sync>(
+/// The answer to the test and the prices that were read. One worker needs no thread, and its search is proved to end.
+fn found<R: Eprint + AllocGlobal + Clock + Threads + Wait + Sync>(
     rt: &R,
-    test: &[u8],
-    prices: &[u8],
-    workers: u8,
-    limit: usize,
+    solve: &Solve<'_>,
+    papers: &Papers<'_>,
     progress: &mut Progress<'_, R>,
-) -> Result<Answered, Fault>
-    requires some { 1 ≤ workers }
-    requires few { workers ≤ 16 }
-    requires least { 1 ≤ limit }
-    requires most { limit ≤ 1000000 }
-    ensures answer { IfOk result (λ made.
-        IsSolved test.now prices.now (string_bytes made.output.text) made.output.status) }
-    ensures object { IfOk result (λ made. AreOneAnswer (string_bytes made.output.text) (string_bytes made.object)) }
-    ensures fault { IfErr result (IsFirstSolveFault test.now prices.now limit) }
+) -> Result<Found, Fault>
+    ensures { IfOk result (λ found. (limit : ℕ) × IsFound papers.now.test.bytes.items papers.now.prices.bytes.items
+        limit (arc_value found.question) found.solved) }
 {
+    let (test, prices) = (&papers.test.bytes, &papers.prices.bytes);
+    // the command line has no other numbers; here it is said once more for the proof
+    let workers = solve.workers.clamp(1, MOST_WORKERS);
+    let limit = solve.nodes.clamp(1, MOST_NODES) as usize;
     if workers == 1 {
         return run_solve_alone(rt.alloc(), test, prices, limit, progress);
     }
     run_solve(rt, rt.alloc(), test, prices, workers, limit, progress)
-}
-
-/// What `solve` prints, with a certificate.
-fn certified<R: Eprint + AllocGlobal + Clock + Threads + Wait + Sync>(
-    rt: &R,
-    test: &[u8],
-    prices: &[u8],
-    workers: u8,
-    limit: usize,
-    progress: &mut Progress<'_, R>,
-) -> Result<Certified, Fault>
-    requires some { 1 ≤ workers }
-    requires few { workers ≤ 16 }
-    requires least { 1 ≤ limit }
-    requires most { limit ≤ 1000000 }
-    ensures answer { IfOk result (λ made.
-        IsSolved test.now prices.now (string_bytes made.answered.output.text) made.answered.output.status) }
-    ensures certificate { IfOk result (λ made. IsCertified test.now prices.now
-        (string_bytes made.answered.output.text) made.answered.output.status (string_bytes made.certificate)) }
-    ensures object { IfOk result (λ made.
-        AreOneAnswer (string_bytes made.answered.output.text) (string_bytes made.answered.object)) }
-    ensures fault { IfErr result (IsFirstSolveFault test.now prices.now limit) }
-{
-    if workers == 1 {
-        return run_certified_alone(rt.alloc(), test, prices, limit, progress);
-    }
-    run_certified(rt, rt.alloc(), test, prices, workers, limit, progress)
 }
 
 fn answer_audit<'a, R: Files + Input + AllocGlobal>(

@@ -17,7 +17,7 @@ pub fn lines_say_one_answer()
 
 /// A law: two runs of `solve` over the bytes of the same test and prices that answer, be it with different numbers of
 /// workers or of nodes, end with the same status, and where that is success they print the same lines, byte for byte.
-/// Where they say `none`, their executions may differ. The contracts of `run_solve` and `run_certified` say that what
+/// Where they say `none`, their executions may differ. The contracts of `Found` of fs_app_solve say that what
 /// they print is an answer for every number of workers.
 pub fn solve_answers_once()
     ensures { (test prices text other : List ℕ) (status end : Status) → IsSolved test prices text status

@@ -26,9 +26,9 @@ use Rattle.fs_cert_evidence.specs.Evidence.{Question, Refuted, Shown, IsWitnessF
 use Rattle.fs_pool_workers.specs.Answers.{Answer, Solved, IsAnswer, IsAtLimit, IsBoardOf, Rests, placement_of}
 use Rattle.fs_pool_workers.specs.Forms as answer
 use Rattle.fs_cert.specs.Certified.{Certifies, CertifiesNone}
-use Rattle.fs_app_solve.specs.Solve.{IsCertified, IsWitnessed, IsFirstSolveFault, IsSolved, PrintsAnswer, PrintsPlaced, of_memory}
-use Rattle.fs_app_solve.specs.inner.Found.{IsAskedBy, IsFound, IsFoundFor}
-use Rattle.fs_app_solve.specs.inner.Made.{CertifiesAnswer, HasWitness, PrintsWitness, SaysAnswer, lines_of, value_of}
+use Rattle.fs_app_solve.specs.Solve.{IsCertified, IsWitnessed, IsSolved, PrintsAnswer, PrintsPlaced}
+use Rattle.fs_app_solve.specs.Found.{IsAskedBy, IsFound, IsFoundFor, Prints, lines_of, value_of}
+use Rattle.fs_app_solve.specs.inner.Made.{CertifiesAnswer, HasWitness, SaysAnswer}
 
 -- what was answered to a copy of the question
 pub found-for : (q asked given : Question) (limit : ℕ) (s : Solved) → asked ≡ q → given ≡ asked → IsBounded q.test
@@ -59,24 +59,20 @@ printed : (t : Test) (prices : PriceTable) (placed : Option (List Entry)) (text 
 printed t prices (Some p) text status is = inl (record { placement = p; cheapest = is.0; shown = is.1; ends = is.2 })
 printed t prices None text status is = inr is
 
-abbrev pub Prints : Answer → List ℕ → Status → Type 0
-Prints a text status = (t : Test) (prices : PriceTable) → IsAnswer t prices a → PrintsPlaced t prices (placement_of a) text status
-
 say-one : (a : Answer) → SayOneAnswer (lines_of a) (value_of a)
 say-one (answer.Fenced f n) = inl (n, placement_in f, refl, refl)
 say-one (answer.None w) = inr (w.witness, refl, refl)
 
--- what is printed of an answer in lines and as JSON
-pub one-answer : (a : Answer) (lines object : List ℕ) → lines ≡ lines_of a → object ≡ json_line (value_of a) → AreOneAnswer lines object
-one-answer a lines object shown printed =
-    (value_of a, subst (λ text. SayOneAnswer text (value_of a)) (sym shown) (say-one a), printed)
+-- an answer in lines and as JSON
+pub one-answer : (a : Answer) (object : List ℕ) → object ≡ json_line (value_of a) → AreOneAnswer (lines_of a) object
+one-answer a object printed = (value_of a, say-one a, printed)
 
 -- no object of an answer has a float
 pub whole-value : (a : Answer) → has_float (value_of a) ≡ false
 whole-value (answer.Fenced f n) = fenced_whole n (placement_in f)
 whole-value (answer.None w) = none_whole w.witness
 
-witnessed : (a : Answer) (witnesses : List Witness) (text : List ℕ) → HasWitness a witnesses → PrintsWitness a text → IsWitnessed (placement_of a) witnesses text
+witnessed : (a : Answer) (witnesses : List Witness) (text : List ℕ) → HasWitness a witnesses → text ≡ lines_of a → IsWitnessed (placement_of a) witnesses text
 witnessed (answer.Fenced f n) witnesses text has prints = tt
 witnessed (answer.None w) witnesses text has prints = (w.witness, has, prints)
 
@@ -93,7 +89,7 @@ module _ (test prices : List ℕ) (limit : ℕ) (asked : Question) (s : Solved) 
   }
 
   pub is-certified : (other : Question) (bytes : List ℕ) → other ≡ asked → IsFound test prices limit asked s → Prints s.answer text status
-      → PrintsWitness s.answer text → SaysAnswer other.test other.prices s.answer bytes → IsCertified test prices text status bytes
+      → text ≡ lines_of s.answer → SaysAnswer other.test other.prices s.answer bytes → IsCertified test prices text status bytes
   is-certified other bytes same is prints witness says =
       let found = is.found in
       let there = subst (λ (x : Question). SaysAnswer x.test x.prices s.answer bytes) (same ∙ found.question) says in record {
@@ -116,12 +112,6 @@ found-there test prices limit asked other s same is = (
   limit,
   subst (λ (x : Question). IsFoundFor (record { test = is.the_test; prices = is.table }) limit x s) (sym same) is.found,
 )
-
--- want of memory is the first fault at any place
-pub first-memory : {T : Type 0} (test prices : List ℕ) (limit : ℕ) (r : Result T Fault) → IsOkUnless r Memory
-    → IfErr r (IsFirstSolveFault test prices limit)
-first-memory test prices limit (Ok x) is = tt
-first-memory test prices limit (Err f) is = subst (IsFirstSolveFault test prices limit) (sym is) of_memory
 
 -- ---- certificates
 

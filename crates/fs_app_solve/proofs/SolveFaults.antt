@@ -9,7 +9,7 @@ use Rattle.fs_app_place_order.proofs.Faults.{is_memory}
 use Rattle.fs_cert_evidence.specs.Evidence.{Question}
 use Rattle.fs_pool_workers.specs.Answers.{IsSolveFault}
 use Rattle.fs_app_solve.specs.Solve.{IsFirstSolveFault, of_prices, of_test, of_search, of_memory}
-use Rattle.fs_app_solve.specs.inner.Found.{IsAskedBy}
+use Rattle.fs_app_solve.specs.Found.{IsAskedBy}
 
 module _ (test prices : List ℕ) (limit : ℕ) where
   pub solve-memory : (f : Fault) → f ≡ Memory → IsFirstSolveFault test prices limit f

@@ -1,2 +1,3 @@
 pub mod Solve
+pub mod Found
 pub mod inner

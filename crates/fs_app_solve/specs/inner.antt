@@ -1,3 +1,2 @@
 -- What only inner functions and proofs need.
-pub mod Found
 pub mod Made

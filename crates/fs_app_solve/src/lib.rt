@@ -4,6 +4,4 @@
 mod solve;
 
 pub use fs_pool_workers::{Gate, Open, Unwatched, Watch};
-pub use solve::{
-    Answered, Certified, run_certified, run_certified_alone, run_solve, run_solve_alone,
-};
+pub use solve::{Found, run_solve, run_solve_alone};

@@ -2,19 +2,19 @@
 
 ghost use Rattle.std.specs.Prelude.{◌≡◌, ◌≤◌, ℕ, List, Some, IfOk, IfErr, IsOkUnless, string_bytes};
 ghost use Rattle.std.specs.Arc.{arc_value};
-ghost use Rattle.fs_kinds.specs.PriceTable.{PriceTable, IsPriceTable};
-ghost use Rattle.fs_model.specs.declared.test.Test.{Test as Tests};
+ghost use Rattle.fs_kinds.specs.PriceTable.{IsPriceTable};
 ghost use Rattle.fs_model.specs.Test.{IsTest};
 ghost use Rattle.fs_litmus.specs.Reads.{Reads};
 ghost use Rattle.serde_json.specs.View.{view};
 ghost use Rattle.fs_cert_evidence.specs.Evidence.{Question as Asked, ShowsForbidden};
-ghost use Rattle.fs_pool_workers.specs.Answers.{IsAnswer, placement_of};
+ghost use Rattle.fs_pool_workers.specs.Answers.{placement_of};
 ghost use Rattle.fs_cert.specs.Certified.{Certifies};
 ghost use Rattle.fs_app_place_order.specs.Place.{ArePricesOf};
-ghost use Rattle.fs_report.specs.Objects.{AreOneAnswer, json_line};
-ghost use Rattle.fs_app_solve.specs.Solve.{PrintsPlaced, IsSolved, IsCertified, IsFirstSolveFault};
-ghost use Rattle.fs_app_solve.specs.inner.Found.{IsAskedBy, IsFound, IsFoundFor};
-ghost use Rattle.fs_app_solve.specs.inner.Made.{CertifiesAnswer, PrintsWitness, SaysAnswer, lines_of, value_of};
+ghost use Rattle.fs_report.specs.Objects.{AreOneAnswer};
+ghost use Rattle.fs_app_solve.specs.Found.{IsAskedBy, IsFound, IsFoundFor, Prints, lines_of, value_of, is_free};
+ghost use Rattle.fs_app_io.specs.declared.status.Status.{Status as Ends};
+ghost use Rattle.fs_app_solve.specs.Solve.{IsSolved, IsCertified, IsFirstSolveFault};
+ghost use Rattle.fs_app_solve.specs.inner.Made.{CertifiesAnswer, SaysAnswer};
 
 use fs_app_io::{Output, Status};
 use fs_cert::{from_board, from_least, from_witness};
@@ -29,33 +29,17 @@ use std::alloc::{AllocError, Global};
 use std::sync::{Arc, Wait};
 use std::thread::Threads;
 
-/// What `solve` prints.
+/// A question that was read, with its answer.
 #[derive(Drop)]
-pub struct Answered {
-    pub output: Output,
-    /// The answer as a JSON object, in a line, which may be printed in place of its lines.
-    pub object: String,
+pub struct Found {
+    pub question: Arc<Question>,
+    pub solved: Solved,
 }
 
-/// What `solve` prints, and a certificate of the answer.
-#[derive(Drop)]
-pub struct Certified {
-    pub answered: Answered,
-    /// The text of a certificate file.
-    pub certificate: String,
-}
-
-/// An answer that was found, with its question.
-#[derive(Drop)]
-struct Found {
-    question: Arc<Question>,
-    solved: Solved,
-}
-
-/// What `solve` prints for a test file and a file of prices, in lines or as JSON: the first of the cheapest placements
-/// of fences that rule the outcome out, with its cost, and status 0; or `none`, with an execution that shows the
-/// outcome with `rw,rw` in every slot, and status 1. The files are bytes as they were read. One worker searches,
-/// without threads, and the call ends; the watch is told how far it is.
+/// What `solve` answers for a test file and a file of prices: the first of the cheapest placements of fences that rule
+/// the outcome out, with its cost, and status 0; or `none`, with an execution that shows the outcome with `rw,rw` in
+/// every slot, and status 1. The files are bytes as they were read. One worker searches, without threads, and the call
+/// ends; the watch is told how far it is.
 ///
 /// The first fault in this order: `BadPrices` and `NoTop`; those of a test file by number and then line;
 /// `TooManyTraces` and `Astray`; `TooManyCandidates`; `NodeLimit`, which comes only where fences are needed, `rw,rw` in
@@ -67,47 +51,22 @@ pub fn run_solve_alone<W: Watch>(
     prices: &[u8],
     limit: usize,
     watch: &mut W,
-) -> Result<Answered, Fault>
+) -> Result<Found, Fault>
     requires least { 1 ≤ limit }
     requires most { limit ≤ 1000000 }
-    ensures answer { IfOk result (λ made.
-        IsSolved test.now prices.now (string_bytes made.output.text) made.output.status) }
-    ensures object { IfOk result (λ made. AreOneAnswer (string_bytes made.output.text) (string_bytes made.object)) }
+    ensures found { IfOk result (λ found.
+        IsFound test.now prices.now limit (arc_value found.question) found.solved) }
     ensures fault { IfErr result (IsFirstSolveFault test.now prices.now limit) }
 {
-    let found = find_alone(alloc, test, prices, limit, watch)?;
-    both_forms(alloc, &found.solved.answer)
-}
-
-/// What `run_solve_alone` answers, with the text of a certificate, which is valid for the test and the prices with the
-/// answer that is printed: of the second version where it lists cycles, each of which begins at its least operation,
-/// else of the fourth. Where the answer is `none`, its witness is the printed one. The faults are those of
-/// `run_solve_alone`.
-pub fn run_certified_alone<W: Watch>(
-    alloc: Global,
-    test: &[u8],
-    prices: &[u8],
-    limit: usize,
-    watch: &mut W,
-) -> Result<Certified, Fault>
-    requires least { 1 ≤ limit }
-    requires most { limit ≤ 1000000 }
-    ensures answer { IfOk result (λ made.
-        IsSolved test.now prices.now (string_bytes made.answered.output.text) made.answered.output.status) }
-    ensures certificate { IfOk result (λ made.
-        IsCertified test.now prices.now (string_bytes made.answered.output.text) made.answered.output.status
-        (string_bytes made.certificate)) }
-    ensures object { IfOk result (λ made.
-        AreOneAnswer (string_bytes made.answered.output.text) (string_bytes made.answered.object)) }
-    ensures fault { IfErr result (IsFirstSolveFault test.now prices.now limit) }
-{
-    let found = find_alone(alloc, test, prices, limit, watch)?;
-    with_certificate(alloc, &found)
+    let question = read_question(alloc, test, prices)?;
+    let asked = Arc::try_clone(&question)?;
+    let solved = solve_alone(alloc, asked, limit, watch)?;
+    Ok(Found { question, solved })
 }
 
 /// What `run_solve_alone` answers, searched by 1 to 16 workers: one begins, and where judging takes long the others
-/// join it, in threads of their own; the gate is told how far they are. Whatever their number, the printed placement is
-/// the first of the cheapest.
+/// join it, in threads of their own; the gate is told how far they are. Whatever their number, the placement is the
+/// first of the cheapest.
 ///
 /// The faults are those of `run_solve_alone`. Where what was logged under the lock isn't what the workers were told,
 /// the lock or the threads didn't do as they should: then nothing of it is used, and one worker searches alone; no test
@@ -121,68 +80,71 @@ pub fn run_solve<R: Threads + Wait + Sync, G: Gate + Sync>(
     workers: u8,
     limit: usize,
     gate: &G,
-) -> Result<Answered, Fault>
+) -> Result<Found, Fault>
     requires some { 1 ≤ workers }
     requires few { workers ≤ 16 }
     requires least { 1 ≤ limit }
     requires most { limit ≤ 1000000 }
-    ensures answer { IfOk result (λ made.
-        IsSolved test.now prices.now (string_bytes made.output.text) made.output.status) }
-    ensures object { IfOk result (λ made. AreOneAnswer (string_bytes made.output.text) (string_bytes made.object)) }
+    ensures found { IfOk result (λ found.
+        IsFound test.now prices.now limit (arc_value found.question) found.solved) }
     ensures fault { IfErr result (IsFirstSolveFault test.now prices.now limit) }
 {
-    let found = find(rt, alloc, test, prices, workers, limit, gate)?;
-    both_forms(alloc, &found.solved.answer)
+    let question = read_question(alloc, test, prices)?;
+    let asked = Arc::try_clone(&question)?;
+    let solved = fs_pool_workers::solve(rt, alloc, asked, workers, limit, gate)?;
+    Ok(Found { question, solved })
 }
 
-/// What `run_certified_alone` answers, searched by 1 to 16 workers. The faults are those of `run_solve`.
-pub fn run_certified<R: Threads + Wait + Sync, G: Gate + Sync>(
-    rt: &R,
-    alloc: Global,
-    test: &[u8],
-    prices: &[u8],
-    workers: u8,
-    limit: usize,
-    gate: &G,
-) -> Result<Certified, Fault>
-    requires some { 1 ≤ workers }
-    requires few { workers ≤ 16 }
-    requires least { 1 ≤ limit }
-    requires most { limit ≤ 1000000 }
-    ensures answer { IfOk result (λ made.
-        IsSolved test.now prices.now (string_bytes made.answered.output.text) made.answered.output.status) }
-    ensures certificate { IfOk result (λ made.
-        IsCertified test.now prices.now (string_bytes made.answered.output.text) made.answered.output.status
-        (string_bytes made.certificate)) }
-    ensures object { IfOk result (λ made.
-        AreOneAnswer (string_bytes made.answered.output.text) (string_bytes made.answered.object)) }
-    ensures fault { IfErr result (IsFirstSolveFault test.now prices.now limit) }
-{
-    let found = find(rt, alloc, test, prices, workers, limit, gate)?;
-    with_certificate(alloc, &found)
-}
+impl Found {
+    /// What `solve` prints, and the status that goes with it. Fails only for want of memory.
+    pub fn output(&self, alloc: Global) -> Result<Output, Fault>
+        ensures answer { IfOk result (λ output. (test prices : List ℕ) (limit : ℕ)
+            → IsFound test prices limit (arc_value self.now.question) self.now.solved
+            → IsSolved test prices (string_bytes output.text) output.status) }
+        ensures prints { IfOk result (λ output.
+            Prints self.now.solved.answer (string_bytes output.text) output.status) }
+        ensures lines { IfOk result (λ output. string_bytes output.text ≡ lines_of self.now.solved.answer) }
+        ensures err { IsOkUnless result Fault.Memory }
+    {
+        let output = answer_output(alloc, &self.solved.answer)?;
+        Ok(output)
+    }
 
-/// What is printed of an answer, and its certificate.
-fn with_certificate(alloc: Global, found: &Found) -> Result<Certified, Fault>
-    requires { (test prices : List ℕ) × (limit : ℕ)
-        × IsFound test prices limit (arc_value found.now.question) found.now.solved }
-    ensures answer { IfOk result (λ made. (test prices : List ℕ) (limit : ℕ)
-        → IsFound test prices limit (arc_value found.now.question) found.now.solved
-        → IsSolved test prices (string_bytes made.answered.output.text) made.answered.output.status) }
-    ensures certificate { IfOk result (λ made. (test prices : List ℕ) (limit : ℕ)
-        → IsFound test prices limit (arc_value found.now.question) found.now.solved
-        → IsCertified test prices (string_bytes made.answered.output.text) made.answered.output.status
-        (string_bytes made.certificate)) }
-    ensures object { IfOk result (λ made.
-        AreOneAnswer (string_bytes made.answered.output.text) (string_bytes made.answered.object)) }
-    ensures err { IsOkUnless result Fault.Memory }
-{
-    let answered = both_forms(alloc, &found.solved.answer)?;
-    let certificate = certificate_text(alloc, &found.question, &found.solved)?;
-    Ok(Certified {
-        answered,
-        certificate,
-    })
+    /// The same answer as a JSON object, in a line, which may be printed in place of its lines. Fails only for want of
+    /// memory.
+    pub fn object(&self, alloc: Global) -> Result<String, Fault>
+        ensures alike { IfOk result (λ object. AreOneAnswer (lines_of self.now.solved.answer) (string_bytes object)) }
+        ensures err { IsOkUnless result Fault.Memory }
+    {
+        let object = answer_object(alloc, &self.solved.answer)?;
+        Ok(object)
+    }
+
+    /// Is the answer a placement that costs nothing?
+    pub fn is_free(&self) -> bool
+        ensures { result ≡ is_free self.now.solved.answer }
+    {
+        match &self.solved.answer {
+            Answer::Fenced { cost, .. } => *cost == 0,
+            Answer::None { .. } => false,
+        }
+    }
+
+    /// The text of a certificate file, which is valid for the test and the prices with the answer that is printed: of
+    /// the second version where it lists cycles, each of which begins at its least operation, else of the fourth. Where
+    /// the answer is `none`, its witness is the printed one. Fails only for want of memory.
+    pub fn certificate(&self, alloc: Global) -> Result<String, Fault>
+        requires { (test prices : List ℕ) × (limit : ℕ)
+            × IsFound test prices limit (arc_value self.now.question) self.now.solved }
+        ensures certificate { IfOk result (λ made. (test prices text : List ℕ) (limit : ℕ) (status : Ends)
+            → IsFound test prices limit (arc_value self.now.question) self.now.solved
+            → Prints self.now.solved.answer text status → text ≡ lines_of self.now.solved.answer
+            → IsCertified test prices text status (string_bytes made)) }
+        ensures err { IsOkUnless result Fault.Memory }
+    {
+        let text = certificate_text(alloc, &self.question, &self.solved)?;
+        Ok(text)
+    }
 }
 
 /// The question that a test file and a file of prices ask.
@@ -207,50 +169,6 @@ fn read_priced(alloc: Global, test: &[u8], prices: Prices) -> Result<Arc<Questio
     Ok(question)
 }
 
-/// The answer for a test file and a file of prices, searched by one worker.
-fn find_alone<W: Watch>(
-    alloc: Global,
-    test: &[u8],
-    prices: &[u8],
-    limit: usize,
-    watch: &mut W,
-) -> Result<Found, Fault>
-    requires least { 1 ≤ limit }
-    requires most { limit ≤ 1000000 }
-    ensures answer { IfOk result (λ found.
-        IsFound test.now prices.now limit (arc_value found.question) found.solved) }
-    ensures fault { IfErr result (IsFirstSolveFault test.now prices.now limit) }
-{
-    let question = read_question(alloc, test, prices)?;
-    let asked = Arc::try_clone(&question)?;
-    let solved = solve_alone(alloc, asked, limit, watch)?;
-    Ok(Found { question, solved })
-}
-
-/// The answer for a test file and a file of prices, searched by so many workers.
-fn find<R: Threads + Wait + Sync, G: Gate + Sync>(
-    rt: &R,
-    alloc: Global,
-    test: &[u8],
-    prices: &[u8],
-    workers: u8,
-    limit: usize,
-    gate: &G,
-) -> Result<Found, Fault>
-    requires some { 1 ≤ workers }
-    requires few { workers ≤ 16 }
-    requires least { 1 ≤ limit }
-    requires most { limit ≤ 1000000 }
-    ensures answer { IfOk result (λ found.
-        IsFound test.now prices.now limit (arc_value found.question) found.solved) }
-    ensures fault { IfErr result (IsFirstSolveFault test.now prices.now limit) }
-{
-    let question = read_question(alloc, test, prices)?;
-    let asked = Arc::try_clone(&question)?;
-    let solved = fs_pool_workers::solve(rt, alloc, asked, workers, limit, gate)?;
-    Ok(Found { question, solved })
-}
-
 /// The question of this test and these prices.
 fn question_of(alloc: Global, test: Test, prices: Prices) -> Result<Arc<Question>, AllocError>
     ensures { IfOk result (λ question. arc_value question ≡ record { test = test; prices = prices }) }
@@ -266,22 +184,9 @@ fn shared(alloc: Global, test: Test) -> Result<Arc<Test>, AllocError>
     Ok(Arc::new(alloc, test)?)
 }
 
-/// The answer in both forms.
-fn both_forms(alloc: Global, answer: &Answer) -> Result<Answered, Fault>
-    ensures answer { IfOk result (λ made. (t : Tests) (prices : PriceTable) → IsAnswer t prices answer.now
-        → PrintsPlaced t prices (placement_of answer.now) (string_bytes made.output.text) made.output.status) }
-    ensures witness { IfOk result (λ made. PrintsWitness answer.now (string_bytes made.output.text)) }
-    ensures object { IfOk result (λ made. AreOneAnswer (string_bytes made.output.text) (string_bytes made.object)) }
-    ensures err { IsOkUnless result Fault.Memory }
-{
-    let output = answer_output(alloc, answer)?;
-    let object = answer_object(alloc, answer)?;
-    Ok(Answered { output, object })
-}
-
 /// The answer as a JSON object, in a line.
 fn answer_object(alloc: Global, answer: &Answer) -> Result<String, AllocError>
-    ensures { IfOk result (λ text. string_bytes text ≡ json_line (value_of answer.now)) }
+    ensures { IfOk result (λ text. AreOneAnswer (lines_of answer.now) (string_bytes text)) }
 {
     let value = answer_value(alloc, answer)?;
     json_line(alloc, &value)
@@ -298,12 +203,9 @@ fn answer_value(alloc: Global, answer: &Answer) -> Result<Value, AllocError>
 }
 
 /// The answer in print, and the status that goes with it.
-fn answer_output(alloc: Global, answer: &Answer) -> Result<Output, Fault>
-    ensures answer { IfOk result (λ output. (t : Tests) (prices : PriceTable) → IsAnswer t prices answer.now
-        → PrintsPlaced t prices (placement_of answer.now) (string_bytes output.text) output.status) }
-    ensures witness { IfOk result (λ output. PrintsWitness answer.now (string_bytes output.text)) }
+fn answer_output(alloc: Global, answer: &Answer) -> Result<Output, AllocError>
+    ensures prints { IfOk result (λ output. Prints answer.now (string_bytes output.text) output.status) }
     ensures lines { IfOk result (λ output. string_bytes output.text ≡ lines_of answer.now) }
-    ensures err { IsOkUnless result Fault.Memory }
 {
     match answer {
         Answer::Fenced { forbidden, cost } => Ok(Output {

@@ -1,5 +1,5 @@
 -- Why an outcome is forbidden, possible, or vacuous, in a few words.
-use Rattle.std.specs.Prelude.{ℕ, ◌==◌, Bool, true, false, ◌&&◌, ◌||◌, not, Option, None, Some, is_some, option_map, List, [], ◌∷◌, ◌++◌, slice_get, length, count_by, codes, if◌then◌else◌}
+use Rattle.std.specs.Prelude.{ℕ, ◌+◌, ◌==◌, nat_lt, Bool, true, false, ◌&&◌, ◌||◌, not, Option, None, Some, is_some, option_map, List, [], ◌∷◌, ◌++◌, slice_get, length, count_by, codes, if◌then◌else◌}
 use Rattle.std.specs.Option.{option_or}
 use Rattle.std.specs.Fmt.{decimal}
 use Rattle.std.specs.List.{find, list_any}
@@ -72,6 +72,19 @@ order_words (Some (first, second)) =
 abbrev pub stores_word : ℕ → ℕ → Step → Bool
 stores_word location word s = is_same s.address (Some (address_of location)) && is_same s.stored (Some word)
 
+-- how many atoms it has
+abbrev pub atoms : Condition → ℕ
+atoms (RegisterIs hart reg word) = 1
+atoms (LocationIs location word) = 1
+atoms (Deny c) = atoms c
+atoms (Both c d) = atoms c + atoms d
+atoms (Either c d) = atoms c + atoms d
+atoms _ = 0
+
+-- as many as are looked at to name one
+abbrev pub most_named : ℕ
+most_named = 100
+
 -- the atom to blame of two parts, both of which are needed or one of which is enough
 abbrev pub of_two : Bool → Option Condition → Option Condition → Option Condition
 of_two both left right = if both then option_or left right else (if is_some right then left else None)
@@ -102,9 +115,11 @@ module _ (t : Test) (runs : ℕ → List (List Step)) where
   first_never (Either c d) v = of_two (not v) (first_never c v) (first_never d v)
   first_never _ v = None
 
-  -- that of the outcome
+  -- that of the outcome; of a condition of many atoms none is named
   abbrev pub never_in_outcome : Option Condition
-  never_in_outcome = first_never (condition_of t.condition) (is_outcome t.quantifier true)
+  never_in_outcome =
+      if nat_lt most_named (atoms (condition_of t.condition)) then None
+      else first_never (condition_of t.condition) (is_outcome t.quantifier true)
 
 -- the words for the atom that nothing makes true, if there is one
 abbrev pub never_words : Test → Option Condition → List ℕ

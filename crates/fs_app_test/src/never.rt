@@ -1,7 +1,7 @@
 //! What nothing makes true in a vacuous test.
 
 ghost use Rattle.std.specs.Prelude.{◌≡◌, ◌≤◌, ◌++◌, [], ℕ, List, Some, None, true, codes, decimal, length, map};
-ghost use Rattle.std.specs.Prelude.{slice_get, option_map, if◌then◌else◌, IfOk, string_bytes};
+ghost use Rattle.std.specs.Prelude.{slice_get, option_map, if◌then◌else◌, min, IfOk, string_bytes};
 ghost use Rattle.std.specs.List.{list_any, slice_index_or};
 ghost use Rattle.fs_kinds.specs.Limits.{most_locations};
 ghost use Rattle.fs_model.specs.Condition.{condition_of};
@@ -14,7 +14,7 @@ ghost use Rattle.fs_cert_evidence.specs.Trees.{AreItsRuns};
 ghost use Rattle.fs_region_refutation.specs.Runs.{runs_over, AreOfEach};
 ghost use Rattle.fs_app_test.specs.inner.Parts.{ends_with};
 ghost use Rattle.fs_app_test.specs.Words.{stores_word, ends_as, is_stored, can_have, of_two, first_never};
-ghost use Rattle.fs_app_test.specs.Words.{never_in_outcome, never_words};
+ghost use Rattle.fs_app_test.specs.Words.{atoms, never_in_outcome, never_words};
 
 use crate::test_words::value_text;
 use fs_instr::Reg;
@@ -23,6 +23,9 @@ use fs_model::{Location, Outcome, Quantifier, Step, Test};
 use fs_region_refutation::Basis;
 use fs_region_runs::Lone;
 use std::alloc::{AllocError, Global};
+
+/// So many atoms has a condition at most of which one is named.
+const MOST_NAMED: u32 = 100;
 
 /// Does the step store the word at the location?
 fn stores_word(step: &Step, location: u8, word: u32) -> bool
@@ -174,12 +177,30 @@ fn where_so(is_so: bool, atom: &Outcome) -> Option<&Outcome>
     if is_so { Some(atom) } else { None }
 }
 
-/// The first atom that the outcome needs to be true, and that nothing makes true.
+/// How many atoms the condition has, or one more than may be named.
+fn atoms_in(condition: &Outcome) -> u32
+    ensures { result ≡ min (atoms (condition_of condition.now)) 101 }
+{
+    match condition {
+        Outcome::Always | Outcome::Never => 0,
+        Outcome::RegisterIs { .. } | Outcome::LocationIs { .. } => 1,
+        Outcome::Deny(denied) => atoms_in(denied),
+        Outcome::Both(left, right) | Outcome::Either(left, right) => {
+            (atoms_in(left) + atoms_in(right)).min(MOST_NAMED + 1)
+        }
+    }
+}
+
+/// The first atom that the outcome needs to be true, and that nothing makes true. Each atom may cost the time of all
+/// runs, so of a condition with many none is named.
 fn never_in_outcome<'a>(basis: &'a Basis, listed: &[List<Lone>]) -> Option<&'a Outcome>
     requires { AreOfEach basis.now listed.now }
     ensures { option_map (λ atom. condition_of atom.now) result ≡ never_in_outcome basis.now (runs_over listed.now) }
 {
     let test = basis.test();
+    if atoms_in(&test.condition) > MOST_NAMED {
+        return None;
+    }
     first_never(basis, listed, &test.condition, is_outcome(test.quantifier))
 }
 

@@ -92,7 +92,7 @@ module _ (t : Test) (bounded : IsBounded t) (runs : List (List RunOf)) (all : Ar
   -- what counts of a run is right
   agrees : (traces : List (List Step)) (h : ℕ) → h < length t.codes → Agrees (final_register t traces) h (end_of whole (run h (steps_of traces h)))
   agrees traces h low g y e =
-      sym (final_is traces h g low) ∙ named_right (final (run h (steps_of traces h))) h whole g y e
+      sym (final_is traces h g low) ∙ named_right (final (run h (steps_of traces h))) (registers_in h whole []) g y e
 
   -- ---- with nothing known
 

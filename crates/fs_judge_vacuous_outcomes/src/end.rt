@@ -1,11 +1,11 @@
 //! What counts of a run where only the outcome counts.
 
-ghost use Rattle.std.specs.Prelude.{◌≡◌, true, IfOk, OnOk};
+ghost use Rattle.std.specs.Prelude.{◌≡◌, [], true, map, IfOk, OnOk};
 ghost use Rattle.std.specs.List.{filter_map};
 ghost use Rattle.fs_model.specs.Condition.{condition_of};
-ghost use Rattle.fs_judge_vacuous_outcomes.specs.inner.Runs.{final, with_known, named, stored_as, stored_by, end_of};
+ghost use Rattle.fs_judge_vacuous_outcomes.specs.inner.Runs.{final, known_of, with_register, registers_in, stored_as};
+ghost use Rattle.fs_judge_vacuous_outcomes.specs.inner.Runs.{stored_by, end_with, end_of};
 
-use crate::settled::word_in;
 use fs_instr::Reg;
 use fs_kinds::List;
 use fs_model::{Outcome, Step};
@@ -35,7 +35,7 @@ pub(crate) struct End {
 
 /// The register and the word that the run ends with in it.
 fn known_of(run: &Lone, register: Reg) -> Known
-    ensures { result ≡ record { register = register; word = final run.now register } }
+    ensures { result ≡ known_of (final run.now) register }
 {
     Known {
         register: register.number(),
@@ -43,25 +43,22 @@ fn known_of(run: &Lone, register: Reg) -> Known
     }
 }
 
-/// Appends the register with its word, unless it is there.
-fn push_known(known: &mut Vec<Known>, run: &Lone, register: Reg) -> Result<(), AllocError>
-    ensures { OnOk result (known.new.items ≡ with_known register (final run.now register) known.old.items) }
+/// Appends the register, unless it is there.
+fn push_register(registers: &mut Vec<Reg>, register: Reg) -> Result<(), AllocError>
+    ensures { OnOk result (registers.new.items ≡ with_register register registers.old.items) }
 {
-    if word_in(known, register.number()).is_none() {
-        known.push(known_of(run, register))?;
+    if !registers
+        .iter()
+        .any(|known| known.number() == register.number())
+    {
+        registers.push(register)?;
     }
     Ok(())
 }
 
-/// Appends the registers of the hart that the condition names and that aren't there, with the words that they end with
-/// in the run. So there are 31 at most.
-fn push_named(
-    run: &Lone,
-    hart: u8,
-    condition: &Outcome,
-    known: &mut Vec<Known>,
-) -> Result<(), AllocError>
-    ensures { OnOk result (known.new.items ≡ named (final run.now) hart (condition_of condition.now) known.old.items) }
+/// Appends the registers of the hart that the condition names and that aren't there. So there are 31 at most.
+fn push_registers(hart: u8, condition: &Outcome, registers: &mut Vec<Reg>) -> Result<(), AllocError>
+    ensures { OnOk result (registers.new.items ≡ registers_in hart (condition_of condition.now) registers.old.items) }
 {
     match condition {
         Outcome::Always | Outcome::Never | Outcome::LocationIs { .. } => Ok(()),
@@ -71,16 +68,39 @@ fn push_named(
             ..
         } => {
             if *other == hart {
-                push_known(known, run, *reg)?;
+                push_register(registers, *reg)?;
             }
             Ok(())
         }
-        Outcome::Deny(denied) => push_named(run, hart, denied, known),
+        Outcome::Deny(denied) => push_registers(hart, denied, registers),
         Outcome::Both(left, right) | Outcome::Either(left, right) => {
-            push_named(run, hart, left, known)?;
-            push_named(run, hart, right, known)
+            push_registers(hart, left, registers)?;
+            push_registers(hart, right, registers)
         }
     }
+}
+
+/// The registers of the hart that the condition names. Linear in the condition, times the registers.
+pub(crate) fn registers_of(
+    alloc: Global,
+    hart: u8,
+    condition: &Outcome,
+) -> Result<List<Reg>, AllocError>
+    ensures { IfOk result (λ registers. registers ≡ registers_in hart (condition_of condition.now) []) }
+{
+    let mut registers = Vec::new(alloc);
+    push_registers(hart, condition, &mut registers)?;
+    Ok(List::new(registers))
+}
+
+/// How these registers of the run's hart end.
+fn known_in(alloc: Global, run: &Lone, registers: &[Reg]) -> Result<Vec<Known>, AllocError>
+    ensures { IfOk result (λ made. made.items ≡ map (known_of (final run.now)) registers.now) }
+{
+    registers
+        .iter()
+        .map(|register| known_of(run, *register))
+        .collect(alloc)
 }
 
 /// What the step stores, and where.
@@ -100,17 +120,36 @@ fn stored_in(alloc: Global, steps: &[Step]) -> Result<Vec<Stored>, AllocError>
     steps.iter().filter_map(stored_by).collect(alloc)
 }
 
-/// What counts of a run of the hart. Linear in the run and in the condition.
-pub(crate) fn end_of(alloc: Global, run: &Lone, condition: &Outcome) -> Result<End, AllocError>
-    ensures { IfOk result (λ end. end ≡ end_of (condition_of condition.now) run.now) }
+/// What counts of a run, of whose registers these do.
+fn end_with(alloc: Global, run: &Lone, registers: &[Reg]) -> Result<End, AllocError>
+    ensures { IfOk result (λ end. end ≡ end_with registers.now run.now) }
 {
-    let mut registers = Vec::new(alloc);
-    push_named(run, run.hart(), condition, &mut registers)?;
+    let registers = known_in(alloc, run, registers)?;
     let stored = stored_in(alloc, run.steps())?;
     Ok(End {
         registers: List::new(registers),
         stored: List::new(stored),
     })
+}
+
+/// What counts of a run, with the registers of this hart that the condition names. Linear in the run and in these; only
+/// where the run is another hart's, in the condition too.
+pub(crate) fn end_of(
+    alloc: Global,
+    run: &Lone,
+    hart: u8,
+    registers: &[Reg],
+    condition: &Outcome,
+) -> Result<End, AllocError>
+    requires { registers.now ≡ registers_in hart (condition_of condition.now) [] }
+    ensures { IfOk result (λ end. end ≡ end_of (condition_of condition.now) run.now) }
+{
+    if run.hart() == hart {
+        return end_with(alloc, run, registers);
+    }
+    let own = registers_of(alloc, run.hart(), condition)?;
+    let end = end_with(alloc, run, &own)?;
+    Ok(end)
 }
 
 /// Is the one the other?

@@ -1,13 +1,15 @@
 //! What counts of the runs of each hart.
 
-ghost use Rattle.std.specs.Prelude.{◌≡◌, ◌≤◌, [], true, IfOk, OnOk};
+ghost use Rattle.std.specs.Prelude.{◌≡◌, ◌≤◌, [], false, true, is_none, IfOk, IfSome};
 ghost use Rattle.std.specs.List.{Contains, slice_index_or};
 ghost use Rattle.fs_kinds.specs.Limits.{most_harts};
 ghost use Rattle.fs_model.specs.Condition.{condition_of};
-ghost use Rattle.fs_judge_vacuous_outcomes.specs.inner.Runs.{Adds, AreEnds, AreAllEnds};
+ghost use Rattle.fs_judge_vacuous_outcomes.specs.inner.Runs.{registers_in, Adds, AreEnds, AreAllEnds};
 
-use crate::end::{End, end_of, is_same};
+use crate::end::{End, end_of, is_same, registers_of};
+use crate::search::Search;
 use crate::settled::{is_truth, with_hart};
+use fs_instr::Reg;
 use fs_kinds::List;
 use fs_model::Outcome;
 use fs_region_runs::Lone;
@@ -28,44 +30,6 @@ fn is_known(ends: &[End], end: &End) -> bool
     false
 }
 
-/// Appends what counts of the run of the hart, unless the condition can't be as wanted with it, or an end is known to
-/// be the same.
-fn push_end(
-    alloc: Global,
-    ends: &mut Vec<End>,
-    hart: u8,
-    run: &Lone,
-    wanted: bool,
-    condition: &Outcome,
-) -> Result<(), AllocError>
-    ensures { OnOk result (Adds wanted (condition_of condition.now) hart run.now ends.old.items ends.new.items) }
-{
-    let end = end_of(alloc, run, condition)?;
-    let left = with_hart(alloc, hart, &end.registers, condition)?;
-    if is_truth(&left, !wanted) || is_known(ends, &end) {
-        return Ok(());
-    }
-    ends.push(end)?;
-    Ok(())
-}
-
-/// What counts of the runs of a hart.
-fn ends_of(
-    alloc: Global,
-    hart: u8,
-    runs: &[Lone],
-    wanted: bool,
-    condition: &Outcome,
-) -> Result<Vec<End>, AllocError>
-    ensures { IfOk result (λ ends. AreEnds wanted (condition_of condition.now) hart runs.now ends.items) }
-{
-    let mut ends = Vec::new(alloc);
-    for run in runs {
-        push_end(alloc, &mut ends, hart, run, wanted, condition)?;
-    }
-    Ok(ends)
-}
-
 /// The runs of the hart; none where there is no list of its.
 pub(crate) fn runs_of(listed: &[List<Lone>], hart: usize) -> &[Lone]
     ensures { result.now ≡ slice_index_or listed.now hart [] }
@@ -76,23 +40,84 @@ pub(crate) fn runs_of(listed: &[List<Lone>], hart: usize) -> &[Lone]
     }
 }
 
-/// What counts of the runs of each hart where the condition is to have this truth value: of runs that don't rule it out
-/// by themselves. The cost is for each run that of `end_of` and of `with_hart`, and 64 times the size of an end at
-/// most.
-pub(crate) fn all_ends(
-    alloc: Global,
-    harts: usize,
-    runs: &[List<Lone>],
-    wanted: bool,
-    condition: &Outcome,
-) -> Result<Vec<List<End>>, AllocError>
-    requires { harts ≤ most_harts }
-    ensures { IfOk result (λ lists. AreAllEnds wanted (condition_of condition.now) harts runs.now lists.items) }
-{
-    let mut lists = Vec::new(alloc);
-    for hart in 0..harts {
-        let ends = ends_of(alloc, hart as u8, runs_of(runs, hart), wanted, condition)?;
-        lists.push(List::new(ends))?;
+impl Search {
+    /// Appends what counts of the run of the hart, unless an end is known to be the same, or the condition can't be as
+    /// wanted with it. False where the work is used up.
+    fn push_end(
+        &mut self,
+        ends: &mut Vec<End>,
+        hart: u8,
+        run: &Lone,
+        registers: &[Reg],
+        condition: &Outcome,
+    ) -> Result<bool, AllocError>
+        requires { registers.now ≡ registers_in hart (condition_of condition.now) [] }
+        ensures wanted { self.new.wanted ≡ self.old.wanted }
+        ensures bounded { self.new.bounded ≡ self.old.bounded }
+        ensures adds { IfOk result (λ done. done ≡ true
+            → Adds self.old.wanted (condition_of condition.now) hart run.now ends.old.items ends.new.items) }
+        ensures open { IfOk result (λ done. done ≡ false → self.old.bounded ≡ true) }
+    {
+        let end = end_of(self.alloc, run, hart, registers, condition)?;
+        if is_known(ends, &end) {
+            return Ok(true);
+        }
+        if !self.may_go_on() {
+            return Ok(false);
+        }
+        let left = with_hart(self.alloc, hart, &end.registers, condition)?;
+        if !is_truth(&left, !self.wanted) {
+            ends.push(end)?;
+        }
+        Ok(true)
     }
-    Ok(lists)
+
+    /// What counts of the runs of a hart. None where the work is used up.
+    fn ends_of(
+        &mut self,
+        hart: u8,
+        runs: &[Lone],
+        condition: &Outcome,
+    ) -> Result<Option<Vec<End>>, AllocError>
+        ensures wanted { self.new.wanted ≡ self.old.wanted }
+        ensures bounded { self.new.bounded ≡ self.old.bounded }
+        ensures ends { IfOk result (λ found. IfSome found (λ ends.
+            AreEnds self.old.wanted (condition_of condition.now) hart runs.now ends.items)) }
+        ensures open { IfOk result (λ found. is_none found ≡ true → self.old.bounded ≡ true) }
+    {
+        let registers = registers_of(self.alloc, hart, condition)?;
+        let mut ends = Vec::new(self.alloc);
+        for run in runs {
+            if !self.push_end(&mut ends, hart, run, &registers, condition)? {
+                return Ok(None);
+            }
+        }
+        Ok(Some(ends))
+    }
+
+    /// What counts of the runs of each hart where the condition is to be as wanted: of runs that don't rule it out by
+    /// themselves. None where the work is used up. The cost is for each run its length, the registers that count and
+    /// 64 times the size of an end at most, and a step for each end that isn't found to be one of these.
+    pub(crate) fn all_ends(
+        &mut self,
+        harts: usize,
+        runs: &[List<Lone>],
+        condition: &Outcome,
+    ) -> Result<Option<Vec<List<End>>>, AllocError>
+        requires { harts ≤ most_harts }
+        ensures wanted { self.new.wanted ≡ self.old.wanted }
+        ensures bounded { self.new.bounded ≡ self.old.bounded }
+        ensures ends { IfOk result (λ found. IfSome found (λ lists.
+            AreAllEnds self.old.wanted (condition_of condition.now) harts runs.now lists.items)) }
+        ensures open { IfOk result (λ found. is_none found ≡ true → self.old.bounded ≡ true) }
+    {
+        let mut lists = Vec::new(self.alloc);
+        for hart in 0..harts {
+            let Some(ends) = self.ends_of(hart as u8, runs_of(runs, hart), condition)? else {
+                return Ok(None);
+            };
+            lists.push(List::new(ends))?;
+        }
+        Ok(Some(lists))
+    }
 }

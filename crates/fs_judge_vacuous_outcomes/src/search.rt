@@ -11,15 +11,32 @@ use fs_kinds::List;
 use fs_model::{Location, Outcome};
 use std::alloc::{AllocError, Global};
 
+/// A step's work is counted in so many parts of a condition.
+const PARTS: u32 = 32;
+
 /// A search, and how far it may go.
 #[derive(Drop)]
 pub(crate) struct Search {
-    alloc: Global,
+    pub(crate) alloc: Global,
     /// The truth value that the condition is to have.
-    wanted: bool,
-    /// How many steps it may still take, where it is bounded.
-    steps: u32,
+    pub(crate) wanted: bool,
+    /// How much work is left to it, where that is bounded.
+    left: u32,
+    /// The work of a step.
+    step: u32,
     bounded: bool,
+}
+
+/// How many parts the condition has.
+fn size_of(condition: &Outcome) -> u32 {
+    match condition {
+        Outcome::Always | Outcome::Never => 1,
+        Outcome::RegisterIs { .. } | Outcome::LocationIs { .. } => 1,
+        Outcome::Deny(denied) => size_of(denied).saturating_add(1),
+        Outcome::Both(left, right) | Outcome::Either(left, right) => {
+            size_of(left).saturating_add(size_of(right))
+        }
+    }
 }
 
 /// The words that are stored at the address.
@@ -61,30 +78,33 @@ fn joined(alloc: Global, stored: &[Stored], more: &[Stored]) -> Result<Vec<Store
 }
 
 impl Search {
-    /// A search for this truth value, which takes so many steps at most, or, where there is no number, as many as it
-    /// needs.
-    pub(crate) fn new(alloc: Global, wanted: bool, most: Option<u32>) -> Search
+    /// A search for this truth value of the condition. It does so much work at most, or, where there is no number, as
+    /// much as it needs: a step of a small condition is 1, one of a large one more.
+    pub(crate) fn new(alloc: Global, wanted: bool, most: Option<u32>, condition: &Outcome) -> Search
         ensures wanted { result.wanted ≡ wanted }
         ensures bounded { result.bounded ≡ is_some most }
     {
+        let step = (size_of(condition) / PARTS).saturating_add(1);
         match most {
-            Some(steps) => Search {
+            Some(left) => Search {
                 alloc,
                 wanted,
-                steps,
+                left,
+                step,
                 bounded: true,
             },
             None => Search {
                 alloc,
                 wanted,
-                steps: 0,
+                left: 0,
+                step,
                 bounded: false,
             },
         }
     }
 
-    /// Takes a step, where there is one left.
-    fn may_go_on(&mut self) -> bool
+    /// Takes a step, where the work left is enough for it.
+    pub(crate) fn may_go_on(&mut self) -> bool
         ensures wanted { self.new.wanted ≡ self.old.wanted }
         ensures bounded { self.new.bounded ≡ self.old.bounded }
         ensures open { result ≡ false → self.old.bounded ≡ true }
@@ -92,15 +112,15 @@ impl Search {
         if !self.bounded {
             return true;
         }
-        if self.steps == 0 {
+        let Some(left) = self.left.checked_sub(self.step) else {
             return false;
-        }
-        self.steps -= 1;
+        };
+        self.left = left;
         true
     }
 
     /// Can the locations from this one on, which begin with these words, end so that what is left of the condition is
-    /// as wanted? None where the steps are used up.
+    /// as wanted? None where the work is used up.
     fn can_end(
         &mut self,
         location: u8,
@@ -138,7 +158,7 @@ impl Search {
     }
 
     /// Can the harts from this one on, which have these ends, and then the locations, which begin with these words, end
-    /// so that what is left of the condition is as wanted? None where the steps are used up.
+    /// so that what is left of the condition is as wanted? None where the work is used up.
     pub(crate) fn can_show(
         &mut self,
         hart: u8,

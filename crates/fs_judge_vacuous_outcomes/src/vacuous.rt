@@ -7,7 +7,7 @@ ghost use Rattle.fs_model.specs.Shows.{is_outcome};
 ghost use Rattle.fs_region_refutation.specs.Runs.{runs_over};
 ghost use Rattle.fs_judge_vacuous_outcomes.specs.Vacuous.{IsVacuous, HasManyRuns, most_lists, lists_of};
 
-use crate::ends::{all_ends, runs_of};
+use crate::ends::runs_of;
 use crate::search::Search;
 use crate::settled::with_hart;
 use fs_kinds::{Fault, List};
@@ -19,8 +19,8 @@ use std::alloc::{AllocError, Global};
 /// Where there are no more lists of runs than this, one of each hart, all are looked through.
 const MOST_LISTS: usize = 10_000;
 
-/// Else this many steps are taken at most.
-const MOST_STEPS: u32 = 1_000_000;
+/// Else so much work is done at most: a step of a condition of at most 31 parts is 1.
+const MOST_WORK: u32 = 1_000_000;
 
 /// Are there more lists of runs, one of each hart, than are looked through whatever it takes?
 fn has_many(harts: usize, runs: &[List<Lone>]) -> bool
@@ -66,26 +66,28 @@ fn has_way(alloc: Global, basis: &Basis) -> Result<Option<bool>, AllocError>
     let runs = basis.runs();
     let harts = test.codes.len();
     let wanted = is_outcome(test.quantifier);
-    let lists = all_ends(alloc, harts, runs, wanted, &test.condition)?;
-    let firsts = first_words(alloc, test)?;
-    let condition = with_hart(alloc, 0, &[], &test.condition)?;
     let most = if has_many(harts, runs) {
-        Some(MOST_STEPS)
+        Some(MOST_WORK)
     } else {
         None
     };
-    let mut search = Search::new(alloc, wanted, most);
+    let mut search = Search::new(alloc, wanted, most, &test.condition);
+    let Some(lists) = search.all_ends(harts, runs, &test.condition)? else {
+        return Ok(None);
+    };
+    let firsts = first_words(alloc, test)?;
+    let condition = with_hart(alloc, 0, &[], &test.condition)?;
     let found = search.can_show(0, &lists, &firsts, &[], &condition)?;
     Ok(found)
 }
 
 /// Is the test vacuous? None where that is left open, which is only where it has more than 10,000 lists of runs, one of
-/// each hart, and the steps of the search are used up. Fails only for want of memory.
+/// each hart, and the work of the search is used up. Fails only for want of memory.
 ///
 /// The cost: what counts of each run is worked out once, and each further one is compared with 64 others at most; then
 /// it is that of a search over the choices of what counts of the harts' runs and of last words, cut off where the
 /// condition is settled; each step is linear in the condition. Where there are at most 10,000 lists of runs nothing
-/// else bounds the steps; else there are 1,000,000 at most.
+/// else bounds the work; else it is at most that of 1,000,000 steps of a condition of 31 parts.
 pub fn is_vacuous(alloc: Global, basis: &Basis) -> Result<Option<bool>, Fault>
     ensures yes { IfOk result (λ is. is ≡ Some true → IsVacuous basis.now) }
     ensures no { IfOk result (λ is. is ≡ Some false → IsVacuous basis.now → ⊥) }

@@ -14,18 +14,6 @@ use Rattle.fs_cert.specs.Certified.{Certifies, CertifiesNone}
 use Rattle.fs_report.specs.Objects.{fenced_value, none_value}
 use Rattle.fs_app_solve.specs.Solve.{IsCertificateOf}
 
-abbrev pub lines_of : Answer → List ℕ
-lines_of (answer.Fenced f n) = fenced_lines n (placement_in f)
-lines_of (answer.None w) = none_lines w.witness
-
-abbrev pub value_of : Answer → Data
-value_of (answer.Fenced f n) = fenced_value n (placement_in f)
-value_of (answer.None w) = none_value w.witness
-
-abbrev pub PrintsWitness : Answer → List ℕ → Type 0
-PrintsWitness (answer.Fenced f n) text = Unit {0}
-PrintsWitness (answer.None w) text = text ≡ none_lines w.witness
-
 abbrev pub CertifiesAnswer : Test → PriceTable → Answer → Certificate → Type 0
 CertifiesAnswer t prices (answer.Fenced f n) = Certifies t prices (Some (placement_in f))
 CertifiesAnswer t prices (answer.None w) = CertifiesNone t prices w.witness

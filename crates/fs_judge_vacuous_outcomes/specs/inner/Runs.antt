@@ -1,6 +1,6 @@
 -- What counts of runs where only the outcome counts.
-use Rattle.std.specs.Prelude.{◌≡◌, ◌⊎◌, ℕ, ◌<◌, ◌==◌, Bool, not, Option, None, Some, is_some, List, [], ◌∷◌, ◌++◌, length, if◌then◌else◌}
-use Rattle.std.specs.List.{Contains, filter_map, slice_index_or}
+use Rattle.std.specs.Prelude.{◌≡◌, ◌⊎◌, ℕ, ◌<◌, ◌==◌, Bool, not, Option, None, Some, List, [], ◌∷◌, ◌++◌, length, map, if◌then◌else◌}
+use Rattle.std.specs.List.{Contains, filter_map, list_any, slice_index_or}
 use Rattle.fs_model.specs.declared.step.Step.{Step}
 use Rattle.fs_model.specs.Condition.{Condition, Always, Never, RegisterIs, LocationIs, Deny, Both, Either}
 use Rattle.fs_model.specs.Shows.{final_register}
@@ -10,26 +10,29 @@ use Rattle.fs_judge_vacuous_outcomes.specs.declared.end.End.{End}
 use Rattle.fs_judge_vacuous_outcomes.specs.declared.end.Known.{Known}
 use Rattle.fs_judge_vacuous_outcomes.specs.declared.end.Stored.{Stored}
 use Rattle.fs_judge_vacuous_outcomes.specs.inner.Settled.{truth_of}
-use Rattle.fs_judge_vacuous_outcomes.specs.inner.Ends.{word_in, with_hart}
+use Rattle.fs_judge_vacuous_outcomes.specs.inner.Ends.{with_hart}
 
 -- the word that the register ends with
 abbrev pub final : RunOf → ℕ → ℕ
 final run = final_register run.test (traces_of run.test run.hart run.steps) run.hart
 
--- the register with its word, unless it stands there
-abbrev pub with_known : (register word : ℕ) → List Known → List Known
-with_known register word known =
-    if is_some (word_in known register) then known else known ++ record { register = register; word = word } ∷ []
+-- the register, unless it stands there
+abbrev pub with_register : (register : ℕ) → List ℕ → List ℕ
+with_register register registers =
+    if list_any (λ known. known == register) registers then registers else registers ++ register ∷ []
 
--- these, and the registers of the hart that the condition names, each once, with the words that they end with
-abbrev pub named : (ℕ → ℕ) → ℕ → Condition → List Known → List Known
-named word hart Always known = known
-named word hart Never known = known
-named word hart (RegisterIs other reg w) known = if other == hart then with_known reg (word reg) known else known
-named word hart (LocationIs k w) known = known
-named word hart (Deny c) known = named word hart c known
-named word hart (Both c d) known = named word hart d (named word hart c known)
-named word hart (Either c d) known = named word hart d (named word hart c known)
+-- these, and the registers of the hart that the condition names, each once
+abbrev pub registers_in : ℕ → Condition → List ℕ → List ℕ
+registers_in hart Always registers = registers
+registers_in hart Never registers = registers
+registers_in hart (RegisterIs other reg w) registers = if other == hart then with_register reg registers else registers
+registers_in hart (LocationIs k w) registers = registers
+registers_in hart (Deny c) registers = registers_in hart c registers
+registers_in hart (Both c d) registers = registers_in hart d (registers_in hart c registers)
+registers_in hart (Either c d) registers = registers_in hart d (registers_in hart c registers)
+
+abbrev pub known_of : (ℕ → ℕ) → ℕ → Known
+known_of word register = record { register = register; word = word register }
 
 abbrev pub stored_as : Option ℕ → Option ℕ → Option Stored
 stored_as (Some address) (Some word) = Some (record { address = address; word = word })
@@ -38,8 +41,16 @@ stored_as _ _ = None
 abbrev pub stored_by : Step → Option Stored
 stored_by s = stored_as s.address s.stored
 
+-- what counts of a run where these registers do
+abbrev pub end_with : List ℕ → RunOf → End
+end_with registers run = record {
+  registers = map (known_of (final run)) registers;
+  stored = filter_map stored_by run.steps;
+}
+
+-- and where the registers of its hart do that the condition names
 abbrev pub end_of : Condition → RunOf → End
-end_of c run = record { registers = named (final run) run.hart c []; stored = filter_map stored_by run.steps }
+end_of c run = end_with (registers_in run.hart c []) run
 
 -- ---- the runs of a hart
 

@@ -1,10 +1,23 @@
-use Rattle.fs_app_solve.proofs.Founding.{first-memory, is-solved}
-use Rattle.fs_app_solve.proofs.SolveFaults.{if_ok}
+use Rattle.fs_app_place_order.proofs.Faults.{IfErr-handed}
+use Rattle.fs_app_solve.specs.Solve.{of_memory}
+use Rattle.fs_app_solve.proofs.Founding.{found-asked}
+use Rattle.fs_app_solve.proofs.SolveFaults.{solve-search}
 use Rattle.fs_app_solve.proofs.solve.run_solve.Goals as goal
 
-pub returns-clause-answer : goal.returns-clause-answer
-returns-clause-answer g c = if_ok _ _ c.both_forms.result c.both_forms.ensures.answer
-    (λ output shown. is-solved _ _ c.args.limit _ _ _ _ c.in_ok-found.ensures.answer shown)
+pub returns-in_err-question-clause-fault : goal.returns-in_err-question-clause-fault
+returns-in_err-question-clause-fault g c =
+    IfErr-handed c.from_residual.result _ _ c.from_residual.ensures.1 (c.in_err-question.ensures.fault _)
 
-pub returns-clause-fault : goal.returns-clause-fault
-returns-clause-fault g c = first-memory _ _ c.args.limit c.both_forms.result c.both_forms.ensures.err
+pub returns-in_err-asked-clause-fault : goal.returns-in_err-asked-clause-fault
+returns-in_err-asked-clause-fault g c =
+    IfErr-handed c.from_residual-in_err-asked.result _ _ c.from_residual-in_err-asked.ensures.1 of_memory
+
+pub returns-in_err-solved-clause-fault : goal.returns-in_err-solved-clause-fault
+returns-in_err-solved-clause-fault g c =
+    IfErr-handed c.from_residual-in_err-solved.result _ _ c.from_residual-in_err-solved.ensures.1
+    (solve-search _ _ c.args.limit _ _ _ c.in_ok-question.ensures.asked c.in_ok-asked.ensures c.in_err-solved.ensures.err)
+
+pub returns-clause-found : goal.returns-clause-found
+returns-clause-found g c =
+    found-asked _ _ _ _ c.args.limit _ c.in_ok-question.ensures.asked c.in_ok-asked.ensures c.in_ok-solved.ensures.clean
+    c.in_ok-solved.ensures.ok c.in_ok-solved.ensures.rests
