@@ -4,7 +4,8 @@ use Rattle.std.specs.Prelude.{slice_get}
 use Rattle.fs_kinds.specs.declared.kind.Kind.{Kind}
 use Rattle.fs_kinds.specs.declared.placement.Entry.{Entry}
 use Rattle.fs_kinds.specs.declared.slot.Slot.{Slot}
-use Rattle.fs_kinds.specs.Placement.{slots_of}
+use Rattle.fs_kinds.specs.Placement.{slots_of, with_kind}
+use Rattle.fs_kinds.proofs.Entries.{slots_of-with_kind}
 use Rattle.fs_model.specs.declared.test.Test.{Test}
 use Rattle.fs_model.specs.Execution.{Execution}
 use Rattle.fs_cert_evidence.specs.Parts.{Part, filled_with, floor}
@@ -16,6 +17,10 @@ use Rattle.fs_board.specs.Growth.{AreWitnesses}
 pub slots-filled : (kind : Option Kind) (part : Part) → slots_of (filled_with kind part) ≡ slots_in_part part
 slots-filled kind [] = refl
 slots-filled kind (d ∷ part) = ap (λ (ss : List Slot). d.slot ∷ ss) (slots-filled kind part)
+
+-- with a kind put at a slot a placement has the same slots
+pub slots_with : (s : Slot) (kind : Option Kind) (p q : List Entry) → q ≡ with_kind s kind p → slots_of q ≡ slots_of p
+slots_with s kind p q is = ap slots_of is ∙ slots_of-with_kind s kind p
 
 -- a placement that is the floor has the slots of the part
 pub floor-slots : (part : Part) (p : List Entry) (ss : List Slot) → p ≡ floor part → slots_in_part part ≡ ss → slots_of p ≡ ss
