@@ -25,19 +25,20 @@ Has registers g = list_any (λ known. known == g) registers ≡ true
 
 has_left : (xs ys : List ℕ) (g : ℕ) → Has xs g → Has (xs ++ ys) g
 has_left [] ys g e = absurd (false≢true e)
-has_left (x ∷ xs) ys g e = go (x == g) e
+has_left (x ∷ xs) ys g e = go (x == g) (has_left xs ys g) e
   where
-    go : (b : Bool) → (b || list_any (λ known. known == g) xs) ≡ true → (b || list_any (λ known. known == g) (xs ++ ys)) ≡ true
-    go true is = refl
-    go false is = has_left xs ys g is
+    go : (b : Bool) → (Has xs g → Has (xs ++ ys) g) → (b || list_any (λ known. known == g) xs) ≡ true
+        → (b || list_any (λ known. known == g) (xs ++ ys)) ≡ true
+    go true rest is = refl
+    go false rest is = rest is
 
 has_last : (xs : List ℕ) (g : ℕ) → Has (xs ++ g ∷ []) g
 has_last [] g = rw (eq-eqb g g refl) refl
-has_last (x ∷ xs) g = go (x == g)
+has_last (x ∷ xs) g = go (x == g) (has_last xs g)
   where
-    go : (b : Bool) → (b || list_any (λ known. known == g) (xs ++ g ∷ [])) ≡ true
-    go true = refl
-    go false = has_last xs g
+    go : (b : Bool) → Has (xs ++ g ∷ []) g → (b || list_any (λ known. known == g) (xs ++ g ∷ [])) ≡ true
+    go true rest = refl
+    go false rest = rest
 
 with_kept : (registers : List ℕ) (reg g : ℕ) → Has registers g → Has (with_register reg registers) g
 with_kept registers reg g e = go (list_any (λ known. known == reg) registers)
@@ -86,20 +87,23 @@ module _ (word : ℕ → ℕ) where
 
   pub named_right : (registers : List ℕ) → AreRight (map (known_of word) registers)
   named_right [] g y e = absurd (let none : None ≡ Some y = e in cc)
-  named_right (reg ∷ registers) g y e = go (reg == g) refl e
+  named_right (reg ∷ registers) g y e = go (reg == g) refl (named_right registers g y) e
     where
-      go : (b : Bool) → (reg == g) ≡ b → (if b then Some (word reg) else word_in (map (known_of word) registers) g) ≡ Some y → word g ≡ y
-      go true same is = let both : Some (word reg) ≡ Some y = is in let right : word reg ≡ y = cc in ap word (sym (eqb-true reg g same)) ∙ right
-      go false same is = named_right registers g y is
+      go : (b : Bool) → (reg == g) ≡ b → (word_in (map (known_of word) registers) g ≡ Some y → word g ≡ y)
+          → (if b then Some (word reg) else word_in (map (known_of word) registers) g) ≡ Some y → word g ≡ y
+      go true same rest is =
+          let both : Some (word reg) ≡ Some y = is in let right : word reg ≡ y = cc in ap word (sym (eqb-true reg g same)) ∙ right
+      go false same rest is = rest is
 
   word_there : (registers : List ℕ) (g : ℕ) → Has registers g → (y : ℕ) × (word_in (map (known_of word) registers) g ≡ Some y)
   word_there [] g e = absurd (false≢true e)
-  word_there (reg ∷ registers) g e = go (reg == g) e
+  word_there (reg ∷ registers) g e = go (reg == g) (word_there registers g) e
     where
-      go : (b : Bool) → (b || list_any (λ known. known == g) registers) ≡ true
+      go : (b : Bool) → (Has registers g → (y : ℕ) × (word_in (map (known_of word) registers) g ≡ Some y))
+          → (b || list_any (λ known. known == g) registers) ≡ true
           → (y : ℕ) × ((if b then Some (word reg) else word_in (map (known_of word) registers) g) ≡ Some y)
-      go true is = (word reg, refl)
-      go false is = word_there registers g is
+      go true rest is = (word reg, refl)
+      go false rest is = rest is
 
   pub named_is : (hart : ℕ) (c : Condition) (g : ℕ) → Names c hart g
       → word_in (map (known_of word) (registers_in hart c [])) g ≡ Some (word g)

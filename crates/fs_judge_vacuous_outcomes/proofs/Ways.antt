@@ -29,7 +29,7 @@ use Rattle.fs_judge_vacuous_outcomes.specs.declared.end.Stored.{Stored}
 use Rattle.fs_judge_vacuous_outcomes.specs.Vacuous.{MayEnd, IsWay, IsVacuous}
 use Rattle.fs_judge_vacuous_outcomes.specs.inner.Settled.{truth_of, settled}
 use Rattle.fs_judge_vacuous_outcomes.specs.inner.Ends.{word_in, by_hart, no_location, with_hart, words_for, CanShow}
-use Rattle.fs_judge_vacuous_outcomes.specs.inner.Runs.{final, end_of, AreAllEnds}
+use Rattle.fs_judge_vacuous_outcomes.specs.inner.Runs.{final, end_of, registers_in, AreAllEnds}
 use Rattle.fs_judge_vacuous_outcomes.proofs.Settling.{truth_holds, settled_holds}
 use Rattle.fs_judge_vacuous_outcomes.proofs.Numbered.{Each, Pairs, each_from, first, same_length}
 use Rattle.fs_judge_vacuous_outcomes.proofs.Chosen.{Agrees, Shown, hart_known, nothing_known, none_below, below_low, in_from, out_from, stored_of, stored_from, words_below, harts_below, shown, show_by}

@@ -1,7 +1,7 @@
 //! What counts of a run where only the outcome counts.
 
-ghost use Rattle.std.specs.Prelude.{◌≡◌, [], true, map, IfOk, OnOk};
-ghost use Rattle.std.specs.List.{filter_map};
+ghost use Rattle.std.specs.Prelude.{◌≡◌, ◌==◌, [], true, map, IfOk, OnOk};
+ghost use Rattle.std.specs.List.{filter_map, list_any};
 ghost use Rattle.fs_model.specs.Condition.{condition_of};
 ghost use Rattle.fs_judge_vacuous_outcomes.specs.inner.Runs.{final, known_of, with_register, registers_in, stored_as};
 ghost use Rattle.fs_judge_vacuous_outcomes.specs.inner.Runs.{stored_by, end_with, end_of};
@@ -43,14 +43,20 @@ fn known_of(run: &Lone, register: Reg) -> Known
     }
 }
 
+/// Is the register one of these?
+fn is_among(registers: &[Reg], register: Reg) -> bool
+    ensures { result ≡ list_any (λ known. known == register) registers.now }
+{
+    registers
+        .iter()
+        .any(|known| known.number() == register.number())
+}
+
 /// Appends the register, unless it is there.
 fn push_register(registers: &mut Vec<Reg>, register: Reg) -> Result<(), AllocError>
     ensures { OnOk result (registers.new.items ≡ with_register register registers.old.items) }
 {
-    if !registers
-        .iter()
-        .any(|known| known.number() == register.number())
-    {
+    if !is_among(registers, register) {
         registers.push(register)?;
     }
     Ok(())
