@@ -1,8 +1,6 @@
 -- From an answer that was found to what is printed of it, and to its certificate.
-use Rattle.std.proofs.Common.{◌≡◌, ℕ, Option, None, Some, MatchOption, List, Result, false, IfOk, Ok, Err, IfErr, refl, sym, subst, ◌∙◌, inl, inr}
-use Rattle.std.specs.Prelude.{IsOkUnless}
+use Rattle.std.proofs.Common.{◌≡◌, ℕ, Option, None, Some, MatchOption, List, Result, false, IfOk, refl, sym, subst, ◌∙◌, inl, inr}
 use Rattle.fs_kinds.specs.declared.fault.Fault.{Fault}
-use Rattle.fs_kinds.specs.declared.fault.Fault.TheVariants.{Memory}
 use Rattle.fs_kinds.specs.declared.placement.Entry.{Entry}
 use Rattle.fs_kinds.specs.Placement.{all_with}
 use Rattle.fs_kinds.specs.PriceTable.{PriceTable}

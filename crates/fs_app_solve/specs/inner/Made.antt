@@ -4,14 +4,11 @@ use Rattle.std.specs.Prelude.{◌≡◌, ℕ, Some, List, [], ◌∷◌}
 use Rattle.fs_kinds.specs.PriceTable.{PriceTable}
 use Rattle.fs_model.specs.declared.test.Test.{Test}
 use Rattle.fs_model.specs.Witness.{Witness}
-use Rattle.serde_json.specs.Data.{Data}
-use Rattle.fs_cert_evidence.specs.Texts.{fenced_lines, none_lines}
 use Rattle.fs_cert_json.specs.declared.certificate.Certificate.{Certificate}
 use Rattle.fs_cert_evidence.specs.Evidence.{placement_in}
 use Rattle.fs_pool_workers.specs.Answers.{Answer, placement_of}
 use Rattle.fs_pool_workers.specs.Forms as answer
 use Rattle.fs_cert.specs.Certified.{Certifies, CertifiesNone}
-use Rattle.fs_report.specs.Objects.{fenced_value, none_value}
 use Rattle.fs_app_solve.specs.Solve.{IsCertificateOf}
 
 abbrev pub CertifiesAnswer : Test → PriceTable → Answer → Certificate → Type 0
