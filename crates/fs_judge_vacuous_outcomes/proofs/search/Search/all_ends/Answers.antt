@@ -13,7 +13,7 @@ loop-hart-preserved c =
     let runs = slice_index_or c.args.runs.now c.loop-hart.hart [] in
     let found : AreEnds c.loop-hart.self.wanted condition c.loop-hart.hart c.runs_of.result.now c.in-Some.ends.items = search rules in
     let here = subst (λ w. AreEnds w condition c.loop-hart.hart runs c.in-Some.ends.items) c.loop-hart.invariant.0
-        (subst (λ rs. AreEnds c.loop-hart.self.wanted condition c.loop-hart.hart rs c.in-Some.ends.items) c.runs_of.ensures found) in
+    (subst (λ rs. AreEnds c.loop-hart.self.wanted condition c.loop-hart.hart rs c.in-Some.ends.items) c.runs_of.ensures found) in
     let pushed = c.in_ok-push.ensures.items ∙ ap (λ (es : List End). c.loop-hart.lists.items ++ es ∷ []) c.new.ensures in (
       c.ends_of.ensures.wanted ∙ c.loop-hart.invariant.0,
       c.ends_of.ensures.bounded ∙ c.loop-hart.invariant.1,
