@@ -30,7 +30,8 @@ CONTRACTS = {
         ("fs_app_place_order/src/place.rt", "run_place"),
     ],
     "order": [("fs_app_place_order/src/order.rt", "run_order")],
-    "solve": [("fs_app_solve/src/solve.rt", "run_solve"), ("fs_app_guarantees/src/promise.rt", "headline")],
+    "solve": [("fs_app_solve/src/solve.rt", "run_solve"), ("fs_app_solve/src/solve.rt", "output"),
+              ("fs_app_guarantees/src/promise.rt", "headline")],
     "test": [
         ("fs_app_test/src/tested.rt", "test_file"),
         ("fs_app_test/src/report.rt", "test_report"),
@@ -45,7 +46,7 @@ CONTRACTS = {
         ("fs_app_states_log/src/left.rt", "left_over"),
     ],
     "check": [("fs_app_check/src/check_answer.rt", "run_check"), ("fs_app_guarantees/src/checked.rt", "yes_is_true")],
-    "solve --cert": [("fs_app_solve/src/solve.rt", "run_certified")],
+    "solve --cert": [("fs_app_solve/src/solve.rt", "certificate")],
     "requests": [("fs_app/src/program.rt", "answer")],
     "messages": [
         ("fs_app_error_messages/src/file.rt", "explain"),
