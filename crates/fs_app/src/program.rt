@@ -16,6 +16,7 @@ use crate::judging::judge_files;
 use crate::limits::{has_stack, room_of, tell, write_within};
 use crate::papers::Papers;
 use crate::progress::Progress;
+use crate::sources::sources;
 use crate::states::{answer_log, answer_states};
 use crate::whole::write_whole;
 use clap::error::ErrorKind;
@@ -230,7 +231,8 @@ fn answer_test<R: Files + Input + Eprint + AllocGlobal + Threads + Sync>(
 ) -> Result<Output, Fault>
     ensures { IfOk result (AnswersTest test.now) }
 {
-    let judged = judge_files(rt, &test.files, test.jobs, voice.explains)?;
+    let files = sources(rt, &test.files)?;
+    let judged = judge_files(rt, &files, test.jobs, voice.explains)?;
     let output = if test.json {
         test_objects(rt.alloc(), &judged.lines)?
     } else {
