@@ -49,7 +49,7 @@ pub record IsSolvedIn (is_json : Bool) (test prices text : List ℕ) (status : S
   pub object : List ℕ
   pub answer : IsSolved test prices lines status
   pub alike : AreOneAnswer lines object
-  pub text : text ≡ in_form is_json lines object
+  pub shown : text ≡ in_form is_json lines object
 
 pub record AnswersSolve (solve : Solve) (papers : Papers) (output : Output) : Type 0 where
   pub test_name : papers.test.name.now ≡ solve.test.now

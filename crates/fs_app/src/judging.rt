@@ -1,7 +1,7 @@
 //! What `test` says of files, one after the other or side by side.
-use crate::input::read_input;
+use crate::missing::Missing;
 use crate::papers::message_of_file;
-use fs_app_io::Unread;
+use crate::sources::Source;
 use fs_app_test::{Line, test_file};
 use fs_kinds::Fault;
 use std::alloc::{AllocError, Global};
@@ -16,7 +16,7 @@ const AT_ONCE: usize = 8;
 #[derive(Drop)]
 struct Taken<'a> {
     name: &'a str,
-    file: Result<Vec<u8>, Unread>,
+    file: Result<Vec<u8>, Missing>,
 }
 
 /// What is said of files, in their order: a line of each, and messages of those that aren't tests, or weren't read.
@@ -42,7 +42,7 @@ impl Judged {
             self.add_message(message_of_file(alloc, name, &file));
         }
         self.lines
-            .push(test_file(alloc, name, file.map_err(Unread::fault))?)?;
+            .push(test_file(alloc, name, file.map_err(Missing::fault))?)?;
         Ok(())
     }
 
@@ -69,7 +69,7 @@ impl Judged {
 /// Of up to eight files for each job the bytes are kept at once.
 pub(crate) fn judge_files<R: Files + Input + AllocGlobal + Threads + Sync>(
     rt: &R,
-    files: &[String],
+    files: &[Source],
     jobs: u8,
     explains: bool,
 ) -> Result<Judged, Fault> {
@@ -93,39 +93,43 @@ pub(crate) fn judge_files<R: Files + Input + AllocGlobal + Threads + Sync>(
 /// One file after the other; of each no more is kept than what is said of it.
 fn judge_in_turn<R: Files + Input + AllocGlobal>(
     rt: &R,
-    files: &[String],
+    files: &[Source],
     explains: bool,
 ) -> Result<Judged, Fault> {
     let mut judged = Judged::new(rt.alloc());
-    for path in files {
-        let name = path.as_str();
-        let file = read_input(rt, name);
-        judged.judge(rt.alloc(), Taken { name, file }, explains)?;
+    for source in files {
+        judged.judge(rt.alloc(), take(rt, source), explains)?;
     }
     Ok(judged)
+}
+
+/// The file, read.
+fn take<'a, R: Files + Input + AllocGlobal>(rt: &R, source: &'a Source) -> Taken<'a> {
+    Taken {
+        name: source.name.as_str(),
+        file: source.read(rt),
+    }
 }
 
 /// The files, read in their order, in batches for a thread each.
 fn read_batches<'a, R: Files + Input + AllocGlobal>(
     rt: &R,
-    files: &'a [String],
+    files: &'a [Source],
 ) -> Result<Vec<Vec<Taken<'a>>>, AllocError> {
     let mut batches = Vec::new(rt.alloc());
-    for paths in files.chunks(AT_ONCE) {
-        batches.push(read_batch(rt, paths)?)?;
+    for batch in files.chunks(AT_ONCE) {
+        batches.push(read_batch(rt, batch)?)?;
     }
     Ok(batches)
 }
 
 fn read_batch<'a, R: Files + Input + AllocGlobal>(
     rt: &R,
-    paths: &'a [String],
+    files: &'a [Source],
 ) -> Result<Vec<Taken<'a>>, AllocError> {
     let mut batch = Vec::new(rt.alloc());
-    for path in paths {
-        let name = path.as_str();
-        let file = read_input(rt, name);
-        batch.push(Taken { name, file })?;
+    for source in files {
+        batch.push(take(rt, source))?;
     }
     Ok(batch)
 }

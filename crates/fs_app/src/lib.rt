@@ -5,9 +5,11 @@ mod failure;
 mod input;
 mod judging;
 mod limits;
+mod missing;
 mod papers;
 mod program;
 mod progress;
+mod sources;
 mod states;
 mod whole;
 

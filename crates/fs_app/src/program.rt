@@ -1,6 +1,7 @@
 //! A run of the program: from the words of its command line to what it prints and its exit status.
 
-ghost use Rattle.std.specs.Prelude.{◌≡◌, ◌≤◌, IfOk, IfErr, map, string_bytes};
+ghost use Rattle.std.specs.Prelude.{◌≡◌, ◌≤◌, ℕ, List, IfOk, IfErr, map, string_bytes};
+ghost use Rattle.std.specs.Arc.{arc_value};
 ghost use Rattle.std.specs.Option.{option_copied};
 ghost use Rattle.fs_app_io.specs.declared.status.Status.TheVariants.{Success};
 ghost use Rattle.fs_app_place_order.specs.Place.{IsFencedText, IsFirstPlaceFault};
@@ -16,6 +17,7 @@ use crate::judging::judge_files;
 use crate::limits::{has_stack, room_of, tell, write_within};
 use crate::papers::Papers;
 use crate::progress::Progress;
+use crate::sources::sources;
 use crate::states::{answer_log, answer_states};
 use crate::whole::write_whole;
 use clap::error::ErrorKind;
@@ -230,7 +232,8 @@ fn answer_test<R: Files + Input + Eprint + AllocGlobal + Threads + Sync>(
 ) -> Result<Output, Fault>
     ensures { IfOk result (AnswersTest test.now) }
 {
-    let judged = judge_files(rt, &test.files, test.jobs, voice.explains)?;
+    let files = sources(rt, &test.files)?;
+    let judged = judge_files(rt, &files, test.jobs, voice.explains)?;
     let output = if test.json {
         test_objects(rt.alloc(), &judged.lines)?
     } else {

@@ -37,6 +37,9 @@ With --json it prints a JSON object for each file, a line each, and nothing coun
 (here in two lines). Where the outcome is allowed, the witness is an execution that shows it,
 which `order` reads.
 
+FILE may also be a folder, for its files *.litmus and those of its folders; or a list, a file
+whose name begins with @, with a FILE a line, as herd7 reads it.
+
 Exit status:
   0  each outcome is forbidden
   1  one is allowed, whatever else there is
@@ -298,10 +301,11 @@ command line; 3 memory ran out; 4 vacuous.";
 
 const FILE_HELP: &str = "Litmus test in herd7's RISC-V format; `-` or `stdin` is standard input";
 
-const FILES_HELP: &str = "Litmus tests in herd7's RISC-V format; `-` or `stdin` is standard input";
+const FILES_HELP: &str =
+    "Litmus tests in herd7's RISC-V format, folders and @lists; `-` is standard input";
 
 const FILES_AND_FENCES_HELP: &str =
-    "Litmus tests in herd7's RISC-V format, and fences to place in each, as P0:3=w,w";
+    "Litmus tests, folders and @lists, and fences to place in each test, as P0:3=w,w";
 
 const ALL_HELP: &str = "Show all registers that are written, and all locations";
 
