@@ -1,5 +1,5 @@
 -- What a command answers, of the files that it has read. What a file gives when it is read no definition says.
-use Rattle.std.specs.Prelude.{◌≡◌, ℕ, Bool, true, false, List, Option, IfSome, map, option_map, string_bytes, if◌then◌else◌}
+use Rattle.std.specs.Prelude.{◌≡◌, ℕ, Bool, true, false, List, [], ◌++◌, Option, IfSome, map, option_map, string_bytes, if◌then◌else◌}
 use Rattle.fs_app_io.specs.declared.status.Output.{Output}
 use Rattle.fs_app_io.specs.declared.status.Status.{Status}
 use Rattle.fs_app_io.specs.declared.status.Status.TheVariants.{Success}
@@ -13,6 +13,7 @@ use Rattle.fs_app_check.specs.Check.{IsChecked, AreOneVerdict}
 use Rattle.fs_app_test.specs.declared.said.Line.{Line}
 use Rattle.fs_app_test.specs.Status.{report_status}
 use Rattle.fs_app_test.specs.Report.{report_text, json_text}
+use Rattle.fs_app_why.specs.Why.{IsAnswerWhy, IsOrderWhy}
 use Rattle.fs_app_command_line.specs.declared.command.Task.{Task}
 use Rattle.fs_app_command_line.specs.declared.command.Task.TheVariants as task
 use Rattle.fs_app_command_line.specs.declared.command.Test.{Test}
@@ -31,6 +32,11 @@ offered place papers = option_map (λ name. papers.prices.bytes.items) place.pri
 abbrev pub in_form : (is_json : Bool) (lines object : List ℕ) → List ℕ
 in_form is_json lines object = if is_json then object else lines
 
+-- what is told below an answer, where it is asked for
+abbrev pub IsTold : (is_asked : Bool) → (List ℕ → Type 0) → (text : List ℕ) → Type 0
+IsTold true P text = P text
+IsTold false P text = text ≡ []
+
 -- what `place` prints of the test of this name, with the prices of this name
 pub record AnswersPlace (place : Place) (papers : Papers) (output : Output) : Type 0 where
   pub test_name : papers.test.name.now ≡ place.test.now
@@ -41,7 +47,11 @@ pub record AnswersPlace (place : Place) (papers : Papers) (output : Output) : Ty
 pub record AnswersOrder (order : Order) (papers : Papers) (output : Output) : Type 0 where
   pub test_name : papers.test.name.now ≡ order.test.now
   pub witness_name : papers.evidence.name.now ≡ order.witness.now
-  pub answer : IsOrderAnswer papers.test.bytes.items papers.evidence.bytes.items (map string_bytes order.fences.items) (string_bytes output.text) output.status
+  pub lines : List ℕ
+  pub below : List ℕ
+  pub answer : IsOrderAnswer papers.test.bytes.items papers.evidence.bytes.items (map string_bytes order.fences.items) lines output.status
+  pub told : IsTold order.why (IsOrderWhy papers.test.bytes.items papers.evidence.bytes.items (map string_bytes order.fences.items)) below
+  pub text : string_bytes output.text ≡ lines ++ below
 
 pub record AnswersSolve (solve : Solve) (papers : Papers) (output : Output) : Type 0 where
   pub test_name : papers.test.name.now ≡ solve.test.now
@@ -50,7 +60,9 @@ pub record AnswersSolve (solve : Solve) (papers : Papers) (output : Output) : Ty
   pub object : List ℕ
   pub answer : IsSolved papers.test.bytes.items papers.prices.bytes.items lines output.status
   pub alike : AreOneAnswer lines object
-  pub text : string_bytes output.text ≡ in_form solve.json lines object
+  pub below : List ℕ
+  pub told : IsTold solve.why (IsAnswerWhy papers.test.bytes.items) below
+  pub text : string_bytes output.text ≡ in_form solve.json (lines ++ below) object
 
 -- with `--write` the mended test
 abbrev pub IsAuditText : (is_mended : Bool) (test prices text : List ℕ) (status : Status) → Type 0
@@ -75,12 +87,15 @@ pub record AnswersCheck (check : Check) (papers : Papers) (output : Output) : Ty
   pub object : List ℕ
   pub answer : IsChecked papers.test.bytes.items papers.prices.bytes.items papers.evidence.bytes.items lines output.status
   pub alike : AreOneVerdict lines object
-  pub text : string_bytes output.text ≡ in_form check.json lines object
+  pub below : List ℕ
+  pub told : (is_asked : Bool) × IsTold is_asked (IsAnswerWhy papers.test.bytes.items) below
+  pub text : string_bytes output.text ≡ in_form check.json (lines ++ below) object
 
--- the text and the status are those of the same lines
+-- the text and the status are those of the same lines; of what is told below them nothing is said
 pub record AnswersTest (test : Test) (output : Output) : Type 0 where
   pub lines : List Line
-  pub text : string_bytes output.text ≡ in_form test.json (report_text lines) (json_text lines)
+  pub below : List ℕ
+  pub text : string_bytes output.text ≡ in_form test.json (report_text lines ++ below) (json_text lines)
   pub ends : output.status ≡ report_status lines
 
 -- of `states` there is none here: it is the answers of its files, one below the other

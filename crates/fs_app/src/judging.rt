@@ -1,8 +1,10 @@
 //! What `test` says of files, one after the other or side by side.
 use crate::input::read_input;
 use crate::papers::message_of_file;
+use fs_app_error_messages::shown_name;
 use fs_app_io::Unread;
 use fs_app_test::{Line, test_file};
+use fs_app_why::why_allowed;
 use fs_kinds::Fault;
 use std::alloc::{AllocError, Global};
 use std::rt::Files;
@@ -19,11 +21,48 @@ struct Taken<'a> {
     file: Result<Vec<u8>, Unread>,
 }
 
-/// What is said of files, in their order: a line of each, and messages of those that aren't tests, or weren't read.
+/// What is said of files, in their order: a line of each, messages of those that aren't tests, or weren't read, and what
+/// is told below the lines.
 #[derive(Drop)]
 pub(crate) struct Judged {
     pub lines: Vec<Line>,
     pub messages: Vec<String>,
+    pub below: String,
+}
+
+/// What is asked besides the lines.
+#[derive(Clone, Copy)]
+struct Wanted {
+    /// Whether faults are explained.
+    explains: bool,
+    /// Whether executions are told.
+    tells: bool,
+}
+
+/// The bytes of the file once more, where they are wanted and there are any.
+fn copied(
+    alloc: Global,
+    file: &Result<Vec<u8>, Unread>,
+    wanted: bool,
+) -> Result<Vec<u8>, AllocError> {
+    match file {
+        Ok(bytes) if wanted => Vec::from_slice(alloc, bytes),
+        _ => Ok(Vec::new(alloc)),
+    }
+}
+
+/// What is told of a file, below its name: an execution that shows its outcome, where that is allowed.
+fn told(alloc: Global, line: &Line, bytes: &[u8]) -> Result<String, Fault> {
+    let mut text = String::new(alloc);
+    if let Some(witness) = &line.said.witness {
+        let order = witness.order.as_slice();
+        if let Some(execution) = why_allowed(alloc, bytes, witness.choices.as_slice(), order)? {
+            text.push_str("\n")?;
+            text.push_str(shown_name(alloc, line.name.as_str())?.as_str())?;
+            text.push_str(execution.as_str())?;
+        }
+    }
+    Ok(text)
 }
 
 impl Judged {
@@ -31,18 +70,23 @@ impl Judged {
         Judged {
             lines: Vec::new(alloc),
             messages: Vec::new(alloc),
+            below: String::new(alloc),
         }
     }
 
-    /// Adds what is said of a file, with its message where that is asked for. Where there is no memory for a message it
-    /// is left out.
-    fn judge(&mut self, alloc: Global, taken: Taken<'_>, explains: bool) -> Result<(), Fault> {
+    /// Adds what is said of a file, with its message and what is told of it where that is asked for. Where there is no
+    /// memory for a message it is left out.
+    fn judge(&mut self, alloc: Global, taken: Taken<'_>, wanted: Wanted) -> Result<(), Fault> {
         let Taken { name, file } = taken;
-        if explains {
+        if wanted.explains {
             self.add_message(message_of_file(alloc, name, &file));
         }
-        self.lines
-            .push(test_file(alloc, name, file.map_err(Unread::fault))?)?;
+        let bytes = copied(alloc, &file, wanted.tells)?;
+        let line = test_file(alloc, name, file.map_err(Unread::fault))?;
+        if wanted.tells {
+            self.below.push_str(told(alloc, &line, &bytes)?.as_str())?;
+        }
+        self.lines.push(line)?;
         Ok(())
     }
 
@@ -60,7 +104,7 @@ impl Judged {
         for message in later.messages {
             self.add_message(Some(message));
         }
-        Ok(())
+        self.below.push_str(later.below.as_str())
     }
 }
 
@@ -72,9 +116,11 @@ pub(crate) fn judge_files<R: Files + Input + AllocGlobal + Threads + Sync>(
     files: &[String],
     jobs: u8,
     explains: bool,
+    tells: bool,
 ) -> Result<Judged, Fault> {
+    let wanted = Wanted { explains, tells };
     if jobs == 1 {
-        return judge_in_turn(rt, files, explains);
+        return judge_in_turn(rt, files, wanted);
     }
     let mut judged = Judged::new(rt.alloc());
     for round in files.chunks(usize::from(jobs.max(1)) * AT_ONCE) {
@@ -83,7 +129,7 @@ pub(crate) fn judge_files<R: Files + Input + AllocGlobal + Threads + Sync>(
         let said = thread::map_vec(
             rt,
             batches,
-            &|batch: Vec<Taken<'_>>| { judge_batch(alloc, batch, explains) },
+            &|batch: Vec<Taken<'_>>| { judge_batch(alloc, batch, wanted) },
         )?;
         add_batches(&mut judged, said)?;
     }
@@ -94,13 +140,13 @@ pub(crate) fn judge_files<R: Files + Input + AllocGlobal + Threads + Sync>(
 fn judge_in_turn<R: Files + Input + AllocGlobal>(
     rt: &R,
     files: &[String],
-    explains: bool,
+    wanted: Wanted,
 ) -> Result<Judged, Fault> {
     let mut judged = Judged::new(rt.alloc());
     for path in files {
         let name = path.as_str();
         let file = read_input(rt, name);
-        judged.judge(rt.alloc(), Taken { name, file }, explains)?;
+        judged.judge(rt.alloc(), Taken { name, file }, wanted)?;
     }
     Ok(judged)
 }
@@ -131,10 +177,10 @@ fn read_batch<'a, R: Files + Input + AllocGlobal>(
 }
 
 /// What is said of the files of a batch.
-fn judge_batch(alloc: Global, batch: Vec<Taken<'_>>, explains: bool) -> Result<Judged, Fault> {
+fn judge_batch(alloc: Global, batch: Vec<Taken<'_>>, wanted: Wanted) -> Result<Judged, Fault> {
     let mut judged = Judged::new(alloc);
     for taken in batch {
-        judged.judge(alloc, taken, explains)?;
+        judged.judge(alloc, taken, wanted)?;
     }
     Ok(judged)
 }

@@ -1,6 +1,6 @@
 //! A run of the program: from the words of its command line to what it prints and its exit status.
 
-ghost use Rattle.std.specs.Prelude.{◌≡◌, ◌≤◌, IfOk, IfErr, map, string_bytes};
+ghost use Rattle.std.specs.Prelude.{◌≡◌, ◌≤◌, ◌++◌, IfOk, IfErr, map, string_bytes};
 ghost use Rattle.std.specs.Option.{option_copied};
 ghost use Rattle.fs_app_io.specs.declared.status.Status.TheVariants.{Success};
 ghost use Rattle.fs_app_place_order.specs.Place.{IsFencedText, IsFirstPlaceFault};
@@ -9,7 +9,8 @@ ghost use Rattle.fs_report.specs.Objects.{AreOneAnswer};
 ghost use Rattle.fs_app_solve.specs.Solve.{IsSolved, IsCertified, IsFirstSolveFault};
 ghost use Rattle.fs_app_check.specs.Check.{IsChecked, AreOneVerdict, IsFirstCheckFault};
 ghost use Rattle.fs_app.specs.Answers.{offered, in_form, IsAuditFault, IsAuditText, Answers, AnswersTest, AnswersPlace};
-ghost use Rattle.fs_app.specs.Answers.{AnswersOrder, AnswersSolve, AnswersAudit, AnswersCheck};
+ghost use Rattle.fs_app_why.specs.Why.{IsAnswerWhy, IsOrderWhy};
+ghost use Rattle.fs_app.specs.Answers.{AnswersOrder, AnswersSolve, AnswersAudit, AnswersCheck, IsTold};
 
 use crate::failure::Failure;
 use crate::input::INPUT_LIMIT;
@@ -33,6 +34,7 @@ use fs_app_solve::{
     Answered, Certified, run_certified, run_certified_alone, run_solve, run_solve_alone,
 };
 use fs_app_test::{test_objects, test_report, vacuous_note};
+use fs_app_why::{why_answer, why_order};
 use fs_kinds::Fault;
 use std::alloc::Global;
 use std::process::ExitCode;
@@ -236,11 +238,13 @@ fn answer_test<R: Files + Input + Eprint + AllocGlobal + Threads + Sync>(
 ) -> Result<Output, Fault>
     ensures { IfOk result (AnswersTest test.now) }
 {
-    let judged = judge_files(rt, &test.files, test.jobs, voice.explains)?;
+    let tells = test.why && !test.json;
+    let judged = judge_files(rt, &test.files, test.jobs, voice.explains, tells)?;
     let output = if test.json {
         test_objects(rt.alloc(), &judged.lines)?
     } else {
-        test_report(rt.alloc(), &judged.lines)?
+        let report = test_report(rt.alloc(), &judged.lines)?;
+        with_below(report, judged.below.as_str())?
     };
     for message in &judged.messages {
         tell(rt, message);
@@ -299,7 +303,53 @@ fn answer_order<'a, R: Files + Input + AllocGlobal>(
     papers.fences = &order.fences;
     papers.read_test(rt, order.test)?;
     papers.read_evidence(rt, order.witness, INPUT_LIMIT)?;
-    ordered(rt.alloc(), papers)
+    let output = ordered(rt.alloc(), papers)?;
+    let below = order_why(rt.alloc(), order.why, papers)?;
+    with_below(output, below.as_str())
+}
+
+/// The output with this text below its own.
+fn with_below(output: Output, below: &str) -> Result<Output, Fault>
+    ensures text { IfOk result (λ made. string_bytes made.text ≡ string_bytes output.text ++ below.now) }
+    ensures status { IfOk result (λ made. made.status ≡ output.status) }
+{
+    let Output { mut text, status } = output;
+    text.push_str(below)?;
+    Ok(Output { text, status })
+}
+
+/// What is told below the verdict, where it is asked for.
+fn order_why(alloc: Global, why: bool, papers: &Papers<'_>) -> Result<String, Fault>
+    ensures { IfOk result (λ text. IsTold why (IsOrderWhy papers.now.test.bytes.items
+        papers.now.evidence.bytes.items (map string_bytes papers.now.fences.now)) (string_bytes text)) }
+{
+    if why {
+        why_order(
+            alloc,
+            &papers.test.bytes,
+            &papers.evidence.bytes,
+            papers.fences,
+        )
+    } else {
+        Ok(String::new(alloc))
+    }
+}
+
+/// What is told below an answer with this certificate, where it is asked for.
+fn answer_why(
+    alloc: Global,
+    why: bool,
+    papers: &Papers<'_>,
+    certificate: &[u8],
+) -> Result<String, Fault>
+    ensures { IfOk result (λ text.
+        IsTold why (IsAnswerWhy papers.now.test.bytes.items) (string_bytes text)) }
+{
+    if why {
+        why_answer(alloc, &papers.test.bytes, certificate)
+    } else {
+        Ok(String::new(alloc))
+    }
 }
 
 /// The verdict on the witness that was read.
@@ -329,39 +379,48 @@ fn answer_solve<'a, R: Files + Input + Eprint + AllocGlobal + Clock + Threads + 
     papers.read_test(rt, solve.test)?;
     papers.read_prices(rt, solve.prices)?;
     let mut progress = Progress::new(rt, voice.shows_progress);
-    let answered = answered(rt, solve, papers, &mut progress)?;
+    let (answered, below) = answered(rt, solve, papers, &mut progress)?;
     if voice.notes {
         note_vacuous(rt, &papers.test.bytes, answered.output.text.as_str())?;
     }
-    Ok(in_form(answered.output, answered.object, solve.json))
+    let output = with_below(answered.output, below.as_str())?;
+    Ok(in_form(output, answered.object, solve.json))
 }
 
 /// What `solve` prints of the test and the prices that were read, once its certificate is written where one is asked
-/// for.
+/// for; and what is told below it.
 fn answered<R: Files + Eprint + AllocGlobal + Clock + Threads + Wait + Sync>(
     rt: &R,
     solve: &Solve<'_>,
     papers: &Papers<'_>,
     progress: &mut Progress<'_, R>,
-) -> Result<Answered, Fault>
+) -> Result<(Answered, String), Fault>
     ensures answer { IfOk result (λ made. IsSolved papers.now.test.bytes.items papers.now.prices.bytes.items
-        (string_bytes made.output.text) made.output.status) }
-    ensures object { IfOk result (λ made. AreOneAnswer (string_bytes made.output.text) (string_bytes made.object)) }
+        (string_bytes made.0.output.text) made.0.output.status) }
+    ensures object { IfOk result (λ made. AreOneAnswer (string_bytes made.0.output.text) (string_bytes made.0.object)) }
+    ensures told { IfOk result (λ made.
+        IsTold solve.now.why (IsAnswerWhy papers.now.test.bytes.items) (string_bytes made.1)) }
 {
     let (test, prices) = (&papers.test.bytes, &papers.prices.bytes);
     // the command line has no other numbers; here it is said once more for the proof
     let workers = solve.workers.clamp(1, MOST_WORKERS);
     let limit = solve.nodes.clamp(1, MOST_NODES) as usize;
-    let Some(path) = solve.certificate else {
+    if solve.certificate.is_none() && !solve.why {
         let answered = solved(rt, test, prices, workers, limit, progress);
         progress.wipe();
-        return answered;
-    };
+        return Ok((answered?, String::new(rt.alloc())));
+    }
     let certified = certified(rt, test, prices, workers, limit, progress);
     progress.wipe();
-    let certified = certified?;
-    write_whole(rt, path, certified.certificate.as_bytes())?;
-    Ok(certified.answered)
+    let Certified {
+        answered,
+        certificate,
+    } = certified?;
+    if let Some(path) = solve.certificate {
+        write_whole(rt, path, certificate.as_bytes())?;
+    }
+    let below = answer_why(rt.alloc(), solve.why, papers, certificate.as_bytes())?;
+    Ok((answered, below))
 }
 
 /// Says on standard error that the test is vacuous, where it is. Then it needs no fence, so of other answers nothing is
@@ -493,7 +552,10 @@ fn answer_check<'a, R: Files + Input + AllocGlobal>(
     papers.read_prices(rt, check.prices)?;
     papers.read_evidence(rt, check.certificate, CERTIFICATE_LIMIT)?;
     let checked = checked(rt.alloc(), papers)?;
-    Ok(in_form(checked.output, checked.object, check.json))
+    let tells = check.why && checked.output.status == Status::Success;
+    let below = answer_why(rt.alloc(), tells, papers, &papers.evidence.bytes)?;
+    let output = with_below(checked.output, below.as_str())?;
+    Ok(in_form(output, checked.object, check.json))
 }
 
 /// The verdict on the certificate that was read.

@@ -327,6 +327,8 @@ const LINES_HELP: &str = "Print a JSON object for each file, a line each";
 
 const JSON_HELP: &str = "Print a JSON object";
 
+const WHY_HELP: &str = "Tell the execution that shows the outcome, in the order of memory";
+
 const SHELL_HELP: &str = "Which shell is to read it";
 
 const WRITE_HELP: &str = "Print the test with the cheapest fences in place of its own";
@@ -381,6 +383,8 @@ pub struct Test {
     pub jobs: u8,
     /// Whether JSON is to be printed.
     pub json: bool,
+    /// Whether executions are to be told below the lines.
+    pub why: bool,
 }
 
 /// What `states` was asked for.
@@ -410,6 +414,8 @@ pub struct Order<'a> {
     pub test: &'a str,
     pub witness: &'a str,
     pub fences: Vec<String>,
+    /// Whether the execution is to be told below a yes.
+    pub why: bool,
 }
 
 /// What `solve` was asked for.
@@ -425,6 +431,8 @@ pub struct Solve<'a> {
     pub certificate: Option<&'a str>,
     /// Whether JSON is to be printed.
     pub json: bool,
+    /// Whether the execution beside `none` is to be told below it.
+    pub why: bool,
 }
 
 /// What `audit` was asked for.
@@ -446,6 +454,8 @@ pub struct Check<'a> {
     pub certificate: &'a str,
     /// Whether JSON is to be printed.
     pub json: bool,
+    /// Whether the execution beside `none` is to be told below it.
+    pub why: bool,
 }
 
 /// The request that the words make, the program's name first. An error holds the text for the user, and help and the
@@ -483,6 +493,7 @@ fn test_of(alloc: Global, found: &ArgMatches<'_>) -> Result<Test, AllocError> {
         files: words_of(alloc, found, "FILE")?,
         jobs: found.get_one::<u8>("jobs").unwrap_or(ONE_WORKER),
         json: found.get_flag("json"),
+        why: found.get_flag("why"),
     })
 }
 
@@ -536,6 +547,7 @@ fn order_of<'a>(alloc: Global, found: &ArgMatches<'a>) -> Result<Order<'a>, Allo
         test: found.get_str("FILE").unwrap_or(""),
         witness: found.get_str("WITNESS").unwrap_or(""),
         fences: fences_of(alloc, found)?,
+        why: found.get_flag("why"),
     })
 }
 
@@ -547,6 +559,7 @@ fn solve_of<'a>(found: &ArgMatches<'a>) -> Solve<'a> {
         nodes: found.get_one::<u32>("nodes").unwrap_or(MOST_NODES),
         certificate: found.get_str("cert"),
         json: found.get_flag("json"),
+        why: found.get_flag("why"),
     }
 }
 
@@ -565,6 +578,7 @@ fn check_of<'a>(found: &ArgMatches<'a>) -> Check<'a> {
         prices: found.get_str("PRICES").unwrap_or(""),
         certificate: found.get_str("CERTIFICATE").unwrap_or(""),
         json: found.get_flag("json"),
+        why: found.get_flag("why"),
     }
 }
 
@@ -637,6 +651,7 @@ fn test_command<'a>(alloc: Global) -> Result<Command<'a>, AllocError> {
     let command = with_argument(Ok(command), files(alloc, FILES_HELP));
     let command = with_argument(command, threads(alloc, "jobs", JOBS_HELP));
     let command = with_argument(command, flag(alloc, "json", LINES_HELP));
+    let command = with_argument(command, flag(alloc, "why", WHY_HELP));
     with_voice(alloc, command)
 }
 
@@ -668,6 +683,7 @@ fn order_command<'a>(alloc: Global) -> Result<Command<'a>, AllocError> {
     let command = with_argument(Ok(command), required(alloc, "FILE", FILE_HELP));
     let command = with_argument(command, required(alloc, "WITNESS", WITNESS_HELP));
     let command = with_argument(command, fences(alloc, FENCE_HELP));
+    let command = with_argument(command, flag(alloc, "why", WHY_HELP));
     with_voice(alloc, command)
 }
 
@@ -681,6 +697,7 @@ fn solve_command<'a>(alloc: Global) -> Result<Command<'a>, AllocError> {
     let command = with_argument(command, nodes(alloc, NODES_HELP));
     let command = with_argument(command, option(alloc, "cert", "PATH", CERT_HELP));
     let command = with_argument(command, flag(alloc, "json", JSON_HELP));
+    let command = with_argument(command, flag(alloc, "why", WHY_HELP));
     with_voice(alloc, command)
 }
 
@@ -703,6 +720,7 @@ fn check_command<'a>(alloc: Global) -> Result<Command<'a>, AllocError> {
     let command = with_argument(command, required(alloc, "PRICES", PRICES_HELP));
     let command = with_argument(command, required(alloc, "CERTIFICATE", CERTIFICATE_HELP));
     let command = with_argument(command, flag(alloc, "json", JSON_HELP));
+    let command = with_argument(command, flag(alloc, "why", WHY_HELP));
     with_voice(alloc, command)
 }
 
