@@ -3,8 +3,8 @@ use crate::input::read_input;
 use crate::papers::message_of_file;
 use fs_app_error_messages::shown_name;
 use fs_app_io::Unread;
-use fs_app_test::{Line, test_file};
-use fs_app_why::why_allowed;
+use fs_app_test::{Kind, Line, test_file};
+use fs_app_why::{why_allowed, why_forbidden};
 use fs_kinds::Fault;
 use std::alloc::{AllocError, Global};
 use std::rt::Files;
@@ -61,6 +61,12 @@ fn told(alloc: Global, line: &Line, bytes: &[u8]) -> Result<String, Fault> {
             text.push_str(shown_name(alloc, line.name.as_str())?.as_str())?;
             text.push_str(execution.as_str())?;
         }
+    }
+    if line.said.kind == Kind::Forbidden {
+        text.push_str("\n")?;
+        text.push_str(shown_name(alloc, line.name.as_str())?.as_str())?;
+        text.push_str("\n")?;
+        text.push_str(why_forbidden(alloc, bytes, false)?.as_str())?;
     }
     Ok(text)
 }

@@ -346,7 +346,7 @@ fn answer_why(
         IsTold why (IsAnswerWhy papers.now.test.bytes.items) (string_bytes text)) }
 {
     if why {
-        why_answer(alloc, &papers.test.bytes, certificate)
+        why_answer(alloc, &papers.test.bytes, &papers.prices.bytes, certificate, false)
     } else {
         Ok(String::new(alloc))
     }

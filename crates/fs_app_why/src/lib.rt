@@ -3,6 +3,13 @@
 #![tactic(auto)]
 
 mod answered;
+mod arrows;
+mod chains;
+mod contradictions;
+mod fenced;
+mod renamed;
+mod roles;
+mod without;
 mod ends;
 mod marks;
 mod nearer;
@@ -15,6 +22,6 @@ mod told;
 mod trace;
 mod words;
 
-pub use answered::why_answer;
+pub use answered::{why_answer, why_forbidden};
 pub use order::why_order;
 pub use possible::why_allowed;
