@@ -1,4 +1,5 @@
 //! The files that a run reads.
+use crate::missing::Missing;
 use fs_app_io::{Unread, read_bytes};
 use std::fs::File;
 use std::rt::Files;
@@ -6,13 +7,18 @@ use std::rt::Files;
 /// Tests, prices and witnesses are read up to this many bytes.
 pub(crate) const INPUT_LIMIT: usize = 1_048_576;
 
+/// Is this the name of standard input?
+pub(crate) fn is_standard_input(path: &str) -> bool {
+    path == "-" || path == "stdin"
+}
+
 /// The bytes of a test: of standard input where it is called `-` or `stdin`, else of the file.
 pub(crate) fn read_input<R: Files + Input + AllocGlobal>(
     rt: &R,
     path: &str,
-) -> Result<Vec<u8>, Unread> {
-    if path == "-" || path == "stdin" {
-        return read_bytes(rt.alloc(), &mut rt.reader(), INPUT_LIMIT);
+) -> Result<Vec<u8>, Missing> {
+    if is_standard_input(path) {
+        return Ok(read_bytes(rt.alloc(), &mut rt.reader(), INPUT_LIMIT)?);
     }
     read_file(rt, path, INPUT_LIMIT)
 }
@@ -22,9 +28,9 @@ pub(crate) fn read_file<R: Files + AllocGlobal>(
     rt: &R,
     path: &str,
     limit: usize,
-) -> Result<Vec<u8>, Unread> {
+) -> Result<Vec<u8>, Missing> {
     match File::open(rt, path) {
-        Ok(mut file) => read_bytes(rt.alloc(), &mut file, limit),
-        Err(error) => Err(Unread::of(error.kind())),
+        Ok(mut file) => Ok(read_bytes(rt.alloc(), &mut file, limit)?),
+        Err(error) => Err(Missing::Unread(Unread::of(error.kind()))),
     }
 }

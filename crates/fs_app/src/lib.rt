@@ -1,13 +1,16 @@
 //! The program without its `main`: a run from the command line to the exit status, and what each command answers.
 #![tactic(auto)]
 
+mod expecting;
 mod failure;
 mod input;
 mod judging;
 mod limits;
+mod missing;
 mod papers;
 mod program;
 mod progress;
+mod sources;
 mod states;
 mod whole;
 
@@ -21,5 +24,8 @@ pub use fs_app_solve::{
 };
 pub use fs_app_states::{Shown, run_states};
 pub use fs_app_states_log::{Compared, LogError, compare, left_over, read_log};
-pub use fs_app_test::{Kind, Line, Said, test_file, test_objects, test_report, vacuous_note};
+pub use fs_app_test::{
+    Expected, Kind, Line, Note, Said, expected_of, test_file, test_objects, test_report,
+    vacuous_note,
+};
 pub use program::run;

@@ -3,8 +3,13 @@
 ghost use Rattle.std.specs.Prelude.{◌≡◌, IfOk, OnOk};
 
 use crate::input::{INPUT_LIMIT, read_file, read_input};
-use fs_app_error_messages::{explain, explain_fences, explain_json, explain_test, explain_unread};
+use crate::missing::Missing;
+use crate::sources::Source;
+use fs_app_error_messages::{
+    explain, explain_fences, explain_json, explain_test, explain_unread, locate_test,
+};
 use fs_app_io::Unread;
+use fs_app_test::Note;
 use fs_kinds::Fault;
 use std::alloc::{AllocError, Global};
 use std::rt::Files;
@@ -26,7 +31,7 @@ pub(crate) struct Papers<'a> {
     /// The FENCE words.
     pub fences: &'a [String],
     /// The name of the file that wasn't read, and why.
-    unread: Option<(&'a str, Unread)>,
+    unread: Option<(&'a str, Missing)>,
 }
 
 impl<'a> Papers<'a> {
@@ -52,6 +57,16 @@ impl<'a> Papers<'a> {
             × (self.new.fences ≡ self.old.fences) }
     {
         self.test = self.paper(name, read_input(rt, name))?;
+        Ok(())
+    }
+
+    /// Reads the test that a FILE word names.
+    pub(crate) fn read_source<R: Files + Input + AllocGlobal>(
+        &mut self,
+        rt: &R,
+        source: &'a Source,
+    ) -> Result<(), Fault> {
+        self.test = self.paper(source.name.as_str(), source.read(rt))?;
         Ok(())
     }
 
@@ -85,7 +100,7 @@ impl<'a> Papers<'a> {
     }
 
     /// The paper of these bytes; or the fault that there are none, and why is kept.
-    fn paper(&mut self, name: &'a str, file: Result<Vec<u8>, Unread>) -> Result<Paper<'a>, Fault>
+    fn paper(&mut self, name: &'a str, file: Result<Vec<u8>, Missing>) -> Result<Paper<'a>, Fault>
         ensures name { IfOk result (λ paper. paper.name.now ≡ name.now) }
         ensures kept { (self.new.test ≡ self.old.test) × (self.new.prices ≡ self.old.prices)
             × (self.new.evidence ≡ self.old.evidence) × (self.new.fences ≡ self.old.fences) }
@@ -150,7 +165,7 @@ fn explained_json(
 
 fn explained_unread(
     alloc: Global,
-    unread: Option<(&str, Unread)>,
+    unread: Option<(&str, Missing)>,
 ) -> Result<Option<String>, AllocError> {
     match unread {
         Some((name, why)) => Ok(Some(unread_line(alloc, name, why)?)),
@@ -159,7 +174,7 @@ fn explained_unread(
 }
 
 /// The line that says why the file wasn't read.
-fn unread_line(alloc: Global, name: &str, why: Unread) -> Result<String, AllocError> {
+fn unread_line(alloc: Global, name: &str, why: Missing) -> Result<String, AllocError> {
     let why = format!(in alloc; "{why}")?;
     explain_unread(alloc, name, why.as_str())
 }
@@ -169,11 +184,37 @@ fn unread_line(alloc: Global, name: &str, why: Unread) -> Result<String, AllocEr
 pub(crate) fn message_of_file(
     alloc: Global,
     name: &str,
-    file: &Result<Vec<u8>, Unread>,
+    file: &Result<Vec<u8>, Missing>,
 ) -> Option<String> {
     match file {
         Ok(bytes) => explain_test(alloc, name, bytes).unwrap_or(None),
-        Err(Unread::NoMemory) => None,
+        Err(Missing::Unread(Unread::NoMemory)) => None,
         Err(why) => unread_line(alloc, name, *why).ok(),
     }
+}
+
+/// What that message says, for those who read JSON. The error is want of memory.
+pub(crate) fn note_of_file(
+    alloc: Global,
+    file: &Result<Vec<u8>, Missing>,
+) -> Result<Option<Note>, AllocError> {
+    match file {
+        Ok(bytes) => note_of_test(alloc, bytes),
+        Err(why) => Ok(Some(Note {
+            line: None,
+            column: None,
+            message: format!(in alloc; "{why}")?,
+        })),
+    }
+}
+
+fn note_of_test(alloc: Global, bytes: &[u8]) -> Result<Option<Note>, AllocError> {
+    let Some(found) = locate_test(alloc, bytes)? else {
+        return Ok(None);
+    };
+    Ok(Some(Note {
+        line: found.place.map(|place| place.line),
+        column: found.place.map(|place| place.column),
+        message: String::from_str(alloc, found.hint)?,
+    }))
 }

@@ -1,38 +1,41 @@
 //! A run of the program: from the words of its command line to what it prints and its exit status.
 
-ghost use Rattle.std.specs.Prelude.{◌≡◌, ◌≤◌, IfOk, IfErr, map, string_bytes};
+ghost use Rattle.std.specs.Prelude.{◌≡◌, ◌≤◌, [], IfOk, IfErr, IsSome, map, string_bytes};
 ghost use Rattle.std.specs.Option.{option_copied};
-ghost use Rattle.fs_app_io.specs.declared.status.Status.TheVariants.{Success};
+ghost use Rattle.fs_app_io.specs.declared.status.Status.TheVariants.{Success, Denied, Failure as Failed};
 ghost use Rattle.fs_app_place_order.specs.Place.{IsFencedText, IsFirstPlaceFault};
 ghost use Rattle.fs_app_place_order.specs.Order.{IsOrderAnswer, IsFirstOrderFault};
 ghost use Rattle.fs_report.specs.Objects.{AreOneAnswer};
 ghost use Rattle.fs_app_solve.specs.Solve.{IsSolved, IsCertified, IsFirstSolveFault};
 ghost use Rattle.fs_app_check.specs.Check.{IsChecked, AreOneVerdict, IsFirstCheckFault};
 ghost use Rattle.fs_app.specs.Answers.{offered, in_form, IsAuditFault, IsAuditText, Answers, AnswersTest, AnswersPlace};
-ghost use Rattle.fs_app.specs.Answers.{AnswersOrder, AnswersSolve, AnswersAudit, AnswersCheck};
+ghost use Rattle.fs_app.specs.Answers.{AnswersLines, AnswersOrder, AnswersSolve, AnswersAudit, AnswersCheck};
 
+use crate::expecting::Expecting;
 use crate::failure::Failure;
 use crate::input::INPUT_LIMIT;
-use crate::judging::judge_files;
+use crate::judging::{Wants, judge_files};
 use crate::limits::{has_stack, room_of, tell, write_within};
 use crate::papers::Papers;
 use crate::progress::Progress;
+use crate::sources::sources;
 use crate::states::{answer_log, answer_states};
 use crate::whole::write_whole;
 use clap::error::ErrorKind;
 use fs_app_audit::{run_audit, run_mended};
 use fs_app_check::{Checked, run_check};
 use fs_app_command_line::{
-    Audit, Check, MOST_NODES, MOST_WORKERS, Order, Place, Request, Solve, Task, Test,
+    Audit, Check, Expectations, MOST_NODES, MOST_WORKERS, Order, Place, Request, Solve, Task, Test,
     completion_script, read_request,
 };
 use fs_app_error_messages::shown_name;
 use fs_app_io::{Output, Status};
+use fs_app_lists::{ListError, read_rows};
 use fs_app_place_order::{run_order, run_place};
 use fs_app_solve::{
     Answered, Certified, run_certified, run_certified_alone, run_solve, run_solve_alone,
 };
-use fs_app_test::{test_objects, test_report, vacuous_note};
+use fs_app_test::{Line, test_objects, test_report, vacuous_note};
 use fs_kinds::Fault;
 use std::alloc::Global;
 use std::process::ExitCode;
@@ -211,7 +214,7 @@ fn answer<'a, R: Files + Input + Eprint + AllocGlobal + Clock + Threads + Wait +
     ensures { IfOk result (Answers task.now papers.new) }
 {
     match task {
-        Task::Test(test) => answer_test(rt, test, voice),
+        Task::Test(test) => answer_test(rt, test, voice, papers),
         Task::States(states) => match states.log {
             Some(path) => answer_log(rt, states, path, voice, papers),
             None => answer_states(rt, states, voice),
@@ -228,24 +231,110 @@ fn answer<'a, R: Files + Input + Eprint + AllocGlobal + Clock + Threads + Wait +
     }
 }
 
-/// Messages come before the lines, and only where there is memory for these.
-fn answer_test<R: Files + Input + Eprint + AllocGlobal + Threads + Sync>(
+fn answer_test<'a, R: Files + Input + Eprint + AllocGlobal + Threads + Sync>(
     rt: &R,
-    test: &Test,
+    test: &'a Test<'a>,
     voice: Voice,
+    papers: &mut Papers<'a>,
 ) -> Result<Output, Fault>
     ensures { IfOk result (AnswersTest test.now) }
 {
-    let judged = judge_files(rt, &test.files, test.jobs, voice.explains)?;
-    let output = if test.json {
-        test_objects(rt.alloc(), &judged.lines)?
-    } else {
-        test_report(rt.alloc(), &judged.lines)?
+    match test.expect {
+        Some(Expectations::List(path)) => answer_listed(rt, test, path, voice, papers),
+        _ => judged_tests(rt, test, voice, &mut Expecting::Comments),
+    }
+}
+
+/// The same where the list at this path says what is expected.
+fn answer_listed<'a, R: Files + Input + Eprint + AllocGlobal + Threads + Sync>(
+    rt: &R,
+    test: &'a Test<'a>,
+    path: &'a str,
+    voice: Voice,
+    papers: &mut Papers<'a>,
+) -> Result<Output, Fault>
+    requires { IsSome test.now.expect }
+    ensures { IfOk result (AnswersTest test.now) }
+{
+    papers.read_evidence(rt, path, INPUT_LIMIT)?;
+    match expecting_of(rt.alloc(), &papers.evidence.bytes) {
+        Ok(expecting) => {
+            let mut expecting = expecting;
+            judged_tests(rt, test, voice, &mut expecting)
+        }
+        Err(ListError::Fault(fault)) => Err(fault),
+        Err(error) => {
+            report(rt, &Failure::BadList(error));
+            Ok(refused(rt.alloc()))
+        }
+    }
+}
+
+/// What the list expects.
+fn expecting_of(alloc: Global, list: &[u8]) -> Result<Expecting<'_>, ListError> {
+    Expecting::by_list(alloc, read_rows(alloc, list)?)
+}
+
+/// The same output, with status 1.
+fn denied(output: Output) -> Output
+    ensures text { result.text ≡ output.text }
+    ensures status { result.status ≡ Denied }
+{
+    Output {
+        text: output.text,
+        status: Status::Denied,
+    }
+}
+
+/// No output, with status 2.
+fn refused(alloc: Global) -> Output
+    ensures text { string_bytes result.text ≡ [] }
+    ensures status { result.status ≡ Failed }
+{
+    Output {
+        text: String::new(alloc),
+        status: Status::Failure,
+    }
+}
+
+/// What is said of the files, beside what is expected. Messages come before the lines, and only where there is memory
+/// for these. A test of which something is expected and that isn't there counts as one that isn't as expected.
+fn judged_tests<R: Files + Input + Eprint + AllocGlobal + Threads + Sync>(
+    rt: &R,
+    test: &Test<'_>,
+    voice: Voice,
+    expecting: &mut Expecting<'_>,
+) -> Result<Output, Fault>
+    ensures { IfOk result (AnswersTest test.now) }
+{
+    let wants = Wants {
+        messages: voice.explains,
+        notes: test.json,
     };
+    let files = sources(rt, &test.files)?;
+    let judged = judge_files(rt, &files, test.jobs, wants, expecting)?;
+    let output = lines_output(rt.alloc(), test, &judged.lines)?;
+    let not_met = expecting.not_met(rt.alloc())?;
     for message in &judged.messages {
         tell(rt, message);
     }
-    Ok(output)
+    if test.expect.is_none() || not_met.is_empty() {
+        return Ok(output);
+    }
+    tell(rt, &not_met);
+    Ok(denied(output))
+}
+
+/// The lines in print.
+fn lines_output(alloc: Global, test: &Test<'_>, lines: &[Line]) -> Result<Output, Fault>
+    ensures { IfOk result (AnswersLines test.now) }
+{
+    let expects = test.expect.is_some();
+    if test.json {
+        test_objects(alloc, lines, expects)
+    } else {
+        test_report(alloc, lines, expects)
+    }
 }
 
 fn answer_place<'a, R: Files + Input + AllocGlobal>(

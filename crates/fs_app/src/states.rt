@@ -2,6 +2,7 @@
 use crate::failure::Failure;
 use crate::papers::Papers;
 use crate::program::{Voice, failure_of, report};
+use crate::sources::{Source, sources};
 use fs_app_command_line::States;
 use fs_app_error_messages::explain_test;
 use fs_app_io::{Output, Status};
@@ -22,15 +23,11 @@ pub(crate) fn answer_states<R: Files + Input + Eprint + AllocGlobal>(
         all: states.all,
         witnesses: states.witnesses,
     };
-    for path in &states.files {
-        let mut papers = Papers::new(rt.alloc());
-        papers.fences = &states.fences;
-        match states_of_file(rt, path.as_str(), asked, &mut papers) {
-            Ok(block) => output.text.push_str(block.as_str())?,
-            Err(fault) => {
-                say_fault(rt, fault, voice, &papers)?;
-                output.status = Status::Failure;
-            }
+    let files = sources(rt, &states.files)?;
+    for source in &files {
+        match states_of_file(rt, source, &states.fences, asked, voice)? {
+            Some(block) => output.text.push_str(block.as_str())?,
+            None => output.status = Status::Failure,
         }
     }
     Ok(output)
@@ -44,13 +41,32 @@ fn nothing<R: AllocGlobal>(rt: &R) -> Output {
     }
 }
 
-fn states_of_file<'a, R: Files + Input + AllocGlobal>(
+/// The states of a file. None where it has a fault, which is said on standard error.
+fn states_of_file<'a, R: Files + Input + Eprint + AllocGlobal>(
     rt: &R,
-    path: &'a str,
+    source: &'a Source,
+    fences: &'a [String],
+    asked: Shown,
+    voice: Voice,
+) -> Result<Option<String>, Fault> {
+    let mut papers = Papers::new(rt.alloc());
+    papers.fences = fences;
+    match read_states(rt, source, asked, &mut papers) {
+        Ok(block) => Ok(Some(block)),
+        Err(fault) => {
+            say_fault(rt, fault, voice, &papers)?;
+            Ok(None)
+        }
+    }
+}
+
+fn read_states<'a, R: Files + Input + AllocGlobal>(
+    rt: &R,
+    source: &'a Source,
     asked: Shown,
     papers: &mut Papers<'a>,
 ) -> Result<String, Fault> {
-    papers.read_test(rt, path)?;
+    papers.read_source(rt, source)?;
     run_states(rt.alloc(), &papers.test.bytes, papers.fences, asked)
 }
 
@@ -89,7 +105,10 @@ pub(crate) fn answer_log<'a, R: Files + Input + Eprint + AllocGlobal>(
 ) -> Result<Output, Fault> {
     papers.read_evidence(rt, path, MOST_BYTES)?;
     match read_log(rt.alloc(), &papers.evidence.bytes) {
-        Ok(log) => compare_files(rt, &states.files, &states.fences, &log, voice),
+        Ok(log) => {
+            let files = sources(rt, &states.files)?;
+            compare_files(rt, &files, &states.fences, &log, voice)
+        }
         Err(LogError::Fault(fault)) => Err(fault),
         Err(error) => {
             report(rt, &Failure::BadLog(error));
@@ -103,15 +122,15 @@ pub(crate) fn answer_log<'a, R: Files + Input + Eprint + AllocGlobal>(
 /// What is said of the files beside the log, and of the tests of the log that none of them has.
 fn compare_files<'a, R: Files + Input + Eprint + AllocGlobal>(
     rt: &R,
-    files: &'a [String],
+    files: &'a [Source],
     fences: &'a [String],
     log: &Log<'_>,
     voice: Voice,
 ) -> Result<Output, Fault> {
     let mut output = nothing(rt);
     let mut names = Vec::new(rt.alloc());
-    for path in files {
-        if let Some(compared) = compare_file(rt, path.as_str(), fences, log, voice)? {
+    for source in files {
+        if let Some(compared) = compare_file(rt, source, fences, log, voice)? {
             output.text.push_str(compared.text.as_str())?;
             output.status = worse(output.status, compared.status);
             names.push(compared.name)?;
@@ -142,14 +161,14 @@ fn worse(status: Status, other: Status) -> Status {
 /// error.
 fn compare_file<'a, R: Files + Input + Eprint + AllocGlobal>(
     rt: &R,
-    path: &'a str,
+    source: &'a Source,
     fences: &'a [String],
     log: &Log<'_>,
     voice: Voice,
 ) -> Result<Option<Compared>, Fault> {
     let mut papers = Papers::new(rt.alloc());
     papers.fences = fences;
-    match compared_file(rt, path, log, &mut papers) {
+    match compared_file(rt, source, log, &mut papers) {
         Ok(compared) => Ok(Some(compared)),
         Err(LogError::Fault(fault)) => {
             say_fault(rt, fault, voice, &papers)?;
@@ -164,10 +183,10 @@ fn compare_file<'a, R: Files + Input + Eprint + AllocGlobal>(
 
 fn compared_file<'a, R: Files + Input + AllocGlobal>(
     rt: &R,
-    path: &'a str,
+    source: &'a Source,
     log: &Log<'_>,
     papers: &mut Papers<'a>,
 ) -> Result<Compared, LogError> {
-    papers.read_test(rt, path)?;
+    papers.read_source(rt, source)?;
     compare(rt.alloc(), log, &papers.test.bytes, papers.fences)
 }

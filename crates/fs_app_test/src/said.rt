@@ -25,9 +25,32 @@ pub struct Said {
     pub witness: Option<Witness>,
 }
 
+/// What a test is expected to be.
+#[derive(Clone, Copy, Debug, PartialEq, Eq)]
+pub enum Expected {
+    /// This is to be said of it: that it is forbidden, allowed or vacuous.
+    Verdict(Kind),
+    /// Something is expected, and it is none of these.
+    Unclear,
+}
+
+/// What a message says of the fault of a file.
+#[derive(Drop)]
+pub struct Note {
+    /// The line and the column of the fault, from 1 on, if it has a place.
+    pub line: Option<usize>,
+    pub column: Option<usize>,
+    /// What was expected there, or why the file isn't read.
+    pub message: String,
+}
+
 /// What is said of the file of this name.
 #[derive(Drop)]
 pub struct Line {
     pub name: String,
     pub said: Said,
+    /// What a message says of its fault, where that is known.
+    pub note: Option<Note>,
+    /// What its test is expected to be, where that is known.
+    pub expected: Option<Expected>,
 }
