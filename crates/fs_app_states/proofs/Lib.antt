@@ -4,3 +4,4 @@ pub mod Breaks
 pub mod Showing
 pub mod Meaning
 pub mod Answering
+pub mod Whole
