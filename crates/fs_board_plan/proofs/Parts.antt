@@ -7,8 +7,7 @@ use Rattle.fs_kinds.specs.declared.slot.Slot.{Slot}
 use Rattle.fs_kinds.specs.Placement.{slots_of}
 use Rattle.fs_model.specs.declared.test.Test.{Test}
 use Rattle.fs_model.specs.Execution.{Execution}
-use Rattle.fs_cert_evidence.specs.Parts.{Part, filled_with, floor}
-use Rattle.fs_model_laws.specs.Bounds.{slots_in_part}
+use Rattle.fs_board_offers.specs.Parts.{Part, filled_with, floor, slots_in_part}
 use Rattle.fs_model_laws.proofs.Places.{at-append}
 use Rattle.fs_cert_evidence.specs.Evidence.{Shown, IsWitnessFor}
 use Rattle.fs_board.specs.Growth.{AreWitnesses}
