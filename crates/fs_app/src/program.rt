@@ -329,6 +329,7 @@ fn answer_solve<'a, R: Files + Input + Eprint + AllocGlobal + Clock + Threads + 
     let found = found(rt, solve, papers, &mut progress);
     progress.wipe();
     let found = found?;
+    let output = printed(rt.alloc(), &found, solve.json)?;
     if let Some(path) = solve.certificate {
         let certificate = found.certificate(rt.alloc())?;
         write_whole(rt, path, certificate.as_bytes())?;
@@ -336,7 +337,7 @@ fn answer_solve<'a, R: Files + Input + Eprint + AllocGlobal + Clock + Threads + 
     if voice.notes && found.is_free() {
         note_vacuous(rt, &papers.test.bytes)?;
     }
-    printed(rt.alloc(), &found, solve.json)
+    Ok(output)
 }
 
 /// What was found, in lines or as an object.
