@@ -209,7 +209,7 @@ class Test:
 
 
 TOKEN = re.compile(r'[A-Za-z0-9_.]+|/\\|\\/|[^ \t\r\n]')
-SIGNS = {*'{};|,:=()[]~-', '/\\', '\\/'}
+SIGNS = {*'{};|,:=()[]~-*&', '/\\', '\\/'}
 CONNECTIVES = {'/\\': 'and', '\\/': 'or'}
 FAULTS = {3: 'Syntax', 4: 'UnknownInstr', 5: 'BadAnnotation', 6: 'BadLabel', 7: 'BadInit'}
 
@@ -408,16 +408,26 @@ class TestReader(Tokens):
         number = sign * number_of(self.next(is_number))
         return number % WORDS if -2 ** 31 <= number < WORDS else None
 
+    def initial(self):
+        """The word behind `=`."""
+        self.expect('=')
+        return self.location() if self.peek() == '&' and self.expect('&') else self.value()
+
+    def skip_type(self):
+        """Goes past the names of a type, each with `*` behind it or without."""
+        while is_name(self.peek()) and (is_word(self.peek(1)) or self.peek(1) in ('[', '*')):
+            self.next(is_name)
+            if self.peek() == '*':
+                self.expect('*')
+
     def entries(self):
         """The entries of the init block: line, target and value of each."""
         found = []
         self.expect('{')
         while self.peek() != '}':
-            if self.peek() in ('int', 'int32_t', 'uint32_t') and self.peek(1) != '=':
-                self.next(is_name)
+            self.skip_type()
             line, target = self.line(), self.target()
-            self.expect('=')
-            found.append((line, target, self.value()))
+            found.append((line, target, self.initial() if self.peek() == '=' else 0))
             if self.peek() != '}':
                 self.expect(';')
         self.expect('}')

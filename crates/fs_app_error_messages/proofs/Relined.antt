@@ -82,6 +82,8 @@ mark_prints mark.OpenBracket rest line ts closed h = token refl h
 mark_prints mark.CloseBracket rest line ts closed h = token refl h
 mark_prints mark.Tilde rest line ts closed h = token refl h
 mark_prints mark.Minus rest line ts closed h = token refl h
+mark_prints mark.Star rest line ts closed h = token refl h
+mark_prints mark.Ampersand rest line ts closed h = token refl h
 mark_prints mark.And rest line ts closed h = token refl h
 mark_prints mark.Or rest line ts closed h = token refl h
 

@@ -1,7 +1,7 @@
 -- A test file with the same tokens, each in a line of its own (herd7's format of litmus tests).
 use Rattle.std.specs.Prelude.{ℕ, ◌+◌, List, [], ◌∷◌, ◌++◌, Bool, codes, if◌then◌else◌}
 use Rattle.fs_litmus_tokens.specs.declared.token.Mark.{Mark}
-use Rattle.fs_litmus_tokens.specs.declared.token.Mark.TheVariants.{OpenBrace, CloseBrace, Semicolon, Bar, Comma, Colon, Equals, OpenParen, CloseParen, OpenBracket, CloseBracket, Tilde, Minus, And, Or}
+use Rattle.fs_litmus_tokens.specs.declared.token.Mark.TheVariants.{OpenBrace, CloseBrace, Semicolon, Bar, Comma, Colon, Equals, OpenParen, CloseParen, OpenBracket, CloseBracket, Tilde, Minus, Star, Ampersand, And, Or}
 use Rattle.fs_litmus_tokens.specs.Tokens.{Tok, Word, Sign, Strange, Lined}
 
 abbrev pub mark_text : Mark → List ℕ
@@ -18,6 +18,8 @@ mark_text OpenBracket = codes "["
 mark_text CloseBracket = codes "]"
 mark_text Tilde = codes "~"
 mark_text Minus = codes "-"
+mark_text Star = codes "*"
+mark_text Ampersand = codes "&"
 mark_text And = codes "/\\"
 mark_text Or = codes "\\/"
 

@@ -25,6 +25,8 @@ pub(crate) fn mark_text(mark: Mark) -> &'static str
         Mark::CloseBracket => "]",
         Mark::Tilde => "~",
         Mark::Minus => "-",
+        Mark::Star => "*",
+        Mark::Ampersand => "&",
         Mark::And => "/\\",
         Mark::Or => "\\/",
     }

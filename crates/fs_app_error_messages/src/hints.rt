@@ -74,12 +74,9 @@ fn init_words(spot: Spot<'_, '_>) -> &'static str {
         return value_words(found);
     }
     match found {
-        Kind::Sign(Mark::Semicolon | Mark::CloseBrace) =>
-            "expected `=` and a value: write `data=0;` for `data;`",
         Kind::Sign(Mark::OpenBracket) => "arrays are left out: write a location for each element",
         Kind::Sign(Mark::Comma) => "expected `;`: entries end with it",
-        Kind::Strange =>
-            "this character is no token; types are `int`, `int32_t` and `uint32_t`, without `*`",
+        Kind::Strange => "this character is no token: sums, as `x+4`, and strings are left out",
         Kind::Word(_, _) => second_word(spot),
         _ => "expected an entry and `;`, as `x=1;` or `0:x6=x;`",
     }
@@ -101,7 +98,7 @@ fn second_word(spot: Spot<'_, '_>) -> &'static str {
     if is_mark(spot.back(2), Mark::Equals) || is_mark(spot.back(2), Mark::Minus) {
         return "expected `;`: entries end with it";
     }
-    "expected `=` and a value; types are `int`, `int32_t` and `uint32_t`: write `x=0;` for `uint64_t x;`"
+    "expected `=` and a value, or `;`: a type stands before what it is the type of"
 }
 
 /// In the rows.
@@ -137,7 +134,7 @@ fn condition_words(spot: Spot<'_, '_>) -> &'static str {
         Kind::Sign(Mark::Colon) => "a register is compared with a value, not with another register",
         Kind::Sign(Mark::Equals) =>
             "neither `==` nor `=>` is read: one `=` in each atom, and `~A \\/ B` for an implication",
-        Kind::Strange =>
+        Kind::Strange | Kind::Sign(Mark::Star | Mark::Ampersand) =>
             "of comparisons only `=` is read, and of connectives `/\\`, `\\/`, `~` and `not`",
         Kind::Sign(Mark::Semicolon) => "nothing may stand behind the condition",
         Kind::Word(_, _) =>

@@ -67,6 +67,8 @@ mark_number mark.Tilde = 11
 mark_number mark.Minus = 12
 mark_number mark.And = 13
 mark_number mark.Or = 14
+mark_number mark.Star = 15
+mark_number mark.Ampersand = 16
 
 -- the same mark
 abbrev pub is_mark : Mark → Mark → Bool

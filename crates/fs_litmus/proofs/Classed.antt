@@ -93,9 +93,6 @@ keyword_named (row ∷ rows) w c h e =
 keyword_is_name : (w : List ℕ) (c : Class) → keyword_of w ≡ Some c → is_name w ≡ true
 unfolding keyword_of
 keyword_is_name w c e = keyword_named (
-    (codes "int", class.TypeWord) ∷
-    (codes "int32_t", class.TypeWord) ∷
-    (codes "uint32_t", class.TypeWord) ∷
     (codes "locations", class.LocationsWord) ∷
     (codes "exists", class.ExistsWord) ∷
     (codes "forall", class.ForallWord) ∷

@@ -9,7 +9,7 @@ use Rattle.std.proofs.lemmas.List.Elements.{All-append}
 use Rattle.std.proofs.lemmas.List.Quantifiers.{all_pairs_push}
 use Rattle.fs_litmus_tokens.specs.Tokens.{Lined}
 use Rattle.fs_litmus_tokens.specs.Values.{Target, Register, Location, Value, Number, Address, IsTarget, register, location, bracketed, IsValue, number, minus, address}
-use Rattle.fs_litmus_syntax.specs.Init.{Entry, IsBare, bare, IsEntry, untyped, typed, IsEntries, none, entry, IsEntryEnd, brace, semicolon, IsInit, block}
+use Rattle.fs_litmus_syntax.specs.Init.{Entry, IsInitial, direct, reference, IsBare, bare, alone, IsEntry, untyped, typed, pointer, IsEntries, none, entry, IsEntryEnd, brace, semicolon, IsInit, block}
 use Rattle.fs_litmus_syntax.specs.Header.{IsColumns, last, more}
 use Rattle.fs_litmus_syntax.specs.Body.{Cell, IsCell, nothing, plain, IsRow, one, cells, IsSkipped, closed, skipped, IsQuantifier, exists, not_exists, forall, IsEnding, bare as unnamed, after_locations, Body, IsBody, ending, row}
 use Rattle.fs_litmus_syntax.specs.declared.rows.Quantifier.{Quantifier}
@@ -55,15 +55,21 @@ value_named (address p) h = (classed_is_name h.0 p, h.1)
 abbrev IsEntryNamed : Entry → Type 0
 IsEntryNamed e = IsTargetNamed e.target × IsValueNamed e.value
 
+initial_named : {ts rest : List Lined} {x : Value} → IsInitial ts x rest → AreClassed ts → IsValueNamed x × AreClassed rest
+initial_named (direct v) h = value_named v h
+initial_named (reference p) h = (classed_is_name h.1.0 p, h.1.1)
+
 bare_named : {ts rest : List Lined} {e : Entry} → IsBare ts e rest → AreClassed ts → IsEntryNamed e × AreClassed rest
 bare_named (bare x v) h =
     let t = target_named x h in
-    let w = value_named v t.1.1 in
+    let w = initial_named v t.1.1 in
     ((t.0, w.0), w.1)
+bare_named (alone x) h = let t = target_named x h in ((t.0, tt), t.1)
 
 entry_named : {ts rest : List Lined} {e : Entry} → IsEntry ts e rest → AreClassed ts → IsEntryNamed e × AreClassed rest
 entry_named (untyped b) h = bare_named b h
-entry_named (typed b) h = bare_named b h.1
+entry_named (typed p e) h = entry_named e h.1
+entry_named (pointer p e) h = entry_named e h.1.1
 
 mutual
   entries_named : {ts rest : List Lined} {es : List Entry} → IsEntries ts es rest → AreClassed ts → AreNamed (entry_bindings es) × AreClassed rest

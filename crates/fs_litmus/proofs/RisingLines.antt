@@ -4,7 +4,7 @@ use Rattle.fs_litmus_tokens.specs.declared.token.Mark.{Mark}
 use Rattle.fs_litmus_tokens.specs.Bytes.{is_letter, is_blank, comment_end, begins, tail}
 use Rattle.fs_litmus_tokens.specs.Tokens.{Lined, Front, Skip, Take, Unclosed, after_comment, single, mark_of, piece, AreTokens, none as no_tokens, skip, token, unclosed}
 use Rattle.fs_litmus_tokens.specs.Values.{Target, Value, IsTarget, register, location, bracketed, IsValue, number, minus, address}
-use Rattle.fs_litmus_syntax.specs.Init.{Entry, IsBare, bare, IsEntry, untyped, typed, IsEntries, none, entry, IsEntryEnd, brace, semicolon, IsInit, block}
+use Rattle.fs_litmus_syntax.specs.Init.{Entry, IsInitial, direct, reference, IsBare, bare, alone, IsEntry, untyped, typed, pointer, IsEntries, none, entry, IsEntryEnd, brace, semicolon, IsInit, block}
 use Rattle.fs_litmus_syntax.specs.Form.{Form, IsForm, form}
 use Rattle.fs_litmus.specs.Rising.{Rising, token_lines, entry_lines}
 
@@ -90,14 +90,20 @@ after_value low (number {k = k} {rest = rest}) h = after_one low k (token_lines 
 after_value low (minus {k = k} {l = l} {rest = rest}) h = after_two low k l (token_lines rest) h
 after_value low (address {k = k} {rest = rest} p) h = after_one low k (token_lines rest) h
 
+after_initial : {ts rest : List Lined} {x : Value} (low : ℕ) → IsInitial ts x rest → Rising low (token_lines ts) → Rising low (token_lines rest)
+after_initial low (direct v) h = after_value low v h
+after_initial low (reference {j = j} {k = k} {rest = rest} p) h = after_two low j k (token_lines rest) h
+
 after_bare : {ts rest : List Lined} {e : Entry} (low : ℕ) → IsBare ts e rest → Rising low (token_lines ts) → (low ≤ e.line) × Rising e.line (token_lines rest)
 after_bare low (bare {line = line} {k = k} {mid = mid} x v) h =
     let same : line ≤ line = omega arith in
-    (h.0, after_value line v (after_one line k (token_lines mid) (after_target line x (same, h.1))))
+    (h.0, after_initial line v (after_one line k (token_lines mid) (after_target line x (same, h.1))))
+after_bare low (alone {line = line} x) h = let same : line ≤ line = omega arith in (h.0, after_target line x (same, h.1))
 
 after_entry : {ts rest : List Lined} {e : Entry} (low : ℕ) → IsEntry ts e rest → Rising low (token_lines ts) → (low ≤ e.line) × Rising e.line (token_lines rest)
 after_entry low (untyped b) h = after_bare low b h
-after_entry low (typed {k = k} {ts = ts} b) h = after_bare low b (after_one low k (token_lines ts) h)
+after_entry low (typed {k = k} {ts = ts} p e) h = after_entry low e (after_one low k (token_lines ts) h)
+after_entry low (pointer {j = j} {k = k} {ts = ts} p e) h = after_entry low e (after_two low j k (token_lines ts) h)
 
 mutual
   entries_rise : {ts rest : List Lined} {es : List Entry} (low : ℕ) → IsEntries ts es rest → Rising low (token_lines ts) → Rising low (entry_lines es)

@@ -49,7 +49,7 @@ and_false false = refl
 no_keyword : (c : ℕ) (cs : List ℕ) → digit_value c < 10 → keyword_of (c ∷ cs) ≡ None
 unfolding keyword_of
 no_keyword c cs h =
-    rw (not_digit c 105 h (omega arith), not_digit c 117 h (omega arith), not_digit c 108 h (omega arith), not_digit c 101 h (omega arith), not_digit c 102 h (omega arith), not_digit c 110 h (omega arith), not_digit c 116 h (omega arith)) refl
+    rw (not_digit c 108 h (omega arith), not_digit c 101 h (omega arith), not_digit c 102 h (omega arith), not_digit c 110 h (omega arith), not_digit c 116 h (omega arith)) refl
 
 not_empty : (n : ℕ) → eqb (suc n) 0 ≡ false
 not_empty n = grind (arith, nat_tests, common_steps)
@@ -122,7 +122,6 @@ classed_name (row ∷ rows) w plain names h =
 
 abbrev keywords : List (List ℕ × Class)
 keywords =
-    (codes "int", class.TypeWord) ∷ (codes "int32_t", class.TypeWord) ∷ (codes "uint32_t", class.TypeWord) ∷
     (codes "locations", class.LocationsWord) ∷ (codes "exists", class.ExistsWord) ∷ (codes "forall", class.ForallWord) ∷
     (codes "not", class.NotWord) ∷ (codes "true", class.TrueWord) ∷ (codes "false", class.FalseWord) ∷ []
 

@@ -7,7 +7,7 @@ use Rattle.fs_litmus_tokens.specs.Words.{class_of, is_name}
 use Rattle.fs_litmus_tokens.specs.Values.{Target, Register, Location, Value, Number, Address, IsTarget, IsValue, register, location, bracketed, number, minus, address}
 use Rattle.fs_litmus_tokens.specs.declared.word.Class.TheVariants as class
 use Rattle.fs_litmus_tokens.specs.declared.token.Mark.TheVariants as mark
-use Rattle.fs_litmus_syntax.specs.Init.{Entry, IsBare, IsEntries, bare, untyped, none, entry, semicolon}
+use Rattle.fs_litmus_syntax.specs.Init.{Entry, direct, IsBare, IsEntries, bare, untyped, none, entry, semicolon}
 use Rattle.fs_litmus_syntax.specs.Header.{IsColumns, last, more}
 use Rattle.fs_litmus.specs.Locations.{Binding}
 use Rattle.fs_litmus.specs.Settings.{entry_bindings}
@@ -61,9 +61,9 @@ record IsBinding (ts : List Lined) (b : Binding) (rest : List Lined) : Type 0 wh
   pub is : IsBare ts (record { line = entry_line; target = b.0; value = b.1 }) rest
 
 bare_of : {ts mid rest : List Lined} {k : ℕ} (b : Binding) → IsTarget ts b.0 ((Sign mark.Equals, k) ∷ mid) → IsValue mid b.1 rest → IsBinding ts b rest
-bare_of b register v = record { entry_line = _; is = bare register v }
-bare_of b (location e) v = record { entry_line = _; is = bare (location e) v }
-bare_of b (bracketed e) v = record { entry_line = _; is = bare (bracketed e) v }
+bare_of b register v = record { entry_line = _; is = bare register (direct v) }
+bare_of b (location e) v = record { entry_line = _; is = bare (location e) (direct v) }
+bare_of b (bracketed e) v = record { entry_line = _; is = bare (bracketed e) (direct v) }
 
 -- the tokens are entries with these bindings and the closing brace, and then some
 pub record BeginsEntries (ts : List Lined) (bs : List Binding) (toks : List Tok) : Type 0 where

@@ -1,9 +1,11 @@
 -- The block of initial values (herd7's format of litmus tests).
 -- L ts a rest says that the tokens ts are an L that means a, and then rest.
-use Rattle.std.specs.Prelude.{ℕ, List, [], ◌∷◌, ◌++◌, true, false, map}
+use Rattle.std.specs.Prelude.{◌≡◌, ℕ, List, [], ◌∷◌, ◌++◌, true, false, map, codes}
+use Rattle.fs_litmus_tokens.specs.Words.{is_name}
 use Rattle.fs_litmus_tokens.specs.Tokens.{Tok, Lined, Word, Sign}
+use Rattle.fs_litmus_tokens.specs.declared.word.Class.{Class}
 use Rattle.fs_litmus_tokens.specs.declared.word.Class.TheVariants as class
-use Rattle.fs_litmus_tokens.specs.declared.token.Mark.TheVariants.{OpenBrace, CloseBrace, Semicolon, Colon, Equals, OpenBracket, CloseBracket, Minus}
+use Rattle.fs_litmus_tokens.specs.declared.token.Mark.TheVariants.{OpenBrace, CloseBrace, Semicolon, Colon, Equals, OpenBracket, CloseBracket, Minus, Star, Ampersand}
 use Rattle.fs_litmus_tokens.specs.Values.{Target, Register, Location, Value, Number, Address, IsTarget, IsValue, target_of, value_of}
 use Rattle.fs_litmus_tokens.specs.Sections.{Move, Go, Finish, Bad}
 use Rattle.fs_litmus_syntax.specs.declared.init.Entry as entries
@@ -18,14 +20,25 @@ pub record Entry : Type 0 where
   pub target : Target
   pub value : Value
 
--- a target, =, a value
-pub data IsBare : List Lined → Entry → List Lined → Type 0 where
-  bare : {t : Tok} {line k : ℕ} {x : Target} {v : Value} {ts mid rest : List Lined} → IsTarget ((t, line) ∷ ts) x ((Sign Equals, k) ∷ mid) → IsValue mid v rest → IsBare ((t, line) ∷ ts) (record { line = line; target = x; value = v }) rest
+-- the value of a target that is given none
+abbrev pub unset : ℕ → Target → Entry
+unset line x = record { line = line; target = x; value = Number false (codes "0") }
 
--- one of the words int, int32_t and uint32_t may stand before it, and has no effect
+-- a value; or & and a name, which means that location's address too
+pub data IsInitial : List Lined → Value → List Lined → Type 0 where
+  direct : {v : Value} {ts rest : List Lined} → IsValue ts v rest → IsInitial ts v rest
+  reference : {w : List ℕ} {c : Class} {j k : ℕ} {rest : List Lined} → is_name c ≡ true → IsInitial ((Sign Ampersand, j) ∷ (Word c w, k) ∷ rest) (Address w) rest
+
+-- a target, =, a value; or a target alone, whose value is 0
+pub data IsBare : List Lined → Entry → List Lined → Type 0 where
+  bare : {t : Tok} {line k : ℕ} {x : Target} {v : Value} {ts mid rest : List Lined} → IsTarget ((t, line) ∷ ts) x ((Sign Equals, k) ∷ mid) → IsInitial mid v rest → IsBare ((t, line) ∷ ts) (record { line = line; target = x; value = v }) rest
+  alone : {t : Tok} {line : ℕ} {x : Target} {ts rest : List Lined} → IsTarget ((t, line) ∷ ts) x rest → IsBare ((t, line) ∷ ts) (unset line x) rest
+
+-- a type may stand before it, and has no effect: names, each with * behind it or without
 pub data IsEntry : List Lined → Entry → List Lined → Type 0 where
   untyped : {e : Entry} {ts rest : List Lined} → IsBare ts e rest → IsEntry ts e rest
-  typed : {w : List ℕ} {k : ℕ} {e : Entry} {ts rest : List Lined} → IsBare ts e rest → IsEntry ((Word class.TypeWord w, k) ∷ ts) e rest
+  typed : {w : List ℕ} {c : Class} {k : ℕ} {e : Entry} {ts rest : List Lined} → is_name c ≡ true → IsEntry ts e rest → IsEntry ((Word c w, k) ∷ ts) e rest
+  pointer : {w : List ℕ} {c : Class} {j k : ℕ} {e : Entry} {ts rest : List Lined} → is_name c ≡ true → IsEntry ts e rest → IsEntry ((Word c w, j) ∷ (Sign Star, k) ∷ ts) e rest
 
 -- entries ended by semicolons, of which the last may be missing, and the closing brace
 mutual
@@ -54,7 +67,9 @@ entries_of es = map entry_of es
 pub data Position : Type 0 where
   BeforeBrace : Position
   BeforeEntry : Position
-  AfterType : (line : ℕ) → (w : List ℕ) → Position
+  AfterStar : Position
+  -- a name, which may be that of a type
+  AfterName : (line : ℕ) → (w : List ℕ) → Position
   AfterHart : (line : ℕ) → (hart : List ℕ) → Position
   AfterColon : (line : ℕ) → (hart : List ℕ) → Position
   AfterBracket : (line : ℕ) → Position
@@ -62,6 +77,7 @@ pub data Position : Type 0 where
   AfterTarget : (line : ℕ) → Target → Position
   AfterEquals : (line : ℕ) → Target → Position
   AfterMinus : (line : ℕ) → Target → Position
+  AfterAmpersand : (line : ℕ) → Target → Position
   AfterValue : Entry → Position
 
 -- what a token does that ends no entry
@@ -71,18 +87,13 @@ Turn = Move Position (Unit {0})
 abbrev pub target_begun : Lined → Turn
 target_begun (Word class.Number h, k) = Go (AfterHart k h)
 target_begun (Word class.Other w, k) = Bad
-target_begun (Word c w, k) = Go (AfterTarget k (Location w))
+target_begun (Word c w, k) = Go (AfterName k w)
 target_begun (Sign OpenBracket, k) = Go (AfterBracket k)
 target_begun _ = Bad
 
 abbrev pub entry_begun : Lined → Turn
 entry_begun (Sign CloseBrace, k) = Finish tt
-entry_begun (Word class.TypeWord w, k) = Go (AfterType k w)
 entry_begun t = target_begun t
-
-abbrev pub type_followed : ℕ → List ℕ → Lined → Turn
-type_followed line w (Sign Equals, k) = Go (AfterEquals line (Location w))
-type_followed line w t = target_begun t
 
 abbrev pub bracket_followed : ℕ → Tok → Turn
 bracket_followed line (Word class.Number w) = Bad
@@ -95,7 +106,6 @@ target_followed (AfterHart line h) (Sign Colon) = Go (AfterColon line h)
 target_followed (AfterColon line h) (Word c r) = Go (AfterTarget line (Register h r))
 target_followed (AfterBracket line) t = bracket_followed line t
 target_followed (AfterBracketedName line w) (Sign CloseBracket) = Go (AfterTarget line (Location w))
-target_followed (AfterTarget line x) (Sign Equals) = Go (AfterEquals line x)
 target_followed _ _ = Bad
 
 abbrev pub valued : ℕ → Target → Value → Turn
@@ -106,11 +116,18 @@ value_begun line x (Word class.Number d) = valued line x (Number false d)
 value_begun line x (Word class.Other w) = Bad
 value_begun line x (Word c w) = valued line x (Address w)
 value_begun line x (Sign Minus) = Go (AfterMinus line x)
+value_begun line x (Sign Ampersand) = Go (AfterAmpersand line x)
 value_begun line x _ = Bad
 
 abbrev pub minus_followed : ℕ → Target → Tok → Turn
 minus_followed line x (Word class.Number d) = valued line x (Number true d)
 minus_followed line x _ = Bad
+
+abbrev pub ampersand_followed : ℕ → Target → Tok → Turn
+ampersand_followed line x (Word class.Number w) = Bad
+ampersand_followed line x (Word class.Other w) = Bad
+ampersand_followed line x (Word c w) = valued line x (Address w)
+ampersand_followed line x _ = Bad
 
 abbrev pub brace_expected : Tok → Turn
 brace_expected (Sign OpenBrace) = Go BeforeEntry
@@ -131,12 +148,26 @@ entry_ended e es (Sign Semicolon) = Go (record { position = BeforeEntry; entries
 entry_ended e es (Sign CloseBrace) = Finish (es ++ e ∷ [])
 entry_ended e es _ = Bad
 
+abbrev pub target_ended : ℕ → Target → List Entry → Tok → Move State (List Entry)
+target_ended line x es (Sign Equals) = at_entries es (Go (AfterEquals line x))
+target_ended line x es t = entry_ended (unset line x) es t
+
+-- a name is that of a type where a target or * follows
+abbrev pub name_followed : ℕ → List ℕ → List Entry → Lined → Move State (List Entry)
+name_followed line w es (Word c v, k) = at_entries es (target_begun (Word c v, k))
+name_followed line w es (Sign OpenBracket, k) = at_entries es (target_begun (Sign OpenBracket, k))
+name_followed line w es (Sign Star, k) = at_entries es (Go AfterStar)
+name_followed line w es t = target_ended line (Location w) es t.0
+
 abbrev pub next_in : Position → List Entry → Lined → Move State (List Entry)
 next_in BeforeBrace es t = at_entries es (brace_expected t.0)
 next_in BeforeEntry es t = at_entries es (entry_begun t)
-next_in (AfterType line w) es t = at_entries es (type_followed line w t)
+next_in AfterStar es t = at_entries es (target_begun t)
+next_in (AfterName line w) es t = name_followed line w es t
+next_in (AfterTarget line x) es t = target_ended line x es t.0
 next_in (AfterEquals line x) es t = at_entries es (value_begun line x t.0)
 next_in (AfterMinus line x) es t = at_entries es (minus_followed line x t.0)
+next_in (AfterAmpersand line x) es t = at_entries es (ampersand_followed line x t.0)
 next_in (AfterValue e) es t = entry_ended e es t.0
 next_in p es t = at_entries es (target_followed p t.0)
 
@@ -149,7 +180,8 @@ start = record { position = BeforeBrace; entries = [] }
 abbrev pub position_of : positions.Position → Position
 position_of position.BeforeBrace = BeforeBrace
 position_of position.BeforeEntry = BeforeEntry
-position_of (position.AfterType line w) = AfterType line w.now
+position_of position.AfterStar = AfterStar
+position_of (position.AfterName line w) = AfterName line w.now
 position_of (position.AfterHart line h) = AfterHart line h.now
 position_of (position.AfterColon line h) = AfterColon line h.now
 position_of (position.AfterBracket line) = AfterBracket line
@@ -157,6 +189,7 @@ position_of (position.AfterBracketedName line w) = AfterBracketedName line w.now
 position_of (position.AfterTarget line x) = AfterTarget line (target_of x)
 position_of (position.AfterEquals line x) = AfterEquals line (target_of x)
 position_of (position.AfterMinus line x) = AfterMinus line (target_of x)
+position_of (position.AfterAmpersand line x) = AfterAmpersand line (target_of x)
 position_of (position.AfterValue e) = AfterValue (entry_of e)
 
 abbrev pub turn_of : transitions.Transition → Turn

@@ -6,8 +6,9 @@ ghost use Rattle.fs_litmus_tokens.specs.Values.{target_of, value_of};
 ghost use Rattle.fs_litmus_tokens.specs.Sections.{Takes};
 ghost use Rattle.fs_litmus_syntax.specs.Reading.{IsEnd, Refuses};
 ghost use Rattle.fs_litmus_syntax.specs.Init.{IsInit, entry_of, entries_of, position_of, turn_of, move_of};
-ghost use Rattle.fs_litmus_syntax.specs.Init.{target_begun, entry_begun, type_followed, target_followed, valued};
-ghost use Rattle.fs_litmus_syntax.specs.Init.{value_begun, minus_followed, entry_ended, next_in};
+ghost use Rattle.fs_litmus_syntax.specs.Init.{target_begun, entry_begun, target_followed, valued, value_begun};
+ghost use Rattle.fs_litmus_syntax.specs.Init.{minus_followed, ampersand_followed, entry_ended, target_ended};
+ghost use Rattle.fs_litmus_syntax.specs.Init.{name_followed, next_in};
 
 use fs_litmus_tokens::{Class, Kind, Mark, Stop, Target, Token, Value};
 use std::alloc::{AllocError, Global};
@@ -20,12 +21,13 @@ pub struct Entry<'a> {
     pub value: Value<'a>,
 }
 
-/// What was read last; the line is that of the target's first token, or of the type's word.
+/// What was read last; the line is that of the target's first token, or of a name, which may be that of a type.
 #[derive(Clone, Copy)]
 pub enum Position<'a> {
     BeforeBrace,
     BeforeEntry,
-    AfterType(usize, &'a str),
+    AfterStar,
+    AfterName(usize, &'a str),
     AfterHart(usize, &'a str),
     AfterColon(usize, &'a str),
     AfterBracket(usize),
@@ -33,6 +35,7 @@ pub enum Position<'a> {
     AfterTarget(usize, Target<'a>),
     AfterEquals(usize, Target<'a>),
     AfterMinus(usize, Target<'a>),
+    AfterAmpersand(usize, Target<'a>),
     AfterValue(Entry<'a>),
 }
 
@@ -44,17 +47,14 @@ pub enum Transition<'a> {
     Bad,
 }
 
-/// The first token of a target.
+/// The first token of a target, or a name of its type.
 fn begin_target<'a>(token: Token<'a>) -> Transition<'a>
     ensures { turn_of result ≡ target_begun (view token.entry) }
 {
     match token.kind {
         Kind::Word(Class::Number, hart) => Transition::Go(Position::AfterHart(token.line, hart)),
         Kind::Word(Class::Other, _) => Transition::Bad,
-        Kind::Word(_, name) => Transition::Go(Position::AfterTarget(
-            token.line,
-            Target::Location(name),
-        )),
+        Kind::Word(_, name) => Transition::Go(Position::AfterName(token.line, name)),
         Kind::Sign(Mark::OpenBracket) => Transition::Go(Position::AfterBracket(token.line)),
         _ => Transition::Bad,
     }
@@ -66,20 +66,6 @@ fn begin_entry<'a>(token: Token<'a>) -> Transition<'a>
 {
     match token.kind {
         Kind::Sign(Mark::CloseBrace) => Transition::Finish,
-        Kind::Word(Class::TypeWord, word) => Transition::Go(Position::AfterType(token.line, word)),
-        _ => begin_target(token),
-    }
-}
-
-/// The token after a type's word, which is the target itself where `=` follows.
-fn follow_type<'a>(line: usize, word: &'a str, token: Token<'a>) -> Transition<'a>
-    ensures { turn_of result ≡ type_followed line word.now (view token.entry) }
-{
-    match token.kind {
-        Kind::Sign(Mark::Equals) => Transition::Go(Position::AfterEquals(
-            line,
-            Target::Location(word),
-        )),
         _ => begin_target(token),
     }
 }
@@ -108,10 +94,6 @@ fn follow_target<'a>(position: Position<'a>, token: Kind<'a>) -> Transition<'a>
             Kind::Sign(Mark::CloseBracket) => {
                 Transition::Go(Position::AfterTarget(line, Target::Location(name)))
             }
-            _ => Transition::Bad,
-        },
-        Position::AfterTarget(line, target) => match token {
-            Kind::Sign(Mark::Equals) => Transition::Go(Position::AfterEquals(line, target)),
             _ => Transition::Bad,
         },
         _ => Transition::Bad,
@@ -144,6 +126,7 @@ fn begin_value<'a>(line: usize, target: Target<'a>, token: Kind<'a>) -> Transiti
         Kind::Word(Class::Other, _) => Transition::Bad,
         Kind::Word(_, name) => valued(line, target, Value::Address(name)),
         Kind::Sign(Mark::Minus) => Transition::Go(Position::AfterMinus(line, target)),
+        Kind::Sign(Mark::Ampersand) => Transition::Go(Position::AfterAmpersand(line, target)),
         _ => Transition::Bad,
     }
 }
@@ -161,6 +144,17 @@ fn follow_minus<'a>(line: usize, target: Target<'a>, token: Kind<'a>) -> Transit
                 digits,
             },
         ),
+        _ => Transition::Bad,
+    }
+}
+
+/// The name after `&`.
+fn follow_ampersand<'a>(line: usize, target: Target<'a>, token: Kind<'a>) -> Transition<'a>
+    ensures { turn_of result ≡ ampersand_followed line (target_of target.entry) (kind_of token.entry) }
+{
+    match token {
+        Kind::Word(Class::Number | Class::Other, _) => Transition::Bad,
+        Kind::Word(_, name) => valued(line, target, Value::Address(name)),
         _ => Transition::Bad,
     }
 }
@@ -187,6 +181,50 @@ fn end_entry<'a>(
     }
 }
 
+/// The token after a target: without `=` its value is 0.
+fn end_target<'a>(
+    line: usize,
+    target: Target<'a>,
+    entries: &mut Vec<Entry<'a>>,
+    token: Kind<'a>,
+) -> Result<Transition<'a>, AllocError>
+    ensures { IfOk result (λ s. move_of s entries.new.items
+        ≡ target_ended line (target_of target.entry) (entries_of entries.old.items) (kind_of token.entry)) }
+{
+    match token {
+        Kind::Sign(Mark::Equals) => Ok(Transition::Go(Position::AfterEquals(line, target))),
+        _ => {
+            let value = Value::Number {
+                negative: false,
+                digits: "0",
+            };
+            let entry = Entry {
+                line,
+                target,
+                value,
+            };
+            end_entry(entry, entries, token)
+        }
+    }
+}
+
+/// The token after a name, which is that of a type where a target or `*` follows.
+fn follow_name<'a>(
+    line: usize,
+    name: &'a str,
+    entries: &mut Vec<Entry<'a>>,
+    token: Token<'a>,
+) -> Result<Transition<'a>, AllocError>
+    ensures { IfOk result (λ s. move_of s entries.new.items
+        ≡ name_followed line name.entry.now (entries_of entries.old.items) (view token.entry)) }
+{
+    match token.kind {
+        Kind::Word(_, _) | Kind::Sign(Mark::OpenBracket) => Ok(begin_target(token)),
+        Kind::Sign(Mark::Star) => Ok(Transition::Go(Position::AfterStar)),
+        kind => end_target(line, Target::Location(name), entries, kind),
+    }
+}
+
 /// One more token.
 fn take<'a>(
     position: Position<'a>,
@@ -202,18 +240,21 @@ fn take<'a>(
             _ => Ok(Transition::Bad),
         },
         Position::BeforeEntry => Ok(begin_entry(token)),
-        Position::AfterType(line, word) => Ok(follow_type(line, word, token)),
+        Position::AfterStar => Ok(begin_target(token)),
+        Position::AfterName(line, name) => Ok(follow_name(line, name, entries, token)?),
+        Position::AfterTarget(line, target) => Ok(end_target(line, target, entries, token.kind)?),
         Position::AfterEquals(line, target) => Ok(begin_value(line, target, token.kind)),
         Position::AfterMinus(line, target) => Ok(follow_minus(line, target, token.kind)),
+        Position::AfterAmpersand(line, target) => Ok(follow_ampersand(line, target, token.kind)),
         Position::AfterValue(entry) => Ok(end_entry(entry, entries, token.kind)?),
         _ => Ok(follow_target(position, token.kind)),
     }
 }
 
 /// The initial values, in braces, at the front of the tokens, and the tokens after them: entries ended by `;`, of which
-/// the last may be missing. An entry is a target, `=` and a value; before the target may stand int, int32_t or
-/// uint32_t, which changes nothing. Linear in the tokens; fails for want of memory, or at the first token with which no
-/// such block begins.
+/// the last may be missing. An entry is a target, `=` and a value, or a target alone, whose value is 0; before a name
+/// that is a value `&` may stand. Before the target may stand a type, which changes nothing: names, each with `*` behind
+/// it or without. Linear in the tokens; fails for want of memory, or at the first token with which no such block begins.
 pub fn read_init<'b, 'a>(
     alloc: Global,
     tokens: &'b [Token<'a>],

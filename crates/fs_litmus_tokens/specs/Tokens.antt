@@ -45,7 +45,9 @@ mark_of b =
     else (if b == 93 then Some mark.CloseBracket
     else (if b == 126 then Some mark.Tilde
     else (if b == 45 then Some mark.Minus
-    else None))))))))))))
+    else (if b == 42 then Some mark.Star
+    else (if b == 38 then Some mark.Ampersand
+    else None))))))))))))))
 
 -- what stands at the front of a text: something to skip, with the bytes after it and their line; a token, with the
 -- bytes after it; or a comment that isn't closed

@@ -1,6 +1,6 @@
 -- What initial values and the atoms of conditions are made of: a target and a value (herd7's format of litmus tests).
 -- L ts a rest says that the tokens ts are an L that means a, and then rest.
-use Rattle.std.specs.Prelude.{◌≡◌, ℕ, List, [], ◌∷◌, Bool, true, false}
+use Rattle.std.specs.Prelude.{◌≡◌, ℕ, List, ◌∷◌, Bool, true, false}
 use Rattle.fs_litmus_tokens.specs.Words.{is_name}
 use Rattle.fs_litmus_tokens.specs.Tokens.{Lined, Word, Sign}
 use Rattle.fs_litmus_tokens.specs.declared.word.Class.{Class}

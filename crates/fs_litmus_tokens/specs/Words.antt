@@ -1,10 +1,10 @@
 -- Words, and what they may be read as (herd7's format of litmus tests).
-use Rattle.std.specs.Prelude.{ℕ, List, [], ◌∷◌, Option, Some, None, Bool, true, false, not, ◌||◌, ◌&&◌, ◌==◌, nat_eq, nat_lt, length, drop, codes, if◌then◌else◌}
+use Rattle.std.specs.Prelude.{ℕ, List, [], ◌∷◌, Option, Some, None, Bool, true, false, not, ◌||◌, ◌&&◌, ◌==◌, nat_eq, length, drop, codes, if◌then◌else◌}
 use Rattle.std.specs.Char.{is_ascii_alphabetic, is_ascii_digit, is_ascii_hexdigit}
 use Rattle.std.specs.List.{list_any, list_all, starts_with}
 use Rattle.std.specs.Str.{bytes_eq}
 use Rattle.fs_litmus_tokens.specs.declared.word.Class.{Class}
-use Rattle.fs_litmus_tokens.specs.declared.word.Class.TheVariants.{Number, TypeWord, LocationsWord, ExistsWord, ForallWord, NotWord, TrueWord, FalseWord, Name, Other}
+use Rattle.fs_litmus_tokens.specs.declared.word.Class.TheVariants.{Number, LocationsWord, ExistsWord, ForallWord, NotWord, TrueWord, FalseWord, Name, Other}
 
 -- a word of this class is a name: it may stand for a location or a label (numbers and the words of class Other are
 -- none)
@@ -37,9 +37,6 @@ classed (row ∷ rows) word = if bytes_eq word row.0 then Some row.1 else classe
 
 unfoldable pub keyword_of : List ℕ → Option Class
 keyword_of word = classed (
-    (codes "int", TypeWord) ∷
-    (codes "int32_t", TypeWord) ∷
-    (codes "uint32_t", TypeWord) ∷
     (codes "locations", LocationsWord) ∷
     (codes "exists", ExistsWord) ∷
     (codes "forall", ForallWord) ∷

@@ -9,7 +9,7 @@ ghost use Rattle.fs_litmus_tokens.specs.Tokens.{piece, AreTokens, piece_of, view
 use crate::word::{Class, class_of};
 use std::alloc::{AllocError, Global};
 
-/// The marks of the format: `{ } ; | , : = ( ) [ ] ~ -`, and `/\` (and) and `\/` (or).
+/// The marks of the format: `{ } ; | , : = ( ) [ ] ~ - * &`, and `/\` (and) and `\/` (or).
 #[derive(Clone, Copy, Debug, PartialEq, Eq)]
 pub enum Mark {
     OpenBrace,
@@ -25,6 +25,8 @@ pub enum Mark {
     CloseBracket,
     Tilde,
     Minus,
+    Star,
+    Ampersand,
     And,
     Or,
 }
@@ -81,6 +83,8 @@ fn mark_of(b: u8) -> Option<Mark>
         b']' => Some(Mark::CloseBracket),
         b'~' => Some(Mark::Tilde),
         b'-' => Some(Mark::Minus),
+        b'*' => Some(Mark::Star),
+        b'&' => Some(Mark::Ampersand),
         _ => None,
     }
 }

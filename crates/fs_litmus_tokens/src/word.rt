@@ -13,8 +13,6 @@ ghost use Rattle.fs_litmus_tokens.specs.Words.{keyword_of, class_of};
 pub enum Class {
     /// Decimal digits, or `0x` and hexadecimal digits.
     Number,
-    /// `int`, `int32_t` or `uint32_t`.
-    TypeWord,
     /// `locations`.
     LocationsWord,
     /// `exists`.
@@ -96,9 +94,6 @@ fn keyword_of(word: &str) -> Option<Class>
     ensures { result ≡ keyword_of word.now }
 {
     match word {
-        "int" => Some(Class::TypeWord),
-        "int32_t" => Some(Class::TypeWord),
-        "uint32_t" => Some(Class::TypeWord),
         "locations" => Some(Class::LocationsWord),
         "exists" => Some(Class::ExistsWord),
         "forall" => Some(Class::ForallWord),

@@ -1,4 +1,4 @@
-use Rattle.std.proofs.Common.{◌+◌, ◌≤◌, ◌++◌, ℕ, List, Bool, map, length}
+use Rattle.std.proofs.Common.{◌+◌, ◌≤◌, ◌++◌, List, Bool, map, length}
 use Rattle.fs_litmus_tokens.specs.Tokens.{Lined, AreTokens, view}
 use Rattle.fs_litmus_tokens.proofs.token.tokens.Given as goal
 
