@@ -138,21 +138,30 @@ BRANCHES = {
     'blt': lambda a, b: signed(a) < signed(b), 'bge': lambda a, b: signed(a) >= signed(b),
     'bltu': lambda a, b: a < b, 'bgeu': lambda a, b: a >= b,
 }
-RANGES = {'i': (-2048, 2047), 'n': (0, 31), 'u': (0, 2 ** 20 - 1), 'c': (-2 ** 31, WORDS - 1), 'o': (0, 0)}
+RANGES = {'i': (-2048, 2047), 'm': (-2048, 2047), 'n': (0, 31), 'u': (0, 2 ** 20 - 1), 'c': (-2 ** 31, WORDS - 1), 'o': (0, 0)}
 ANNOTATIONS = {'': (False, False), '.aq': (True, False), '.rl': (False, True)}
 ANNOTATIONS.update({'.aqrl': (True, True), '.aq.rl': (True, True)})
 
 FORMS = {
     'lui': ('d,u', 'compute', COMPUTES['add']), 'li': ('d,c', 'compute', COMPUTES['add']),
     'nop': ('', 'compute', COMPUTES['add']), 'mv': ('d,s', 'compute', COMPUTES['add']),
-    'lw': ('d,i(a)', 'load', None), 'sw': ('v,i(a)', 'store', None),
-    'beqz': ('s,l', 'branch', BRANCHES['beq']), 'bnez': ('s,l', 'branch', BRANCHES['bne']),
+    'lw': ('d,m(a)', 'load', None), 'sw': ('v,m(a)', 'store', None),
+    'seqz': ('d,s', 'compute', lambda a, b: int(a == 0)), 'snez': ('d,s', 'compute', lambda a, b: int(a != 0)),
+    'sltz': ('d,s', 'compute', lambda a, b: int(signed(a) < 0)),
+    'sgtz': ('d,s', 'compute', lambda a, b: int(signed(a) > 0)),
+    'neg': ('d,s', 'compute', lambda a, b: -a), 'not': ('d,s', 'compute', lambda a, b: ~a),
+    'sext.w': ('d,s', 'compute', COMPUTES['add']),
+    'beqz': ('s,l', 'branch', lambda a, b: a == 0), 'bnez': ('s,l', 'branch', lambda a, b: a != 0),
+    'blez': ('s,l', 'branch', lambda a, b: signed(a) <= 0), 'bgez': ('s,l', 'branch', lambda a, b: signed(a) >= 0),
+    'bltz': ('s,l', 'branch', lambda a, b: signed(a) < 0), 'bgtz': ('s,l', 'branch', lambda a, b: signed(a) > 0),
+    'bgt': ('s,s,l', 'branch', lambda a, b: signed(a) > signed(b)), 'bgtu': ('s,s,l', 'branch', lambda a, b: a > b),
+    'ble': ('s,s,l', 'branch', lambda a, b: signed(a) <= signed(b)), 'bleu': ('s,s,l', 'branch', lambda a, b: a <= b),
     'jal': ('z,l', 'jump', None), 'j': ('l', 'jump', None),
     'fence': ('f,f', 'fence', None), 'fence.tso': ('', 'fence', None),
 }
 """Of each instruction (FORMAT 2) its operands, its form, and what it computes or when it jumps. Operands are d, the
 register rd; s, one to read plainly; v, the data; a, the address; z, the register x0; l, a label; f, the letters of a
-fence; and the numbers of RANGES, of which o may be left out. Other signs stand for themselves."""
+fence; and the numbers of RANGES, of which m and o may be left out before `(`. Other signs stand for themselves."""
 for _name in ['add', 'sub', 'xor', 'or', 'and', 'sll', 'srl', 'sra', 'slt', 'sltu']:
     FORMS[_name] = ('d,s,s', 'compute', COMPUTES[_name])
 for _name in ['add', 'xor', 'or', 'and', 'slt', 'sll', 'srl', 'sra']:
@@ -284,7 +293,7 @@ class Tokens:
 
 def take_operand(operand, words, made):
     """Takes an operand of FORMS off the words, into its place in the instruction. Is it one?"""
-    if operand == 'o' and words[:1] == ['(']:
+    if operand in 'mo' and words[:1] == ['(']:
         return True
     is_negative = operand in RANGES and words[:1] == ['-']
     word = ''.join(words[is_negative:is_negative + 1])

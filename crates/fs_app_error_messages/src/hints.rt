@@ -164,14 +164,7 @@ fn cell_words(cell: Spot<'_, '_>) -> &'static str {
     let Some(op) = Op::of(word) else {
         return unknown_words(word);
     };
-    if is_load_or_store(op) && is_mark(spot.ahead(3), Mark::OpenParen) {
-        return "the offset must be written, also where it is 0: `lw x5,0(x6)`";
-    }
     operand_words(op)
-}
-
-fn is_load_or_store(op: Op) -> bool {
-    matches!(op, Op::Lw | Op::Sw)
 }
 
 /// Where the form breaks; it may be met as a whole.

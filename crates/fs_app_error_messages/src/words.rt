@@ -15,24 +15,6 @@ fn is_narrow(word: &str) -> bool {
     matches!(word, "lb" | "lbu" | "lh" | "lhu" | "sb" | "sh")
 }
 
-/// Branches that stand for others with the registers swapped.
-fn is_swapped(word: &str) -> bool {
-    matches!(word, "bgt" | "ble" | "bgtu" | "bleu")
-}
-
-/// Branches that stand for others with x0.
-fn is_with_zero(word: &str) -> bool {
-    matches!(word, "bgtz" | "blez" | "bgez" | "bltz")
-}
-
-/// Words that stand for others, but for branches.
-fn is_short(word: &str) -> bool {
-    matches!(
-        word,
-        "neg" | "not" | "seqz" | "snez" | "sltz" | "sgtz" | "zext.b"
-    )
-}
-
 /// Accesses of 64 bits.
 fn is_wide(word: &str) -> bool {
     matches!(word, "ld" | "sd" | "lwu") || word.ends_with(".d") || word.contains(".d.")
@@ -60,21 +42,15 @@ pub(crate) fn unknown_words(word: &str) -> &'static str {
     if is_call(word) {
         return "calls and jumps to registers are left out: write the code in line";
     }
-    if is_swapped(word) {
-        return "not of this profile: write `blt`, `bge`, `bltu` or `bgeu` with the registers swapped";
-    }
-    if is_with_zero(word) {
-        return "not of this profile: write `blt` or `bge` with x0";
-    }
-    if is_short(word) {
-        return "not of this profile: write what it stands for, as `xori x5,x6,-1` for `not x5,x6`";
-    }
     other_words(word)
 }
 
 fn other_words(word: &str) -> &'static str {
     if word == "la" {
         return "addresses are initial values: write `0:x6=x;` between the braces";
+    }
+    if word == "zext.b" {
+        return "not of this profile: write `andi x5,x6,255` for `zext.b x5,x6`";
     }
     if word == "fence.i" {
         return "`fence.i` orders the fetching of instructions, which isn't modelled: leave it out";
@@ -101,7 +77,8 @@ pub(crate) fn operand_words(op: Op) -> &'static str {
         Op::Lr(_) => "expected `x5,(x6)`, no other offset than 0, and no more",
         Op::Sc(_) => "expected `x5,x7,(x6)`, no other offset than 0, and no more",
         Op::Amo(_, _) => "expected `x5,x7,(x6)`, no other offset than 0, and no more",
-        Op::Branch(_) => "expected two registers and a label, as `x5,x6,L`, and no more",
+        Op::Branch(_) | Op::Swapped(_) =>
+            "expected two registers and a label, as `x5,x6,L`, and no more",
         _ => other_operands(op),
     }
 }
@@ -111,8 +88,10 @@ fn other_operands(op: Op) -> &'static str {
         Op::Jal => "expected `x0,L`: a jump that links is left out",
         Op::Fence => "expected letters of `iorw` in this order, as `rw,w`, and no more",
         Op::FenceAll => "expected letters of `iorw` in this order, as `rw,w`, and no more",
-        Op::Mv => "expected two registers, as `x5,x6`, and no more",
-        Op::BranchZero(_) => "expected a register and a label, as `x5,L`, and no more",
+        Op::Mv | Op::Seqz | Op::Not | Op::OfZero(_) | Op::WithZero(_) =>
+            "expected two registers, as `x5,x6`, and no more",
+        Op::BranchZero(_) | Op::ZeroBranch(_) =>
+            "expected a register and a label, as `x5,L`, and no more",
         Op::J => "expected a label, and no more",
         _ => "expected no operands, and no more in this cell",
     }

@@ -4,7 +4,7 @@ use Rattle.fs_litmus_tokens.specs.Tokens.{Tok}
 use Rattle.fs_instr.specs.Operands.{Filled}
 use Rattle.fs_instr.specs.Instructions.{parts_of}
 use Rattle.fs_instr.specs.Reading.{is_alone, is_empty}
-use Rattle.fs_instr.specs.Spelled.{IsNumber, plus, minus, IsPart, rd, first, second, x0, sign, imm, below, constant, no_offset, zero_offset, label, before, after, AreParts, none, next, Spells, spells, IsUnsupported, unsupported}
+use Rattle.fs_instr.specs.Spelled.{IsNumber, plus, minus, IsPart, rd, first, second, x0, sign, imm, no_imm, offset, below, constant, no_offset, zero_offset, label, before, after, AreParts, none, next, Spells, spells, IsUnsupported, unsupported}
 use Rattle.fs_instr.specs.declared.names.Op.{Op}
 use Rattle.fs_instr.specs.declared.names.Op.TheVariants as op
 use Rattle.fs_instr.specs.declared.instr.Instr.{Instr}
@@ -21,6 +21,8 @@ part_length (second e) = omega arith
 part_length (x0 e) = omega arith
 part_length sign = omega arith
 part_length (imm n z) = number_length n
+part_length no_imm = omega arith
+part_length (offset n z) = number_length n
 part_length (below n z) = number_length n
 part_length (constant n) = number_length n
 part_length no_offset = omega arith
@@ -50,7 +52,13 @@ row_length op.Fence = lit≤ tt
 row_length op.FenceTso = lit≤ tt
 row_length op.Nop = lit≤ tt
 row_length op.Mv = lit≤ tt
+row_length op.Seqz = lit≤ tt
+row_length op.Not = lit≤ tt
+row_length (op.OfZero o) = lit≤ tt
+row_length (op.WithZero o) = lit≤ tt
 row_length (op.BranchZero o) = lit≤ tt
+row_length (op.ZeroBranch o) = lit≤ tt
+row_length (op.Swapped o) = lit≤ tt
 row_length op.J = lit≤ tt
 row_length op.FenceAll = lit≤ tt
 

@@ -1,5 +1,6 @@
 pub mod DistinctNames
 pub mod Spelling
+pub mod RowBuilt
 pub mod Lengths
 pub mod PlainTokens
 pub mod TextLemmas

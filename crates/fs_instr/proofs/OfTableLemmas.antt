@@ -11,7 +11,7 @@ use Rattle.std.specs.Option.{option_or}
 use Rattle.fs_instr.specs.Registers.{register_of, low_x, middle_x, high_x, first_names, arguments, last_names}
 use Rattle.fs_instr.specs.FenceLetters.{lettered, letters_of, letters_rows, letters_text}
 use Rattle.fs_instr.specs.Operands.{Filled, blank, immediate_of, below_of, constant_of}
-use Rattle.fs_instr.specs.Spelled.{IsNumber, plus, minus, IsPart, rd, first, second, x0, sign, imm, below, constant, no_offset, zero_offset, label, before, after, AreParts, none, next, Spells, spells, Answers}
+use Rattle.fs_instr.specs.Spelled.{IsNumber, plus, minus, IsPart, rd, first, second, x0, sign, imm, no_imm, offset, below, constant, no_offset, zero_offset, label, before, after, AreParts, none, next, Spells, spells, Answers}
 use Rattle.fs_instr.specs.Instructions.{parts_of, instr_of}
 use Rattle.fs_instr.specs.Reading.{is_refused, is_alone, is_empty, operands_in, outcome_of}
 use Rattle.fs_instr.specs.OfTable.{IsImmediate, HasLetter, IsOfTable}
@@ -148,6 +148,8 @@ part_keeps (second {w = w} {r = r} e) h = record { rd = h.rd; first = h.first; s
 part_keeps (x0 e) h = h
 part_keeps sign h = h
 part_keeps (imm {m = m} {n = n} {z = z} k e) h = record { rd = h.rd; first = h.first; second = h.second; imm = immediate_range m n z e; constant = h.constant; target = h.target; before = h.before; after = h.after }
+part_keeps no_imm h = h
+part_keeps (offset {m = m} {n = n} {z = z} k e) h = record { rd = h.rd; first = h.first; second = h.second; imm = immediate_range m n z e; constant = h.constant; target = h.target; before = h.before; after = h.after }
 part_keeps (below {limit = limit} {m = m} {n = n} {v = v} k e) h =
     let small = subst (λ i. i < 2 ^ 32) (below_range limit m n v e).1 (is_number_below k) in
     record { rd = h.rd; first = h.first; second = h.second; imm = h.imm; constant = small; target = h.target; before = h.before; after = h.after }
@@ -194,6 +196,12 @@ made_of_table op.Fence ts f h r = let k = parts_keep h blank_range in (k.before,
 made_of_table op.FenceTso ts f h r = tt
 made_of_table op.Nop ts f h r = (lit≤ tt, lit≤ tt, lit≤ tt)
 made_of_table op.Mv ts f h r = let k = parts_keep h blank_range in (k.rd, k.first, lit≤ tt)
+made_of_table op.Seqz ts f h r = let k = parts_keep h blank_range in (k.rd, k.first, lit≤ tt)
+made_of_table op.Not ts f h r = let k = parts_keep h blank_range in (k.rd, k.first, lit≤ tt)
+made_of_table (op.OfZero o) ts f h r = let k = parts_keep h blank_range in (k.rd, lit≤ tt, k.second)
+made_of_table (op.WithZero o) ts f h r = let k = parts_keep h blank_range in (k.rd, k.first, lit≤ tt)
+made_of_table (op.ZeroBranch o) ts f h r = let k = parts_keep h blank_range in (lit≤ tt, k.second, k.target)
+made_of_table (op.Swapped o) ts f h r = let k = parts_keep h blank_range in (k.first, k.second, k.target)
 made_of_table (op.BranchZero o) ts f h r = let k = parts_keep h blank_range in (k.first, lit≤ tt, k.target)
 made_of_table op.J ts f h r = (parts_keep h blank_range).target
 made_of_table op.FenceAll ts f h r = (refl, refl)

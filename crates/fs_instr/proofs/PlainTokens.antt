@@ -3,7 +3,7 @@ use Rattle.std.proofs.Common.{◌≡◌, ℕ, List, Option, Bool, true, refl}
 use Rattle.fs_litmus_tokens.specs.Tokens.{Tok}
 use Rattle.fs_litmus_tokens.specs.Few.{are_plain}
 use Rattle.fs_instr.specs.Operands.{Filled}
-use Rattle.fs_instr.specs.Spelled.{IsNumber, plus, minus, IsPart, rd, first, second, x0, sign, imm, below, constant, no_offset, zero_offset, label, before, after, AreParts, none, next, Spells, spells, IsUnsupported, unsupported}
+use Rattle.fs_instr.specs.Spelled.{IsNumber, plus, minus, IsPart, rd, first, second, x0, sign, imm, no_imm, offset, below, constant, no_offset, zero_offset, label, before, after, AreParts, none, next, Spells, spells, IsUnsupported, unsupported}
 use Rattle.fs_instr.specs.declared.instr.Instr.{Instr}
 use Rattle.fs_instr.specs.declared.operands.OperandPart.{OperandPart}
 
@@ -18,6 +18,8 @@ part_plain (second e) h = h
 part_plain (x0 e) h = h
 part_plain sign h = h
 part_plain (imm n z) h = number_plain n h
+part_plain no_imm h = h
+part_plain (offset n z) h = number_plain n h
 part_plain (below n z) h = number_plain n h
 part_plain (constant n) h = number_plain n h
 part_plain no_offset h = h

@@ -8,7 +8,7 @@ use Rattle.fs_litmus_tokens.specs.declared.word.Class.{Class}
 use Rattle.fs_litmus_tokens.specs.declared.token.Mark.TheVariants as mark
 use Rattle.fs_instr.specs.Rows.{look_up}
 use Rattle.std.specs.Option.{option_or}
-use Rattle.fs_instr.specs.Names.{op_of, name_text, register_names, immediate_names, branch_names, single_names, plain_names, acquiring_names, releasing_names, both_names, both_apart_names}
+use Rattle.fs_instr.specs.Names.{op_of, name_text, register_names, immediate_names, branch_names, single_names, plain_names, acquiring_names, releasing_names, both_names, both_apart_names, short_names, short_branch_names}
 use Rattle.fs_instr.specs.FenceLetters.{letters_text}
 use Rattle.fs_instr.specs.Instructions.{parts_of, op_of_instr, operands_of, targeted}
 use Rattle.fs_instr.specs.OfTable.{IsImmediate, HasLetter, IsOfTable}
@@ -35,6 +35,7 @@ Good (part.Sign mark.OpenParen) o = Unit {0}
 Good (part.Sign mark.CloseParen) o = Unit {0}
 Good (part.Sign _) o = ⊥
 Good part.Immediate o = IsImmediate o.imm
+Good part.Offset o = IsImmediate o.imm
 Good (part.Below limit) o = o.constant < 2 ^ 32
 Good part.Constant o = o.constant < 2 ^ 32
 Good part.NoOffset o = Unit {0}
@@ -102,6 +103,7 @@ module _ (o : Operands) (rest : List ℕ) (line : ℕ) (ts : List Lined) (closed
   part_prints (part.Sign mark.Star) good needs = absurd good
   part_prints (part.Sign mark.Ampersand) good needs = absurd good
   part_prints part.Immediate good needs = number_prints o.imm o rest line ts closed refl good needs h
+  part_prints part.Offset good needs = number_prints o.imm o rest line ts closed refl good needs h
   part_prints (part.Below limit) good needs = word_prints (decimal o.constant) rest line ts closed (decimal_word o.constant good) needs h
   part_prints part.Constant good needs = word_prints (decimal o.constant) rest line ts closed (decimal_word o.constant good) needs h
   part_prints part.NoOffset good needs = h
@@ -137,7 +139,7 @@ or_word None b y w one two e = two e
 or_word (Some x) b y w one two e = one e
 
 pub op_word : (w : List ℕ) (o : Op) → op_of w ≡ Some o → is_word w ≡ true
-unfolding op_of register_names immediate_names branch_names single_names plain_names acquiring_names releasing_names both_names both_apart_names
+unfolding op_of register_names immediate_names branch_names single_names plain_names acquiring_names releasing_names both_names both_apart_names short_names short_branch_names
 op_word w o e =
     or_word (look_up register_names w) _ o w (found_word register_names w o refl)
     (or_word (look_up immediate_names w) _ o w (found_word immediate_names w o refl)
@@ -147,7 +149,9 @@ op_word w o e =
     (or_word (look_up acquiring_names w) _ o w (found_word acquiring_names w o refl)
     (or_word (look_up releasing_names w) _ o w (found_word releasing_names w o refl)
     (or_word (look_up both_names w) _ o w (found_word both_names w o refl)
-    (found_word both_apart_names w o refl)))))))) e
+    (or_word (look_up both_apart_names w) _ o w (found_word both_apart_names w o refl)
+    (or_word (look_up short_names w) _ o w (found_word short_names w o refl)
+    (found_word short_branch_names w o refl)))))))))) e
 
 pub spelled_word : {c : Class} {w : List ℕ} {ts : List Tok} {i : Instr} {l : Option (List ℕ)} → Spells (Word c w ∷ ts) i l → is_word w ≡ true
 spelled_word (spells {w = w} {op = o} e h r) = op_word w o e

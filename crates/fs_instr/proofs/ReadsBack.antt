@@ -4,7 +4,7 @@ use Rattle.std.proofs.lemmas.Bool.Decides.{nat_tests}
 use Rattle.fs_litmus_tokens.specs.Tokens.{Tok}
 use Rattle.fs_litmus_tokens.specs.Words.{is_name, class_of, keyword_of, is_number, is_digits}
 use Rattle.fs_instr.specs.Operands.{Filled, immediate_of, below_of}
-use Rattle.fs_instr.specs.Spelled.{plus, minus, IsPart, rd, first, second, sign, imm, below, constant, label, x0, before, after, no_offset, none, next, spells}
+use Rattle.fs_instr.specs.Spelled.{plus, minus, IsPart, rd, first, second, sign, imm, offset, below, constant, label, x0, before, after, no_offset, none, next, spells}
 use Rattle.fs_instr.specs.PrintedTokens.{ReadsBack, number_tokens}
 use Rattle.fs_instr.specs.OfTable.{IsImmediate, HasLetter, IsOfTable}
 use Rattle.fs_instr.specs.FenceLetters.{letters_of, letters_text}
@@ -49,6 +49,9 @@ imm_part o (negsuc n) rest h =
     let e : immediate_of true (suc n) ≡ Some (negsuc n) = rw t refl in
     imm (minus (number_back (suc n) (omega arith)) (omega arith)) e
 
+offset_part : {o o1 : Filled} {ts rest : List Tok} → IsPart part.Immediate o ts o1 rest → IsPart part.Offset o ts o1 rest
+offset_part (imm n z) = offset n z
+
 below_back : (limit n : ℕ) → n < limit → below_of limit false n ≡ Some n
 below_back limit n h = let t : ltb n limit ≡ true = grind (arith, nat_tests) in rw t refl
 
@@ -79,12 +82,12 @@ name_back t h = let d = decimal_is_IsNumeral t (omega arith) in let e = no_dot (
 lw_instr : (d a : ℕ) (z : ℤ) → d < 32 → a < 32 → IsImmediate z → ReadsBack (instr.Lw d a z)
 unfolding op_of register_names immediate_names branch_names single_names
 lw_instr d a z hd ha hz =
-    spells refl (next (rd (register_back d hd)) (next sign (next (imm_part _ z _ hz) (next sign (next (first (register_back a ha)) (next sign none)))))) refl
+    spells refl (next (rd (register_back d hd)) (next sign (next (offset_part (imm_part _ z _ hz)) (next sign (next (first (register_back a ha)) (next sign none)))))) refl
 
 sw_instr : (v a : ℕ) (z : ℤ) → v < 32 → a < 32 → IsImmediate z → ReadsBack (instr.Sw v a z)
 unfolding op_of register_names immediate_names branch_names single_names
 sw_instr v a z hv ha hz =
-    spells refl (next (second (register_back v hv)) (next sign (next (imm_part _ z _ hz) (next sign (next (first (register_back a ha)) (next sign none)))))) refl
+    spells refl (next (second (register_back v hv)) (next sign (next (offset_part (imm_part _ z _ hz)) (next sign (next (first (register_back a ha)) (next sign none)))))) refl
 
 li_instr : (d n : ℕ) → d < 32 → n < 2 ^ 32 → ReadsBack (instr.Li d n)
 unfolding op_of register_names immediate_names branch_names single_names

@@ -1,5 +1,5 @@
 -- What is read is spelled, and what is spelled is read.
-use Rattle.std.proofs.Common.{◌≡◌, ℕ, ◌≤◌, ◌^◌, List, [], ◌∷◌, Option, Some, None, option_map, option_and_then, Bool, true, false, cond, refl, sym, ap, ◌∙◌, subst, eqb, eqb-true, eq-eqb, leb, arith, Ok, Err}
+use Rattle.std.proofs.Common.{◌≡◌, ℕ, ℤ, ◌≤◌, ◌^◌, List, [], ◌∷◌, Option, Some, None, option_map, option_and_then, Bool, true, false, cond, refl, sym, ap, ◌∙◌, subst, eqb, eqb-true, eq-eqb, leb, arith, Ok, Err}
 use Rattle.std.proofs.lemmas.Bool.Decides.{nat_tests}
 use Rattle.fs_litmus_tokens.specs.Words.{is_name}
 use Rattle.fs_litmus_tokens.specs.Tokens.{Tok, Word, Sign, Strange}
@@ -10,7 +10,7 @@ use Rattle.fs_instr.specs.Registers.{register_of}
 use Rattle.fs_litmus_tokens.specs.Numbers.{number_of}
 use Rattle.fs_instr.specs.FenceLetters.{letters_of}
 use Rattle.fs_instr.specs.Operands.{Filled, blank, take_word, take_name, mark_number, is_mark, take_sign, take_register, take_letters, take_unsigned, take_number, signed, immediate_of, below_of, read_part, read_parts}
-use Rattle.fs_instr.specs.Spelled.{IsNumber, plus, minus, IsPart, rd, first, second, x0, sign, imm, below, constant, no_offset, zero_offset, label, before, after, AreParts, none, next, Spells, spells, IsUnsupported, unsupported, IsUnknown, unknown, Answers}
+use Rattle.fs_instr.specs.Spelled.{IsNumber, plus, minus, IsPart, rd, first, second, x0, sign, imm, no_imm, offset, below, constant, no_offset, zero_offset, label, before, after, AreParts, none, next, Spells, spells, IsUnsupported, unsupported, IsUnknown, unknown, Answers}
 use Rattle.fs_instr.specs.Names.{op_of}
 use Rattle.fs_instr.specs.Instructions.{parts_of}
 use Rattle.fs_instr.specs.Reading.{Outcome, is_refused, is_alone, is_empty, made, read_row, read_named, read_tokens}
@@ -192,6 +192,19 @@ no_offset_is o ts x (Some rest) m e =
     let pair : (o, ts) ≡ x = cc in
     subst P pair (subst (λ l. IsPart part.NoOffset o l o l) (sym same) no_offset)
 
+-- an offset that may be left out
+offset_is : (o : Filled) (ts : List Tok) (x : Step) (m : Option (List Tok)) → take_sign mark.OpenParen ts ≡ m → cond (is_some m) (Some (o, ts)) (option_and_then (λ y. option_map (λ z. (record o { imm = z }, y.2)) (immediate_of y.0 y.1)) (take_number ts)) ≡ Some x → IsPart part.Offset o ts x.0 x.1
+offset_is o ts x None m e =
+    let b = bound _ (take_number ts) x e in
+    let n = mapped _ (immediate_of b.value.0 b.value.1) x b.then in
+    let P : Step → Type 0 = λ y. IsPart part.Offset o ts y.0 y.1 in
+    subst P n.then (offset (number_is ts b.value b.is) n.is)
+offset_is o ts x (Some rest) m e =
+    let same = sign_is mark.OpenParen ts rest m in
+    let P : Step → Type 0 = λ y. IsPart part.Offset o ts y.0 y.1 in
+    let pair : (o, ts) ≡ x = cc in
+    subst P pair (subst (λ l. IsPart part.Offset o l o l) (sym same) no_imm)
+
 -- what a part read is that part
 is_part : (p : OperandPart) (o : Filled) (ts : List Tok) (x : Step) → read_part p o ts ≡ Some x → IsPart p o ts x.0 x.1
 is_part part.Rd o ts x e =
@@ -225,6 +238,7 @@ is_part part.Immediate o ts x e =
     let m = mapped _ (immediate_of b.value.0 b.value.1) x b.then in
     let P : Step → Type 0 = λ y. IsPart part.Immediate o ts y.0 y.1 in
     subst P m.then (imm (number_is ts b.value b.is) m.is)
+is_part part.Offset o ts x e = offset_is o ts x (take_sign mark.OpenParen ts) refl e
 is_part (part.Below limit) o ts x e =
     let b = bound _ (take_number ts) x e in
     let m = mapped _ (below_of limit b.value.0 b.value.1) x b.then in
@@ -264,6 +278,12 @@ zero_from o ts rest m n =
     let number = number_from ts m 0 rest n in
     rw (paren, number) refl
 
+offset_from : (o : Filled) (ts rest : List Tok) (m : Bool) (n : ℕ) (z : ℤ) → IsNumber ts m n rest → immediate_of m n ≡ Some z → read_part part.Offset o ts ≡ Some (record o { imm = z }, rest)
+offset_from o ts rest m n z k e =
+    let paren : take_sign mark.OpenParen ts ≡ None = no_paren k in
+    let number = number_from ts m n rest k in
+    rw (paren, number, e) refl
+
 part_from : {p : OperandPart} {o : Filled} {ts : List Tok} {o1 : Filled} {rest : List Tok} → IsPart p o ts o1 rest → read_part p o ts ≡ Some (o1, rest)
 unfolding take_register take_letters take_word take_name take_sign
 part_from (rd e) = rw e refl
@@ -272,6 +292,8 @@ part_from (second e) = rw e refl
 part_from (x0 e) = rw e refl
 part_from (sign {m = m}) = rw (own_mark m) refl
 part_from (imm n z) = rw (number_from _ _ _ _ n, z) refl
+part_from no_imm = refl
+part_from (offset n z) = offset_from _ _ _ _ _ _ n z
 part_from (below n z) = rw (number_from _ _ _ _ n, z) refl
 part_from (constant n) = rw (number_from _ _ _ _ n) refl
 part_from no_offset = refl
@@ -312,7 +334,13 @@ alone_same op.Fence false = refl
 alone_same op.FenceTso b = refl
 alone_same op.Nop b = refl
 alone_same op.Mv b = refl
+alone_same op.Seqz b = refl
+alone_same op.Not b = refl
+alone_same (op.OfZero o) b = refl
+alone_same (op.WithZero o) b = refl
 alone_same (op.BranchZero o) b = refl
+alone_same (op.ZeroBranch o) b = refl
+alone_same (op.Swapped o) b = refl
 alone_same op.J b = refl
 alone_same op.FenceAll b = refl
 

@@ -1,14 +1,14 @@
 -- The instruction table: what each row's operands are, and what instruction they make.
-use Rattle.std.specs.Prelude.{ℕ, List, [], ◌∷◌, Option, Some, None, pos}
+use Rattle.std.specs.Prelude.{ℕ, List, [], ◌∷◌, Option, Some, None, pos, negsuc}
 use Rattle.fs_litmus_tokens.specs.declared.token.Mark.TheVariants.{Comma, OpenParen, CloseParen}
 pub use Rattle.fs_instr.specs.Roles.{nop, roles, roles_of, dest_of, sources_of, address_of, data_of, carries_of, is_memory, is_conditional}
 use Rattle.fs_instr.specs.Operands.{all_letters}
 use Rattle.fs_instr.specs.declared.names.Op.{Op}
 use Rattle.fs_instr.specs.declared.names.Op.TheVariants as op
-use Rattle.fs_instr.specs.declared.names.ImmOp.TheVariants.{Addi}
+use Rattle.fs_instr.specs.declared.names.ImmOp.TheVariants.{Addi, Sltiu, Xori}
 use Rattle.fs_instr.specs.declared.operands.Operands.{Operands}
 use Rattle.fs_instr.specs.declared.operands.OperandPart.{OperandPart}
-use Rattle.fs_instr.specs.declared.operands.OperandPart.TheVariants.{Rd, First, Second, Zero, Sign, Immediate, Below, Constant, NoOffset, Label, Before, After}
+use Rattle.fs_instr.specs.declared.operands.OperandPart.TheVariants.{Rd, First, Second, Zero, Sign, Immediate, Offset, Below, Constant, NoOffset, Label, Before, After}
 use Rattle.fs_instr.specs.declared.instr.Instr.{Instr}
 use Rattle.fs_instr.specs.declared.instr.Instr.TheVariants as instr
 
@@ -25,8 +25,8 @@ parts_of (op.Immediate o) = Rd ∷ comma ∷ First ∷ comma ∷ Immediate ∷ [
 parts_of (op.Shift o) = Rd ∷ comma ∷ First ∷ comma ∷ Below 32 ∷ []
 parts_of op.Lui = Rd ∷ comma ∷ Below 1048576 ∷ []
 parts_of op.Li = Rd ∷ comma ∷ Constant ∷ []
-parts_of op.Lw = Rd ∷ comma ∷ Immediate ∷ at_first
-parts_of op.Sw = Second ∷ comma ∷ Immediate ∷ at_first
+parts_of op.Lw = Rd ∷ comma ∷ Offset ∷ at_first
+parts_of op.Sw = Second ∷ comma ∷ Offset ∷ at_first
 parts_of (op.Lr ann) = Rd ∷ comma ∷ NoOffset ∷ at_first
 parts_of (op.Sc ann) = Rd ∷ comma ∷ Second ∷ comma ∷ NoOffset ∷ at_first
 parts_of (op.Amo o ann) = Rd ∷ comma ∷ Second ∷ comma ∷ NoOffset ∷ at_first
@@ -36,7 +36,13 @@ parts_of op.Fence = Before ∷ comma ∷ After ∷ []
 parts_of op.FenceTso = []
 parts_of op.Nop = []
 parts_of op.Mv = Rd ∷ comma ∷ First ∷ []
+parts_of op.Seqz = Rd ∷ comma ∷ First ∷ []
+parts_of op.Not = Rd ∷ comma ∷ First ∷ []
+parts_of (op.OfZero o) = Rd ∷ comma ∷ Second ∷ []
+parts_of (op.WithZero o) = Rd ∷ comma ∷ First ∷ []
 parts_of (op.BranchZero o) = First ∷ comma ∷ Label ∷ []
+parts_of (op.ZeroBranch o) = Second ∷ comma ∷ Label ∷ []
+parts_of (op.Swapped o) = Second ∷ comma ∷ First ∷ comma ∷ Label ∷ []
 parts_of op.J = Label ∷ []
 parts_of op.FenceAll = []
 
@@ -57,7 +63,13 @@ instr_of op.Fence x = instr.Fence x.before x.after
 instr_of op.FenceTso x = instr.FenceTso
 instr_of op.Nop x = nop
 instr_of op.Mv x = instr.Immediate Addi x.rd x.first (pos 0)
+instr_of op.Seqz x = instr.Immediate Sltiu x.rd x.first (pos 1)
+instr_of op.Not x = instr.Immediate Xori x.rd x.first (negsuc 0)
+instr_of (op.OfZero o) x = instr.Register o x.rd 0 x.second
+instr_of (op.WithZero o) x = instr.Register o x.rd x.first 0
 instr_of (op.BranchZero o) x = instr.Branch o x.first 0 x.target
+instr_of (op.ZeroBranch o) x = instr.Branch o 0 x.second x.target
+instr_of (op.Swapped o) x = instr.Branch o x.first x.second x.target
 instr_of op.J x = instr.Jump x.target
 instr_of op.FenceAll x = instr.Fence all_letters all_letters
 

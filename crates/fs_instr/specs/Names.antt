@@ -5,7 +5,7 @@ use Rattle.std.specs.Option.{option_or}
 use Rattle.fs_instr.specs.declared.names.Ann.{Ann}
 use Rattle.fs_instr.specs.declared.names.AmoOp.{AmoOp}
 use Rattle.fs_instr.specs.declared.names.Op.{Op}
-use Rattle.fs_instr.specs.declared.names.Op.TheVariants.{Register, Immediate, Shift, Lui, Li, Lw, Sw, Lr, Sc, Amo, Branch, Jal, Fence, FenceTso, Nop, Mv, BranchZero, J, FenceAll}
+use Rattle.fs_instr.specs.declared.names.Op.TheVariants.{Register, Immediate, Shift, Lui, Li, Lw, Sw, Lr, Sc, Amo, Branch, Jal, Fence, FenceTso, Nop, Mv, Seqz, Not, OfZero, WithZero, BranchZero, ZeroBranch, Swapped, J, FenceAll}
 use Rattle.fs_instr.specs.declared.names.RegOp.TheVariants.{Add, Sub, Xor, Or, And, Sll, Srl, Sra, Slt, Sltu}
 use Rattle.fs_instr.specs.declared.names.ImmOp.TheVariants.{Addi, Xori, Ori, Andi, Slti, Sltiu}
 use Rattle.fs_instr.specs.declared.names.ShiftOp.TheVariants.{Slli, Srli, Srai}
@@ -161,6 +161,31 @@ both_apart_names =
     (codes "amomaxu.w.aq.rl", Amo amo.Maxu both) ∷
     []
 
+-- short for a computation
+unfoldable pub short_names : List (List ℕ × Op)
+short_names =
+    (codes "seqz", Seqz) ∷
+    (codes "snez", OfZero Sltu) ∷
+    (codes "sltz", WithZero Slt) ∷
+    (codes "sgtz", OfZero Slt) ∷
+    (codes "neg", OfZero Sub) ∷
+    (codes "not", Not) ∷
+    (codes "sext.w", Mv) ∷
+    []
+
+-- short for a branch
+unfoldable pub short_branch_names : List (List ℕ × Op)
+short_branch_names =
+    (codes "bgt", Swapped Blt) ∷
+    (codes "ble", Swapped Bge) ∷
+    (codes "bgtu", Swapped Bltu) ∷
+    (codes "bleu", Swapped Bgeu) ∷
+    (codes "blez", ZeroBranch Bge) ∷
+    (codes "bgez", BranchZero Bge) ∷
+    (codes "bltz", BranchZero Blt) ∷
+    (codes "bgtz", ZeroBranch Blt) ∷
+    []
+
 -- the row with this name
 unfoldable pub op_of : List ℕ → Option Op
 op_of word =
@@ -172,7 +197,9 @@ op_of word =
     option_or (look_up acquiring_names word) (
     option_or (look_up releasing_names word) (
     option_or (look_up both_names word) (
-    look_up both_apart_names word))))))))
+    option_or (look_up both_apart_names word) (
+    option_or (look_up short_names word) (
+    look_up short_branch_names word))))))))))
 
 -- the names of: two registers
 abbrev pub register_text : Op → List ℕ
@@ -254,7 +281,7 @@ annotation_of (Sc ann) = Some ann
 annotation_of (Amo o ann) = Some ann
 annotation_of _ = None
 
--- the name that prints a row
+-- the name that prints a row; none for what is short for a computation or a branch, which prints as that
 abbrev pub name_text : Op → List ℕ
 name_text (Register o) = register_text (Register o)
 name_text (Immediate o) = immediate_text (Immediate o)
@@ -275,4 +302,4 @@ abbrev pub names_of : List (List ℕ × Op) → List (List ℕ)
 names_of rows = map (λ row. row.0) rows
 
 abbrev pub all_names : List (List ℕ)
-all_names = names_of register_names ++ names_of immediate_names ++ names_of branch_names ++ names_of single_names ++ names_of plain_names ++ names_of acquiring_names ++ names_of releasing_names ++ names_of both_names ++ names_of both_apart_names
+all_names = names_of register_names ++ names_of immediate_names ++ names_of branch_names ++ names_of single_names ++ names_of plain_names ++ names_of acquiring_names ++ names_of releasing_names ++ names_of both_names ++ names_of both_apart_names ++ names_of short_names ++ names_of short_branch_names

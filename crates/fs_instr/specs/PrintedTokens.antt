@@ -12,7 +12,7 @@ use Rattle.fs_instr.specs.Writing.{register_text, instr_text}
 use Rattle.fs_instr.specs.Texts.{SpellsText}
 use Rattle.fs_instr.specs.declared.operands.Operands.{Operands}
 use Rattle.fs_instr.specs.declared.operands.OperandPart.{OperandPart}
-use Rattle.fs_instr.specs.declared.operands.OperandPart.TheVariants.{Rd, First, Second, Zero, Immediate, Below, Constant, NoOffset, Label, Before, After}
+use Rattle.fs_instr.specs.declared.operands.OperandPart.TheVariants.{Rd, First, Second, Zero, Immediate, Offset, Below, Constant, NoOffset, Label, Before, After}
 use Rattle.fs_instr.specs.declared.operands.OperandPart.TheVariants as part
 use Rattle.fs_instr.specs.declared.instr.Instr.{Instr}
 use Rattle.fs_instr.specs.declared.instr.Instr.TheVariants as instr
@@ -28,6 +28,7 @@ part_tokens Second o = word (register_text o.second) ∷ []
 part_tokens Zero o = word (codes "x0") ∷ []
 part_tokens (part.Sign m) o = Sign m ∷ []
 part_tokens Immediate o = number_tokens o.imm
+part_tokens Offset o = number_tokens o.imm
 part_tokens (Below limit) o = word (decimal o.constant) ∷ []
 part_tokens Constant o = word (decimal o.constant) ∷ []
 part_tokens NoOffset o = []

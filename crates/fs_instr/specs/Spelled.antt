@@ -32,6 +32,8 @@ pub data IsPart : OperandPart → Filled → List Tok → Filled → List Tok �
   x0 : {o : Filled} {c : Class} {w : List ℕ} {rest : List Tok} → register_of w ≡ Some 0 → IsPart part.Zero o (Word c w ∷ rest) o rest
   sign : {o : Filled} {m : Mark} {rest : List Tok} → IsPart (part.Sign m) o (Sign m ∷ rest) o rest
   imm : {o : Filled} {ts rest : List Tok} {m : Bool} {n : ℕ} {z : ℤ} → IsNumber ts m n rest → immediate_of m n ≡ Some z → IsPart part.Immediate o ts (record o { imm = z }) rest
+  no_imm : {o : Filled} {rest : List Tok} → IsPart part.Offset o (Sign OpenParen ∷ rest) o (Sign OpenParen ∷ rest)
+  offset : {o : Filled} {ts rest : List Tok} {m : Bool} {n : ℕ} {z : ℤ} → IsNumber ts m n rest → immediate_of m n ≡ Some z → IsPart part.Offset o ts (record o { imm = z }) rest
   below : {o : Filled} {limit : ℕ} {ts rest : List Tok} {m : Bool} {n v : ℕ} → IsNumber ts m n rest → below_of limit m n ≡ Some v → IsPart (part.Below limit) o ts (record o { constant = v }) rest
   constant : {o : Filled} {ts rest : List Tok} {m : Bool} {n : ℕ} → IsNumber ts m n rest → IsPart part.Constant o ts (record o { constant = constant_of m n }) rest
   no_offset : {o : Filled} {rest : List Tok} → IsPart part.NoOffset o (Sign OpenParen ∷ rest) o (Sign OpenParen ∷ rest)

@@ -8,7 +8,7 @@ use Rattle.fs_instr.specs.FenceLetters.{letters_text}
 use Rattle.fs_instr.specs.Instructions.{parts_of, op_of_instr, operands_of}
 use Rattle.fs_instr.specs.declared.operands.Operands.{Operands}
 use Rattle.fs_instr.specs.declared.operands.OperandPart.{OperandPart}
-use Rattle.fs_instr.specs.declared.operands.OperandPart.TheVariants.{Rd, First, Second, Zero, Sign, Immediate, Below, Constant, NoOffset, Label, Before, After}
+use Rattle.fs_instr.specs.declared.operands.OperandPart.TheVariants.{Rd, First, Second, Zero, Sign, Immediate, Offset, Below, Constant, NoOffset, Label, Before, After}
 use Rattle.fs_instr.specs.declared.instr.Instr.{Instr}
 
 -- a comma or a parenthesis
@@ -29,6 +29,7 @@ part_text Second o = register_text o.second
 part_text Zero o = codes "x0"
 part_text (Sign m) o = mark_text m
 part_text Immediate o = signed_decimal o.imm
+part_text Offset o = signed_decimal o.imm
 part_text (Below limit) o = decimal o.constant
 part_text Constant o = decimal o.constant
 part_text NoOffset o = []

@@ -8,7 +8,8 @@ ghost use Rattle.fs_instr.specs.Instructions.{data_of, carries_of};
 use crate::letters::Letters;
 use crate::names::{AmoOp, Ann, BranchOp, ImmOp, Op, RegOp, ShiftOp};
 use crate::operands::OperandPart::{
-    self, After, Before, Below, Constant, First, Immediate, Label, NoOffset, Rd, Second, Sign, Zero,
+    self, After, Before, Below, Constant, First, Immediate, Label, NoOffset, Offset, Rd, Second,
+    Sign, Zero,
 };
 use crate::operands::Operands;
 use crate::reg::Reg;
@@ -131,9 +132,9 @@ macro_rules! table {
                     (Instr::Lui { rd, upper: constant }) { dest: rd.named(), sources: [None, None], address: None, data: None, carries: false };
                 (Op::Li) [Rd, Sign(Comma), Constant] { rd, constant, ..Operands::BLANK }
                     (Instr::Li { rd, word: constant }) { dest: rd.named(), sources: [None, None], address: None, data: None, carries: false };
-                (Op::Lw) [Rd, Sign(Comma), Immediate, Sign(OpenParen), First, Sign(CloseParen)] { rd, first, imm, ..Operands::BLANK }
+                (Op::Lw) [Rd, Sign(Comma), Offset, Sign(OpenParen), First, Sign(CloseParen)] { rd, first, imm, ..Operands::BLANK }
                     (Instr::Lw { rd, base: first, offset: imm }) { dest: rd.named(), sources: [first.named(), None], address: first.named(), data: None, carries: false };
-                (Op::Sw) [Second, Sign(Comma), Immediate, Sign(OpenParen), First, Sign(CloseParen)] { second, first, imm, ..Operands::BLANK }
+                (Op::Sw) [Second, Sign(Comma), Offset, Sign(OpenParen), First, Sign(CloseParen)] { second, first, imm, ..Operands::BLANK }
                     (Instr::Sw { value: second, base: first, offset: imm }) { dest: None, sources: [first.named(), second.named()], address: first.named(), data: second.named(), carries: false };
                 (Op::Lr(ann)) [Rd, Sign(Comma), NoOffset, Sign(OpenParen), First, Sign(CloseParen)] { rd, first, ..Operands::BLANK }
                     (Instr::Lr { ann, rd, base: first }) { dest: rd.named(), sources: [first.named(), None], address: first.named(), data: None, carries: false };
@@ -153,7 +154,13 @@ macro_rules! table {
             {
                 (Op::Nop) [] (Instr::NOP);
                 (Op::Mv) [Rd, Sign(Comma), First] (Instr::Immediate { op: ImmOp::Addi, rd, first, imm: 0 });
+                (Op::Seqz) [Rd, Sign(Comma), First] (Instr::Immediate { op: ImmOp::Sltiu, rd, first, imm: 1 });
+                (Op::Not) [Rd, Sign(Comma), First] (Instr::Immediate { op: ImmOp::Xori, rd, first, imm: -1 });
+                (Op::OfZero(op)) [Rd, Sign(Comma), Second] (Instr::Register { op, rd, first: Reg::ZERO, second });
+                (Op::WithZero(op)) [Rd, Sign(Comma), First] (Instr::Register { op, rd, first, second: Reg::ZERO });
                 (Op::BranchZero(op)) [First, Sign(Comma), Label] (Instr::Branch { op, first, second: Reg::ZERO, target });
+                (Op::ZeroBranch(op)) [Second, Sign(Comma), Label] (Instr::Branch { op, first: Reg::ZERO, second, target });
+                (Op::Swapped(op)) [Second, Sign(Comma), First, Sign(Comma), Label] (Instr::Branch { op, first, second, target });
                 (Op::J) [Label] (Instr::Jump { target });
                 (Op::FenceAll) [] (Instr::Fence { before: Letters::ALL, after: Letters::ALL });
             }

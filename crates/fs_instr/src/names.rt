@@ -6,7 +6,7 @@ ghost use Rattle.fs_instr.specs.Rows.{look_up};
 ghost use Rattle.fs_instr.specs.Names.{register_names, immediate_names, branch_names, single_names, plain_names};
 ghost use Rattle.fs_instr.specs.Names.{acquiring_names, releasing_names, both_names, both_apart_names, register_text};
 ghost use Rattle.fs_instr.specs.Names.{immediate_text, branch_text, single_text, plain, acquiring, releasing, both};
-ghost use Rattle.fs_instr.specs.Names.{annotation_of, name_text, op_of, all_names};
+ghost use Rattle.fs_instr.specs.Names.{annotation_of, name_text, op_of, all_names, short_names, short_branch_names};
 ghost use Rattle.std.specs.List.{IsDistinct};
 ghost use Rattle.std.specs.Str.{bytes_eq};
 
@@ -78,7 +78,7 @@ pub struct Ann {
     pub release: bool,
 }
 
-/// A row of the instruction table: a name, or the two of an annotation with both bits. The last five are short for
+/// A row of the instruction table: a name, or the two of an annotation with both bits. From `Nop` on they are short for
 /// others.
 #[derive(Clone, Copy, Debug, PartialEq, Eq)]
 pub enum Op {
@@ -100,9 +100,20 @@ pub enum Op {
     Fence,
     FenceTso,
     Nop,
+    /// `mv`, and `sext.w`, since registers hold 32 bits.
     Mv,
-    /// `beqz` and `bnez`.
+    Seqz,
+    Not,
+    /// `snez`, `sgtz` and `neg`: of x0 and a register.
+    OfZero(RegOp),
+    /// `sltz`: of a register and x0.
+    WithZero(RegOp),
+    /// `beqz`, `bnez`, `bgez` and `bltz`: of a register and x0.
     BranchZero(BranchOp),
+    /// `blez` and `bgtz`: of x0 and a register.
+    ZeroBranch(BranchOp),
+    /// `bgt`, `ble`, `bgtu` and `bleu`: with the registers swapped.
+    Swapped(BranchOp),
     J,
     /// `fence` alone.
     FenceAll,
@@ -161,6 +172,29 @@ macro_rules! names {
             "fence.tso" => Op::FenceTso,
             "nop" => Op::Nop,
             "mv" => Op::Mv,
+        }
+    };
+    (short_of $use:ident $($arguments:tt)*) => {
+        $use! { [$($arguments)*]
+            "seqz" => Op::Seqz,
+            "snez" => Op::OfZero(RegOp::Sltu),
+            "sltz" => Op::WithZero(RegOp::Slt),
+            "sgtz" => Op::OfZero(RegOp::Slt),
+            "neg" => Op::OfZero(RegOp::Sub),
+            "not" => Op::Not,
+            "sext.w" => Op::Mv,
+        }
+    };
+    (short_branch_of $use:ident $($arguments:tt)*) => {
+        $use! { [$($arguments)*]
+            "bgt" => Op::Swapped(BranchOp::Blt),
+            "ble" => Op::Swapped(BranchOp::Bge),
+            "bgtu" => Op::Swapped(BranchOp::Bltu),
+            "bleu" => Op::Swapped(BranchOp::Bgeu),
+            "blez" => Op::ZeroBranch(BranchOp::Bge),
+            "bgez" => Op::BranchZero(BranchOp::Bge),
+            "bltz" => Op::BranchZero(BranchOp::Blt),
+            "bgtz" => Op::ZeroBranch(BranchOp::Blt),
         }
     };
     (plain_of $use:ident $($arguments:tt)*) => {
@@ -325,6 +359,20 @@ fn both_apart_of(word: &str) -> Option<Op>
     names!(both_apart_of find word)
 }
 
+#[tactic(auto, unfolding(crate::specs::Names::short_names))]
+fn short_of(word: &str) -> Option<Op>
+    ensures { result ≡ look_up short_names word.now }
+{
+    names!(short_of find word)
+}
+
+#[tactic(auto, unfolding(crate::specs::Names::short_branch_names))]
+fn short_branch_of(word: &str) -> Option<Op>
+    ensures { result ≡ look_up short_branch_names word.now }
+{
+    names!(short_branch_of find word)
+}
+
 macro_rules! text {
     ([$op:ident] $($text:literal => $row:pat,)*) => {
         match $op {
@@ -425,10 +473,17 @@ impl Op {
         if let Some(op) = both_of(word) {
             return Some(op);
         }
-        both_apart_of(word)
+        if let Some(op) = both_apart_of(word) {
+            return Some(op);
+        }
+        if let Some(op) = short_of(word) {
+            return Some(op);
+        }
+        short_branch_of(word)
     }
 
-    /// The name that prints the row: `.aqrl` for both bits.
+    /// The name that prints the row: `.aqrl` for both bits. Of what is short for a computation or for a branch, which
+    /// prints as that, it is empty or a name of another row.
     pub fn text(self) -> &'static str
         ensures { result.now ≡ name_text self }
     {

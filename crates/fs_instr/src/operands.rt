@@ -2,7 +2,8 @@
 
 ghost use Rattle.std.specs.Prelude.{◌≡◌, option_map};
 ghost use Rattle.fs_instr.specs.declared.operands.Operands.{Operands};
-ghost use Rattle.fs_instr.specs.declared.operands.OperandPart.TheVariants.{Zero, Immediate, Below, Constant, NoOffset};
+ghost use Rattle.fs_instr.specs.declared.operands.OperandPart.TheVariants.{Zero, Immediate, Offset, Below, Constant};
+ghost use Rattle.fs_instr.specs.declared.operands.OperandPart.TheVariants.{NoOffset};
 ghost use Rattle.fs_instr.specs.Operands.{filled, toks, take_word, take_name, is_mark, take_sign, take_letters};
 ghost use Rattle.fs_instr.specs.Operands.{take_unsigned, take_number, immediate_of, below_of, constant_of, read_part};
 ghost use Rattle.fs_instr.specs.Operands.{read_parts, blank};
@@ -26,6 +27,8 @@ pub enum OperandPart {
     Sign(Mark),
     /// A number from -2048 to 2047.
     Immediate,
+    /// A number from -2048 to 2047, or nothing before a parenthesis, which is 0.
+    Offset,
     /// A number below this limit.
     Below(u32),
     /// A number from -2^31 to 2^32 - 1, taken modulo 2^32.
@@ -213,6 +216,22 @@ fn read_immediate<'b, 'a>(
     Some((label, rest))
 }
 
+fn read_offset<'b, 'a>(
+    operands: &mut Operands,
+    label: Option<&'a str>,
+    tokens: &'b [Token<'a>],
+) -> Option<(Option<&'a str>, &'b [Token<'a>])>
+    ensures { option_map (λ x. (filled operands.new x.0, toks x.1.now)) result
+        ≡ read_part Offset (filled operands.old label.entry) (toks tokens.now) }
+{
+    if take_sign(Mark::OpenParen, tokens).is_some() {
+        return Some((label, tokens));
+    }
+    let (minus, number, rest) = take_number(tokens)?;
+    operands.imm = immediate_of(minus, number)?;
+    Some((label, rest))
+}
+
 fn read_below<'b, 'a>(
     limit: u32,
     operands: &mut Operands,
@@ -308,6 +327,7 @@ fn read_part<'b, 'a>(
             Some((label, rest))
         }
         OperandPart::Immediate => read_immediate(operands, label, tokens),
+        OperandPart::Offset => read_offset(operands, label, tokens),
         OperandPart::Below(limit) => read_below(limit, operands, label, tokens),
         OperandPart::Constant => read_constant(operands, label, tokens),
         OperandPart::NoOffset => read_no_offset(label, tokens),

@@ -19,7 +19,7 @@ fn write_part(part: OperandPart, operands: &Operands, line: &mut String) -> Resu
         OperandPart::Second => write!(line, "x{}", operands.second.number()),
         OperandPart::Zero => line.push_str("x0"),
         OperandPart::Sign(mark) => line.push_str(mark_text(mark)),
-        OperandPart::Immediate => write!(line, "{}", operands.imm),
+        OperandPart::Immediate | OperandPart::Offset => write!(line, "{}", operands.imm),
         OperandPart::Below(_) | OperandPart::Constant => write!(line, "{}", operands.constant),
         OperandPart::NoOffset => Ok(()),
         OperandPart::Label => write!(line, "L{}", operands.target),

@@ -36,6 +36,8 @@ no_jump : (o : Op) (alone : Bool) (ts : List Tok) (x : Filled) → AreParts (par
 no_jump (op.Branch o) alone ts x h e = absurd (after_four h e)
 no_jump op.Jal alone ts x h e = absurd (after_two h e)
 no_jump (op.BranchZero o) alone ts x h e = absurd (after_two h e)
+no_jump (op.ZeroBranch o) alone ts x h e = absurd (after_two h e)
+no_jump (op.Swapped o) alone ts x h e = absurd (after_four h e)
 no_jump op.J alone ts x h e = absurd (last_label h e)
 no_jump op.Fence true ts x h e = refl
 no_jump op.Fence false ts x h e = refl
@@ -52,6 +54,10 @@ no_jump (op.Amo o a) alone ts x h e = refl
 no_jump op.FenceTso alone ts x h e = refl
 no_jump op.Nop alone ts x h e = refl
 no_jump op.Mv alone ts x h e = refl
+no_jump op.Seqz alone ts x h e = refl
+no_jump op.Not alone ts x h e = refl
+no_jump (op.OfZero o) alone ts x h e = refl
+no_jump (op.WithZero o) alone ts x h e = refl
 no_jump op.FenceAll alone ts x h e = refl
 
 pub spelled_no_jump : {ts : List Tok} {i : Instr} {l : Option (List ℕ)} → Spells ts i l → l ≡ None → target_of i ≡ None

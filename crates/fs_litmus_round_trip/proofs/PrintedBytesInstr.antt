@@ -79,6 +79,7 @@ part_ascii part.Second o s = lettered_ascii 120 o.second (omega arith) s.second
 part_ascii part.Zero o s = tested_ascii (120 ∷ 48 ∷ []) refl
 part_ascii (part.Sign m) o s = mark_ascii m
 part_ascii part.Immediate o s = signed_ascii o.imm s.imm
+part_ascii part.Offset o s = signed_ascii o.imm s.imm
 part_ascii (part.Below limit) o s = decimal_ascii o.constant s.constant
 part_ascii part.Constant o s = decimal_ascii o.constant s.constant
 part_ascii part.NoOffset o s = nil_ascii
