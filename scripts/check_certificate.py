@@ -157,7 +157,7 @@ FORMS = {
     'bgt': ('s,s,l', 'branch', lambda a, b: signed(a) > signed(b)), 'bgtu': ('s,s,l', 'branch', lambda a, b: a > b),
     'ble': ('s,s,l', 'branch', lambda a, b: signed(a) <= signed(b)), 'bleu': ('s,s,l', 'branch', lambda a, b: a <= b),
     'jal': ('z,l', 'jump', None), 'j': ('l', 'jump', None),
-    'fence': ('f,f', 'fence', None), 'fence.tso': ('', 'fence', None),
+    'fence': ('f,f', 'fence', None), 'fence.tso': ('', 'fence', None), 'fence.i': ('', 'fence', None),
 }
 """Of each instruction (FORMAT 2) its operands, its form, and what it computes or when it jumps. Operands are d, the
 register rd; s, one to read plainly; v, the data; a, the address; z, the register x0; l, a label; f, the letters of a
@@ -330,7 +330,7 @@ def instruction_of(name, words):
     if form in ('lr', 'sc', 'amo'):
         made.aq, made.rl = ANNOTATIONS[name.partition('.w')[2]]
     if form == 'fence':
-        made.pairs = product_of(*made.letters) if made.letters else TSO
+        made.pairs = product_of(*made.letters) if made.letters else TSO if name == 'fence.tso' else frozenset()
     return made
 
 

@@ -89,6 +89,7 @@ module _ (code : List Instr) where
   moved_target (instr.Amo o ann rd v a) target e = absurd (cc)
   moved_target (instr.Fence b a) target e = absurd (cc)
   moved_target instr.FenceTso target e = absurd (cc)
+  moved_target instr.FenceI target e = absurd (cc)
 
   -- the targets of the code from instruction n on are ahead, and at most `end`
   abbrev Ahead : (n end : ℕ) → List Instr → Type 0
@@ -177,10 +178,12 @@ module _ (code : List Instr) where
   moved_memory (instr.Amo o ann rd v a) = refl
   moved_memory (instr.Fence b a) = refl
   moved_memory instr.FenceTso = refl
+  moved_memory instr.FenceI = refl
 
   fence_is_none : (i : Instr) → is_kept i ≡ false → is_memory i ≡ false
   fence_is_none (instr.Fence b a) e = refl
   fence_is_none instr.FenceTso e = refl
+  fence_is_none instr.FenceI e = refl
   fence_is_none (instr.Branch o a b t) e = refl
   fence_is_none (instr.Jump t) e = refl
   fence_is_none (instr.Register o rd a b) e = refl
@@ -235,6 +238,7 @@ eased_as : {A : Type 0} (f : Instr → A) → ((b a : Letters) → f (instr.Fenc
 eased_as f same (instr.Fence b a) =
     either f (is_fence (instr.Fence b a) && names_devices (instr.Fence b a)) (instr.Fence devices devices) (instr.Fence b a) (same b a)
 eased_as f same instr.FenceTso = refl
+eased_as f same instr.FenceI = refl
 eased_as f same (instr.Branch o a b t) = refl
 eased_as f same (instr.Jump t) = refl
 eased_as f same (instr.Register o rd a b) = refl
@@ -335,6 +339,7 @@ module _ (code : List Instr) where
   moved_of_table (instr.Amo o ann rd v a) h low = h
   moved_of_table (instr.Fence b a) h low = h
   moved_of_table instr.FenceTso h low = h
+  moved_of_table instr.FenceI h low = h
 
   one_more_of_table : (x : Instr) (ys : List Instr) (b : Bool) → IsOfTable (moved code x) → All IsOfTable (map (moved code) ys)
       → All IsOfTable (map (moved code) (cond b (x ∷ ys) ys))

@@ -3,7 +3,7 @@
 use Rattle.std.specs.Prelude.{ℕ, Bool, true, false, Option, None, Some, option_and_then, is_none, List, [], length, slice_get, if◌then◌else◌}
 use Rattle.std.specs.List.{list_all, slice_index_or}
 use Rattle.fs_instr.specs.declared.instr.Instr.{Instr}
-use Rattle.fs_instr.specs.declared.instr.Instr.TheVariants.{Fence}
+use Rattle.fs_instr.specs.declared.instr.Instr.TheVariants.{Fence, FenceI}
 use Rattle.fs_kinds.specs.declared.kind.Kind.{Kind}
 use Rattle.fs_kinds.specs.declared.placement.Entry.{Entry}
 use Rattle.fs_kinds.specs.declared.slot.Slot.{Slot}
@@ -15,9 +15,10 @@ use Rattle.fs_app_audit.specs.Standing.{is_at, is_fence_at, access_after, answer
 use Rattle.fs_app_audit.specs.declared.advice.Advice.{Advice}
 use Rattle.fs_app_audit.specs.declared.advice.Advice.TheVariants.{Needed, Enough, Instead, NotNeeded, NoSlot, Idle, Devices, Missing}
 
--- a FENCE that orders no memory
+-- a FENCE that orders no memory, or fence.i
 abbrev pub is_device_fence : Instr → Bool
 is_device_fence (Fence before after) = true
+is_device_fence FenceI = true
 is_device_fence _ = false
 
 -- of the FENCE that stands for this kind, by its own

@@ -4,7 +4,7 @@ use Rattle.std.specs.Fmt.{decimal}
 use Rattle.std.specs.List.{flat_map, enumerate_from, slice_index_or}
 use Rattle.fs_instr.specs.FenceLetters.{letters_text}
 use Rattle.fs_instr.specs.declared.instr.Instr.{Instr}
-use Rattle.fs_instr.specs.declared.instr.Instr.TheVariants.{Fence, FenceTso}
+use Rattle.fs_instr.specs.declared.instr.Instr.TheVariants.{Fence, FenceTso, FenceI}
 use Rattle.fs_kinds.specs.Kind.{word}
 use Rattle.fs_kinds.specs.Slot.{place_name}
 use Rattle.fs_kinds.specs.PriceTable.{PriceTable, cost}
@@ -22,10 +22,11 @@ use Rattle.fs_app_audit.specs.declared.advice.Advice.TheVariants.{Needed, Enough
 
 -- ---- a line
 
--- the letters of a FENCE, such as `rw,w` or `tso`
+-- the letters of a FENCE, such as `rw,w` or `tso`; of fence.i its one
 abbrev pub fence_letters : Instr → List ℕ
 fence_letters (Fence before after) = letters_text before ++ (codes "," ++ letters_text after)
 fence_letters FenceTso = codes "tso"
+fence_letters FenceI = codes "i"
 fence_letters _ = codes "none"
 
 -- of a FENCE that names devices too, memory alone is spoken of

@@ -33,17 +33,17 @@ pub enum Advice {
     NoSlot,
     /// No access stands before it, or none behind it.
     Idle,
-    /// It orders devices alone.
+    /// It orders devices alone, or the fetching of instructions.
     Devices,
     /// One of this kind is missing.
     Missing(Kind),
 }
 
-/// Is it a FENCE? Of one that orders memory this isn't asked.
+/// Is it a FENCE, or `fence.i`? Of one that orders memory this isn't asked.
 fn is_device_fence(instr: Instr) -> bool
     ensures { result ≡ is_device_fence instr }
 {
-    matches!(instr, Instr::Fence { .. })
+    matches!(instr, Instr::Fence { .. } | Instr::FenceI)
 }
 
 fn is_device_fence_at(code: &[Instr], at: usize) -> bool

@@ -27,7 +27,7 @@ const PLACE_WIDTH: usize = 5;
 
 const FENCE_WIDTH: usize = 9;
 
-/// The letters of a FENCE, such as `rw,w` or `tso`.
+/// The letters of a FENCE, such as `rw,w` or `tso`; of `fence.i` its one.
 fn fence_letters(alloc: Global, instr: Instr) -> Result<String, AllocError>
     ensures { IfOk result (λ text. string_bytes text ≡ fence_letters instr) }
 {
@@ -36,6 +36,7 @@ fn fence_letters(alloc: Global, instr: Instr) -> Result<String, AllocError>
             format!(in alloc; "{},{}", before.text(), after.text())
         }
         Instr::FenceTso => format!(in alloc; "tso"),
+        Instr::FenceI => format!(in alloc; "i"),
         _ => format!(in alloc; "none"),
     }
 }

@@ -52,9 +52,6 @@ fn other_words(word: &str) -> &'static str {
     if word == "zext.b" {
         return "not of this profile: write `andi x5,x6,255` for `zext.b x5,x6`";
     }
-    if word == "fence.i" {
-        return "`fence.i` orders the fetching of instructions, which isn't modelled: leave it out";
-    }
     if word.starts_with("fence.") {
         return "the letters are operands: write `fence rw,w`, or `fence.tso`";
     }

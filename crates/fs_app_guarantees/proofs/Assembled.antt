@@ -12,7 +12,7 @@ use Rattle.fs_instr.specs.declared.names.BranchOp.{BranchOp}
 use Rattle.fs_instr.specs.declared.names.BranchOp.TheVariants as branch
 use Rattle.fs_instr.specs.declared.names.Op.TheVariants as op
 use Rattle.fs_instr.specs.declared.instr.Instr.{Instr}
-use Rattle.fs_instr.specs.declared.instr.Instr.TheVariants.{Register, Immediate, Shift, Lui, Li, Lw, Sw, Lr, Sc, Amo, Branch, Jump, Fence, FenceTso}
+use Rattle.fs_instr.specs.declared.instr.Instr.TheVariants.{Register, Immediate, Shift, Lui, Li, Lw, Sw, Lr, Sc, Amo, Branch, Jump, Fence, FenceTso, FenceI}
 use Rattle.fs_instr.specs.Names.{amo_text, branch_text, immediate_text, register_text, suffix_of}
 use Rattle.fs_instr.specs.Writing.{instr_text}
 use Rattle.fs_app_guarantees.specs.Assembly.{register_op, immediate_op, shift_op, branch_op, x, at, to, row, assembly}
@@ -85,3 +85,4 @@ alike (Branch o first second target) = ap (λ name. row name (x first ∷ x seco
 alike (Jump target) = refl
 alike (Fence before after) = refl
 alike FenceTso = refl
+alike FenceI = refl

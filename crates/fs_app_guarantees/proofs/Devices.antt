@@ -28,6 +28,7 @@ named code (instr.Sc ann rd v a) = refl
 named code (instr.Amo o ann rd v a) = refl
 named code (instr.Fence b a) = refl
 named code instr.FenceTso = refl
+named code instr.FenceI = refl
 
 same : (code : List Instr) (i : Instr) → names_devices i ≡ true → moved code i ≡ i
 same code (instr.Branch o a b t) e = absurd (cc)
@@ -44,6 +45,7 @@ same code (instr.Sc ann rd v a) e = refl
 same code (instr.Amo o ann rd v a) e = refl
 same code (instr.Fence b a) e = refl
 same code instr.FenceTso e = refl
+same code instr.FenceI e = refl
 
 named_on : (p : List Entry) (hart : ℕ) (i : Instr) → names_devices (moved_on p hart i) ≡ names_devices i
 named_on p hart (instr.Branch o a b t) = refl
@@ -60,6 +62,7 @@ named_on p hart (instr.Sc ann rd v a) = refl
 named_on p hart (instr.Amo o ann rd v a) = refl
 named_on p hart (instr.Fence b a) = refl
 named_on p hart instr.FenceTso = refl
+named_on p hart instr.FenceI = refl
 
 same_on : (p : List Entry) (hart : ℕ) (i : Instr) → names_devices i ≡ true → moved_on p hart i ≡ i
 same_on p hart (instr.Branch o a b t) e = absurd (cc)
@@ -76,6 +79,7 @@ same_on p hart (instr.Sc ann rd v a) e = refl
 same_on p hart (instr.Amo o ann rd v a) e = refl
 same_on p hart (instr.Fence b a) e = refl
 same_on p hart instr.FenceTso e = refl
+same_on p hart instr.FenceI e = refl
 
 -- ---- one more instruction
 

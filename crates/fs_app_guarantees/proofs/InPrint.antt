@@ -5,7 +5,7 @@ use Rattle.std.specs.List.{enumerate_from}
 use Rattle.std.specs.declared.alloc.Global.{Global}
 use denote.RawPtr.{null_ptr}
 use Rattle.fs_instr.specs.declared.instr.Instr.{Instr}
-use Rattle.fs_instr.specs.declared.instr.Instr.TheVariants.{Register, Immediate, Shift, Lui, Li, Lw, Sw, Lr, Sc, Amo, Branch, Jump, Fence, FenceTso}
+use Rattle.fs_instr.specs.declared.instr.Instr.TheVariants.{Register, Immediate, Shift, Lui, Li, Lw, Sw, Lr, Sc, Amo, Branch, Jump, Fence, FenceTso, FenceI}
 use Rattle.fs_instr.specs.OfTable.{IsOfTable}
 use Rattle.fs_model.specs.declared.outcome.Outcome as read
 use Rattle.fs_model.specs.declared.outcome.Outcome.TheVariants as outcome
@@ -105,6 +105,7 @@ of_table (Branch op first second target) h = h
 of_table (Jump target) h = h
 of_table (Fence before after) h = h
 of_table FenceTso h = h
+of_table FenceI h = h
 
 instruction : (i : Instr) → IsOfTable i → IsInstruction i
 instruction (Register op rd first second) h = h
@@ -121,6 +122,7 @@ instruction (Branch op first second target) h = h
 instruction (Jump target) h = h
 instruction (Fence before after) h = h
 instruction FenceTso h = h
+instruction FenceI h = h
 
 pub to_test : (t : Test) → IsPrintable t.name (program_of t) (outcome_of t) → IsTest t
 to_test t h = record {

@@ -2,7 +2,7 @@
 use Rattle.std.proofs.Common.{◌≡◌, ℕ, ◌+◌, ◌++◌, Bool, false, Option, None, Some, List, [], ◌∷◌, map, filter, flat_map, length, is_some, unwrap_or, Ok, refl, ap, ap₂, sym, subst, ◌∙◌, append-nil, arith}
 use Rattle.std.specs.List.{enumerate_from, range_with_len}
 use Rattle.fs_instr.specs.declared.instr.Instr.{Instr}
-use Rattle.fs_instr.specs.declared.instr.Instr.TheVariants.{Register, Immediate, Shift, Lui, Li, Lw, Sw, Lr, Sc, Amo, Branch, Jump, Fence, FenceTso}
+use Rattle.fs_instr.specs.declared.instr.Instr.TheVariants.{Register, Immediate, Shift, Lui, Li, Lw, Sw, Lr, Sc, Amo, Branch, Jump, Fence, FenceTso, FenceI}
 use Rattle.fs_kinds.specs.declared.kind.Kind.{Kind}
 use Rattle.fs_kinds.specs.declared.placement.Entry.{Entry}
 use Rattle.fs_kinds.specs.declared.slot.Slot.{Slot}
@@ -53,6 +53,7 @@ module _ (p : List Entry) (none : (s : Slot) → kind_at s p ≡ None) where
   instruction_stays hart (Jump target) = ap Jump (label_stays hart target)
   instruction_stays hart (Fence before after) = refl
   instruction_stays hart FenceTso = refl
+  instruction_stays hart FenceI = refl
 
   code_stays : (hart n : ℕ) (code : List Instr) → flat_map (with_fence p hart) (enumerate_from n code) ≡ code
   code_stays hart n [] = refl

@@ -10,7 +10,7 @@ use Rattle.fs_instr.specs.declared.names.ShiftOp.TheVariants as shift
 use Rattle.fs_instr.specs.declared.names.BranchOp.{BranchOp}
 use Rattle.fs_instr.specs.declared.names.BranchOp.TheVariants as branch
 use Rattle.fs_instr.specs.declared.instr.Instr.{Instr}
-use Rattle.fs_instr.specs.declared.instr.Instr.TheVariants.{Register, Immediate, Shift, Lui, Li, Lw, Sw, Lr, Sc, Amo, Branch, Jump, Fence, FenceTso}
+use Rattle.fs_instr.specs.declared.instr.Instr.TheVariants.{Register, Immediate, Shift, Lui, Li, Lw, Sw, Lr, Sc, Amo, Branch, Jump, Fence, FenceTso, FenceI}
 use Rattle.fs_instr.specs.FenceLetters.{letters_text}
 use Rattle.fs_instr.specs.Names.{amo_text, suffix_of}
 use Rattle.fs_model.specs.Printed.{joined}
@@ -78,3 +78,4 @@ assembly (Branch op first second target) = row (branch_op op) (x first ∷ x sec
 assembly (Jump target) = row (codes "jal") (codes "x0" ∷ to target ∷ [])
 assembly (Fence before after) = row (codes "fence") (letters_text before ∷ letters_text after ∷ [])
 assembly FenceTso = codes "fence.tso"
+assembly FenceI = codes "fence.i"

@@ -5,7 +5,7 @@ use Rattle.std.specs.List.{enumerate_from}
 use Rattle.std.specs.Str.{IsUtf8}
 use Rattle.fs_kinds.specs.Limits.{most_harts, most_instructions, most_accesses, most_locations, most_depth}
 use Rattle.fs_instr.specs.declared.instr.Instr.{Instr}
-use Rattle.fs_instr.specs.declared.instr.Instr.TheVariants.{Register, Immediate, Shift, Lui, Li, Lw, Sw, Lr, Sc, Amo, Branch, Jump, Fence, FenceTso}
+use Rattle.fs_instr.specs.declared.instr.Instr.TheVariants.{Register, Immediate, Shift, Lui, Li, Lw, Sw, Lr, Sc, Amo, Branch, Jump, Fence, FenceTso, FenceI}
 use Rattle.fs_instr.specs.OfTable.{IsImmediate, HasLetter}
 use Rattle.fs_instr.specs.Roles.{is_memory}
 use Rattle.fs_model.specs.Runs.{Program}
@@ -50,6 +50,7 @@ IsInstruction (Branch op first second target) = (first < 32) × (second < 32) ×
 IsInstruction (Jump target) = target < 256
 IsInstruction (Fence before after) = HasLetter before × HasLetter after
 IsInstruction FenceTso = Unit {0}
+IsInstruction FenceI = Unit {0}
 
 -- the name is text in one line, each part of the program is of its kind, and all is within the limits
 pub record IsPrintable (name : List ℕ) (t : Program) (o : Outcome) : Type 0 where

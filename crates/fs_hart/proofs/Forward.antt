@@ -2,7 +2,7 @@
 use Rattle.std.proofs.Common.{◌≡◌, ℕ, ◌+◌, ◌<◌, ◌≤◌, Bool, true, false, if◌then◌else◌, Some, List, [], ◌∷◌, length, refl, ap, ◌∙◌, arith}
 use Rattle.std.specs.Prelude.{slice_get, option_and_then}
 use Rattle.fs_instr.specs.declared.instr.Instr.{Instr}
-use Rattle.fs_instr.specs.declared.instr.Instr.TheVariants.{Register, Immediate, Shift, Lui, Li, Lw, Sw, Lr, Sc, Amo, Branch, Jump, Fence, FenceTso}
+use Rattle.fs_instr.specs.declared.instr.Instr.TheVariants.{Register, Immediate, Shift, Lui, Li, Lw, Sw, Lr, Sc, Amo, Branch, Jump, Fence, FenceTso, FenceI}
 use Rattle.fs_instr.specs.Instructions.{target_of}
 use Rattle.std.proofs.lemmas.Option.{slice_get_within}
 use Rattle.std.proofs.lemmas.List.Elements.{All-get_or}
@@ -40,6 +40,7 @@ goes code at x (Branch op first second target) l f = branched code at target (do
 goes code at x (Jump target) l f = f target refl
 goes code at x (Fence before after') l f = after code at l
 goes code at x FenceTso l f = after code at l
+goes code at x FenceI l f = after code at l
 
 pub goes_on : (code : List Instr) (at : ℕ) (x : List ℕ) (i : Instr) → GoesForward code → at < length code → slice_get code at ≡ Some i → IsLater code at (next_after x at i)
 goes_on code at x i forward l e =

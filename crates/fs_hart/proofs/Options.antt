@@ -8,7 +8,7 @@ use Rattle.std.proofs.lemmas.List.{append-nil, get_or-map, get_or-take, get_or_d
 use Rattle.std.proofs.lemmas.List.Elements.{All-nil, All-cons}
 use Rattle.std.proofs.lemmas.List.Kept.{AllPairs-cons, AllPairs-from_increasing}
 use Rattle.fs_instr.specs.declared.instr.Instr.{Instr}
-use Rattle.fs_instr.specs.declared.instr.Instr.TheVariants.{Register, Immediate, Shift, Lui, Li, Lw, Sw, Lr, Sc, Amo, Branch, Jump, Fence, FenceTso}
+use Rattle.fs_instr.specs.declared.instr.Instr.TheVariants.{Register, Immediate, Shift, Lui, Li, Lw, Sw, Lr, Sc, Amo, Branch, Jump, Fence, FenceTso, FenceI}
 use Rattle.fs_model.specs.Test.{address_of, location_of}
 use Rattle.fs_model.proofs.Addresses.{location_of-address}
 use Rattle.fs_model.specs.declared.hart.Hart.{Hart}
@@ -76,6 +76,7 @@ options_rise sets h (Branch op first second target) a = one OptionBefore None
 options_rise sets h (Jump target) a = one OptionBefore None
 options_rise sets h (Fence before after) a = one OptionBefore None
 options_rise sets h FenceTso a = one OptionBefore None
+options_rise sets h FenceI a = one OptionBefore None
 
 -- what stands in front of place k comes before it
 pub before_place : (os : List (Option Choice)) (k : ℕ) (d o : Option Choice) → AllPairs OptionBefore os → k < length os → Contains (take k os) o → OptionBefore o (get_or os k d)
@@ -139,6 +140,7 @@ option_loads n sets h (Branch op first second target) c s m p = loads_none sets 
 option_loads n sets h (Jump target) c s m p = loads_none sets s m.access.1
 option_loads n sets h (Fence before after) c s m p = loads_none sets s m.access.1
 option_loads n sets h FenceTso c s m p = loads_none sets s m.access.1
+option_loads n sets h FenceI c s m p = loads_none sets s m.access.1
 
 -- the step makes the option its choice
 pub option_chosen : (n : ℕ) (sets : List (List ℕ)) (h : Hart) (i : Instr) (c : Option Choice) (s : Step) → Makes n h i c s → Contains (options sets h i) c → choice_by i s ≡ c
@@ -156,6 +158,7 @@ option_chosen n sets h (Branch op first second target) c s m p = sym (in_one Non
 option_chosen n sets h (Jump target) c s m p = sym (in_one None c p)
 option_chosen n sets h (Fence before after) c s m p = sym (in_one None c p)
 option_chosen n sets h FenceTso c s m p = sym (in_one None c p)
+option_chosen n sets h FenceI c s m p = sym (in_one None c p)
 
 first_in : {X : Type 0} (x : X) (xs : List X) → Contains (x ∷ xs) x
 first_in x xs = (0, (omega arith), refl)
@@ -188,6 +191,7 @@ offers n sets h (Branch op first second target) s e a f = first_in None []
 offers n sets h (Jump target) s e a f = first_in None []
 offers n sets h (Fence before after) s e a f = first_in None []
 offers n sets h FenceTso s e a f = first_in None []
+offers n sets h FenceI s e a f = first_in None []
 
 -- each step with a word that is offered is the step of an option
 pub step_offered : (n : ℕ) (code : List Instr) (sets : List (List ℕ)) (h : Hart) (i : Instr) (s : Step) → slice_get code h.at ≡ Some i → IsStep n code h s → LoadsOne (IsOffered sets) s → Contains (options sets h i) (choice_by s.instr s)

@@ -50,6 +50,7 @@ row_length (op.Branch o) = lit≤ tt
 row_length op.Jal = lit≤ tt
 row_length op.Fence = lit≤ tt
 row_length op.FenceTso = lit≤ tt
+row_length op.FenceI = lit≤ tt
 row_length op.Nop = lit≤ tt
 row_length op.Mv = lit≤ tt
 row_length op.Seqz = lit≤ tt

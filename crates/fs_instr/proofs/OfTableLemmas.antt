@@ -194,6 +194,7 @@ made_of_table (op.Branch o) ts f h r = let k = parts_keep h blank_range in (k.fi
 made_of_table op.Jal ts f h r = (parts_keep h blank_range).target
 made_of_table op.Fence ts f h r = let k = parts_keep h blank_range in (k.before, k.after)
 made_of_table op.FenceTso ts f h r = tt
+made_of_table op.FenceI ts f h r = tt
 made_of_table op.Nop ts f h r = (lit≤ tt, lit≤ tt, lit≤ tt)
 made_of_table op.Mv ts f h r = let k = parts_keep h blank_range in (k.rd, k.first, lit≤ tt)
 made_of_table op.Seqz ts f h r = let k = parts_keep h blank_range in (k.rd, k.first, lit≤ tt)

@@ -173,6 +173,7 @@ fits (instr.Branch o a b t) h rest apart = (h.0, refl, (tt, tt, (h.1, refl, (tt,
 fits (instr.Jump t) h rest apart = (tt, refl, (tt, tt, (h, apart, tt)))
 fits (instr.Fence p s) h rest apart = (h.0, refl, (tt, tt, (h.1, apart, tt)))
 fits instr.FenceTso h rest apart = tt
+fits instr.FenceI h rest apart = tt
 
 pub printed : (i : Instr) → IsOfTable i → HasPrintedTokens i
 unfolding instr_text

@@ -131,6 +131,10 @@ tso_instr : ReadsBack instr.FenceTso
 unfolding op_of register_names immediate_names branch_names single_names
 tso_instr = spells refl none refl
 
+fence_i_instr : ReadsBack instr.FenceI
+unfolding op_of register_names immediate_names branch_names single_names
+fence_i_instr = spells refl none refl
+
 letters_part : (l : Letters) → HasLetter l → letters_of (letters_text l) ≡ Some l
 letters_part l h = letters_back l.input l.output l.reads l.writes h
 
@@ -153,3 +157,4 @@ reads_back (instr.Branch o a b t) h = branch_instr o a b t h.0 h.1 h.2
 reads_back (instr.Jump t) h = jump_instr t h
 reads_back (instr.Fence p s) h = fence_instr p s h.0 h.1
 reads_back instr.FenceTso h = tso_instr
+reads_back instr.FenceI h = fence_i_instr

@@ -332,6 +332,7 @@ alone_same op.Jal b = refl
 alone_same op.Fence true = refl
 alone_same op.Fence false = refl
 alone_same op.FenceTso b = refl
+alone_same op.FenceI b = refl
 alone_same op.Nop b = refl
 alone_same op.Mv b = refl
 alone_same op.Seqz b = refl

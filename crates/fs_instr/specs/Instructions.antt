@@ -34,6 +34,7 @@ parts_of (op.Branch o) = First ∷ comma ∷ Second ∷ comma ∷ Label ∷ []
 parts_of op.Jal = Zero ∷ comma ∷ Label ∷ []
 parts_of op.Fence = Before ∷ comma ∷ After ∷ []
 parts_of op.FenceTso = []
+parts_of op.FenceI = []
 parts_of op.Nop = []
 parts_of op.Mv = Rd ∷ comma ∷ First ∷ []
 parts_of op.Seqz = Rd ∷ comma ∷ First ∷ []
@@ -61,6 +62,7 @@ instr_of (op.Branch o) x = instr.Branch o x.first x.second x.target
 instr_of op.Jal x = instr.Jump x.target
 instr_of op.Fence x = instr.Fence x.before x.after
 instr_of op.FenceTso x = instr.FenceTso
+instr_of op.FenceI x = instr.FenceI
 instr_of op.Nop x = nop
 instr_of op.Mv x = instr.Immediate Addi x.rd x.first (pos 0)
 instr_of op.Seqz x = instr.Immediate Sltiu x.rd x.first (pos 1)
@@ -90,6 +92,7 @@ op_of_instr (instr.Branch o a b t) = op.Branch o
 op_of_instr (instr.Jump t) = op.Jal
 op_of_instr (instr.Fence p s) = op.Fence
 op_of_instr instr.FenceTso = op.FenceTso
+op_of_instr instr.FenceI = op.FenceI
 
 abbrev pub empty : Operands
 empty = record { rd = 0; first = 0; second = 0; imm = pos 0; constant = 0; target = 0; before = all_letters; after = all_letters }
@@ -109,6 +112,7 @@ operands_of (instr.Branch o a b t) = record empty { first = a; second = b; targe
 operands_of (instr.Jump t) = record empty { target = t }
 operands_of (instr.Fence p s) = record empty { before = p; after = s }
 operands_of instr.FenceTso = empty
+operands_of instr.FenceI = empty
 
 abbrev pub targeted : ℕ → Instr → Instr
 targeted target (instr.Branch o a b t) = instr.Branch o a b target

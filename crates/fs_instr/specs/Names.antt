@@ -5,7 +5,7 @@ use Rattle.std.specs.Option.{option_or}
 use Rattle.fs_instr.specs.declared.names.Ann.{Ann}
 use Rattle.fs_instr.specs.declared.names.AmoOp.{AmoOp}
 use Rattle.fs_instr.specs.declared.names.Op.{Op}
-use Rattle.fs_instr.specs.declared.names.Op.TheVariants.{Register, Immediate, Shift, Lui, Li, Lw, Sw, Lr, Sc, Amo, Branch, Jal, Fence, FenceTso, Nop, Mv, Seqz, Not, OfZero, WithZero, BranchZero, ZeroBranch, Swapped, J, FenceAll}
+use Rattle.fs_instr.specs.declared.names.Op.TheVariants.{Register, Immediate, Shift, Lui, Li, Lw, Sw, Lr, Sc, Amo, Branch, Jal, Fence, FenceTso, FenceI, Nop, Mv, Seqz, Not, OfZero, WithZero, BranchZero, ZeroBranch, Swapped, J, FenceAll}
 use Rattle.fs_instr.specs.declared.names.RegOp.TheVariants.{Add, Sub, Xor, Or, And, Sll, Srl, Sra, Slt, Sltu}
 use Rattle.fs_instr.specs.declared.names.ImmOp.TheVariants.{Addi, Xori, Ori, Andi, Slti, Sltiu}
 use Rattle.fs_instr.specs.declared.names.ShiftOp.TheVariants.{Slli, Srli, Srai}
@@ -77,6 +77,7 @@ single_names =
     (codes "sw", Sw) ∷
     (codes "fence", Fence) ∷
     (codes "fence.tso", FenceTso) ∷
+    (codes "fence.i", FenceI) ∷
     (codes "nop", Nop) ∷
     (codes "mv", Mv) ∷
     []
@@ -250,6 +251,7 @@ single_text (Lw) = codes "lw"
 single_text (Sw) = codes "sw"
 single_text (Fence) = codes "fence"
 single_text (FenceTso) = codes "fence.tso"
+single_text (FenceI) = codes "fence.i"
 single_text (Nop) = codes "nop"
 single_text (Mv) = codes "mv"
 single_text _ = []

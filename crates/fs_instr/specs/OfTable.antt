@@ -31,3 +31,4 @@ IsOfTable (instr.Branch o a b t) = (a < 32) × (b < 32) × (t < 256)
 IsOfTable (instr.Jump t) = t < 256
 IsOfTable (instr.Fence p s) = HasLetter p × HasLetter s
 IsOfTable instr.FenceTso = Unit {0}
+IsOfTable instr.FenceI = Unit {0}

@@ -15,7 +15,7 @@ use crate::operands::Operands;
 use crate::reg::Reg;
 use fs_litmus_tokens::Mark::{CloseParen, Comma, OpenParen};
 
-/// An instruction of the table (RV32I and the A extension of the unprivileged manual, 20191213). Registers hold words
+/// An instruction of the table (RV32I, and the extensions A and Zifencei, of the unprivileged manual, 20191213). Registers hold words
 /// of 32 bits, sums wrap, and all sources are read before the destination is written.
 #[derive(Clone, Copy, Debug, PartialEq, Eq)]
 pub enum Instr {
@@ -102,6 +102,8 @@ pub enum Instr {
     },
     /// `fence.tso`: orders loads before all, and stores before stores.
     FenceTso,
+    /// `fence.i`: orders the fetching of instructions, which isn't modelled, and no memory operations.
+    FenceI,
 }
 
 // What an instruction does with registers. x0 is never among them.
@@ -150,6 +152,8 @@ macro_rules! table {
                     (Instr::Fence { before, after }) { dest: None, sources: [None, None], address: None, data: None, carries: false };
                 (Op::FenceTso) [] { ..Operands::BLANK }
                     (Instr::FenceTso) { dest: None, sources: [None, None], address: None, data: None, carries: false };
+                (Op::FenceI) [] { ..Operands::BLANK }
+                    (Instr::FenceI) { dest: None, sources: [None, None], address: None, data: None, carries: false };
             }
             {
                 (Op::Nop) [] (Instr::NOP);

@@ -99,6 +99,7 @@ pub enum Op {
     /// `fence` with letters.
     Fence,
     FenceTso,
+    FenceI,
     Nop,
     /// `mv`, and `sext.w`, since registers hold 32 bits.
     Mv,
@@ -170,6 +171,7 @@ macro_rules! names {
             "sw" => Op::Sw,
             "fence" => Op::Fence,
             "fence.tso" => Op::FenceTso,
+            "fence.i" => Op::FenceI,
             "nop" => Op::Nop,
             "mv" => Op::Mv,
         }

@@ -52,6 +52,7 @@ no_jump (op.Lr a) alone ts x h e = refl
 no_jump (op.Sc a) alone ts x h e = refl
 no_jump (op.Amo o a) alone ts x h e = refl
 no_jump op.FenceTso alone ts x h e = refl
+no_jump op.FenceI alone ts x h e = refl
 no_jump op.Nop alone ts x h e = refl
 no_jump op.Mv alone ts x h e = refl
 no_jump op.Seqz alone ts x h e = refl

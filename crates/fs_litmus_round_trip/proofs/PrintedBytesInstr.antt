@@ -116,6 +116,7 @@ small (instr.Branch o a b t) h = made _ zero_small h.0 h.1 (omega arith) (omega 
 small (instr.Jump t) h = made _ zero_small zero_small zero_small (omega arith) (omega arith) h
 small (instr.Fence p s) h = made _ zero_small zero_small zero_small (omega arith) (omega arith) (omega arith)
 small instr.FenceTso h = made _ zero_small zero_small zero_small (omega arith) (omega arith) (omega arith)
+small instr.FenceI h = made _ zero_small zero_small zero_small (omega arith) (omega arith) (omega arith)
 
 instr_ascii : (i : Instr) → IsOfTable i → IsAscii (instr_text i)
 unfolding instr_text

@@ -67,6 +67,7 @@ operands_no_colon (instr.Branch o a b t) = λ line. refl
 operands_no_colon (instr.Jump t) = λ line. refl
 operands_no_colon (instr.Fence p s) = λ line. refl
 operands_no_colon instr.FenceTso = tt
+operands_no_colon instr.FenceI = tt
 
 no_label : (c : Class) (w : List ℕ) (line : ℕ) (rest : List Lined) (more : List Tok) → without_lines rest ≡ more → NoColon more → front_label ((Word c w, line) ∷ rest) ≡ None
 no_label c w line [] more e h = refl

@@ -126,6 +126,7 @@ instr_plain (instr.Branch o a b t) = refl
 instr_plain (instr.Jump t) = refl
 instr_plain (instr.Fence p s) = refl
 instr_plain instr.FenceTso = refl
+instr_plain instr.FenceI = refl
 
 labelled_fits : (b : Bool) (at : ℕ) (i : Instr) → IsOfTable i → FitsCell ((if b then label_toks at else []) ++ instr_tokens i)
 labelled_fits true at i h = (instr_plain i, label_begins at)

@@ -27,6 +27,7 @@ fn gives_the_roles(rt: HostRuntime) {
         ("addi x7,x6,1", "x7", "", ""),
         ("bnez x5,L", "", "", ""),
         ("fence rw,w", "", "", ""),
+        ("fence.i", "", "", ""),
     ] {
         assert!(rt; has_roles(text, dest, address, data), "of {text}");
     }
@@ -62,6 +63,8 @@ fn prints_what_is_meant(rt: HostRuntime) -> Result<(), Fail> {
         ("bgtz x5,L", "blt x0,x5,L0"),
         ("lw x5,(x6)", "lw x5,0(x6)"),
         ("sw x5,(x6)", "sw x5,0(x6)"),
+        ("fence.i", "fence.i"),
+        ("fence.i rw,rw", ""),
         ("lw x5,-(x6)", ""),
         ("neg x5", ""),
         ("blez x5,x6,L", ""),

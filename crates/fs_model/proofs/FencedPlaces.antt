@@ -79,6 +79,7 @@ moved_is p hart (instr.Sc ann rd v a) = plain p hart (instr.Sc ann rd v a) refl
 moved_is p hart (instr.Amo o ann rd v a) = plain p hart (instr.Amo o ann rd v a) refl
 moved_is p hart (instr.Fence b a) = plain p hart (instr.Fence b a) refl
 moved_is p hart instr.FenceTso = plain p hart instr.FenceTso refl
+moved_is p hart instr.FenceI = plain p hart instr.FenceI refl
 
 fence_text : (kind : Kind) → instr_text (fence_of kind) ≡ fence_line kind
 unfolding instr_text

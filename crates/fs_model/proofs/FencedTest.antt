@@ -85,6 +85,7 @@ module _ (p : List Entry) (hart : ℕ) where
   moved_target (instr.Amo o ann rd v a) target e = absurd (cc)
   moved_target (instr.Fence b a) target e = absurd (cc)
   moved_target instr.FenceTso target e = absurd (cc)
+  moved_target instr.FenceI target e = absurd (cc)
 
   fence_goes_nowhere : (kind : Kind) (target : ℕ) → ¬ (target_of (fence_of kind) ≡ Some target)
   fence_goes_nowhere RR target e = cc
@@ -163,6 +164,7 @@ module _ (p : List Entry) (hart : ℕ) where
   moved_of_table (instr.Amo o ann rd v a) h low = h
   moved_of_table (instr.Fence b a) h low = h
   moved_of_table instr.FenceTso h low = h
+  moved_of_table instr.FenceI h low = h
 
   one_of_table : (i : Instr) → IsOfTable i → All IsOfTable (i ∷ [])
   one_of_table i h zero d low = h

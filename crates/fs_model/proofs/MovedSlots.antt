@@ -82,6 +82,7 @@ moved_memory p hart (instr.Sc ann rd v a) = refl
 moved_memory p hart (instr.Amo o ann rd v a) = refl
 moved_memory p hart (instr.Fence b a) = refl
 moved_memory p hart instr.FenceTso = refl
+moved_memory p hart instr.FenceI = refl
 
 or_false : (b : Bool) → (b || false) ≡ b
 or_false true = refl

@@ -5,7 +5,7 @@ use Rattle.std.specs.Option.{option_to_list}
 use Rattle.std.proofs.lemmas.Bool.{false≢true}
 use Rattle.std.proofs.lemmas.Option.{slice_get_past}
 use Rattle.fs_instr.specs.declared.instr.Instr.{Instr}
-use Rattle.fs_instr.specs.declared.instr.Instr.TheVariants.{Register, Immediate, Shift, Lui, Li, Lw, Sw, Lr, Sc, Amo, Branch, Jump, Fence, FenceTso}
+use Rattle.fs_instr.specs.declared.instr.Instr.TheVariants.{Register, Immediate, Shift, Lui, Li, Lw, Sw, Lr, Sc, Amo, Branch, Jump, Fence, FenceTso, FenceI}
 use Rattle.fs_model.specs.declared.hart.Hart.{Hart}
 use Rattle.fs_model.specs.declared.step.Step.{Step}
 use Rattle.fs_model.specs.declared.step.Choice.{Choice}
@@ -34,6 +34,7 @@ makes_choice n h (Branch op first second target) s a = refl
 makes_choice n h (Jump target) s a = refl
 makes_choice n h (Fence before after) s a = refl
 makes_choice n h FenceTso s a = refl
+makes_choice n h FenceI s a = refl
 
 own_choice : (i : Instr) (s : Step) → choice_by i s ≡ (if is_choosing i then choice_by i s else None)
 own_choice (Register op rd first second) s = refl
@@ -50,6 +51,7 @@ own_choice (Branch op first second target) s = refl
 own_choice (Jump target) s = refl
 own_choice (Fence before after) s = refl
 own_choice FenceTso s = refl
+own_choice FenceI s = refl
 
 pub same_instr : {i j : Instr} → Some i ≡ Some j → i ≡ j
 same_instr e = cc

@@ -1,7 +1,7 @@
 -- The choice decides the step that an instruction makes.
 use Rattle.std.proofs.Common.{◌≡◌, ℕ, Option, None, Some, is_some, option_map, if◌then◌else◌, refl, sym, ◌∙◌, ap, inl, inr}
 use Rattle.fs_instr.specs.declared.instr.Instr.{Instr}
-use Rattle.fs_instr.specs.declared.instr.Instr.TheVariants.{Register, Immediate, Shift, Lui, Li, Lw, Sw, Lr, Sc, Amo, Branch, Jump, Fence, FenceTso}
+use Rattle.fs_instr.specs.declared.instr.Instr.TheVariants.{Register, Immediate, Shift, Lui, Li, Lw, Sw, Lr, Sc, Amo, Branch, Jump, Fence, FenceTso, FenceI}
 use Rattle.fs_model.specs.declared.hart.Hart.{Hart}
 use Rattle.fs_model.specs.declared.step.Step.{Step}
 use Rattle.fs_model.specs.declared.step.Choice.{Choice}
@@ -61,6 +61,7 @@ made_once n h (Branch op first second target) c s u m v = quiet h s u (twins n h
 made_once n h (Jump target) c s u m v = quiet h s u (twins n h _ c s u m v) m.access v.access
 made_once n h (Fence before after) c s u m v = quiet h s u (twins n h _ c s u m v) m.access v.access
 made_once n h FenceTso c s u m v = quiet h s u (twins n h _ c s u m v) m.access v.access
+made_once n h FenceI c s u m v = quiet h s u (twins n h _ c s u m v) m.access v.access
 made_once n h (Lw rd base offset) c s u m v = loads n h s u (twins n h _ c s u m v) m.access.0 v.access.0 (m.chosen ∙ sym v.chosen) m.access.2 v.access.2
 made_once n h (Lr ann rd base) c s u m v = loads n h s u (twins n h _ c s u m v) m.access.0 v.access.0 (m.chosen ∙ sym v.chosen) m.access.2 v.access.2
 made_once n h (Sw value base offset) c s u m v =

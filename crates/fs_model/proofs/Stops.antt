@@ -6,7 +6,7 @@ use Rattle.std.proofs.lemmas.Bool.{false≢true}
 use Rattle.std.proofs.lemmas.List.{append_assoc}
 use Rattle.std.proofs.lemmas.Option.{slice_get_past}
 use Rattle.fs_instr.specs.declared.instr.Instr.{Instr}
-use Rattle.fs_instr.specs.declared.instr.Instr.TheVariants.{Register, Immediate, Shift, Lui, Li, Lw, Sw, Lr, Sc, Amo, Branch, Jump, Fence, FenceTso}
+use Rattle.fs_instr.specs.declared.instr.Instr.TheVariants.{Register, Immediate, Shift, Lui, Li, Lw, Sw, Lr, Sc, Amo, Branch, Jump, Fence, FenceTso, FenceI}
 use Rattle.fs_model.specs.declared.hart.Hart.{Hart}
 use Rattle.fs_model.specs.declared.step.Step.{Step}
 use Rattle.fs_model.specs.declared.step.Choice.{Choice}
@@ -37,6 +37,7 @@ not_astray n h (Branch op first second target) c s m g = false≢true g.0
 not_astray n h (Jump target) c s m g = false≢true g.0
 not_astray n h (Fence before after) c s m g = false≢true g.0
 not_astray n h FenceTso c s m g = false≢true g.0
+not_astray n h FenceI c s m g = false≢true g.0
 
 abbrev outcome_of : Option ℕ → Option Choice
 outcome_of stored = Some (if is_some stored then Success else Failure)
@@ -65,6 +66,7 @@ not_bad_sc n h (Branch op first second target) c s xs m b = false≢true b.0
 not_bad_sc n h (Jump target) c s xs m b = false≢true b.0
 not_bad_sc n h (Fence before after) c s xs m b = false≢true b.0
 not_bad_sc n h FenceTso c s xs m b = false≢true b.0
+not_bad_sc n h FenceI c s xs m b = false≢true b.0
 
 word_fits : (i : Instr) (o : Option ℕ) (xs : List Choice) → is_loading i ≡ true → IsWord o
     → option_map (fits i) (slice_get (option_to_list (option_map Word o) ++ xs) 0) ≡ Some false → ⊥
@@ -91,6 +93,7 @@ not_bad_choice n h (Branch op first second target) c s xs m b = false≢true b.1
 not_bad_choice n h (Jump target) c s xs m b = false≢true b.1
 not_bad_choice n h (Fence before after) c s xs m b = false≢true b.1
 not_bad_choice n h FenceTso c s xs m b = false≢true b.1
+not_bad_choice n h FenceI c s xs m b = false≢true b.1
 
 word_there : (o : Option ℕ) (xs : List Choice) → IsWord o → option_to_list (option_map Word o) ++ xs ≡ [] → ⊥
 word_there None xs w e = w
@@ -112,6 +115,7 @@ not_short n h (Branch op first second target) c s xs m b = false≢true b.1
 not_short n h (Jump target) c s xs m b = false≢true b.1
 not_short n h (Fence before after) c s xs m b = false≢true b.1
 not_short n h FenceTso c s xs m b = false≢true b.1
+not_short n h FenceI c s xs m b = false≢true b.1
 
 not_stopped : (n : ℕ) (h : Hart) (i : Instr) (c : Option Choice) (s : Step) (xs : List Choice) (stop : Stop) → Makes n h i c s
     → StopsAt n h i (option_to_list (choice_by i s) ++ xs) stop → ⊥

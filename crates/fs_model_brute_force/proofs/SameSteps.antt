@@ -4,7 +4,7 @@ use Rattle.std.specs.Option.{option_eq}
 use Rattle.std.proofs.lemmas.Bool.{false≢true}
 use Rattle.fs_instr.specs.declared.letters.Letters.{Letters}
 use Rattle.fs_instr.specs.declared.instr.Instr.{Instr}
-use Rattle.fs_instr.specs.declared.instr.Instr.TheVariants.{Register, Immediate, Shift, Lui, Li, Lw, Sw, Lr, Sc, Amo, Branch, Jump, Fence, FenceTso}
+use Rattle.fs_instr.specs.declared.instr.Instr.TheVariants.{Register, Immediate, Shift, Lui, Li, Lw, Sw, Lr, Sc, Amo, Branch, Jump, Fence, FenceTso, FenceI}
 use Rattle.fs_instr.specs.contracts.letters.LettersPartialEq.TheImpl as letters_test
 use Rattle.fs_instr.specs.contracts.instr.InstrPartialEq.TheImpl as instr_test
 use Rattle.fs_model.specs.declared.step.Step.{Step}
@@ -38,6 +38,7 @@ same_instr (Fence before after) (Fence before' after') e =
     let second = same_letters after after' sides.1 in
     cc
 same_instr FenceTso FenceTso e = refl
+same_instr FenceI FenceI e = refl
 -- the test fails on two instructions of different forms
 same_instr a b e = absurd (false≢true e)
 

@@ -4,7 +4,7 @@ use Rattle.std.specs.List.{list_any}
 use Rattle.fs_kinds.specs.declared.kind.Classes.{Classes}
 use Rattle.fs_kinds.specs.Kind.{pairs_order, product, tso_pairs}
 use Rattle.fs_instr.specs.declared.instr.Instr.{Instr}
-use Rattle.fs_instr.specs.declared.instr.Instr.TheVariants.{Register, Immediate, Shift, Lui, Li, Lw, Sw, Lr, Sc, Amo, Branch, Jump, Fence, FenceTso}
+use Rattle.fs_instr.specs.declared.instr.Instr.TheVariants.{Register, Immediate, Shift, Lui, Li, Lw, Sw, Lr, Sc, Amo, Branch, Jump, Fence, FenceTso, FenceI}
 use Rattle.fs_model.specs.Operations.{PreExecution, between, classes, place, trace_of, instr_at}
 use Rattle.fs_model.specs.Rules as page
 use Rattle.fs_model_laws.specs.Letters.{orders, fence_between}
@@ -23,6 +23,7 @@ pub orders-alike : (first second : Classes) (i : Instr) → orders first second 
 orders-alike first second (Fence before after) =
     sides before.reads before.writes after.reads after.writes first.reads first.writes second.reads second.writes
 orders-alike first second FenceTso = tso first.reads first.writes second.reads second.writes
+orders-alike first second FenceI = refl
 orders-alike first second (Register o rd a b) = refl
 orders-alike first second (Immediate o rd a z) = refl
 orders-alike first second (Shift o rd a n) = refl

@@ -3,7 +3,7 @@ use Rattle.std.proofs.Common.{◌≡◌, ℕ, suc, ◌<◌, List, [], ◌∷◌,
 use Rattle.std.specs.Option.{option_to_list}
 use Rattle.std.specs.List.{slice_index_or}
 use Rattle.fs_instr.specs.declared.instr.Instr.{Instr}
-use Rattle.fs_instr.specs.declared.instr.Instr.TheVariants.{Register, Immediate, Shift, Lui, Li, Lw, Sw, Lr, Sc, Amo, Branch, Jump, Fence, FenceTso}
+use Rattle.fs_instr.specs.declared.instr.Instr.TheVariants.{Register, Immediate, Shift, Lui, Li, Lw, Sw, Lr, Sc, Amo, Branch, Jump, Fence, FenceTso, FenceI}
 use Rattle.fs_kinds.specs.declared.kind.Kind.{Kind}
 use Rattle.fs_kinds.specs.declared.kind.Kind.TheVariants.{RR, RW, RRw, WR, WW, WRw, RwR, RwW, RwRw, Tso}
 use Rattle.fs_kinds.specs.declared.placement.Entry.{Entry}
@@ -37,6 +37,7 @@ module _ (p : List Entry) (hart : ℕ) where
   choice_there s (Jump target) = refl
   choice_there s (Fence before after) = refl
   choice_there s FenceTso = refl
+  choice_there s FenceI = refl
 
   choice_moved : (s : Step) → choice_by (moved p hart s.instr) (moved_step p hart s) ≡ choice_by s.instr s
   choice_moved s =

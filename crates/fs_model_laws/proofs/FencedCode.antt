@@ -2,7 +2,7 @@
 use Rattle.std.proofs.Common.{◌≡◌, ℕ, zero, suc, ◌+◌, ◌<◌, Bool, true, false, List, [], ◌∷◌, ◌++◌, length, Option, None, Some, refl, ap, sym, subst, ◌∙◌, arith, inl, inr}
 use Rattle.std.specs.Prelude.{is_some, if◌then◌else◌, slice_get}
 use Rattle.fs_instr.specs.declared.instr.Instr.{Instr}
-use Rattle.fs_instr.specs.declared.instr.Instr.TheVariants.{Register, Immediate, Shift, Lui, Li, Lw, Sw, Lr, Sc, Amo, Branch, Jump, Fence, FenceTso}
+use Rattle.fs_instr.specs.declared.instr.Instr.TheVariants.{Register, Immediate, Shift, Lui, Li, Lw, Sw, Lr, Sc, Amo, Branch, Jump, Fence, FenceTso, FenceI}
 use Rattle.fs_kinds.specs.declared.kind.Kind.{Kind}
 use Rattle.fs_kinds.specs.declared.kind.Kind.TheVariants.{RR, RW, RRw, WR, WW, WRw, RwR, RwW, RwRw, Tso}
 use Rattle.fs_kinds.specs.declared.placement.Entry.{Entry}
@@ -100,6 +100,7 @@ module _ (p : List Entry) (hart : ℕ) where
   next_moved x at (Jump target) = refl
   next_moved x at (Fence before after) = plain_next at
   next_moved x at FenceTso = plain_next at
+  next_moved x at FenceI = plain_next at
 
   -- ---- states
 
@@ -148,6 +149,7 @@ module _ (p : List Entry) (hart : ℕ) where
   paired_by h s (Jump target) = refl
   paired_by h s (Fence before after) = refl
   paired_by h s FenceTso = refl
+  paired_by h s FenceI = refl
 
   paired_moved : (h : Hart) (s : Step) (i : Instr)
       → paired_after (placed_hart h) (moved_step p hart s) (moved p hart i) ≡ paired_after h s i
@@ -218,6 +220,7 @@ module _ (p : List Entry) (hart : ℕ) where
   accesses_there n h s (Jump target) a = a
   accesses_there n h s (Fence before after) a = a
   accesses_there n h s FenceTso a = a
+  accesses_there n h s FenceI a = a
 
   pub accesses_back : (n : ℕ) (h : Hart) (s : Step) (i : Instr)
       → Accesses n (placed_hart h) (moved_step p hart s) (moved p hart i) → Accesses n h s i
@@ -238,6 +241,7 @@ module _ (p : List Entry) (hart : ℕ) where
   accesses_back n h s (Jump target) a = a
   accesses_back n h s (Fence before after) a = a
   accesses_back n h s FenceTso a = a
+  accesses_back n h s FenceI a = a
 
 -- a FENCE accesses nothing
 pub nothing_by_fence : (n : ℕ) (h : Hart) (s : Step) (kind : Kind) → Accesses n h s (fence_of kind) → AccessesNothing s

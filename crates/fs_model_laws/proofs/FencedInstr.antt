@@ -1,7 +1,7 @@
 -- What an instruction keeps where its branch target is moved, and what a FENCE of a kind is.
 use Rattle.std.proofs.Common.{◌≡◌, ℕ, false, List, Some, refl}
 use Rattle.fs_instr.specs.declared.instr.Instr.{Instr}
-use Rattle.fs_instr.specs.declared.instr.Instr.TheVariants.{Register, Immediate, Shift, Lui, Li, Lw, Sw, Lr, Sc, Amo, Branch, Jump, Fence, FenceTso}
+use Rattle.fs_instr.specs.declared.instr.Instr.TheVariants.{Register, Immediate, Shift, Lui, Li, Lw, Sw, Lr, Sc, Amo, Branch, Jump, Fence, FenceTso, FenceI}
 use Rattle.fs_instr.specs.Instructions.{roles_of, is_conditional}
 use Rattle.fs_kinds.specs.declared.kind.Kind.{Kind}
 use Rattle.fs_kinds.specs.declared.kind.Kind.TheVariants.{RR, RW, RRw, WR, WW, WRw, RwR, RwW, RwRw, Tso}
@@ -32,6 +32,7 @@ module _ {X : Type 0} (f : Instr → X) (p : List Entry) (hart : ℕ)
   same_of_moved (Jump target) = jump target _
   same_of_moved (Fence before after) = refl
   same_of_moved FenceTso = refl
+  same_of_moved FenceI = refl
 
 module _ (p : List Entry) (hart : ℕ) (i : Instr) where
   pub same_roles : roles_of (moved p hart i) ≡ roles_of i
@@ -83,6 +84,7 @@ moved_alone p hart (Branch op first second target) j h = h.branch target refl
 moved_alone p hart (Jump target) j h = h.branch target refl
 moved_alone p hart (Fence before after) j h = h.other refl
 moved_alone p hart FenceTso j h = h.other refl
+moved_alone p hart FenceI j h = h.other refl
 
 -- ---- the FENCE of a kind
 

@@ -3,7 +3,7 @@ use Rattle.std.proofs.Common.{◌≡◌, ℕ, suc, ◌<◌, ◌^◌, List, [], �
 use Rattle.std.specs.Prelude.{slice_get}
 use Rattle.std.proofs.lemmas.Bool.{false≢true}
 use Rattle.fs_instr.specs.declared.instr.Instr.{Instr}
-use Rattle.fs_instr.specs.declared.instr.Instr.TheVariants.{Register, Immediate, Shift, Lui, Li, Lw, Sw, Lr, Sc, Amo, Branch, Jump, Fence, FenceTso}
+use Rattle.fs_instr.specs.declared.instr.Instr.TheVariants.{Register, Immediate, Shift, Lui, Li, Lw, Sw, Lr, Sc, Amo, Branch, Jump, Fence, FenceTso, FenceI}
 use Rattle.fs_instr.specs.Instructions.{sources_of, address_of, data_of, is_conditional}
 use Rattle.fs_model.specs.declared.hart.Hart.{Hart}
 use Rattle.fs_model.specs.declared.step.Step.{Step}
@@ -70,6 +70,7 @@ storing x lo (Branch op first second target) e = e
 storing x lo (Jump target) e = e
 storing x lo (Fence before after) e = e
 storing x lo FenceTso e = e
+storing x lo FenceI e = e
 
 some_load : (keep : Bool) (word : ℕ) (o : Option ℕ) → keep ≡ true → o ≡ new_load keep word o
 some_load true word o e = refl
@@ -110,6 +111,7 @@ module _ (n : ℕ) (h g : Hart) (s : Step) (keep : Bool) (word : ℕ) (is_word :
   accesses (Jump target) e a = nothing a
   accesses (Fence before after) e a = nothing a
   accesses FenceTso e a = nothing a
+  accesses FenceI e a = nothing a
 
   -- it stores where it stored
   kept_none : s.stored ≡ None → is_some s.stored ≡ is_some now.stored
@@ -137,6 +139,7 @@ module _ (n : ℕ) (h g : Hart) (s : Step) (keep : Bool) (word : ℕ) (is_word :
   store_kept (Jump target) e a = kept_none a.2
   store_kept (Fence before after) e a = kept_none a.2
   store_kept FenceTso e a = kept_none a.2
+  store_kept FenceI e a = kept_none a.2
 
   -- a store that is kept, of a word that is the same
   word_kept : (i : Instr) → s.instr ≡ i → Accesses n h s i → is_some s.stored ≡ true → keep ≡ true
@@ -165,6 +168,7 @@ module _ (n : ℕ) (h g : Hart) (s : Step) (keep : Bool) (word : ℕ) (is_word :
       itself (Jump target) e a = gone a.2
       itself (Fence before after) e a = gone a.2
       itself FenceTso e a = gone a.2
+      itself FenceI e a = gone a.2
 
 module _ (steps : List Step) (kept : ℕ → Bool) (n : ℕ) (code : List Instr) (i : ℕ) (h g : Hart) (s : Step) (word : ℕ)
     (is_word : word < 2 ^ 32) (agree : Agree steps kept i h g) (here : instr_at steps i ≡ s.instr) (step : IsStep n code h s)
