@@ -218,7 +218,7 @@ class Test:
 
 
 TOKEN = re.compile(r'[A-Za-z0-9_.]+|/\\|\\/|[^ \t\r\n]')
-SIGNS = {*'{};|,:=()[]~-*&', '/\\', '\\/'}
+SIGNS = {*'{};|,:=()[]~-*&<>!', '/\\', '\\/'}
 CONNECTIVES = {'/\\': 'and', '\\/': 'or'}
 FAULTS = {3: 'Syntax', 4: 'UnknownInstr', 5: 'BadAnnotation', 6: 'BadLabel', 7: 'BadInit'}
 
@@ -462,26 +462,39 @@ class TestReader(Tokens):
                 self.expect('|' if cells is not columns[-1] else ';')
         return columns
 
+    def sign(self):
+        """Is the sign of an atom `=` or `==`? Else it is `<>` or `!=`."""
+        first = self.expect('=', '<', '!')
+        if first != '=' or self.peek() == '=':
+            self.expect('>' if first == '<' else '=')
+        return first == '='
+
+    def is_said(self, *words):
+        """Does one of these words stand here, and name no location?"""
+        return self.peek() in words and self.peek(1) not in ('=', '<', '!')
+
     def atom(self):
         """An atom, `true` or `false`."""
-        if self.peek() in ('true', 'false') and self.peek(1) != '=':
+        if self.is_said('true', 'false'):
             return 'constant', self.next(is_word) == 'true'
-        target = self.target()
-        self.expect('=')
+        target, is_equal = self.target(), self.sign()
         value, is_register = self.value(), type(target) is tuple
         is_there = not is_register or target[0] < len(self.test.registers) and target[1] is not None
         self.has_bad_atom |= value is None or not is_there
-        return 'register' if is_register else 'word', target, value
+        found = 'register' if is_register else 'word', target, value
+        return found if is_equal else ('not', found)
 
     def condition(self):
         """The condition, and its depth, both as written and as grouped. The stack has what is open: parentheses,
         denials, and connectives with what they join to the left."""
         stack, deepest = [], 0
         while True:
-            while self.peek() in ('(', '~') or self.peek() == 'not' and self.peek(1) != '=':
+            while self.peek() in ('(', '~') or self.is_said('not'):
                 stack.append(('(' if self.expect('(', '~', 'not') == '(' else '~', None, 0))
-            deepest = max(deepest, sum(sign in ('(', '~') for sign, *_ in stack))
-            found = joined(stack, (self.atom(), 0), ('~', '/\\'))
+            atom = self.atom()
+            is_denied = atom[0] == 'not'
+            deepest = max(deepest, sum(sign in ('(', '~') for sign, *_ in stack) + is_denied)
+            found = joined(stack, (atom, int(is_denied)), ('~', '/\\'))
             while self.peek() == ')' and any(sign == '(' for sign, *_ in stack):
                 self.expect(')')
                 found = joined(stack, found, ('\\/',))

@@ -1,5 +1,5 @@
 -- Where a condition has an atom that can't be true or false.
-use Rattle.std.proofs.Common.{◌≡◌, ℕ, ◌+◌, ◌-◌, ◌<◌, ◌≤◌, ◌⊎◌, List, [], ◌∷◌, ◌++◌, subst, true, false, Bool, refl, sym, ap, ◌∙◌, length, length-drop, take, drop, get_or, arith}
+use Rattle.std.proofs.Common.{◌≡◌, ℕ, ◌+◌, ◌-◌, ◌<◌, ◌≤◌, ◌⊎◌, inl, inr, Some, None, List, [], ◌∷◌, ◌++◌, subst, true, false, Bool, refl, sym, ap, ◌∙◌, length, length-drop, take, drop, get_or, arith}
 use Rattle.std.specs.Bool.{Decides}
 use Rattle.std.proofs.lemmas.List.{length-map, take-map, drop-map, take_more, take_all, map-append}
 use Rattle.std.proofs.lemmas.Bool.Decides.{leb_tells}
@@ -8,12 +8,13 @@ use Rattle.std.proofs.Math.ListN.{drop_of_length-le}
 use Rattle.std.proofs.Math.Logic.{⊎_elim}
 use Rattle.fs_litmus_tokens.specs.Words.{is_name}
 use Rattle.fs_litmus_tokens.specs.Values.{Target, Register, Location, Value, Number, Address, IsTarget, IsValue, register, location, bracketed, number, minus, address}
-use Rattle.fs_litmus_tokens.specs.Tokens.{Tok, Word, Sign, Lined, kind_of, view, views}
+use Rattle.fs_litmus_tokens.specs.Tokens.{Tok, Word, Sign, Strange, Lined, kind_of, view, views}
+use Rattle.fs_litmus_syntax.specs.Grammar.{IsEqual, once, twice, IsUnequal, less_greater, bang_equals}
 use Rattle.fs_litmus_tokens.specs.declared.token.Token.{Token}
 use Rattle.fs_litmus_tokens.specs.declared.word.Class.{Class}
 use Rattle.fs_litmus_tokens.specs.declared.word.Class.TheVariants as class
-use Rattle.fs_litmus_tokens.specs.declared.token.Mark.TheVariants.{Colon, OpenBracket, CloseBracket, Minus, Equals}
-use Rattle.fs_app_error_messages.specs.Atoms.{BeginsBad, BeginsTarget, BeginsValue, IsBad, IsBadAfter, opens, ends_open}
+use Rattle.fs_litmus_tokens.specs.declared.token.Mark.TheVariants.{Colon, OpenBracket, CloseBracket, Minus, Equals, Less, Greater, Bang}
+use Rattle.fs_app_error_messages.specs.Atoms.{BeginsBad, BeginsTarget, BeginsValue, IsSign, behind_sign, IsBad, IsBadAfter, opens, ends_open}
 
 register_of_tokens : (h r : List ℕ) (c : Class) (colon name : Tok) (line k m : ℕ) (rest : List Lined) → colon ≡ Sign Colon → name ≡ Word c r → IsTarget ((Word class.Number h, line) ∷ (colon, k) ∷ (name, m) ∷ rest) (Register h r) rest
 register_of_tokens h r c colon name line k m rest e f = rw (e, f) register
@@ -80,27 +81,54 @@ value_once minus minus = refl
 value_once (address e) number = absurd (cc)
 value_once (address e) (address f) = refl
 
-first_kind : (x y : Lined) (xs ys : List Lined) → x ∷ xs ≡ y ∷ ys → x.0 ≡ y.0
-first_kind x y xs ys e = let same : x ≡ y = cc in ap (λ l. l.0) same
+-- ---- the sign of an atom
 
-module _ (columns : ℕ) (ts : List Lined) (t : Target) (rest more : List Token) (equals : Token) (is_target : IsTarget ts t (views rest)) (split : rest ≡ equals ∷ more) where
-  head_same : (b : BeginsBad columns ts) → (t ≡ b.target) × (view equals ∷ views more ≡ (Sign Equals, b.line) ∷ b.middle)
-  head_same b =
+sign_found : (ts rest : List Lined) → behind_sign ts ≡ Some rest → IsSign ts rest
+sign_found [] rest e = absurd (cc)
+sign_found ((Word c w, k) ∷ ts) rest e = absurd (cc)
+sign_found ((Strange, k) ∷ ts) rest e = absurd (cc)
+sign_found ((Sign Equals, j) ∷ (Sign Equals, k) ∷ ts) rest e = let same : ts ≡ rest = cc in subst (λ m. IsSign ((Sign Equals, j) ∷ (Sign Equals, k) ∷ ts) m) same (inl twice)
+sign_found ((Sign Equals, j) ∷ ts) rest e = let same : ts ≡ rest = cc in subst (λ m. IsSign ((Sign Equals, j) ∷ ts) m) same (inl once)
+sign_found ((Sign Less, j) ∷ (Sign Greater, k) ∷ ts) rest e = let same : ts ≡ rest = cc in subst (λ m. IsSign ((Sign Less, j) ∷ (Sign Greater, k) ∷ ts) m) same (inr less_greater)
+sign_found ((Sign Bang, j) ∷ (Sign Equals, k) ∷ ts) rest e = let same : ts ≡ rest = cc in subst (λ m. IsSign ((Sign Bang, j) ∷ (Sign Equals, k) ∷ ts) m) same (inr bang_equals)
+sign_found _ rest e = absurd (cc)
+
+-- where a value follows it, it is the longest
+equal_longest : {ts m after : List Lined} {v : Value} → IsEqual ts m → IsValue m v after → behind_sign ts ≡ Some m
+equal_longest once number = refl
+equal_longest once minus = refl
+equal_longest once (address e) = refl
+equal_longest twice v = refl
+
+sign_longest : {ts m after : List Lined} {v : Value} → IsSign ts m → IsValue m v after → behind_sign ts ≡ Some m
+sign_longest (inl q) v = equal_longest q v
+sign_longest (inr less_greater) v = refl
+sign_longest (inr bang_equals) v = refl
+
+module _ (columns : ℕ) (ts : List Lined) (t : Target) (rest : List Token) (is_target : IsTarget ts t (views rest)) where
+  -- what stands behind the sign of a bad atom
+  bad_sign : (b : BeginsBad columns ts) → (t ≡ b.target) × (behind_sign (views rest) ≡ Some b.middle)
+  bad_sign b =
       let same = target_once is_target b.is_target in
-      (same.0, ap views (sym split) ∙ same.1)
+      (same.0, ap behind_sign same.1 ∙ sign_longest b.is_sign b.is_value)
 
-  pub no_equals : (r : Bool) → Decides r (kind_of equals.kind ≡ Sign Equals) → r ≡ false → Decides false (BeginsBad columns ts)
-  no_equals r d wrong = (λ yes. absurd (cc), λ b. let yes = d.1 (first_kind (view equals) (Sign Equals, b.line) (views more) b.middle (head_same b).1) in cc)
+  pub no_sign : behind_sign (views rest) ≡ None → Decides false (BeginsBad columns ts)
+  no_sign none = (λ yes. absurd (cc), λ b. let found = (bad_sign b).1 in cc)
 
-  pub begins_decides : (v : Value) (after : List Lined) (r : Bool) → kind_of equals.kind ≡ Sign Equals → IsValue (views more) v after → Decides r (IsBad columns t v) → Decides r (BeginsBad columns ts)
-  begins_decides v after r is is_value d =
-      let middle : views rest ≡ (Sign Equals, equals.line) ∷ views more = ap views split ∙ ap (λ k. (k, equals.line) ∷ views more) is in (
-        λ yes. record { target = t; value = v; line = equals.line; middle = views more; after = after; is_target = subst (λ m. IsTarget ts t m) middle is_target; is_value = is_value; is_bad = d.0 yes },
-        λ b. let same = head_same b in
-            let below : views more ≡ b.middle = let s = same.1 in cc in
-            let value = value_once is_value (subst (λ l. IsValue l b.value b.after) (sym below) b.is_value) in
-            d.1 (subst (λ v. IsBad columns t v) (sym value) (subst (λ t. IsBad columns t b.value) (sym same.0) b.is_bad)),
-      )
+  pub no_value : (more : List Token) → behind_sign (views rest) ≡ Some (views more) → ¬ BeginsValue (views more) → Decides false (BeginsBad columns ts)
+  no_value more is none = (λ yes. absurd (cc), λ b.
+      let found = (bad_sign b).1 in
+      let same : b.middle ≡ views more = cc in
+      absurd (none (b.value, b.after, subst (λ l. IsValue l b.value b.after) same b.is_value)))
+
+  pub begins_decides : (more : List Token) (v : Value) (after : List Lined) (r : Bool) → behind_sign (views rest) ≡ Some (views more) → IsValue (views more) v after → Decides r (IsBad columns t v) → Decides r (BeginsBad columns ts)
+  begins_decides more v after r is is_value d = (
+    λ yes. record { target = t; value = v; sign = views rest; middle = views more; after = after; is_target = is_target; is_sign = sign_found (views rest) (views more) is; is_value = is_value; is_bad = d.0 yes },
+    λ b. let same = bad_sign b in
+        let below : b.middle ≡ views more = let s = same.1 in cc in
+        let value = value_once is_value (subst (λ l. IsValue l b.value b.after) below b.is_value) in
+        d.1 (subst (λ v. IsBad columns t v) (sym value) (subst (λ t. IsBad columns t b.value) (sym same.0) b.is_bad)),
+  )
 
 -- ---- a walk over a condition
 
@@ -142,7 +170,7 @@ no_target h = elim h [ ]
 
 none_past : (columns : ℕ) (ts : List Lined) (j : ℕ) → length ts ≤ j → ¬ IsBadAfter columns ts j
 none_past columns ts j h bad =
-    no_target (subst (λ l. IsTarget l bad.begins.target ((Sign Equals, bad.begins.line) ∷ bad.begins.middle)) (drop_of_length-le ts h) bad.begins.is_target)
+    no_target (subst (λ l. IsTarget l bad.begins.target bad.begins.sign) (drop_of_length-le ts h) bad.begins.is_target)
 
 pub none_at_all : (columns : ℕ) (ts : List Token) (i : ℕ) → length ts ≤ i → NoneBefore columns ts i → (j : ℕ) → ¬ IsBadAfter columns (views ts) j
 none_at_all columns ts i all before j bad =

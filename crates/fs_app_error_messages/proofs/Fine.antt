@@ -1,15 +1,14 @@
 -- A condition without a bad atom has no fault of an atom.
 use Rattle.std.proofs.Common.{◌≡◌, ℕ, ◌<◌, List, [], ◌∷◌, ◌++◌, Some, Bool, true, false, ◌||◌, ◌&&◌, cond, refl, ap, ◌∙◌, subst, suc, length, take, nat_lt, arith}
-use Rattle.std.specs.Prelude.{is_some, position}
+use Rattle.std.specs.Prelude.{is_some, position, ◌⊎◌, inl, inr}
 use Rattle.std.specs.List.{list_any, position_or_len}
 use Rattle.std.specs.Str.{bytes_eq}
 use Rattle.std.proofs.lemmas.List.Folds.{list_any-append}
 use Rattle.std.proofs.lemmas.Slice.Eq.{bytes_eq-Decides}
 use Rattle.fs_kinds.specs.declared.fault.Fault.TheVariants.{BadCondition}
-use Rattle.fs_litmus_tokens.specs.Tokens.{Lined, Sign}
+use Rattle.fs_litmus_tokens.specs.Tokens.{Lined}
 use Rattle.fs_litmus_tokens.specs.Values.{Target, Register, Location, Value, Number, Address, IsTarget, register, location, bracketed, IsValue, number as digits, minus, address}
-use Rattle.fs_litmus_tokens.specs.declared.token.Mark.TheVariants as mark
-use Rattle.fs_litmus_syntax.specs.Grammar.{Syntax, IsUnit, atom, truth, falsity, tilde, denial, group, IsConjunction, unit, both, IsDisjunction, conjunction, either}
+use Rattle.fs_litmus_syntax.specs.Grammar.{Syntax, IsEqual, once, twice, IsUnequal, less_greater, bang_equals, IsUnit, atom, other, truth, falsity, tilde, denial, group, IsConjunction, unit, both, IsDisjunction, conjunction, either}
 use Rattle.fs_litmus_syntax.specs.Meaning.{atoms_of}
 use Rattle.fs_litmus_syntax.specs.Form.{Form}
 use Rattle.fs_litmus.specs.Locations.{Names, Binding, with_name, with_target, with_value, declared}
@@ -18,7 +17,7 @@ use Rattle.fs_litmus.specs.Reads.{HasTokens, HasForm}
 use Rattle.fs_litmus.specs.Faults.{HasFault, meaning, IsFormFault, code, atom as of_atom}
 use Rattle.fs_litmus.proofs.CodeFaults.{code_low}
 use Rattle.fs_litmus.proofs.FrontFaults.{tokens_once}
-use Rattle.fs_app_error_messages.specs.Atoms.{IsBad, BeginsBad, IsBadAfter, HasNoBadAtom, ends_open, opens, is_absent, is_out_of_range}
+use Rattle.fs_app_error_messages.specs.Atoms.{IsBad, IsSign, BeginsBad, IsBadAfter, HasNoBadAtom, ends_open, opens, is_absent, is_out_of_range}
 use Rattle.fs_app_error_messages.proofs.Bad.{absent_bad, far_bad, HasTarget, HasValue, is_there}
 
 -- ---- from the tokens
@@ -47,6 +46,14 @@ module _ (columns : ℕ) where
   past_value minus good = past_one _ _ refl (past_one _ _ refl good)
   past_value (address p) good = past_one _ _ refl good
 
+  past_equal : {ts rest : List Lined} → IsEqual ts rest → Good columns ts → Good columns rest
+  past_equal once good = past_one _ _ refl good
+  past_equal twice good = past_one _ _ refl (past_one _ _ refl good)
+
+  past_unequal : {ts rest : List Lined} → IsUnequal ts rest → Good columns ts → Good columns rest
+  past_unequal less_greater good = past_one _ _ refl (past_one _ _ refl good)
+  past_unequal bang_equals good = past_one _ _ refl (past_one _ _ refl good)
+
   -- no register isn't there, and no number is out of range
   abbrev AreFine : List Binding → Type 0
   AreFine [] = Unit {0}
@@ -60,17 +67,20 @@ module _ (columns : ℕ) where
   not_true true h = absurd (h refl)
   not_true false h = refl
 
-  atom_fine : {ts mid rest : List Lined} {k : ℕ} {t : Target} {v : Value} → IsTarget ts t ((Sign mark.Equals, k) ∷ mid) → IsValue mid v rest → Good columns ts → (is_absent columns t ≡ false) × (is_out_of_range v ≡ false)
-  atom_fine {ts = ts} {mid = mid} {rest = rest} {k = k} {t = t} {v = v} x y good =
-      let begins : IsBad columns t v → BeginsBad columns ts = λ bad. record { target = t; value = v; line = k; middle = mid; after = rest; is_target = x; is_value = y; is_bad = bad } in
+  atom_fine : {ts sign mid rest : List Lined} {t : Target} {v : Value} → IsTarget ts t sign → IsSign sign mid → IsValue mid v rest → Good columns ts → (is_absent columns t ≡ false) × (is_out_of_range v ≡ false)
+  atom_fine {ts = ts} {sign = sign} {mid = mid} {rest = rest} {t = t} {v = v} x q y good =
+      let begins : IsBad columns t v → BeginsBad columns ts = λ bad. record { target = t; value = v; sign = sign; middle = mid; after = rest; is_target = x; is_sign = q; is_value = y; is_bad = bad } in
       let not_bad : IsBad columns t v → ⊥ = λ bad. good 0 (record { whole = refl; begins = begins bad }) in
       (not_true (is_absent columns t) (λ e. not_bad (absent_bad columns t v e)), not_true (is_out_of_range v) (λ e. not_bad (far_bad columns t v e)))
 
   mutual
     unit_fine : {ts rest : List Lined} {s : Syntax} → IsUnit ts s rest → Good columns ts → AreFine (atoms_of s) × Good columns rest
-    unit_fine (atom x v) good =
-        let f = atom_fine x v good in
-        ((f.0, f.1, tt), past_value v (past_one _ _ refl (past_target x good)))
+    unit_fine (atom x q v) good =
+        let f = atom_fine x (inl q) v good in
+        ((f.0, f.1, tt), past_value v (past_equal q (past_target x good)))
+    unit_fine (other x q v) good =
+        let f = atom_fine x (inr q) v good in
+        ((f.0, f.1, tt), past_value v (past_unequal q (past_target x good)))
     unit_fine truth good = (tt, past_one _ _ refl good)
     unit_fine falsity good = (tt, past_one _ _ refl good)
     unit_fine (tilde x) good = unit_fine x (past_one _ _ refl good)

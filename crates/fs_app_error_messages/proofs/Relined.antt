@@ -84,6 +84,9 @@ mark_prints mark.Tilde rest line ts closed h = token refl h
 mark_prints mark.Minus rest line ts closed h = token refl h
 mark_prints mark.Star rest line ts closed h = token refl h
 mark_prints mark.Ampersand rest line ts closed h = token refl h
+mark_prints mark.Less rest line ts closed h = token refl h
+mark_prints mark.Greater rest line ts closed h = token refl h
+mark_prints mark.Bang rest line ts closed h = token refl h
 mark_prints mark.And rest line ts closed h = token refl h
 mark_prints mark.Or rest line ts closed h = token refl h
 

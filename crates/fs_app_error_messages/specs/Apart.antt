@@ -1,7 +1,7 @@
 -- A test file with the same tokens, each in a line of its own (herd7's format of litmus tests).
 use Rattle.std.specs.Prelude.{ℕ, ◌+◌, List, [], ◌∷◌, ◌++◌, Bool, codes, if◌then◌else◌}
 use Rattle.fs_litmus_tokens.specs.declared.token.Mark.{Mark}
-use Rattle.fs_litmus_tokens.specs.declared.token.Mark.TheVariants.{OpenBrace, CloseBrace, Semicolon, Bar, Comma, Colon, Equals, OpenParen, CloseParen, OpenBracket, CloseBracket, Tilde, Minus, Star, Ampersand, And, Or}
+use Rattle.fs_litmus_tokens.specs.declared.token.Mark.TheVariants.{OpenBrace, CloseBrace, Semicolon, Bar, Comma, Colon, Equals, OpenParen, CloseParen, OpenBracket, CloseBracket, Tilde, Minus, Star, Ampersand, Less, Greater, Bang, And, Or}
 use Rattle.fs_litmus_tokens.specs.Tokens.{Tok, Word, Sign, Strange, Lined}
 
 abbrev pub mark_text : Mark → List ℕ
@@ -20,6 +20,9 @@ mark_text Tilde = codes "~"
 mark_text Minus = codes "-"
 mark_text Star = codes "*"
 mark_text Ampersand = codes "&"
+mark_text Less = codes "<"
+mark_text Greater = codes ">"
+mark_text Bang = codes "!"
 mark_text And = codes "/\\"
 mark_text Or = codes "\\/"
 
@@ -27,7 +30,7 @@ mark_text Or = codes "\\/"
 abbrev pub token_text : Tok → List ℕ
 token_text (Word c w) = w
 token_text (Sign m) = mark_text m
-token_text Strange = codes "!"
+token_text Strange = codes "#"
 
 abbrev pub in_lines : List Lined → List ℕ
 in_lines [] = []

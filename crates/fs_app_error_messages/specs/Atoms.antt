@@ -1,13 +1,13 @@
 -- Atoms of a condition that can't be true or false, since a hart or a register isn't there or a number is out of range
 -- (herd7's format of litmus tests).
-use Rattle.std.specs.Prelude.{◌≡◌, ℕ, ◌+◌, ◌<◌, List, [], ◌∷◌, Option, Bool, true, false, not, ◌&&◌, ◌||◌, nat_lt, None, Some, is_some, length, take, drop}
+use Rattle.std.specs.Prelude.{◌≡◌, ◌⊎◌, ℕ, ◌+◌, ◌<◌, List, [], ◌∷◌, Option, Bool, true, false, not, ◌&&◌, ◌||◌, nat_lt, None, Some, is_some, length, take, drop}
 use Rattle.fs_litmus_tokens.specs.Tokens.{Tok, Sign, Lined}
-use Rattle.fs_litmus_tokens.specs.declared.token.Mark.TheVariants.{Colon, OpenBracket, Equals}
+use Rattle.fs_litmus_tokens.specs.declared.token.Mark.TheVariants.{Colon, OpenBracket, Equals, Less, Greater, Bang}
 use Rattle.fs_litmus_tokens.specs.Numbers.{number_of}
 use Rattle.fs_litmus_tokens.specs.Values.{Target, Register, Location, Value, Number, Address, IsTarget, IsValue}
 use Rattle.fs_instr.specs.Registers.{register_of}
 use Rattle.fs_litmus_syntax.specs.Form.{Form, IsForm}
-use Rattle.fs_litmus_syntax.specs.Grammar.{Syntax, IsCondition}
+use Rattle.fs_litmus_syntax.specs.Grammar.{Syntax, IsEqual, IsUnequal, IsCondition}
 use Rattle.fs_litmus.specs.Locations.{Names}
 use Rattle.fs_litmus.specs.Settings.{setting_of}
 use Rattle.fs_litmus.specs.Reads.{HasTokens}
@@ -16,14 +16,19 @@ use Rattle.fs_litmus.specs.Reads.{HasTokens}
 abbrev pub IsBad : ℕ → Target → Value → Type 0
 IsBad columns target value = (names : Names) → setting_of columns names (target, value) ≡ None
 
--- the tokens begin with a target, =, and a value, which are bad
+-- the tokens begin with the sign of an atom
+abbrev pub IsSign : List Lined → List Lined → Type 0
+IsSign tokens rest = IsEqual tokens rest ⊎ IsUnequal tokens rest
+
+-- the tokens begin with a target, a sign, and a value, which are bad
 pub record BeginsBad (columns : ℕ) (tokens : List Lined) : Type 0 where
   pub target : Target
   pub value : Value
-  pub line : ℕ
+  pub sign : List Lined
   pub middle : List Lined
   pub after : List Lined
-  pub is_target : IsTarget tokens target ((Sign Equals, line) ∷ middle)
+  pub is_target : IsTarget tokens target sign
+  pub is_sign : IsSign sign middle
   pub is_value : IsValue middle value after
   pub is_bad : IsBad columns target value
 
@@ -91,6 +96,14 @@ HasNoBadAtom tokens = (form : Form) (s : Syntax) (rest : List Lined) → IsForm 
 -- the tokens begin with a target
 abbrev pub BeginsTarget : List Lined → Type 0
 BeginsTarget tokens = (target : Target) × (rest : List Lined) × IsTarget tokens target rest
+
+-- the tokens behind the sign of an atom, the longest
+abbrev pub behind_sign : List Lined → Option (List Lined)
+behind_sign ((Sign Equals, j) ∷ (Sign Equals, k) ∷ ts) = Some ts
+behind_sign ((Sign Equals, j) ∷ ts) = Some ts
+behind_sign ((Sign Less, j) ∷ (Sign Greater, k) ∷ ts) = Some ts
+behind_sign ((Sign Bang, j) ∷ (Sign Equals, k) ∷ ts) = Some ts
+behind_sign _ = None
 
 -- the tokens begin with a value
 abbrev pub BeginsValue : List Lined → Type 0

@@ -27,6 +27,9 @@ pub(crate) fn mark_text(mark: Mark) -> &'static str
         Mark::Minus => "-",
         Mark::Star => "*",
         Mark::Ampersand => "&",
+        Mark::Less => "<",
+        Mark::Greater => ">",
+        Mark::Bang => "!",
         Mark::And => "/\\",
         Mark::Or => "\\/",
     }
@@ -38,7 +41,7 @@ fn token_text<'a>(kind: Kind<'a>) -> &'a str
     match kind {
         Kind::Word(_, word) => word,
         Kind::Sign(mark) => mark_text(mark),
-        Kind::Strange => "!",
+        Kind::Strange => "#",
     }
 }
 

@@ -2,14 +2,14 @@
 //! out of range.
 
 ghost use Rattle.std.specs.Bool.{Decides};
-ghost use Rattle.std.specs.Prelude.{◌≡◌, ◌∷◌, ℕ, false, IfSome, IsNone, List, length, ◌<◌};
+ghost use Rattle.std.specs.Prelude.{◌≡◌, ◌∷◌, ℕ, false, IfSome, IsNone, List, length, option_map, ◌<◌};
 ghost use Rattle.fs_litmus_tokens.specs.Numbers.{number_of};
 ghost use Rattle.fs_litmus_tokens.specs.Tokens.{Lined, Sign, Word, kind_of, views};
 ghost use Rattle.fs_litmus_tokens.specs.declared.word.Class.TheVariants as class;
 ghost use Rattle.fs_litmus_tokens.specs.declared.token.Mark.TheVariants as mark;
 ghost use Rattle.fs_litmus_tokens.specs.Values.{IsTarget, IsValue, target_of, value_of};
 ghost use Rattle.fs_app_error_messages.specs.Atoms.{BeginsBad, BeginsTarget, BeginsValue, IsBad, IsBadAfter, is_absent};
-ghost use Rattle.fs_app_error_messages.specs.Atoms.{is_hart_number, is_far, is_out_of_range, opens};
+ghost use Rattle.fs_app_error_messages.specs.Atoms.{is_hart_number, is_far, is_out_of_range, opens, behind_sign};
 
 use fs_instr::Reg;
 use fs_litmus_tokens::{Class, Kind, Mark, Target, Token, Value, number_of};
@@ -188,19 +188,47 @@ fn is_bad(columns: usize, target: Target<'_>, value: Value<'_>) -> bool
     is_absent(columns, target) || is_out_of_range(value)
 }
 
-/// Do the tokens begin with a target, `=` and a value that are bad?
+/// What stands behind the sign of an atom: `=` or `==`, `<>`, or `!=`.
+fn behind_sign<'b, 'a>(tokens: &'b [Token<'a>]) -> Option<&'b [Token<'a>]>
+    ensures { option_map (λ rest. views rest.now) result ≡ behind_sign (views tokens.now) }
+{
+    let (first, rest) = tokens.split_first()?;
+    match first.kind {
+        Kind::Sign(Mark::Equals) => match rest.split_first() {
+            Some((second, behind)) => match second.kind {
+                Kind::Sign(Mark::Equals) => Some(behind),
+                _ => Some(rest),
+            },
+            None => Some(rest),
+        },
+        Kind::Sign(Mark::Less) => match rest.split_first() {
+            Some((second, behind)) => match second.kind {
+                Kind::Sign(Mark::Greater) => Some(behind),
+                _ => None,
+            },
+            None => None,
+        },
+        Kind::Sign(Mark::Bang) => match rest.split_first() {
+            Some((second, behind)) => match second.kind {
+                Kind::Sign(Mark::Equals) => Some(behind),
+                _ => None,
+            },
+            None => None,
+        },
+        _ => None,
+    }
+}
+
+/// Do the tokens begin with a target, a sign and a value that are bad?
 fn begins_bad(columns: usize, tokens: &[Token<'_>]) -> bool
     ensures { Decides result (BeginsBad columns (views tokens.now)) }
 {
     let Some((target, rest)) = take_target(tokens) else {
         return false;
     };
-    let Some((equals, rest)) = rest.split_first() else {
+    let Some(rest) = behind_sign(rest) else {
         return false;
     };
-    if !is_this_mark(equals, Mark::Equals) {
-        return false;
-    }
     match take_value(rest) {
         Some(value) => is_bad(columns, target, value),
         None => false,

@@ -125,17 +125,26 @@ fn end_words(tokens: &[Token<'_>]) -> &'static str {
     "the file ends before its condition: is the last row ended by `;`, and is there an `exists`?"
 }
 
+/// Is it a sign of no comparison and connective that is read, or of one that breaks off there?
+fn is_foreign(found: Kind<'_>) -> bool {
+    matches!(
+        found,
+        Kind::Strange
+            | Kind::Sign(Mark::Star | Mark::Ampersand | Mark::Less | Mark::Greater | Mark::Bang)
+    )
+}
+
 /// In the condition.
 fn condition_words(spot: Spot<'_, '_>) -> &'static str {
     let Some(found) = spot.ahead(0) else {
         return "the file ends within its condition";
     };
+    if is_foreign(found) || is_mark(spot.back(1), Mark::Less) || is_mark(spot.back(1), Mark::Bang) {
+        return "of comparisons `=`, `==`, `<>` and `!=` are read, and of connectives `/\\`, `\\/`, `~` and `not`";
+    }
     match found {
         Kind::Sign(Mark::Colon) => "a register is compared with a value, not with another register",
-        Kind::Sign(Mark::Equals) =>
-            "neither `==` nor `=>` is read: one `=` in each atom, and `~A \\/ B` for an implication",
-        Kind::Strange | Kind::Sign(Mark::Star | Mark::Ampersand) =>
-            "of comparisons only `=` is read, and of connectives `/\\`, `\\/`, `~` and `not`",
+        Kind::Sign(Mark::Equals) => "`=>` isn't read: write `~A \\/ B` for `A => B`",
         Kind::Sign(Mark::Semicolon) => "nothing may stand behind the condition",
         Kind::Word(_, _) =>
             "expected `/\\`, `\\/`, or the end of the condition or of its parentheses",

@@ -102,6 +102,9 @@ module _ (o : Operands) (rest : List ℕ) (line : ℕ) (ts : List Lined) (closed
   part_prints (part.Sign mark.Or) good needs = absurd good
   part_prints (part.Sign mark.Star) good needs = absurd good
   part_prints (part.Sign mark.Ampersand) good needs = absurd good
+  part_prints (part.Sign mark.Less) good needs = absurd good
+  part_prints (part.Sign mark.Greater) good needs = absurd good
+  part_prints (part.Sign mark.Bang) good needs = absurd good
   part_prints part.Immediate good needs = number_prints o.imm o rest line ts closed refl good needs h
   part_prints part.Offset good needs = number_prints o.imm o rest line ts closed refl good needs h
   part_prints (part.Below limit) good needs = word_prints (decimal o.constant) rest line ts closed (decimal_word o.constant good) needs h

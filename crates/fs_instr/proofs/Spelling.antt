@@ -80,7 +80,7 @@ name_is (Sign m ∷ ts) x e = absurd (cc)
 name_is (Strange ∷ ts) x e = absurd (cc)
 
 abbrev mark_at : ℕ → Mark
-mark_at n = cond (eqb n 0) mark.OpenBrace (cond (eqb n 1) mark.CloseBrace (cond (eqb n 2) mark.Semicolon (cond (eqb n 3) mark.Bar (cond (eqb n 4) mark.Comma (cond (eqb n 5) mark.Colon (cond (eqb n 6) mark.Equals (cond (eqb n 7) mark.OpenParen (cond (eqb n 8) mark.CloseParen (cond (eqb n 9) mark.OpenBracket (cond (eqb n 10) mark.CloseBracket (cond (eqb n 11) mark.Tilde (cond (eqb n 12) mark.Minus (cond (eqb n 13) mark.And (cond (eqb n 14) mark.Or (cond (eqb n 15) mark.Star (mark.Ampersand))))))))))))))))
+mark_at n = cond (eqb n 0) mark.OpenBrace (cond (eqb n 1) mark.CloseBrace (cond (eqb n 2) mark.Semicolon (cond (eqb n 3) mark.Bar (cond (eqb n 4) mark.Comma (cond (eqb n 5) mark.Colon (cond (eqb n 6) mark.Equals (cond (eqb n 7) mark.OpenParen (cond (eqb n 8) mark.CloseParen (cond (eqb n 9) mark.OpenBracket (cond (eqb n 10) mark.CloseBracket (cond (eqb n 11) mark.Tilde (cond (eqb n 12) mark.Minus (cond (eqb n 13) mark.And (cond (eqb n 14) mark.Or (cond (eqb n 15) mark.Star (cond (eqb n 16) mark.Ampersand (cond (eqb n 17) mark.Less (cond (eqb n 18) mark.Greater (mark.Bang)))))))))))))))))))
 
 mark_back : (m : Mark) → mark_at (mark_number m) ≡ m
 mark_back mark.OpenBrace = refl
@@ -100,6 +100,9 @@ mark_back mark.And = refl
 mark_back mark.Or = refl
 mark_back mark.Star = refl
 mark_back mark.Ampersand = refl
+mark_back mark.Less = refl
+mark_back mark.Greater = refl
+mark_back mark.Bang = refl
 
 same_mark : (k m : Mark) → is_mark k m ≡ true → k ≡ m
 same_mark k m e = sym (mark_back k) ∙ ap mark_at (eqb-true (mark_number k) (mark_number m) e) ∙ mark_back m

@@ -69,6 +69,9 @@ mark_number mark.And = 13
 mark_number mark.Or = 14
 mark_number mark.Star = 15
 mark_number mark.Ampersand = 16
+mark_number mark.Less = 17
+mark_number mark.Greater = 18
+mark_number mark.Bang = 19
 
 -- the same mark
 abbrev pub is_mark : Mark → Mark → Bool

@@ -14,7 +14,7 @@ use Rattle.fs_litmus_syntax.specs.Header.{IsColumns, last, more}
 use Rattle.fs_litmus_syntax.specs.Body.{Cell, IsCell, nothing, plain, IsRow, one, cells, IsSkipped, closed, skipped, IsQuantifier, exists, not_exists, forall, IsEnding, bare as unnamed, after_locations, Body, IsBody, ending, row}
 use Rattle.fs_litmus_syntax.specs.declared.rows.Quantifier.{Quantifier}
 use Rattle.fs_litmus_syntax.specs.Form.{Form, IsForm, form}
-use Rattle.fs_litmus_syntax.specs.Grammar.{Syntax, IsUnit, atom, truth, falsity, tilde, denial, group, IsConjunction, unit, both, IsDisjunction, conjunction, either, IsCondition}
+use Rattle.fs_litmus_syntax.specs.Grammar.{Syntax, IsEqual, once, twice, IsUnequal, less_greater, bang_equals, IsUnit, atom, other, truth, falsity, tilde, denial, group, IsConjunction, unit, both, IsDisjunction, conjunction, either, IsCondition}
 use Rattle.fs_litmus_syntax.specs.Meaning.{atoms_of}
 use Rattle.fs_model.specs.Test.{is_name}
 use Rattle.fs_litmus.specs.Locations.{Names, Binding, with_name, with_target, with_value, declared}
@@ -120,11 +120,23 @@ form_named (form x y z) h =
     let es = init_named x h in
     (es.0, body_classed z (columns_classed y es.1))
 
+equal_classed : {ts rest : List Lined} → IsEqual ts rest → AreClassed ts → AreClassed rest
+equal_classed once h = h.1
+equal_classed twice h = h.1.1
+
+unequal_classed : {ts rest : List Lined} → IsUnequal ts rest → AreClassed ts → AreClassed rest
+unequal_classed less_greater h = h.1.1
+unequal_classed bang_equals h = h.1.1
+
 mutual
   unit_named : {ts rest : List Lined} {s : Syntax} → IsUnit ts s rest → AreClassed ts → AreNamed (atoms_of s) × AreClassed rest
-  unit_named (atom x v) h =
+  unit_named (atom x q v) h =
       let t = target_named x h in
-      let w = value_named v t.1.1 in
+      let w = value_named v (equal_classed q t.1) in
+      ((t.0, w.0, tt), w.1)
+  unit_named (other x q v) h =
+      let t = target_named x h in
+      let w = value_named v (unequal_classed q t.1) in
       ((t.0, w.0, tt), w.1)
   unit_named truth h = (tt, h.1)
   unit_named falsity h = (tt, h.1)

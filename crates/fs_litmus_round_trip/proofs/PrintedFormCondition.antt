@@ -4,7 +4,7 @@ use Rattle.fs_litmus_tokens.specs.Tokens.{Tok, Sign, Lined, word}
 use Rattle.fs_litmus_tokens.specs.Words.{class_of, keyword_of}
 use Rattle.fs_litmus_tokens.specs.declared.token.Mark.TheVariants as mark
 use Rattle.fs_litmus_syntax.specs.Grammar as syntax
-use Rattle.fs_litmus_syntax.specs.Grammar.{Syntax, IsUnit, IsConjunction, IsDisjunction, IsCondition, atom, truth, falsity, tilde, group, unit, both, conjunction, either}
+use Rattle.fs_litmus_syntax.specs.Grammar.{Syntax, IsUnit, IsConjunction, IsDisjunction, IsCondition, once, atom, truth, falsity, tilde, group, unit, both, conjunction, either}
 use Rattle.fs_model.specs.Condition as condition
 use Rattle.fs_model.specs.Condition.{Condition}
 use Rattle.fs_model.specs.declared.test.Location as locations
@@ -26,7 +26,7 @@ FitsSyntax (syntax.Either a b) = FitsSyntax a × FitsSyntax b
 an_atom : {ts : List Lined} (b : Binding) (toks : List Tok) → Fits b → Are ts (binding_toks b ++ toks) → Begins IsUnit ts (syntax.Atom b.0 b.1) toks
 an_atom b toks fits are =
     let one = binding b toks fits are in
-    record { rest = one.rest; is = atom one.is_target one.is_value; are = one.are }
+    record { rest = one.rest; is = atom one.is_target once one.is_value; are = one.are }
 
 truth_read : {ts : List Lined} (toks : List Tok) → Are ts (word (codes "true") ∷ toks) → Begins IsUnit ts syntax.True toks
 unfolding class_of keyword_of

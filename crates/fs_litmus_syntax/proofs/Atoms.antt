@@ -1,13 +1,13 @@
 -- The atoms that are found are those of the syntax.
-use Rattle.std.proofs.Common.{◌≡◌, ℕ, zero, suc, List, [], ◌∷◌, ◌++◌, Option, Some, None, Ok, Err, refl, sym, ap, ◌∙◌, subst, append_assoc, append-nil}
+use Rattle.std.proofs.Common.{◌≡◌, ℕ, zero, suc, Bool, true, false, List, [], ◌∷◌, ◌++◌, Option, Some, None, Ok, Err, refl, sym, ap, ◌∙◌, subst, append_assoc, append-nil}
 use Rattle.fs_litmus_tokens.specs.Tokens.{Tok, Lined, Word, Sign}
 use Rattle.fs_litmus_tokens.specs.Sections.{Move, Go, Finish, Bad}
 use Rattle.fs_litmus_tokens.specs.Values.{Target, Value}
 use Rattle.fs_litmus_tokens.specs.declared.word.Class.TheVariants as class
-use Rattle.fs_litmus_tokens.specs.declared.token.Mark.TheVariants.{Equals, OpenBracket, Tilde, OpenParen, CloseParen, And, Or}
+use Rattle.fs_litmus_tokens.specs.declared.token.Mark.TheVariants.{Equals, Less, Bang, OpenBracket, Tilde, OpenParen, CloseParen, And, Or}
 use Rattle.fs_litmus_syntax.specs.Grammar.{Syntax, True, False, Deny, Both, Either}
 use Rattle.fs_litmus_syntax.specs.Meaning.{atoms_of}
-use Rattle.fs_litmus_syntax.specs.Machine.{AtomPlace, Frame, Place, Begin, AfterNot, AfterTrue, AfterFalse, InAtom, AfterUnit, State, joined, denied, with_denial, start, next_atom, next_begin, finished, atoms_at, product_of, sum_of, next_after, place_after, placed, next_in, next, end_in, ended, went, read}
+use Rattle.fs_litmus_syntax.specs.Machine.{AtomPlace, Found, Frame, Place, Begin, AfterNot, AfterTrue, AfterFalse, InAtom, AfterUnit, State, joined, denied, with_denial, start, next_atom, next_begin, finished, atoms_at, product_of, sum_of, next_after, found_unit, place_after, placed, next_in, next, end_in, ended, went, read}
 use Rattle.fs_litmus_syntax.proofs.Residual.{tree}
 use Rattle.fs_litmus_syntax.proofs.ConditionReading.{Scan}
 
@@ -80,18 +80,28 @@ after_atoms u f (g ∷ fs) (Sign CloseParen) =
     ap (λ a. frames_atoms fs ++ (frame_atoms g ++ a)) (sum_atoms f u) ∙ sym (append_assoc (frames_atoms fs) (frame_atoms g) (frame_atoms f ++ atoms_of u))
 after_atoms u f fs _ = tt
 
-in_atom_atoms : (m : Move AtomPlace (Target × Value)) (f : Frame Syntax) (fs : List (Frame Syntax)) → AtomsOf (placed (place_after tree m) f fs) (frames_atoms fs ++ (frame_atoms f ++ finished m))
+found_atoms : (d : Bool) (t : Target) (v : Value) → atoms_of (found_unit tree d t v) ≡ (t, v) ∷ []
+found_atoms false t v = refl
+found_atoms true t v = refl
+
+in_atom_atoms : (m : Move AtomPlace Found) (f : Frame Syntax) (fs : List (Frame Syntax)) → AtomsOf (placed (place_after tree m) f fs) (frames_atoms fs ++ (frame_atoms f ++ finished m))
 in_atom_atoms (Go p) f fs = refl
-in_atom_atoms (Finish a) f fs = refl
+in_atom_atoms (Finish a) f fs = ap (λ l. frames_atoms fs ++ (frame_atoms f ++ l)) (found_atoms a.0 a.1 a.2)
 in_atom_atoms Bad f fs = tt
 
 next_atoms : (p : Place Syntax) (f : Frame Syntax) (fs : List (Frame Syntax)) (t : Tok) → AtomsOf (next_in tree p f fs t) (frames_atoms fs ++ (frame_atoms f ++ (place_atoms p ++ atoms_at p t)))
 next_atoms Begin f fs t = begin_atoms f fs t
 next_atoms (AfterNot w) f fs (Sign Equals) = refl
+next_atoms (AfterNot w) f fs (Sign Less) = refl
+next_atoms (AfterNot w) f fs (Sign Bang) = refl
 next_atoms (AfterNot w) f fs t = begin_atoms (with_denial f) fs t
 next_atoms (AfterTrue w) f fs (Sign Equals) = refl
+next_atoms (AfterTrue w) f fs (Sign Less) = refl
+next_atoms (AfterTrue w) f fs (Sign Bang) = refl
 next_atoms (AfterTrue w) f fs t = after_atoms True f fs t
 next_atoms (AfterFalse w) f fs (Sign Equals) = refl
+next_atoms (AfterFalse w) f fs (Sign Less) = refl
+next_atoms (AfterFalse w) f fs (Sign Bang) = refl
 next_atoms (AfterFalse w) f fs t = after_atoms False f fs t
 next_atoms (InAtom p) f fs t = in_atom_atoms (next_atom p t) f fs
 next_atoms (AfterUnit u) f fs t = subst (λ a. AtomsOf (next_after tree u f fs t) (frames_atoms fs ++ (frame_atoms f ++ a))) (sym (append-nil (atoms_of u))) (after_atoms u f fs t)

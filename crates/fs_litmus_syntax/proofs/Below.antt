@@ -4,9 +4,9 @@ use Rattle.fs_litmus_tokens.specs.Tokens.{Tok, Word, Sign}
 use Rattle.fs_litmus_tokens.specs.Sections.{Move, Go, Finish, Bad}
 use Rattle.fs_litmus_tokens.specs.Values.{Target, Value}
 use Rattle.fs_litmus_tokens.specs.declared.word.Class.TheVariants as class
-use Rattle.fs_litmus_tokens.specs.declared.token.Mark.TheVariants.{Equals, OpenBracket, Tilde, OpenParen, CloseParen, And, Or}
+use Rattle.fs_litmus_tokens.specs.declared.token.Mark.TheVariants.{Equals, Less, Bang, OpenBracket, Tilde, OpenParen, CloseParen, And, Or}
 use Rattle.fs_litmus_syntax.specs.declared.layer.Layer.{Layer}
-use Rattle.fs_litmus_syntax.specs.Machine.{AtomPlace, Frame, Place, Begin, AfterNot, AfterTrue, AfterFalse, InAtom, AfterUnit, State, put_off, with_denial, next_atom, next_begin, next_after, place_after, placed, next_in, next, end_in}
+use Rattle.fs_litmus_syntax.specs.Machine.{AtomPlace, Found, Frame, Place, Begin, AfterNot, AfterTrue, AfterFalse, InAtom, AfterUnit, State, put_off, with_denial, next_atom, next_begin, next_after, place_after, placed, next_in, next, end_in}
 use Rattle.fs_litmus_syntax.specs.Limited.{Bounded, limited}
 use Rattle.fs_litmus_syntax.specs.Views.{layer_of, below_of}
 
@@ -54,7 +54,7 @@ small_after n u f [] (Sign CloseParen) h hs = tt
 small_after n u f (g ∷ fs) (Sign CloseParen) h hs = (omega (arith, hs.0), all_small_more n fs hs.1)
 small_after n u f fs _ h hs = tt
 
-small_atom : (n : ℕ) (m : Move AtomPlace (Target × Value)) (f : Frame Bounded) (fs : List (Frame Bounded)) → f.denials ≤ n → AllSmall n fs → SmallOf (n + 1) (placed (place_after limited m) f fs)
+small_atom : (n : ℕ) (m : Move AtomPlace Found) (f : Frame Bounded) (fs : List (Frame Bounded)) → f.denials ≤ n → AllSmall n fs → SmallOf (n + 1) (placed (place_after limited m) f fs)
 small_atom n (Go p) f fs h hs = (omega arith, all_small_more n fs hs)
 small_atom n (Finish a) f fs h hs = (omega arith, all_small_more n fs hs)
 small_atom n Bad f fs h hs = tt
@@ -62,10 +62,16 @@ small_atom n Bad f fs h hs = tt
 small_next_in : (n : ℕ) (p : Place Bounded) (f : Frame Bounded) (fs : List (Frame Bounded)) (t : Tok) → f.denials + put_off p ≤ n → AllSmall n fs → SmallOf (n + 1) (next_in limited p f fs t)
 small_next_in n Begin f fs t h hs = small_begin n f fs t (omega arith) hs
 small_next_in n (AfterNot w) f fs (Sign Equals) h hs = (omega arith, all_small_more n fs hs)
+small_next_in n (AfterNot w) f fs (Sign Less) h hs = (omega arith, all_small_more n fs hs)
+small_next_in n (AfterNot w) f fs (Sign Bang) h hs = (omega arith, all_small_more n fs hs)
 small_next_in n (AfterNot w) f fs t h hs = small_begin n (with_denial f) fs t (omega arith) hs
 small_next_in n (AfterTrue w) f fs (Sign Equals) h hs = (omega arith, all_small_more n fs hs)
+small_next_in n (AfterTrue w) f fs (Sign Less) h hs = (omega arith, all_small_more n fs hs)
+small_next_in n (AfterTrue w) f fs (Sign Bang) h hs = (omega arith, all_small_more n fs hs)
 small_next_in n (AfterTrue w) f fs t h hs = small_after n limited.truth f fs t (omega arith) hs
 small_next_in n (AfterFalse w) f fs (Sign Equals) h hs = (omega arith, all_small_more n fs hs)
+small_next_in n (AfterFalse w) f fs (Sign Less) h hs = (omega arith, all_small_more n fs hs)
+small_next_in n (AfterFalse w) f fs (Sign Bang) h hs = (omega arith, all_small_more n fs hs)
 small_next_in n (AfterFalse w) f fs t h hs = small_after n limited.falsity f fs t (omega arith) hs
 small_next_in n (InAtom p) f fs t h hs = small_atom n (next_atom p t) f fs (omega arith) hs
 small_next_in n (AfterUnit u) f fs t h hs = small_after n u f fs t (omega arith) hs

@@ -1,5 +1,5 @@
 -- Reading with bounded values gives what reading gives, bounded.
-use Rattle.std.proofs.Common.{◌≡◌, ℕ, zero, suc, ◌+◌, max, List, [], ◌∷◌, ◌++◌, Option, Some, None, Result, Ok, Err, refl, ap, ◌∙◌, arith}
+use Rattle.std.proofs.Common.{◌≡◌, ℕ, zero, suc, ◌+◌, max, Bool, true, false, List, [], ◌∷◌, ◌++◌, Option, Some, None, Result, Ok, Err, refl, ap, ◌∙◌, arith}
 use Rattle.std.specs.Prelude.{nat_le, if◌then◌else◌, option_map}
 use Rattle.std.proofs.lemmas.Bool.Decides.{nat_tests}
 use Rattle.fs_kinds.specs.Limits.{most_depth}
@@ -7,11 +7,11 @@ use Rattle.fs_litmus_tokens.specs.Tokens.{Tok, Lined, Word, Sign}
 use Rattle.fs_litmus_tokens.specs.Sections.{Move, Go, Finish, Bad}
 use Rattle.fs_litmus_tokens.specs.Values.{Target, Value}
 use Rattle.fs_litmus_tokens.specs.declared.word.Class.TheVariants as class
-use Rattle.fs_litmus_tokens.specs.declared.token.Mark.TheVariants.{Equals, OpenBracket, Tilde, OpenParen, CloseParen, And, Or}
-use Rattle.fs_litmus_syntax.specs.Grammar.{Syntax, True, False, Deny, Group, Both, Either}
+use Rattle.fs_litmus_tokens.specs.declared.token.Mark.TheVariants.{Equals, Less, Bang, OpenBracket, Tilde, OpenParen, CloseParen, And, Or}
+use Rattle.fs_litmus_syntax.specs.Grammar.{Syntax, Atom, True, False, Deny, Group, Both, Either}
 use Rattle.fs_litmus_syntax.specs.Meaning as meaning
 use Rattle.fs_litmus_syntax.specs.Meaning.{Condition, condition_of, written_depth, grouped_depth}
-use Rattle.fs_litmus_syntax.specs.Machine.{AtomPlace, Frame, Place, Begin, AfterNot, AfterTrue, AfterFalse, InAtom, AfterUnit, State, joined, denied, with_denial, at, start, next_atom, next_begin, atoms_at, product_of, sum_of, next_after, place_after, placed, next_in, next, end_in, end_of, ended, went, read}
+use Rattle.fs_litmus_syntax.specs.Machine.{AtomPlace, Found, Frame, Place, Begin, AfterNot, AfterTrue, AfterFalse, InAtom, AfterUnit, State, joined, denied, with_denial, at, start, next_atom, next_begin, atoms_at, product_of, sum_of, next_after, found_unit, place_after, placed, next_in, next, end_in, end_of, ended, went, read}
 use Rattle.fs_litmus_syntax.specs.Limited as limits
 use Rattle.fs_litmus_syntax.specs.Limited.{Bounded, Deep, Fine, connected, in_parentheses, limited, bounded}
 use Rattle.fs_litmus_syntax.proofs.Residual.{tree}
@@ -104,19 +104,29 @@ after_bounded u f (g ∷ fs) (Sign CloseParen) =
     ap (λ x. Some (at (AfterUnit x) (frame_map g) (frames_map fs))) (ap in_parentheses (sum_bounded f u) ∙ group_bounded (sum_of tree f u))
 after_bounded u f fs _ = refl
 
-atom_bounded : (m : Move AtomPlace (Target × Value)) (f : Frame Syntax) (fs : List (Frame Syntax)) → placed (place_after limited m) (frame_map f) (frames_map fs) ≡ option_map state_map (placed (place_after tree m) f fs)
+found_bounded : (d : Bool) (t : Target) (v : Value) → found_unit limited d t v ≡ bounded (found_unit tree d t v)
+found_bounded false t v = refl
+found_bounded true t v = denied_bounded 1 (Atom t v)
+
+atom_bounded : (m : Move AtomPlace Found) (f : Frame Syntax) (fs : List (Frame Syntax)) → placed (place_after limited m) (frame_map f) (frames_map fs) ≡ option_map state_map (placed (place_after tree m) f fs)
 atom_bounded (Go p) f fs = refl
-atom_bounded (Finish a) f fs = refl
+atom_bounded (Finish a) f fs = ap (λ u. Some (at (AfterUnit u) (frame_map f) (frames_map fs))) (found_bounded a.0 a.1 a.2)
 atom_bounded Bad f fs = refl
 
 next_bounded : (p : Place Syntax) (f : Frame Syntax) (fs : List (Frame Syntax)) (t : Tok) → next_in limited (place_map p) (frame_map f) (frames_map fs) t ≡ option_map state_map (next_in tree p f fs t)
 unfolding frame_map
 next_bounded Begin f fs t = begin_bounded f fs t
 next_bounded (AfterNot w) f fs (Sign Equals) = refl
+next_bounded (AfterNot w) f fs (Sign Less) = refl
+next_bounded (AfterNot w) f fs (Sign Bang) = refl
 next_bounded (AfterNot w) f fs t = begin_bounded (with_denial f) fs t
 next_bounded (AfterTrue w) f fs (Sign Equals) = refl
+next_bounded (AfterTrue w) f fs (Sign Less) = refl
+next_bounded (AfterTrue w) f fs (Sign Bang) = refl
 next_bounded (AfterTrue w) f fs t = after_bounded True f fs t
 next_bounded (AfterFalse w) f fs (Sign Equals) = refl
+next_bounded (AfterFalse w) f fs (Sign Less) = refl
+next_bounded (AfterFalse w) f fs (Sign Bang) = refl
 next_bounded (AfterFalse w) f fs t = after_bounded False f fs t
 next_bounded (InAtom p) f fs t = atom_bounded (next_atom p t) f fs
 next_bounded (AfterUnit u) f fs t = after_bounded u f fs t

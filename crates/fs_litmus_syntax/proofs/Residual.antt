@@ -1,14 +1,14 @@
 -- What the tokens to come must be, in each state of the reader, by the grammar alone.
-use Rattle.std.proofs.Common.{◌≡◌, ℕ, zero, suc, ◌+◌, true, false, List, [], ◌∷◌, Option, Some, None, refl, sym, ap, subst, add-one}
+use Rattle.std.proofs.Common.{◌≡◌, ℕ, zero, suc, ◌+◌, Bool, true, false, List, [], ◌∷◌, Option, Some, None, refl, sym, ap, subst, add-one}
 use Rattle.fs_litmus_tokens.specs.Words.{is_name}
 use Rattle.fs_litmus_tokens.specs.Tokens.{Tok, Lined, Word, Sign}
 use Rattle.fs_litmus_tokens.specs.Values.{Target, Register, Location, Value, Number, Address, IsTarget, register, location, bracketed, IsValue, number, minus, address}
 use Rattle.fs_litmus_tokens.specs.Sections.{Go, Finish}
 use Rattle.fs_litmus_tokens.specs.declared.word.Class.{Class}
 use Rattle.fs_litmus_tokens.specs.declared.word.Class.TheVariants as class
-use Rattle.fs_litmus_tokens.specs.declared.token.Mark.TheVariants.{Colon, Equals, OpenBracket, CloseBracket, Minus, Tilde, OpenParen, CloseParen, And, Or}
-use Rattle.fs_litmus_syntax.specs.Grammar.{Syntax, Atom, True, False, Deny, Group, Both, Either, IsUnit, atom, truth, falsity, tilde, denial, group, IsConjunction, unit, both, IsDisjunction, conjunction, either, IsCondition}
-use Rattle.fs_litmus_syntax.specs.Machine.{AtomPlace, AfterHart, AfterColon, AfterBracket, AfterName, AfterTarget, AfterEquals, AfterMinus, next_atom, Maker, Frame, Place, Begin, AfterNot, AfterTrue, AfterFalse, InAtom, AfterUnit, State, joined, denied, with_denial, start, next_begin, named, product_of, sum_of, next_after, place_after, placed, next_in, end_in}
+use Rattle.fs_litmus_tokens.specs.declared.token.Mark.TheVariants.{Colon, Equals, Less, Greater, Bang, OpenBracket, CloseBracket, Minus, Tilde, OpenParen, CloseParen, And, Or}
+use Rattle.fs_litmus_syntax.specs.Grammar.{Syntax, Atom, True, False, Deny, Group, Both, Either, IsEqual, once, twice, IsUnequal, less_greater, bang_equals, IsUnit, atom, other, truth, falsity, tilde, denial, group, IsConjunction, unit, both, IsDisjunction, conjunction, either, IsCondition}
+use Rattle.fs_litmus_syntax.specs.Machine.{AtomPlace, AfterHart, AfterColon, AfterBracket, AfterName, AfterTarget, AfterLess, AfterBang, AfterEquals, BeforeValue, AfterMinus, compared_by, value_begun, next_atom, Maker, Frame, Place, Begin, AfterNot, AfterTrue, AfterFalse, InAtom, AfterUnit, State, joined, denied, at, with_denial, start, next_begin, named_or, product_of, sum_of, next_after, found_unit, place_after, placed, next_in, end_in}
 
 -- the syntax itself
 abbrev pub tree : Maker Syntax
@@ -99,23 +99,30 @@ pub record UnitTo (f : Frame Syntax) (fs : List (Frame Syntax)) (ts : List Lined
   is_unit : IsUnit ts value mid
   then : UnitRead f fs value mid c
 
--- the rest of an atom, which becomes this target with this value
-pub data AtomLeft : AtomPlace → List Lined → Target → Value → List Lined → Type 0 where
-  after_hart : {h : List ℕ} {k : ℕ} {ts rest : List Lined} {t : Target} {v : Value} → AtomLeft (AfterColon h) ts t v rest → AtomLeft (AfterHart h) ((Sign Colon, k) ∷ ts) t v rest
-  after_colon : {h r : List ℕ} {c : Class} {k : ℕ} {ts rest : List Lined} {t : Target} {v : Value} → AtomLeft (AfterTarget (Register h r)) ts t v rest → AtomLeft (AfterColon h) ((Word c r, k) ∷ ts) t v rest
-  after_bracket : {w : List ℕ} {c : Class} {k : ℕ} {ts rest : List Lined} {t : Target} {v : Value} → is_name c ≡ true → AtomLeft (AfterName w) ts t v rest → AtomLeft AfterBracket ((Word c w, k) ∷ ts) t v rest
-  after_name : {w : List ℕ} {k : ℕ} {ts rest : List Lined} {t : Target} {v : Value} → AtomLeft (AfterTarget (Location w)) ts t v rest → AtomLeft (AfterName w) ((Sign CloseBracket, k) ∷ ts) t v rest
-  after_target : {s t : Target} {k : ℕ} {ts rest : List Lined} {v : Value} → AtomLeft (AfterEquals s) ts t v rest → AtomLeft (AfterTarget s) ((Sign Equals, k) ∷ ts) t v rest
-  after_equals : {t : Target} {ts rest : List Lined} {v : Value} → IsValue ts v rest → AtomLeft (AfterEquals t) ts t v rest
-  after_minus : {t : Target} {w : List ℕ} {k : ℕ} {rest : List Lined} → AtomLeft (AfterMinus t) ((Word class.Number w, k) ∷ rest) t (Number true w) rest
+-- the rest of an atom, which becomes this target with this value, denied or not
+pub data AtomLeft : AtomPlace → Bool → List Lined → Target → Value → List Lined → Type 0 where
+  after_hart : {h : List ℕ} {k : ℕ} {d : Bool} {ts rest : List Lined} {t : Target} {v : Value} → AtomLeft (AfterColon h) d ts t v rest → AtomLeft (AfterHart h) d ((Sign Colon, k) ∷ ts) t v rest
+  after_colon : {h r : List ℕ} {c : Class} {k : ℕ} {d : Bool} {ts rest : List Lined} {t : Target} {v : Value} → AtomLeft (AfterTarget (Register h r)) d ts t v rest → AtomLeft (AfterColon h) d ((Word c r, k) ∷ ts) t v rest
+  after_bracket : {w : List ℕ} {c : Class} {k : ℕ} {d : Bool} {ts rest : List Lined} {t : Target} {v : Value} → is_name c ≡ true → AtomLeft (AfterName w) d ts t v rest → AtomLeft AfterBracket d ((Word c w, k) ∷ ts) t v rest
+  after_name : {w : List ℕ} {k : ℕ} {d : Bool} {ts rest : List Lined} {t : Target} {v : Value} → AtomLeft (AfterTarget (Location w)) d ts t v rest → AtomLeft (AfterName w) d ((Sign CloseBracket, k) ∷ ts) t v rest
+  target_equals : {s t : Target} {k : ℕ} {d : Bool} {ts rest : List Lined} {v : Value} → AtomLeft (AfterEquals s) d ts t v rest → AtomLeft (AfterTarget s) d ((Sign Equals, k) ∷ ts) t v rest
+  target_less : {s t : Target} {k : ℕ} {d : Bool} {ts rest : List Lined} {v : Value} → AtomLeft (AfterLess s) d ts t v rest → AtomLeft (AfterTarget s) d ((Sign Less, k) ∷ ts) t v rest
+  target_bang : {s t : Target} {k : ℕ} {d : Bool} {ts rest : List Lined} {v : Value} → AtomLeft (AfterBang s) d ts t v rest → AtomLeft (AfterTarget s) d ((Sign Bang, k) ∷ ts) t v rest
+  after_less : {s t : Target} {k : ℕ} {d : Bool} {ts rest : List Lined} {v : Value} → AtomLeft (BeforeValue true s) d ts t v rest → AtomLeft (AfterLess s) d ((Sign Greater, k) ∷ ts) t v rest
+  after_bang : {s t : Target} {k : ℕ} {d : Bool} {ts rest : List Lined} {v : Value} → AtomLeft (BeforeValue true s) d ts t v rest → AtomLeft (AfterBang s) d ((Sign Equals, k) ∷ ts) t v rest
+  equals_equals : {s t : Target} {k : ℕ} {d : Bool} {ts rest : List Lined} {v : Value} → AtomLeft (BeforeValue false s) d ts t v rest → AtomLeft (AfterEquals s) d ((Sign Equals, k) ∷ ts) t v rest
+  after_equals : {t : Target} {ts rest : List Lined} {v : Value} → IsValue ts v rest → AtomLeft (AfterEquals t) false ts t v rest
+  before_value : {t : Target} {d : Bool} {ts rest : List Lined} {v : Value} → IsValue ts v rest → AtomLeft (BeforeValue d t) d ts t v rest
+  after_minus : {t : Target} {d : Bool} {w : List ℕ} {k : ℕ} {rest : List Lined} → AtomLeft (AfterMinus d t) d ((Word class.Number w, k) ∷ rest) t (Number true w) rest
 
 -- the rest of an atom, and what comes after it
 pub record AtomTo (p : AtomPlace) (f : Frame Syntax) (fs : List (Frame Syntax)) (ts : List Lined) (c : Syntax) : Type 0 where
   target : Target
   value : Value
+  denies : Bool
   mid : List Lined
-  is_atom : AtomLeft p ts target value mid
-  then : UnitRead f fs (Atom target value) mid c
+  is_atom : AtomLeft p denies ts target value mid
+  then : UnitRead f fs (found_unit tree denies target value) mid c
 
 -- a word names a location, or it is what it says
 pub data Decided (A B : Type 0) : Type 0 where
@@ -166,13 +173,27 @@ named_begin class.TrueWord w f fs ts c e h = names h
 named_begin class.FalseWord w f fs ts c e h = names h
 named_begin _ w f fs ts c e h = h
 
+equal_left : {s : Target} {v : Value} {ts after rest : List Lined} → IsEqual ts after → IsValue after v rest → AtomLeft (AfterTarget s) false ts s v rest
+equal_left once iv = target_equals (after_equals iv)
+equal_left twice iv = target_equals (equals_equals (before_value iv))
+
+unequal_left : {s : Target} {v : Value} {ts after rest : List Lined} → IsUnequal ts after → IsValue after v rest → AtomLeft (AfterTarget s) true ts s v rest
+unequal_left less_greater iv = target_less (after_less (before_value iv))
+unequal_left bang_equals iv = target_bang (after_bang (before_value iv))
+
 begin_forward : {x : Lined} {ts mid : List Lined} {u : Syntax} (c : Syntax) (f : Frame Syntax) (fs : List (Frame Syntax)) → IsUnit (x ∷ ts) u mid → UnitRead f fs u mid c → LeftOf (next_begin f fs x.0) ts c
-begin_forward {mid = m} c f fs (atom {t = t} {v = v} register iv) k =
-    record { target = t; value = v; mid = m; is_atom = after_hart (after_colon (after_target (after_equals iv))); then = k }
-begin_forward {mid = m} c f fs (atom {v = v} (location {w = w} {c = n} e) iv) k =
-    named_begin n w f fs _ c e (record { target = Location w; value = v; mid = m; is_atom = after_target (after_equals iv); then = k })
-begin_forward {mid = m} c f fs (atom {t = t} {v = v} (bracketed e) iv) k =
-    record { target = t; value = v; mid = m; is_atom = after_bracket e (after_name (after_target (after_equals iv))); then = k }
+begin_forward {mid = m} c f fs (atom {t = t} {v = v} register q iv) k =
+    record { target = t; value = v; denies = false; mid = m; is_atom = after_hart (after_colon (equal_left q iv)); then = k }
+begin_forward {mid = m} c f fs (atom {v = v} (location {w = w} {c = n} e) q iv) k =
+    named_begin n w f fs _ c e (record { target = Location w; value = v; denies = false; mid = m; is_atom = equal_left q iv; then = k })
+begin_forward {mid = m} c f fs (atom {t = t} {v = v} (bracketed e) q iv) k =
+    record { target = t; value = v; denies = false; mid = m; is_atom = after_bracket e (after_name (equal_left q iv)); then = k }
+begin_forward {mid = m} c f fs (other {t = t} {v = v} register q iv) k =
+    record { target = t; value = v; denies = true; mid = m; is_atom = after_hart (after_colon (unequal_left q iv)); then = k }
+begin_forward {mid = m} c f fs (other {v = v} (location {w = w} {c = n} e) q iv) k =
+    named_begin n w f fs _ c e (record { target = Location w; value = v; denies = true; mid = m; is_atom = unequal_left q iv; then = k })
+begin_forward {mid = m} c f fs (other {t = t} {v = v} (bracketed e) q iv) k =
+    record { target = t; value = v; denies = true; mid = m; is_atom = after_bracket e (after_name (unequal_left q iv)); then = k }
 begin_forward c f fs truth k = says k
 begin_forward c f fs falsity k = says k
 begin_forward c f fs (tilde x) k = with_one_denial c f fs x k
@@ -196,22 +217,29 @@ after_forward {rest = r} {w = w} u c f fs e done (plus {b = b} {ts = ts} {mid = 
 after_forward u c f [] e done end k = elim k.0 [ ]
 after_forward u c f (g ∷ fs) e done end (r, close, k) = close_forward u c f g fs e close k
 
--- a word with = after it names a location
-named_forward : {x : Lined} {ts mid : List Lined} {t : Target} {v : Value} (w : List ℕ) (c : Syntax) (f : Frame Syntax) (fs : List (Frame Syntax)) (p : Place Syntax) → next_in tree p f fs (Sign Equals) ≡ named w f fs → AtomLeft (AfterTarget (Location w)) (x ∷ ts) t v mid → UnitRead f fs (Atom t v) mid c → LeftOf (next_in tree p f fs x.0) ts c
-named_forward {ts = ts} {mid = m} {t = t} {v = v} w c f fs p e (after_target a) k =
-    subst (λ o. LeftOf o ts c) (sym e) (record { target = t; value = v; mid = m; is_atom = a; then = k })
+-- a word with the sign of an atom after it names a location
+named_forward : {x : Lined} {ts mid : List Lined} {t : Target} {v : Value} {d : Bool} (w : List ℕ) (c : Syntax) (f : Frame Syntax) (fs : List (Frame Syntax)) (word : Tok → Option (State Syntax)) → AtomLeft (AfterTarget (Location w)) d (x ∷ ts) t v mid → UnitRead f fs (found_unit tree d t v) mid c → LeftOf (named_or (compared_by (Location w) x.0) f fs (word x.0)) ts c
+named_forward {mid = m} {t = t} {v = v} {d = d} w c f fs word (target_equals a) k = record { target = t; value = v; denies = d; mid = m; is_atom = a; then = k }
+named_forward {mid = m} {t = t} {v = v} {d = d} w c f fs word (target_less a) k = record { target = t; value = v; denies = d; mid = m; is_atom = a; then = k }
+named_forward {mid = m} {t = t} {v = v} {d = d} w c f fs word (target_bang a) k = record { target = t; value = v; denies = d; mid = m; is_atom = a; then = k }
 
 -- and without it, is what it says
 not_forward : (w : List ℕ) (f : Frame Syntax) (fs : List (Frame Syntax)) (t : Tok) (ts : List Lined) (c : Syntax) → LeftOf (next_begin (with_denial f) fs t) ts c → LeftOf (next_in tree (AfterNot w) f fs t) ts c
 not_forward w f fs (Sign Equals) ts c h = absurd h
+not_forward w f fs (Sign Less) ts c h = absurd h
+not_forward w f fs (Sign Bang) ts c h = absurd h
 not_forward w f fs _ ts c h = h
 
 true_forward : (w : List ℕ) (f : Frame Syntax) (fs : List (Frame Syntax)) (t : Tok) (ts : List Lined) (c : Syntax) → LeftOf (next_after tree True f fs t) ts c → LeftOf (next_in tree (AfterTrue w) f fs t) ts c
 true_forward w f fs (Sign Equals) ts c h = absurd h
+true_forward w f fs (Sign Less) ts c h = absurd h
+true_forward w f fs (Sign Bang) ts c h = absurd h
 true_forward w f fs _ ts c h = h
 
 false_forward : (w : List ℕ) (f : Frame Syntax) (fs : List (Frame Syntax)) (t : Tok) (ts : List Lined) (c : Syntax) → LeftOf (next_after tree False f fs t) ts c → LeftOf (next_in tree (AfterFalse w) f fs t) ts c
 false_forward w f fs (Sign Equals) ts c h = absurd h
+false_forward w f fs (Sign Less) ts c h = absurd h
+false_forward w f fs (Sign Bang) ts c h = absurd h
 false_forward w f fs _ ts c h = h
 
 -- in an atom
@@ -220,62 +248,77 @@ bracket_word class.Number w e = absurd (cc)
 bracket_word class.Other w e = absurd (cc)
 bracket_word _ w e = refl
 
-value_word : (n : Class) (t : Target) (w : List ℕ) → is_name n ≡ true → next_atom (AfterEquals t) (Word n w) ≡ Finish (t, Address w)
-value_word class.Number t w e = absurd (cc)
-value_word class.Other t w e = absurd (cc)
-value_word _ t w e = refl
+value_word : (n : Class) (d : Bool) (t : Target) (w : List ℕ) → is_name n ≡ true → value_begun d t (Word n w) ≡ Finish (d, t, Address w)
+value_word class.Number d t w e = absurd (cc)
+value_word class.Other d t w e = absurd (cc)
+value_word _ d t w e = refl
 
-atom_forward : {x : Lined} {p : AtomPlace} {ts mid : List Lined} {t : Target} {v : Value} (c : Syntax) (f : Frame Syntax) (fs : List (Frame Syntax)) → AtomLeft p (x ∷ ts) t v mid → UnitRead f fs (Atom t v) mid c → LeftOf (placed (place_after tree (next_atom p x.0)) f fs) ts c
-atom_forward {mid = m} {t = t} {v = v} c f fs (after_hart a) k = record { target = t; value = v; mid = m; is_atom = a; then = k }
-atom_forward {mid = m} {t = t} {v = v} c f fs (after_colon a) k = record { target = t; value = v; mid = m; is_atom = a; then = k }
-atom_forward {mid = m} {t = t} {v = v} c f fs (after_bracket {w = w} {c = n} {ts = ts} e a) k =
-    subst (λ q. LeftOf (placed (place_after tree q) f fs) ts c) (sym (bracket_word n w e)) (record { target = t; value = v; mid = m; is_atom = a; then = k })
-atom_forward {mid = m} {t = t} {v = v} c f fs (after_name a) k = record { target = t; value = v; mid = m; is_atom = a; then = k }
-atom_forward {mid = m} {t = t} {v = v} c f fs (after_target a) k = record { target = t; value = v; mid = m; is_atom = a; then = k }
+atom_forward : {x : Lined} {p : AtomPlace} {ts mid : List Lined} {t : Target} {v : Value} {d : Bool} (c : Syntax) (f : Frame Syntax) (fs : List (Frame Syntax)) → AtomLeft p d (x ∷ ts) t v mid → UnitRead f fs (found_unit tree d t v) mid c → LeftOf (placed (place_after tree (next_atom p x.0)) f fs) ts c
+atom_forward {mid = m} {t = t} {v = v} {d = d} c f fs (after_hart a) k = record { target = t; value = v; denies = d; mid = m; is_atom = a; then = k }
+atom_forward {mid = m} {t = t} {v = v} {d = d} c f fs (after_colon a) k = record { target = t; value = v; denies = d; mid = m; is_atom = a; then = k }
+atom_forward {mid = m} {t = t} {v = v} {d = d} c f fs (after_bracket {w = w} {c = n} {ts = ts} e a) k =
+    subst (λ q. LeftOf (placed (place_after tree q) f fs) ts c) (sym (bracket_word n w e)) (record { target = t; value = v; denies = d; mid = m; is_atom = a; then = k })
+atom_forward {mid = m} {t = t} {v = v} {d = d} c f fs (after_name a) k = record { target = t; value = v; denies = d; mid = m; is_atom = a; then = k }
+atom_forward {mid = m} {t = t} {v = v} {d = d} c f fs (target_equals a) k = record { target = t; value = v; denies = d; mid = m; is_atom = a; then = k }
+atom_forward {mid = m} {t = t} {v = v} {d = d} c f fs (target_less a) k = record { target = t; value = v; denies = d; mid = m; is_atom = a; then = k }
+atom_forward {mid = m} {t = t} {v = v} {d = d} c f fs (target_bang a) k = record { target = t; value = v; denies = d; mid = m; is_atom = a; then = k }
+atom_forward {mid = m} {t = t} {v = v} {d = d} c f fs (after_less a) k = record { target = t; value = v; denies = d; mid = m; is_atom = a; then = k }
+atom_forward {mid = m} {t = t} {v = v} {d = d} c f fs (after_bang a) k = record { target = t; value = v; denies = d; mid = m; is_atom = a; then = k }
+atom_forward {mid = m} {t = t} {v = v} {d = d} c f fs (equals_equals a) k = record { target = t; value = v; denies = d; mid = m; is_atom = a; then = k }
 atom_forward c f fs (after_equals number) k = k
-atom_forward {mid = m} {t = t} c f fs (after_equals (minus {w = w})) k = record { target = t; value = Number true w; mid = m; is_atom = after_minus; then = k }
+atom_forward {mid = m} {t = t} c f fs (after_equals (minus {w = w})) k = record { target = t; value = Number true w; denies = false; mid = m; is_atom = after_minus; then = k }
 atom_forward {mid = m} {t = t} c f fs (after_equals (address {w = w} {c = n} e)) k =
-    subst (λ q. LeftOf (placed (place_after tree q) f fs) m c) (sym (value_word n t w e)) k
+    subst (λ q. LeftOf (placed (place_after tree q) f fs) m c) (sym (value_word n false t w e)) k
+atom_forward c f fs (before_value number) k = k
+atom_forward {mid = m} {t = t} {d = d} c f fs (before_value (minus {w = w})) k = record { target = t; value = Number true w; denies = d; mid = m; is_atom = after_minus; then = k }
+atom_forward {mid = m} {t = t} {d = d} c f fs (before_value (address {w = w} {c = n} e)) k =
+    subst (λ q. LeftOf (placed (place_after tree q) f fs) m c) (sym (value_word n d t w e)) k
 atom_forward c f fs after_minus k = k
 
 -- the tokens to come, after one more token
 pub forward : (p : Place Syntax) (f : Frame Syntax) (fs : List (Frame Syntax)) (x : Lined) (ts : List Lined) (c : Syntax) → LeftIn p f fs (x ∷ ts) c → LeftOf (next_in tree p f fs x.0) ts c
 forward Begin f fs x ts c h = begin_forward c f fs h.is_unit h.then
-forward (AfterNot w) f fs x ts c (names h) = named_forward w c f fs (AfterNot w) refl h.is_atom h.then
+forward (AfterNot w) f fs x ts c (names h) = named_forward w c f fs (λ u. next_begin (with_denial f) fs u) h.is_atom h.then
 forward (AfterNot w) f fs x ts c (says h) = not_forward w f fs x.0 ts c (begin_forward c (with_denial f) fs h.is_unit h.then)
-forward (AfterTrue w) f fs x ts c (names h) = named_forward w c f fs (AfterTrue w) refl h.is_atom h.then
+forward (AfterTrue w) f fs x ts c (names h) = named_forward w c f fs (λ u. next_after tree True f fs u) h.is_atom h.then
 forward (AfterTrue w) f fs x ts c (says h) = true_forward w f fs x.0 ts c (after_forward True c f fs refl h.products h.sums h.then)
-forward (AfterFalse w) f fs x ts c (names h) = named_forward w c f fs (AfterFalse w) refl h.is_atom h.then
+forward (AfterFalse w) f fs x ts c (names h) = named_forward w c f fs (λ u. next_after tree False f fs u) h.is_atom h.then
 forward (AfterFalse w) f fs x ts c (says h) = false_forward w f fs x.0 ts c (after_forward False c f fs refl h.products h.sums h.then)
 forward (InAtom p) f fs x ts c h = atom_forward c f fs h.is_atom h.then
 forward (AfterUnit u) f fs x ts c h = after_forward u c f fs refl h.products h.sums h.then
 
 -- ---- the same the other way
 
-hart_back : {h : List ℕ} {ts mid : List Lined} {t : Target} {v : Value} (k : ℕ) → AtomLeft (AfterHart h) ts t v mid → IsUnit ((Word class.Number h, k) ∷ ts) (Atom t v) mid
-hart_back k (after_hart (after_colon (after_target (after_equals iv)))) = atom register iv
+unit_from : {ts mid rest : List Lined} {s t : Target} {v : Value} {d : Bool} → IsTarget ts s mid → AtomLeft (AfterTarget s) d mid t v rest → IsUnit ts (found_unit tree d t v) rest
+unit_from it (target_equals (after_equals iv)) = atom it once iv
+unit_from it (target_equals (equals_equals (before_value iv))) = atom it twice iv
+unit_from it (target_less (after_less (before_value iv))) = other it less_greater iv
+unit_from it (target_bang (after_bang (before_value iv))) = other it bang_equals iv
 
-name_back : {w : List ℕ} {ts mid : List Lined} {t : Target} {v : Value} (n : Class) (k : ℕ) → is_name n ≡ true → AtomLeft (AfterTarget (Location w)) ts t v mid → IsUnit ((Word n w, k) ∷ ts) (Atom t v) mid
-name_back n k e (after_target (after_equals iv)) = atom (location e) iv
+hart_back : {h : List ℕ} {ts mid : List Lined} {t : Target} {v : Value} {d : Bool} (k : ℕ) → AtomLeft (AfterHart h) d ts t v mid → IsUnit ((Word class.Number h, k) ∷ ts) (found_unit tree d t v) mid
+hart_back k (after_hart (after_colon a)) = unit_from register a
 
-bracket_back : {ts mid : List Lined} {t : Target} {v : Value} (k : ℕ) → AtomLeft AfterBracket ts t v mid → IsUnit ((Sign OpenBracket, k) ∷ ts) (Atom t v) mid
-bracket_back k (after_bracket e (after_name (after_target (after_equals iv)))) = atom (bracketed e) iv
+name_back : {w : List ℕ} {ts mid : List Lined} {t : Target} {v : Value} {d : Bool} (n : Class) (k : ℕ) → is_name n ≡ true → AtomLeft (AfterTarget (Location w)) d ts t v mid → IsUnit ((Word n w, k) ∷ ts) (found_unit tree d t v) mid
+name_back n k e a = unit_from (location e) a
+
+bracket_back : {ts mid : List Lined} {t : Target} {v : Value} {d : Bool} (k : ℕ) → AtomLeft AfterBracket d ts t v mid → IsUnit ((Sign OpenBracket, k) ∷ ts) (found_unit tree d t v) mid
+bracket_back k (after_bracket e (after_name a)) = unit_from (bracketed e) a
 
 parens_back : {ts mid mid2 rest : List Lined} {u p w : Syntax} (k : ℕ) (c : Syntax) (f : Frame Syntax) (fs : List (Frame Syntax)) → IsUnit ts u mid → ConjunctionTail u mid p mid2 → DisjunctionTail p mid2 w rest → Closes (f ∷ fs) c rest w → UnitTo f fs ((Sign OpenParen, k) ∷ ts) c
 parens_back {w = w} k c f fs u products sums (r, closing, t) =
     record { value = Group w; mid = r; is_unit = group (disjunction_join (conjunction (conjunction_join (unit u) products)) sums); then = t }
 
 begin_backward : (f : Frame Syntax) (fs : List (Frame Syntax)) (t : Tok) (k : ℕ) (ts : List Lined) (c : Syntax) → LeftOf (next_begin f fs t) ts c → UnitTo f fs ((t, k) ∷ ts) c
-begin_backward f fs (Word class.Number w) k ts c h = record { value = Atom h.target h.value; mid = h.mid; is_unit = hart_back k h.is_atom; then = h.then }
-begin_backward f fs (Word class.NotWord w) k ts c (names h) = record { value = Atom h.target h.value; mid = h.mid; is_unit = name_back class.NotWord k refl h.is_atom; then = h.then }
+begin_backward f fs (Word class.Number w) k ts c h = record { value = found_unit tree h.denies h.target h.value; mid = h.mid; is_unit = hart_back k h.is_atom; then = h.then }
+begin_backward f fs (Word class.NotWord w) k ts c (names h) = record { value = found_unit tree h.denies h.target h.value; mid = h.mid; is_unit = name_back class.NotWord k refl h.is_atom; then = h.then }
 begin_backward f fs (Word class.NotWord w) k ts c (says h) = without_denial c f fs (denial h.is_unit) h.then
-begin_backward f fs (Word class.TrueWord w) k ts c (names h) = record { value = Atom h.target h.value; mid = h.mid; is_unit = name_back class.TrueWord k refl h.is_atom; then = h.then }
+begin_backward f fs (Word class.TrueWord w) k ts c (names h) = record { value = found_unit tree h.denies h.target h.value; mid = h.mid; is_unit = name_back class.TrueWord k refl h.is_atom; then = h.then }
 begin_backward f fs (Word class.TrueWord w) k ts c (says h) = record { value = True; mid = ts; is_unit = truth; then = h }
-begin_backward f fs (Word class.FalseWord w) k ts c (names h) = record { value = Atom h.target h.value; mid = h.mid; is_unit = name_back class.FalseWord k refl h.is_atom; then = h.then }
+begin_backward f fs (Word class.FalseWord w) k ts c (names h) = record { value = found_unit tree h.denies h.target h.value; mid = h.mid; is_unit = name_back class.FalseWord k refl h.is_atom; then = h.then }
 begin_backward f fs (Word class.FalseWord w) k ts c (says h) = record { value = False; mid = ts; is_unit = falsity; then = h }
 begin_backward f fs (Word class.Other w) k ts c h = absurd h
-begin_backward f fs (Word n w) k ts c h = record { value = Atom h.target h.value; mid = h.mid; is_unit = name_back n k refl h.is_atom; then = h.then }
-begin_backward f fs (Sign OpenBracket) k ts c h = record { value = Atom h.target h.value; mid = h.mid; is_unit = bracket_back k h.is_atom; then = h.then }
+begin_backward f fs (Word n w) k ts c h = record { value = found_unit tree h.denies h.target h.value; mid = h.mid; is_unit = name_back n k refl h.is_atom; then = h.then }
+begin_backward f fs (Sign OpenBracket) k ts c h = record { value = found_unit tree h.denies h.target h.value; mid = h.mid; is_unit = bracket_back k h.is_atom; then = h.then }
 begin_backward f fs (Sign Tilde) k ts c h = without_denial c f fs (tilde h.is_unit) h.then
 begin_backward f fs (Sign OpenParen) k ts c h = parens_back k c f fs h.is_unit h.then.products h.then.sums h.then.then
 begin_backward f fs _ k ts c h = absurd h
@@ -290,37 +333,58 @@ after_backward u f (g ∷ fs) (Sign CloseParen) k ts c h =
     record { product = product_of tree f u; value = sum_of tree f u; mid = (Sign CloseParen, k) ∷ ts; rest = (Sign CloseParen, k) ∷ ts; products = done; sums = end; then = (ts, closing, h) }
 after_backward u f fs _ k ts c h = absurd h
 
-minus_back : {s t : Target} {ts mid : List Lined} {v : Value} (k : ℕ) → AtomLeft (AfterMinus s) ts t v mid → AtomLeft (AfterEquals s) ((Sign Minus, k) ∷ ts) t v mid
-minus_back k after_minus = after_equals minus
+minus_back : {s t : Target} {ts mid : List Lined} {v : Value} {e d : Bool} (k : ℕ) → AtomLeft (AfterMinus e s) d ts t v mid → AtomLeft (BeforeValue e s) d ((Sign Minus, k) ∷ ts) t v mid
+minus_back k after_minus = before_value minus
+
+equals_minus_back : {s t : Target} {ts mid : List Lined} {v : Value} {d : Bool} (k : ℕ) → AtomLeft (AfterMinus false s) d ts t v mid → AtomLeft (AfterEquals s) d ((Sign Minus, k) ∷ ts) t v mid
+equals_minus_back k after_minus = after_equals minus
 
 atom_backward : (p : AtomPlace) (f : Frame Syntax) (fs : List (Frame Syntax)) (t : Tok) (k : ℕ) (ts : List Lined) (c : Syntax) → LeftOf (placed (place_after tree (next_atom p t)) f fs) ts c → AtomTo p f fs ((t, k) ∷ ts) c
-atom_backward (AfterHart w) f fs (Sign Colon) k ts c h = record { target = h.target; value = h.value; mid = h.mid; is_atom = after_hart h.is_atom; then = h.then }
+atom_backward (AfterHart w) f fs (Sign Colon) k ts c h = record { target = h.target; value = h.value; denies = h.denies; mid = h.mid; is_atom = after_hart h.is_atom; then = h.then }
 atom_backward (AfterHart w) f fs _ k ts c h = absurd h
-atom_backward (AfterColon w) f fs (Word n r) k ts c h = record { target = h.target; value = h.value; mid = h.mid; is_atom = after_colon h.is_atom; then = h.then }
+atom_backward (AfterColon w) f fs (Word n r) k ts c h = record { target = h.target; value = h.value; denies = h.denies; mid = h.mid; is_atom = after_colon h.is_atom; then = h.then }
 atom_backward (AfterColon w) f fs _ k ts c h = absurd h
 atom_backward AfterBracket f fs (Word class.Number w) k ts c h = absurd h
 atom_backward AfterBracket f fs (Word class.Other w) k ts c h = absurd h
-atom_backward AfterBracket f fs (Word n w) k ts c h = record { target = h.target; value = h.value; mid = h.mid; is_atom = after_bracket refl h.is_atom; then = h.then }
+atom_backward AfterBracket f fs (Word n w) k ts c h = record { target = h.target; value = h.value; denies = h.denies; mid = h.mid; is_atom = after_bracket refl h.is_atom; then = h.then }
 atom_backward AfterBracket f fs _ k ts c h = absurd h
-atom_backward (AfterName w) f fs (Sign CloseBracket) k ts c h = record { target = h.target; value = h.value; mid = h.mid; is_atom = after_name h.is_atom; then = h.then }
+atom_backward (AfterName w) f fs (Sign CloseBracket) k ts c h = record { target = h.target; value = h.value; denies = h.denies; mid = h.mid; is_atom = after_name h.is_atom; then = h.then }
 atom_backward (AfterName w) f fs _ k ts c h = absurd h
-atom_backward (AfterTarget t) f fs (Sign Equals) k ts c h = record { target = h.target; value = h.value; mid = h.mid; is_atom = after_target h.is_atom; then = h.then }
+atom_backward (AfterTarget t) f fs (Sign Equals) k ts c h = record { target = h.target; value = h.value; denies = h.denies; mid = h.mid; is_atom = target_equals h.is_atom; then = h.then }
+atom_backward (AfterTarget t) f fs (Sign Less) k ts c h = record { target = h.target; value = h.value; denies = h.denies; mid = h.mid; is_atom = target_less h.is_atom; then = h.then }
+atom_backward (AfterTarget t) f fs (Sign Bang) k ts c h = record { target = h.target; value = h.value; denies = h.denies; mid = h.mid; is_atom = target_bang h.is_atom; then = h.then }
 atom_backward (AfterTarget t) f fs _ k ts c h = absurd h
-atom_backward (AfterEquals t) f fs (Word class.Number w) k ts c h = record { target = t; value = Number false w; mid = ts; is_atom = after_equals number; then = h }
+atom_backward (AfterLess t) f fs (Sign Greater) k ts c h = record { target = h.target; value = h.value; denies = h.denies; mid = h.mid; is_atom = after_less h.is_atom; then = h.then }
+atom_backward (AfterLess t) f fs _ k ts c h = absurd h
+atom_backward (AfterBang t) f fs (Sign Equals) k ts c h = record { target = h.target; value = h.value; denies = h.denies; mid = h.mid; is_atom = after_bang h.is_atom; then = h.then }
+atom_backward (AfterBang t) f fs _ k ts c h = absurd h
+atom_backward (AfterEquals t) f fs (Sign Equals) k ts c h = record { target = h.target; value = h.value; denies = h.denies; mid = h.mid; is_atom = equals_equals h.is_atom; then = h.then }
+atom_backward (AfterEquals t) f fs (Word class.Number w) k ts c h = record { target = t; value = Number false w; denies = false; mid = ts; is_atom = after_equals number; then = h }
 atom_backward (AfterEquals t) f fs (Word class.Other w) k ts c h = absurd h
-atom_backward (AfterEquals t) f fs (Word n w) k ts c h = record { target = t; value = Address w; mid = ts; is_atom = after_equals (address refl); then = h }
-atom_backward (AfterEquals t) f fs (Sign Minus) k ts c h = record { target = h.target; value = h.value; mid = h.mid; is_atom = minus_back k h.is_atom; then = h.then }
+atom_backward (AfterEquals t) f fs (Word n w) k ts c h = record { target = t; value = Address w; denies = false; mid = ts; is_atom = after_equals (address refl); then = h }
+atom_backward (AfterEquals t) f fs (Sign Minus) k ts c h = record { target = h.target; value = h.value; denies = h.denies; mid = h.mid; is_atom = equals_minus_back k h.is_atom; then = h.then }
 atom_backward (AfterEquals t) f fs _ k ts c h = absurd h
-atom_backward (AfterMinus t) f fs (Word class.Number w) k ts c h = record { target = t; value = Number true w; mid = ts; is_atom = after_minus; then = h }
-atom_backward (AfterMinus t) f fs _ k ts c h = absurd h
+atom_backward (BeforeValue d t) f fs (Word class.Number w) k ts c h = record { target = t; value = Number false w; denies = d; mid = ts; is_atom = before_value number; then = h }
+atom_backward (BeforeValue d t) f fs (Word class.Other w) k ts c h = absurd h
+atom_backward (BeforeValue d t) f fs (Word n w) k ts c h = record { target = t; value = Address w; denies = d; mid = ts; is_atom = before_value (address refl); then = h }
+atom_backward (BeforeValue d t) f fs (Sign Minus) k ts c h = record { target = h.target; value = h.value; denies = h.denies; mid = h.mid; is_atom = minus_back k h.is_atom; then = h.then }
+atom_backward (BeforeValue d t) f fs _ k ts c h = absurd h
+atom_backward (AfterMinus d t) f fs (Word class.Number w) k ts c h = record { target = t; value = Number true w; denies = d; mid = ts; is_atom = after_minus; then = h }
+atom_backward (AfterMinus d t) f fs _ k ts c h = absurd h
 
 pub backward : (p : Place Syntax) (f : Frame Syntax) (fs : List (Frame Syntax)) (t : Tok) (k : ℕ) (ts : List Lined) (c : Syntax) → LeftOf (next_in tree p f fs t) ts c → LeftIn p f fs ((t, k) ∷ ts) c
 backward Begin f fs t k ts c h = begin_backward f fs t k ts c h
-backward (AfterNot w) f fs (Sign Equals) k ts c h = names (record { target = h.target; value = h.value; mid = h.mid; is_atom = after_target h.is_atom; then = h.then })
+backward (AfterNot w) f fs (Sign Equals) k ts c h = names (record { target = h.target; value = h.value; denies = h.denies; mid = h.mid; is_atom = target_equals h.is_atom; then = h.then })
+backward (AfterNot w) f fs (Sign Less) k ts c h = names (record { target = h.target; value = h.value; denies = h.denies; mid = h.mid; is_atom = target_less h.is_atom; then = h.then })
+backward (AfterNot w) f fs (Sign Bang) k ts c h = names (record { target = h.target; value = h.value; denies = h.denies; mid = h.mid; is_atom = target_bang h.is_atom; then = h.then })
 backward (AfterNot w) f fs t k ts c h = says (begin_backward (with_denial f) fs t k ts c h)
-backward (AfterTrue w) f fs (Sign Equals) k ts c h = names (record { target = h.target; value = h.value; mid = h.mid; is_atom = after_target h.is_atom; then = h.then })
+backward (AfterTrue w) f fs (Sign Equals) k ts c h = names (record { target = h.target; value = h.value; denies = h.denies; mid = h.mid; is_atom = target_equals h.is_atom; then = h.then })
+backward (AfterTrue w) f fs (Sign Less) k ts c h = names (record { target = h.target; value = h.value; denies = h.denies; mid = h.mid; is_atom = target_less h.is_atom; then = h.then })
+backward (AfterTrue w) f fs (Sign Bang) k ts c h = names (record { target = h.target; value = h.value; denies = h.denies; mid = h.mid; is_atom = target_bang h.is_atom; then = h.then })
 backward (AfterTrue w) f fs t k ts c h = says (after_backward True f fs t k ts c h)
-backward (AfterFalse w) f fs (Sign Equals) k ts c h = names (record { target = h.target; value = h.value; mid = h.mid; is_atom = after_target h.is_atom; then = h.then })
+backward (AfterFalse w) f fs (Sign Equals) k ts c h = names (record { target = h.target; value = h.value; denies = h.denies; mid = h.mid; is_atom = target_equals h.is_atom; then = h.then })
+backward (AfterFalse w) f fs (Sign Less) k ts c h = names (record { target = h.target; value = h.value; denies = h.denies; mid = h.mid; is_atom = target_less h.is_atom; then = h.then })
+backward (AfterFalse w) f fs (Sign Bang) k ts c h = names (record { target = h.target; value = h.value; denies = h.denies; mid = h.mid; is_atom = target_bang h.is_atom; then = h.then })
 backward (AfterFalse w) f fs t k ts c h = says (after_backward False f fs t k ts c h)
 backward (InAtom p) f fs t k ts c h = atom_backward p f fs t k ts c h
 backward (AfterUnit u) f fs t k ts c h = after_backward u f fs t k ts c h
@@ -334,10 +398,12 @@ no_target : {t : Target} {m : List Lined} → IsTarget [] t m → ⊥
 no_target h = elim h [ ]
 
 no_unit : {u : Syntax} {m : List Lined} → IsUnit [] u m → ⊥
-no_unit (atom it iv) = no_target it
+no_unit (atom it q iv) = no_target it
+no_unit (other it q iv) = no_target it
 
-no_atom : {p : AtomPlace} {t : Target} {v : Value} {m : List Lined} → AtomLeft p [] t v m → ⊥
+no_atom : {p : AtomPlace} {t : Target} {v : Value} {d : Bool} {m : List Lined} → AtomLeft p d [] t v m → ⊥
 no_atom (after_equals iv) = no_value iv
+no_atom (before_value iv) = no_value iv
 
 no_closing : {r : List Lined} → IsClosing [] r → ⊥
 no_closing h = elim h [ ]
@@ -403,12 +469,22 @@ live_target (AfterColon h) = Register h (120 ∷ 53 ∷ [])
 live_target AfterBracket = Location (120 ∷ [])
 live_target (AfterName w) = Location w
 live_target (AfterTarget t) = t
+live_target (AfterLess t) = t
+live_target (AfterBang t) = t
 live_target (AfterEquals t) = t
-live_target (AfterMinus t) = t
+live_target (BeforeValue d t) = t
+live_target (AfterMinus d t) = t
 
 abbrev live_value : AtomPlace → Value
-live_value (AfterMinus t) = Number true (48 ∷ [])
+live_value (AfterMinus d t) = Number true (48 ∷ [])
 live_value _ = Number false (48 ∷ [])
+
+abbrev live_denies : AtomPlace → Bool
+live_denies (AfterLess t) = true
+live_denies (AfterBang t) = true
+live_denies (BeforeValue d t) = d
+live_denies (AfterMinus d t) = d
+live_denies _ = false
 
 abbrev zero_then : List Lined → List Lined
 zero_then ts = (Word class.Number (48 ∷ []), 0) ∷ ts
@@ -422,17 +498,26 @@ live_tokens (AfterColon h) ts = (Word class.Name (120 ∷ 53 ∷ []), 0) ∷ equ
 live_tokens AfterBracket ts = (Word class.Name (120 ∷ []), 0) ∷ (Sign CloseBracket, 0) ∷ equals_then ts
 live_tokens (AfterName w) ts = (Sign CloseBracket, 0) ∷ equals_then ts
 live_tokens (AfterTarget t) ts = equals_then ts
+live_tokens (AfterLess t) ts = (Sign Greater, 0) ∷ zero_then ts
+live_tokens (AfterBang t) ts = equals_then ts
 live_tokens (AfterEquals t) ts = zero_then ts
-live_tokens (AfterMinus t) ts = zero_then ts
+live_tokens (BeforeValue d t) ts = zero_then ts
+live_tokens (AfterMinus d t) ts = zero_then ts
 
-atom_live : (p : AtomPlace) (ts : List Lined) → AtomLeft p (live_tokens p ts) (live_target p) (live_value p) ts
-atom_live (AfterHart h) ts = after_hart (after_colon (after_target (after_equals number)))
-atom_live (AfterColon h) ts = after_colon (after_target (after_equals number))
-atom_live AfterBracket ts = after_bracket refl (after_name (after_target (after_equals number)))
-atom_live (AfterName w) ts = after_name (after_target (after_equals number))
-atom_live (AfterTarget t) ts = after_target (after_equals number)
+target_live : (t : Target) (ts : List Lined) → AtomLeft (AfterTarget t) false (equals_then ts) t (Number false (48 ∷ [])) ts
+target_live t ts = target_equals (after_equals number)
+
+atom_live : (p : AtomPlace) (ts : List Lined) → AtomLeft p (live_denies p) (live_tokens p ts) (live_target p) (live_value p) ts
+atom_live (AfterHart h) ts = after_hart (after_colon (target_live (Register h (120 ∷ 53 ∷ [])) ts))
+atom_live (AfterColon h) ts = after_colon (target_live (Register h (120 ∷ 53 ∷ [])) ts)
+atom_live AfterBracket ts = after_bracket refl (after_name (target_live (Location (120 ∷ [])) ts))
+atom_live (AfterName w) ts = after_name (target_live (Location w) ts)
+atom_live (AfterTarget t) ts = target_live t ts
+atom_live (AfterLess t) ts = after_less (before_value number)
+atom_live (AfterBang t) ts = after_bang (before_value number)
 atom_live (AfterEquals t) ts = after_equals number
-atom_live (AfterMinus t) ts = after_minus
+atom_live (BeforeValue d t) ts = before_value number
+atom_live (AfterMinus d t) ts = after_minus
 
 pub live : (p : Place Syntax) (f : Frame Syntax) (fs : List (Frame Syntax)) → (ts : List Lined) × (c : Syntax) × LeftIn p f fs ts c
 live Begin f fs = begin_live f fs
@@ -440,8 +525,8 @@ live (AfterNot w) f fs = let x = begin_live (with_denial f) fs in (x.0, x.1, say
 live (AfterTrue w) f fs = let x = after_live f fs True in (x.0, x.1, says x.2)
 live (AfterFalse w) f fs = let x = after_live f fs False in (x.0, x.1, says x.2)
 live (InAtom p) f fs =
-    let x = after_live f fs (Atom (live_target p) (live_value p)) in
-    (live_tokens p x.0, x.1, record { target = live_target p; value = live_value p; mid = x.0; is_atom = atom_live p x.0; then = x.2 })
+    let x = after_live f fs (found_unit tree (live_denies p) (live_target p) (live_value p)) in
+    (live_tokens p x.0, x.1, record { target = live_target p; value = live_value p; denies = live_denies p; mid = x.0; is_atom = atom_live p x.0; then = x.2 })
 live (AfterUnit u) f fs = after_live f fs u
 
 -- ---- the start

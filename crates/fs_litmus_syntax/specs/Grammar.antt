@@ -4,7 +4,7 @@ use Rattle.std.specs.Prelude.{ℕ, List, [], ◌∷◌}
 use Rattle.fs_litmus_tokens.specs.Tokens.{Lined, Word, Sign}
 use Rattle.fs_litmus_tokens.specs.Values.{Target, Value, IsTarget, IsValue}
 use Rattle.fs_litmus_tokens.specs.declared.word.Class.TheVariants.{NotWord, TrueWord, FalseWord}
-use Rattle.fs_litmus_tokens.specs.declared.token.Mark.TheVariants.{Equals, Tilde, OpenParen, CloseParen, And, Or}
+use Rattle.fs_litmus_tokens.specs.declared.token.Mark.TheVariants.{Equals, Less, Greater, Bang, Tilde, OpenParen, CloseParen, And, Or}
 
 -- a condition as it is written; a group stands in parentheses
 pub data Syntax : Type 0 where
@@ -16,9 +16,20 @@ pub data Syntax : Type 0 where
   Both : Syntax → Syntax → Syntax
   Either : Syntax → Syntax → Syntax
 
+-- = or ==: the target has the value
+pub data IsEqual : List Lined → List Lined → Type 0 where
+  once : {k : ℕ} {rest : List Lined} → IsEqual ((Sign Equals, k) ∷ rest) rest
+  twice : {j k : ℕ} {rest : List Lined} → IsEqual ((Sign Equals, j) ∷ (Sign Equals, k) ∷ rest) rest
+
+-- <> or !=: it has another
+pub data IsUnequal : List Lined → List Lined → Type 0 where
+  less_greater : {j k : ℕ} {rest : List Lined} → IsUnequal ((Sign Less, j) ∷ (Sign Greater, k) ∷ rest) rest
+  bang_equals : {j k : ℕ} {rest : List Lined} → IsUnequal ((Sign Bang, j) ∷ (Sign Equals, k) ∷ rest) rest
+
 mutual
   pub data IsUnit : List Lined → Syntax → List Lined → Type 0 where
-    atom : {t : Target} {v : Value} {k : ℕ} {ts mid rest : List Lined} → IsTarget ts t ((Sign Equals, k) ∷ mid) → IsValue mid v rest → IsUnit ts (Atom t v) rest
+    atom : {t : Target} {v : Value} {ts mid after rest : List Lined} → IsTarget ts t mid → IsEqual mid after → IsValue after v rest → IsUnit ts (Atom t v) rest
+    other : {t : Target} {v : Value} {ts mid after rest : List Lined} → IsTarget ts t mid → IsUnequal mid after → IsValue after v rest → IsUnit ts (Deny (Atom t v)) rest
     truth : {w : List ℕ} {k : ℕ} {rest : List Lined} → IsUnit ((Word TrueWord w, k) ∷ rest) True rest
     falsity : {w : List ℕ} {k : ℕ} {rest : List Lined} → IsUnit ((Word FalseWord w, k) ∷ rest) False rest
     tilde : {s : Syntax} {k : ℕ} {ts rest : List Lined} → IsUnit ts s rest → IsUnit ((Sign Tilde, k) ∷ ts) (Deny s) rest

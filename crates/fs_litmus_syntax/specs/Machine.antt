@@ -1,10 +1,10 @@
 -- What the reader of conditions does, over any values for the parts of a condition.
-use Rattle.std.specs.Prelude.{ℕ, zero, suc, ◌+◌, List, [], ◌∷◌, ◌++◌, true, false, Option, Some, None, Result, Ok, Err}
+use Rattle.std.specs.Prelude.{ℕ, zero, suc, ◌+◌, List, [], ◌∷◌, ◌++◌, Bool, true, false, Option, Some, None, Result, Ok, Err}
 use Rattle.fs_litmus_tokens.specs.Tokens.{Tok, Lined, Word, Sign}
 use Rattle.fs_litmus_tokens.specs.Sections.{Move, Go, Finish, Bad}
 use Rattle.fs_litmus_tokens.specs.Values.{Target, Register, Location, Value, Number, Address}
 use Rattle.fs_litmus_tokens.specs.declared.word.Class.TheVariants as class
-use Rattle.fs_litmus_tokens.specs.declared.token.Mark.TheVariants.{Colon, Equals, OpenBracket, CloseBracket, Minus, Tilde, OpenParen, CloseParen, And, Or}
+use Rattle.fs_litmus_tokens.specs.declared.token.Mark.TheVariants.{Colon, Equals, Less, Greater, Bang, OpenBracket, CloseBracket, Minus, Tilde, OpenParen, CloseParen, And, Or}
 
 -- ---- atoms
 
@@ -15,22 +15,49 @@ pub data AtomPlace : Type 0 where
   AfterBracket : AtomPlace
   AfterName : (name : List ℕ) → AtomPlace
   AfterTarget : Target → AtomPlace
+  AfterLess : Target → AtomPlace
+  AfterBang : Target → AtomPlace
   AfterEquals : Target → AtomPlace
-  AfterMinus : Target → AtomPlace
+  -- the sign is whole, and denies that they are equal or doesn't
+  BeforeValue : (denies : Bool) → Target → AtomPlace
+  AfterMinus : (denies : Bool) → Target → AtomPlace
 
-abbrev pub next_atom : AtomPlace → Tok → Move AtomPlace (Target × Value)
+-- an atom, and whether it is denied
+abbrev pub Found : Type 0
+Found = Bool × Target × Value
+
+-- the first token of the sign after a target
+abbrev pub compared_by : Target → Tok → Option AtomPlace
+compared_by t (Sign Equals) = Some (AfterEquals t)
+compared_by t (Sign Less) = Some (AfterLess t)
+compared_by t (Sign Bang) = Some (AfterBang t)
+compared_by t _ = None
+
+abbrev pub went_to : Option AtomPlace → Move AtomPlace Found
+went_to None = Bad
+went_to (Some p) = Go p
+
+abbrev pub value_begun : Bool → Target → Tok → Move AtomPlace Found
+value_begun denies t (Word class.Number w) = Finish (denies, t, Number false w)
+value_begun denies t (Word class.Other w) = Bad
+value_begun denies t (Word c w) = Finish (denies, t, Address w)
+value_begun denies t (Sign Minus) = Go (AfterMinus denies t)
+value_begun denies t _ = Bad
+
+abbrev pub next_atom : AtomPlace → Tok → Move AtomPlace Found
 next_atom (AfterHart h) (Sign Colon) = Go (AfterColon h)
 next_atom (AfterColon h) (Word c r) = Go (AfterTarget (Register h r))
 next_atom AfterBracket (Word class.Number w) = Bad
 next_atom AfterBracket (Word class.Other w) = Bad
 next_atom AfterBracket (Word c w) = Go (AfterName w)
 next_atom (AfterName w) (Sign CloseBracket) = Go (AfterTarget (Location w))
-next_atom (AfterTarget t) (Sign Equals) = Go (AfterEquals t)
-next_atom (AfterEquals t) (Word class.Number w) = Finish (t, Number false w)
-next_atom (AfterEquals t) (Word class.Other w) = Bad
-next_atom (AfterEquals t) (Word c w) = Finish (t, Address w)
-next_atom (AfterEquals t) (Sign Minus) = Go (AfterMinus t)
-next_atom (AfterMinus t) (Word class.Number w) = Finish (t, Number true w)
+next_atom (AfterTarget t) u = went_to (compared_by t u)
+next_atom (AfterLess t) (Sign Greater) = Go (BeforeValue true t)
+next_atom (AfterBang t) (Sign Equals) = Go (BeforeValue true t)
+next_atom (AfterEquals t) (Sign Equals) = Go (BeforeValue false t)
+next_atom (AfterEquals t) u = value_begun false t u
+next_atom (BeforeValue denies t) u = value_begun denies t u
+next_atom (AfterMinus denies t) (Word class.Number w) = Finish (denies, t, Number true w)
 next_atom _ _ = Bad
 
 -- ---- conditions
@@ -102,13 +129,14 @@ next_begin f fs (Sign Tilde) = Some (at Begin (with_denial f) fs)
 next_begin f fs (Sign OpenParen) = Some (at Begin empty (f ∷ fs))
 next_begin f fs _ = None
 
--- a word that names a location, and then =
-abbrev pub named : {X : Type 0} → List ℕ → Frame X → List (Frame X) → Option (State X)
-named w f fs = Some (at (InAtom (AfterEquals (Location w))) f fs)
+-- a word names a location where the sign of an atom follows
+abbrev pub named_or : {X : Type 0} → Option AtomPlace → Frame X → List (Frame X) → Option (State X) → Option (State X)
+named_or None f fs says = says
+named_or (Some p) f fs says = Some (at (InAtom p) f fs)
 
 -- the atoms that end with this token
-abbrev pub finished : Move AtomPlace (Target × Value) → List (Target × Value)
-finished (Finish a) = a ∷ []
+abbrev pub finished : Move AtomPlace Found → List (Target × Value)
+finished (Finish a) = (a.1, a.2) ∷ []
 finished _ = []
 
 abbrev pub atoms_at : {X : Type 0} → Place X → Tok → List (Target × Value)
@@ -143,19 +171,20 @@ module _ {X : Type 0} (make : Maker X) where
   next_after u f fs (Sign CloseParen) = closed f fs u
   next_after u f fs _ = None
 
-  abbrev pub place_after : Move AtomPlace (Target × Value) → Option (Place X)
+  abbrev pub found_unit : Bool → Target → Value → X
+  found_unit false t v = make.atom t v
+  found_unit true t v = make.deny (make.atom t v)
+
+  abbrev pub place_after : Move AtomPlace Found → Option (Place X)
   place_after (Go p) = Some (InAtom p)
-  place_after (Finish a) = Some (AfterUnit (make.atom a.0 a.1))
+  place_after (Finish a) = Some (AfterUnit (found_unit a.0 a.1 a.2))
   place_after Bad = None
 
   abbrev pub next_in : Place X → Frame X → List (Frame X) → Tok → Option (State X)
   next_in Begin f fs t = next_begin f fs t
-  next_in (AfterNot w) f fs (Sign Equals) = named w f fs
-  next_in (AfterNot w) f fs t = next_begin (with_denial f) fs t
-  next_in (AfterTrue w) f fs (Sign Equals) = named w f fs
-  next_in (AfterTrue w) f fs t = next_after make.truth f fs t
-  next_in (AfterFalse w) f fs (Sign Equals) = named w f fs
-  next_in (AfterFalse w) f fs t = next_after make.falsity f fs t
+  next_in (AfterNot w) f fs t = named_or (compared_by (Location w) t) f fs (next_begin (with_denial f) fs t)
+  next_in (AfterTrue w) f fs t = named_or (compared_by (Location w) t) f fs (next_after make.truth f fs t)
+  next_in (AfterFalse w) f fs t = named_or (compared_by (Location w) t) f fs (next_after make.falsity f fs t)
   next_in (InAtom p) f fs t = placed (place_after (next_atom p t)) f fs
   next_in (AfterUnit u) f fs t = next_after u f fs t
 

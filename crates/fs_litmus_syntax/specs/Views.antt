@@ -22,7 +22,7 @@ use Rattle.fs_litmus_syntax.specs.declared.reader.Place as spots
 use Rattle.fs_litmus_syntax.specs.declared.reader.Place.TheVariants as spot
 use Rattle.fs_litmus_syntax.specs.declared.reader.Reader.{Reader}
 use Rattle.fs_litmus_syntax.specs.Meaning.{Condition, Atom, True, False, Deny, Both, Either}
-use Rattle.fs_litmus_syntax.specs.Machine.{AtomPlace, AfterHart, AfterColon, AfterBracket, AfterName, AfterTarget, AfterEquals, AfterMinus, Frame, Place, Begin, AfterNot, AfterTrue, AfterFalse, InAtom, AfterUnit, State}
+use Rattle.fs_litmus_syntax.specs.Machine.{AtomPlace, AfterHart, AfterColon, AfterBracket, AfterName, AfterTarget, AfterLess, AfterBang, AfterEquals, BeforeValue, AfterMinus, Found, Frame, Place, Begin, AfterNot, AfterTrue, AfterFalse, InAtom, AfterUnit, State}
 use Rattle.fs_litmus_syntax.specs.Limited.{Bounded, Deep, Fine}
 
 abbrev pub atom_of : atoms.Atom → Target × Value
@@ -51,12 +51,15 @@ atom_place_of (atom_places.AfterColon h) = AfterColon h.now
 atom_place_of atom_places.AfterBracket = AfterBracket
 atom_place_of (atom_places.AfterName w) = AfterName w.now
 atom_place_of (atom_places.AfterTarget t) = AfterTarget (target_of t)
+atom_place_of (atom_places.AfterLess t) = AfterLess (target_of t)
+atom_place_of (atom_places.AfterBang t) = AfterBang (target_of t)
 atom_place_of (atom_places.AfterEquals t) = AfterEquals (target_of t)
-atom_place_of (atom_places.AfterMinus t) = AfterMinus (target_of t)
+atom_place_of (atom_places.BeforeValue denies t) = BeforeValue denies (target_of t)
+atom_place_of (atom_places.AfterMinus denies t) = AfterMinus denies (target_of t)
 
-abbrev pub atom_step_of : AtomStep → Move AtomPlace (Target × Value)
+abbrev pub atom_step_of : AtomStep → Move AtomPlace Found
 atom_step_of (steps.Go p) = Go (atom_place_of p)
-atom_step_of (steps.Done a) = Finish (atom_of a)
+atom_step_of (steps.Done denies a) = Finish (denies, target_of a.target, value_of a.value)
 atom_step_of steps.Bad = Bad
 
 abbrev pub layer_of : Layer → Frame Bounded

@@ -1,10 +1,9 @@
 //! Reads an atom, a token at a time.
 
-ghost use Rattle.std.specs.Prelude.{◌≡◌};
+ghost use Rattle.std.specs.Prelude.{◌≡◌, option_map};
 ghost use Rattle.fs_litmus_tokens.specs.Tokens.{kind_of};
 ghost use Rattle.fs_litmus_tokens.specs.Sections.{Finish};
-ghost use Rattle.fs_litmus_tokens.specs.Values as values;
-ghost use Rattle.fs_litmus_tokens.specs.Values.{target_of};
+ghost use Rattle.fs_litmus_tokens.specs.Values.{target_of, value_of};
 ghost use Rattle.fs_litmus_syntax.specs.Machine as machine;
 ghost use Rattle.fs_litmus_syntax.specs.Views.{atom_place_of, atom_step_of};
 
@@ -19,16 +18,33 @@ pub enum AtomPlace<'a> {
     AfterBracket,
     AfterName(&'a str),
     AfterTarget(Target<'a>),
+    AfterLess(Target<'a>),
+    AfterBang(Target<'a>),
     AfterEquals(Target<'a>),
-    AfterMinus(Target<'a>),
+    /// The sign is whole, and denies that target and value are equal or doesn't.
+    BeforeValue(bool, Target<'a>),
+    AfterMinus(bool, Target<'a>),
 }
 
-/// What one more token of an atom does: there is more to come, or the atom ends with it, or it can't stand there.
+/// What one more token of an atom does: there is more to come, or the atom ends with it, denied or not, or it can't stand
+/// there.
 #[derive(Clone, Copy, Debug)]
 pub enum AtomStep<'a> {
     Go(AtomPlace<'a>),
-    Done(Atom<'a>),
+    Done(bool, Atom<'a>),
     Bad,
+}
+
+/// The first token of the sign after a target: of `=` and `==`, `<>`, or `!=`.
+pub(crate) fn compared_by<'a>(target: Target<'a>, kind: Kind<'a>) -> Option<AtomPlace<'a>>
+    ensures { option_map atom_place_of result ≡ machine.compared_by (target_of target.entry) (kind_of kind.entry) }
+{
+    match kind {
+        Kind::Sign(Mark::Equals) => Some(AtomPlace::AfterEquals(target)),
+        Kind::Sign(Mark::Less) => Some(AtomPlace::AfterLess(target)),
+        Kind::Sign(Mark::Bang) => Some(AtomPlace::AfterBang(target)),
+        _ => None,
+    }
 }
 
 /// A mark of an atom.
@@ -40,24 +56,50 @@ fn mark_step<'a>(place: AtomPlace<'a>, mark: Mark) -> AtomStep<'a>
         (AtomPlace::AfterName(name), Mark::CloseBracket) => {
             AtomStep::Go(AtomPlace::AfterTarget(Target::Location(name)))
         }
-        (AtomPlace::AfterTarget(target), Mark::Equals) => {
-            AtomStep::Go(AtomPlace::AfterEquals(target))
+        (AtomPlace::AfterTarget(target), _) => match compared_by(target, Kind::Sign(mark)) {
+            Some(place) => AtomStep::Go(place),
+            None => AtomStep::Bad,
+        },
+        (AtomPlace::AfterLess(target), Mark::Greater)
+        | (AtomPlace::AfterBang(target), Mark::Equals) => {
+            AtomStep::Go(AtomPlace::BeforeValue(true, target))
+        }
+        (AtomPlace::AfterEquals(target), Mark::Equals) => {
+            AtomStep::Go(AtomPlace::BeforeValue(false, target))
         }
         (AtomPlace::AfterEquals(target), Mark::Minus) => {
-            AtomStep::Go(AtomPlace::AfterMinus(target))
+            AtomStep::Go(AtomPlace::AfterMinus(false, target))
+        }
+        (AtomPlace::BeforeValue(denies, target), Mark::Minus) => {
+            AtomStep::Go(AtomPlace::AfterMinus(denies, target))
         }
         _ => AtomStep::Bad,
     }
 }
 
-/// An atom with a number.
-fn number<'a>(target: Target<'a>, negative: bool, digits: &'a str) -> AtomStep<'a>
-    ensures { atom_step_of result ≡ Finish (target_of target.entry, values.Number negative digits.entry.now) }
+/// An atom with this value.
+fn done<'a>(denies: bool, target: Target<'a>, value: Value<'a>) -> AtomStep<'a>
+    ensures { atom_step_of result ≡ Finish (denies, target_of target.entry, value_of value.entry) }
 {
-    AtomStep::Done(Atom {
-        target,
-        value: Value::Number { negative, digits },
-    })
+    AtomStep::Done(denies, Atom { target, value })
+}
+
+/// A word that is the value of an atom.
+fn value_word<'a>(denies: bool, target: Target<'a>, class: Class, word: &'a str) -> AtomStep<'a>
+    ensures { atom_step_of result
+        ≡ machine.value_begun denies (target_of target.entry) (kind_of (Kind.Word class word.entry)) }
+{
+    match class {
+        Class::Number => {
+            let value = Value::Number {
+                negative: false,
+                digits: word,
+            };
+            done(denies, target, value)
+        }
+        Class::Other => AtomStep::Bad,
+        _ => done(denies, target, Value::Address(word)),
+    }
 }
 
 /// A word of an atom.
@@ -72,13 +114,16 @@ fn word_step<'a>(place: AtomPlace<'a>, class: Class, word: &'a str) -> AtomStep<
                 register: word,
             },
         )),
-        (AtomPlace::AfterMinus(target), Class::Number) => number(target, true, word),
-        (AtomPlace::AfterEquals(target), Class::Number) => number(target, false, word),
+        (AtomPlace::AfterEquals(target), _) => value_word(false, target, class, word),
+        (AtomPlace::BeforeValue(denies, target), _) => value_word(denies, target, class, word),
+        (AtomPlace::AfterMinus(denies, target), Class::Number) => {
+            let value = Value::Number {
+                negative: true,
+                digits: word,
+            };
+            done(denies, target, value)
+        }
         (_, Class::Number | Class::Other) => AtomStep::Bad,
-        (AtomPlace::AfterEquals(target), _) => AtomStep::Done(Atom {
-            target,
-            value: Value::Address(word),
-        }),
         (AtomPlace::AfterBracket, _) => AtomStep::Go(AtomPlace::AfterName(word)),
         _ => AtomStep::Bad,
     }

@@ -4,13 +4,15 @@ ghost use Rattle.std.specs.Prelude.{◌≡◌, ◌<◌, ◌+◌, ◌++◌, [], I
 ghost use Rattle.fs_litmus_tokens.specs.Tokens.{kind_of, views};
 ghost use Rattle.fs_litmus_syntax.specs.Grammar.{Syntax, IsCondition};
 ghost use Rattle.fs_litmus_syntax.specs.Answer.{Means, StopsAt};
-ghost use Rattle.fs_litmus_syntax.specs.Machine.{next_begin, next_after, named, closed, finished, next_atom, atoms_at};
-ghost use Rattle.fs_litmus_syntax.specs.Machine.{put_off, place_after, next, last_unit, end_of, read, start};
-ghost use Rattle.fs_litmus_syntax.specs.Limited.{limited};
-ghost use Rattle.fs_litmus_syntax.specs.Views.{subformula_of, atom_of, atom_place_of, layer_of, below_of, place_of};
-ghost use Rattle.fs_litmus_syntax.specs.Views.{reader_of, Gives};
+ghost use Rattle.fs_litmus_tokens.specs.Values.{Location, target_of, value_of};
+ghost use Rattle.fs_litmus_syntax.specs.Machine.{next_begin, next_after, compared_by, named_or, found_unit, closed};
+ghost use Rattle.fs_litmus_syntax.specs.Machine.{finished, next_atom, at, InAtom, atoms_at, put_off, place_after};
+ghost use Rattle.fs_litmus_syntax.specs.Machine.{next, last_unit, end_of, read, start};
+ghost use Rattle.fs_litmus_syntax.specs.Limited.{Fine, limited};
+ghost use Rattle.fs_litmus_syntax.specs.Views.{subformula_of, tree_of, atom_of, atom_place_of, layer_of, below_of};
+ghost use Rattle.fs_litmus_syntax.specs.Views.{place_of, reader_of, Gives};
 
-use crate::atom::{AtomPlace, AtomStep};
+use crate::atom::{AtomPlace, AtomStep, compared_by};
 use crate::condition::{Atom, Condition, Tree};
 use crate::layer::Layer;
 use crate::subformula::Subformula;
@@ -149,15 +151,48 @@ fn after<'a>(
     }
 }
 
-/// A word that names a location, and then `=`.
-fn named<'a>(word: &'a str, layer: Layer<'a>, below: Vec<Layer<'a>>) -> Reader<'a>
-    ensures { Some (reader_of result) ≡ named word.entry.now (layer_of layer.entry) (below_of below.entry.items []) }
+/// The first token of the sign of an atom.
+fn compared<'a>(place: AtomPlace<'a>, layer: Layer<'a>, below: Vec<Layer<'a>>) -> Reader<'a>
+    ensures { reader_of result
+        ≡ at (InAtom (atom_place_of place.entry)) (layer_of layer.entry) (below_of below.entry.items []) }
 {
     Reader {
-        place: Place::InAtom(AtomPlace::AfterEquals(Target::Location(word))),
+        place: Place::InAtom(place),
         layer,
         below,
     }
+}
+
+/// After `true` or `false`, which names a location where the sign of an atom follows.
+fn after_word<'a>(
+    alloc: Global,
+    word: &'a str,
+    says: Tree<'a>,
+    layer: Layer<'a>,
+    below: Vec<Layer<'a>>,
+    kind: Kind<'a>,
+) -> Result<Option<Reader<'a>>, AllocError>
+    ensures { IfOk result (λ r. option_map reader_of r
+        ≡ named_or (compared_by (Location word.entry.now) (kind_of kind.entry)) (layer_of layer.entry)
+        (below_of below.entry.items []) (next_after limited (Fine 0 0 (tree_of says.entry)) (layer_of layer.entry)
+        (below_of below.entry.items []) (kind_of kind.entry))) }
+{
+    match compared_by(Target::Location(word), kind) {
+        Some(place) => Ok(Some(compared(place, layer, below))),
+        None => {
+            let unit = Subformula::leaf(alloc, says)?;
+            after(alloc, unit, layer, below, kind)
+        }
+    }
+}
+
+/// An atom, denied or not.
+fn found_unit<'a>(alloc: Global, denies: bool, atom: Atom<'a>) -> Result<Subformula<'a>, AllocError>
+    ensures { IfOk result (λ p. subformula_of p
+        ≡ found_unit limited denies (target_of atom.entry.target) (value_of atom.entry.value)) }
+{
+    let unit = Subformula::leaf(alloc, Tree::Atom(atom))?;
+    if denies { unit.denied(alloc) } else { Ok(unit) }
 }
 
 /// In an atom.
@@ -174,10 +209,10 @@ fn in_atom<'a>(
 {
     match place.step(kind) {
         AtomStep::Go(place) => Ok(Some(Place::InAtom(place))),
-        AtomStep::Done(atom) => {
+        AtomStep::Done(denies, atom) => {
             atoms.push(atom)?;
-            let subformula = Subformula::leaf(alloc, Tree::Atom(atom))?;
-            Ok(Some(Place::AfterUnit(subformula)))
+            let unit = found_unit(alloc, denies, atom)?;
+            Ok(Some(Place::AfterUnit(unit)))
         }
         AtomStep::Bad => Ok(None),
     }
@@ -203,24 +238,12 @@ fn step<'a>(
     } = reader;
     match place {
         Place::Begin => begin(layer, below, kind),
-        Place::AfterNot(word) => match kind {
-            Kind::Sign(Mark::Equals) => Ok(Some(named(word, layer, below))),
-            _ => begin(layer.with_denial(), below, kind),
+        Place::AfterNot(word) => match compared_by(Target::Location(word), kind) {
+            Some(place) => Ok(Some(compared(place, layer, below))),
+            None => begin(layer.with_denial(), below, kind),
         },
-        Place::AfterTrue(word) => match kind {
-            Kind::Sign(Mark::Equals) => Ok(Some(named(word, layer, below))),
-            _ => {
-                let unit = Subformula::leaf(alloc, Tree::True)?;
-                after(alloc, unit, layer, below, kind)
-            }
-        },
-        Place::AfterFalse(word) => match kind {
-            Kind::Sign(Mark::Equals) => Ok(Some(named(word, layer, below))),
-            _ => {
-                let unit = Subformula::leaf(alloc, Tree::False)?;
-                after(alloc, unit, layer, below, kind)
-            }
-        },
+        Place::AfterTrue(word) => after_word(alloc, word, Tree::True, layer, below, kind),
+        Place::AfterFalse(word) => after_word(alloc, word, Tree::False, layer, below, kind),
         Place::InAtom(place) => match in_atom(alloc, atoms, place, kind)? {
             Some(place) => Ok(Some(Reader {
                 place,
@@ -289,10 +312,10 @@ fn read_all<'b, 'a>(alloc: Global, tokens: &'b [Token<'a>]) -> Result<Condition<
 }
 
 /// The condition that the tokens are, all of them, in herd7's format: units joined by `/\`, and these joined by `\/`; a
-/// unit is `~` or the word `not` and a unit, a condition in parentheses, `true`, `false`, or an atom: a target, `=` and
-/// a value. No word is reserved: where `=` comes after `not`, `true` or `false`, the word names a location. Stops at
-/// the first token with which the tokens so far begin no condition. Linear in the tokens; at most 56 bytes of memory an
-/// open parenthesis, a few words an atom, and no recursion.
+/// unit is `~` or the word `not` and a unit, a condition in parentheses, `true`, `false`, or an atom: a target, `=` or
+/// `==` and a value, or `<>` or `!=`, which denies it. No word is reserved: where one of these comes after `not`, `true`
+/// or `false`, the word names a location. Stops at the first token with which the tokens so far begin no condition.
+/// Linear in the tokens; at most 56 bytes of memory an open parenthesis, a few words an atom, and no recursion.
 pub fn read_condition<'b, 'a>(
     alloc: Global,
     tokens: &'b [Token<'a>],

@@ -47,7 +47,10 @@ mark_of b =
     else (if b == 45 then Some mark.Minus
     else (if b == 42 then Some mark.Star
     else (if b == 38 then Some mark.Ampersand
-    else None))))))))))))))
+    else (if b == 60 then Some mark.Less
+    else (if b == 62 then Some mark.Greater
+    else (if b == 33 then Some mark.Bang
+    else None)))))))))))))))))
 
 -- what stands at the front of a text: something to skip, with the bytes after it and their line; a token, with the
 -- bytes after it; or a comment that isn't closed

@@ -9,7 +9,7 @@ ghost use Rattle.fs_litmus_tokens.specs.Tokens.{piece, AreTokens, piece_of, view
 use crate::word::{Class, class_of};
 use std::alloc::{AllocError, Global};
 
-/// The marks of the format: `{ } ; | , : = ( ) [ ] ~ - * &`, and `/\` (and) and `\/` (or).
+/// The marks of the format: `{ } ; | , : = ( ) [ ] ~ - * & < > !`, and `/\` (and) and `\/` (or).
 #[derive(Clone, Copy, Debug, PartialEq, Eq)]
 pub enum Mark {
     OpenBrace,
@@ -27,6 +27,9 @@ pub enum Mark {
     Minus,
     Star,
     Ampersand,
+    Less,
+    Greater,
+    Bang,
     And,
     Or,
 }
@@ -85,6 +88,9 @@ fn mark_of(b: u8) -> Option<Mark>
         b'-' => Some(Mark::Minus),
         b'*' => Some(Mark::Star),
         b'&' => Some(Mark::Ampersand),
+        b'<' => Some(Mark::Less),
+        b'>' => Some(Mark::Greater),
+        b'!' => Some(Mark::Bang),
         _ => None,
     }
 }
