@@ -116,10 +116,13 @@ module _ (columns : ℕ) (ts : List Lined) (t : Target) (rest : List Token) (is_
   no_sign none = (λ yes. absurd (cc), λ b. let found = (bad_sign b).1 in cc)
 
   pub no_value : (more : List Token) → behind_sign (views rest) ≡ Some (views more) → ¬ BeginsValue (views more) → Decides false (BeginsBad columns ts)
-  no_value more is none = (λ yes. absurd (cc), λ b.
-      let found = (bad_sign b).1 in
-      let same : b.middle ≡ views more = cc in
-      absurd (none (b.value, b.after, subst (λ l. IsValue l b.value b.after) same b.is_value)))
+  no_value more is none = (
+    λ yes. absurd (cc),
+    λ b.
+        let found = (bad_sign b).1 in
+        let same : b.middle ≡ views more = cc in
+        absurd (none (b.value, b.after, subst (λ l. IsValue l b.value b.after) same b.is_value)),
+  )
 
   pub begins_decides : (more : List Token) (v : Value) (after : List Lined) (r : Bool) → behind_sign (views rest) ≡ Some (views more) → IsValue (views more) v after → Decides r (IsBad columns t v) → Decides r (BeginsBad columns ts)
   begins_decides more v after r is is_value d = (

@@ -4,6 +4,7 @@ ghost use Rattle.std.specs.Prelude.{◌≡◌, IfOk, string_bytes};
 ghost use Rattle.fs_app_error_messages.specs.Explained.{IsFenceNote};
 ghost use Rattle.fs_app_error_messages.specs.Messages.{unread_line};
 
+use crate::json::KINDS;
 use crate::message::{fence_note, shown_name};
 use fs_kinds::{Fault, Kind, Prices, Slot, read_fence, read_prices};
 use fs_litmus::{read_test, slots};
@@ -28,6 +29,14 @@ fn is_offered(prices: Option<&Prices>, kind: Kind) -> bool {
     }
 }
 
+/// What is said of a word that isn't of the form.
+fn shape_words(word: &str) -> &'static str {
+    match word.split_once('=') {
+        Some((_, kind)) if Kind::of(kind).is_none() => KINDS,
+        _ => "expected hart, instruction and kind, as `P0:3=w,w`",
+    }
+}
+
 /// What is wrong with a word, behind these and for a test with these slots.
 fn word_words(
     word: &str,
@@ -36,7 +45,7 @@ fn word_words(
     prices: Option<&Prices>,
 ) -> Option<&'static str> {
     let Some((slot, kind)) = read_fence(word) else {
-        return Some("expected hart, instruction and kind, as `P0:3=w,w`");
+        return Some(shape_words(word));
     };
     if !slots.contains(&slot) {
         return Some(

@@ -4,7 +4,7 @@
 use crate::words::{operand_words, unknown_words};
 use fs_instr::Op;
 use fs_litmus_syntax::{read_body, read_condition, read_header, read_init};
-use fs_litmus_tokens::{Kind, Mark, Stop, Token};
+use fs_litmus_tokens::{Class, Kind, Mark, Stop, Token};
 use std::alloc::{AllocError, Global};
 
 /// The tokens of a file, and the number of one of them, or how many they are.
@@ -65,6 +65,12 @@ fn is_this_word(kind: Kind<'_>, word: &str) -> bool {
     }
 }
 
+/// What is said of an array.
+const ARRAY_WORDS: &str = "arrays are left out: write a location for each element";
+
+/// What is said of a `:` behind a hart that isn't a number.
+const HART_WORDS: &str = "a hart is a number: write `0:x5` for `P0:x5`";
+
 /// In the initial values.
 fn init_words(spot: Spot<'_, '_>) -> &'static str {
     let Some(found) = spot.ahead(0) else {
@@ -73,9 +79,13 @@ fn init_words(spot: Spot<'_, '_>) -> &'static str {
     if is_mark(spot.back(1), Mark::Equals) {
         return value_words(found);
     }
+    if is_mark(spot.back(1), Mark::OpenBracket) {
+        return ARRAY_WORDS;
+    }
     match found {
-        Kind::Sign(Mark::OpenBracket) => "arrays are left out: write a location for each element",
+        Kind::Sign(Mark::OpenBracket) => ARRAY_WORDS,
         Kind::Sign(Mark::Comma) => "expected `;`: entries end with it",
+        Kind::Sign(Mark::Colon) => HART_WORDS,
         Kind::Strange => "this character is no token: sums, as `x+4`, and strings are left out",
         Kind::Word(_, _) => second_word(spot),
         _ => "expected an entry and `;`, as `x=1;` or `0:x6=x;`",
@@ -85,7 +95,7 @@ fn init_words(spot: Spot<'_, '_>) -> &'static str {
 /// The first token of a value.
 fn value_words(found: Kind<'_>) -> &'static str {
     match found {
-        Kind::Sign(Mark::OpenBrace) => "arrays are left out: write a location for each element",
+        Kind::Sign(Mark::OpenBrace) => ARRAY_WORDS,
         _ => "expected a number, or the name of a location for its address",
     }
 }
@@ -107,20 +117,33 @@ fn rows_words(spot: Spot<'_, '_>) -> &'static str {
         return end_words(spot.tokens);
     };
     match found {
-        Kind::Sign(Mark::Semicolon) => "the row has too few cells: one for each hart, split by `|`",
+        Kind::Sign(Mark::Semicolon) if !has_filter(spot.tokens) =>
+            "the row has too few cells: one for each hart, split by `|`",
+        Kind::Sign(Mark::Semicolon) => FILTER_WORDS,
         Kind::Sign(Mark::Bar) => "the row has too many cells: one for each hart, ended by `;`",
         Kind::Strange =>
-            "this character is no token: relocations as `%lo(x)`, and strings, are left out",
+            "this character is no token: comments are `(* .. *)`; relocations as `%lo(x)`, and strings, are left out",
         _ => "expected `exists`, `~exists` or `forall`, or `locations [..]` before it",
     }
 }
 
-/// The file ends in its rows.
-fn end_words(tokens: &[Token<'_>]) -> &'static str {
+const FILTER_WORDS: &str =
+    "`filter` is left out: write its condition into the other one, with `/\\`";
+
+/// Is one of the tokens the word `filter`?
+fn has_filter(tokens: &[Token<'_>]) -> bool {
     for token in tokens {
         if is_this_word(token.kind, "filter") {
-            return "`filter` is left out: write its condition into the other one, with `/\\`";
+            return true;
         }
+    }
+    false
+}
+
+/// The file ends in its rows.
+fn end_words(tokens: &[Token<'_>]) -> &'static str {
+    if has_filter(tokens) {
+        return FILTER_WORDS;
     }
     "the file ends before its condition: is the last row ended by `;`, and is there an `exists`?"
 }
@@ -130,7 +153,14 @@ fn is_foreign(found: Kind<'_>) -> bool {
     matches!(
         found,
         Kind::Strange
-            | Kind::Sign(Mark::Star | Mark::Ampersand | Mark::Less | Mark::Greater | Mark::Bang)
+            | Kind::Sign(
+                Mark::Equals
+                    | Mark::Star
+                    | Mark::Ampersand
+                    | Mark::Less
+                    | Mark::Greater
+                    | Mark::Bang
+            )
     )
 }
 
@@ -139,16 +169,27 @@ fn condition_words(spot: Spot<'_, '_>) -> &'static str {
     let Some(found) = spot.ahead(0) else {
         return "the file ends within its condition";
     };
+    if is_mark(spot.ahead(1), Mark::Greater) {
+        return "no implication is read: write `~A \\/ B` for `A => B`";
+    }
     if is_foreign(found) || is_mark(spot.back(1), Mark::Less) || is_mark(spot.back(1), Mark::Bang) {
         return "of comparisons `=`, `==`, `<>` and `!=` are read, and of connectives `/\\`, `\\/`, `~` and `not`";
     }
     match found {
-        Kind::Sign(Mark::Colon) => "a register is compared with a value, not with another register",
-        Kind::Sign(Mark::Equals) => "`=>` isn't read: write `~A \\/ B` for `A => B`",
+        Kind::Sign(Mark::Colon) => colon_words(spot),
         Kind::Sign(Mark::Semicolon) => "nothing may stand behind the condition",
         Kind::Word(_, _) =>
             "expected `/\\`, `\\/`, or the end of the condition or of its parentheses",
         _ => "expected an atom as `0:x5=1` or `x=1`",
+    }
+}
+
+/// A `:` that doesn't stand behind a hart's number at the front of an atom.
+fn colon_words(spot: Spot<'_, '_>) -> &'static str {
+    match spot.back(1) {
+        Some(Kind::Word(Class::Number, _)) =>
+            "a register is compared with a value, not with another register",
+        _ => HART_WORDS,
     }
 }
 
@@ -232,6 +273,9 @@ pub(crate) fn label_words(spot: Spot<'_, '_>) -> &'static str {
 
 /// What is said of a mnemonic that isn't of the profile.
 pub(crate) fn mnemonic_words(spot: Spot<'_, '_>) -> &'static str {
+    if is_mark(spot.ahead(1), Mark::Colon) {
+        return "a label is a name, as `L1:`, without a `.` and not begun by a digit";
+    }
     match spot.ahead(0) {
         Some(Kind::Word(_, word)) => unknown_words(word),
         _ => "no mnemonic of this profile",

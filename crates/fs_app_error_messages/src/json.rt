@@ -78,17 +78,17 @@ fn weights_words(alloc: Global, value: &Value) -> Result<Option<String>, AllocEr
     Ok(None)
 }
 
+/// What is said of a word that is no kind.
+pub(crate) const KINDS: &str =
+    "no kind of fence; these are r,r r,w r,rw w,r w,w w,rw rw,r rw,w rw,rw tso";
+
 /// What is wrong with a member of prices.
 fn price_words(alloc: Global, name: &str, value: &Value) -> Result<Option<String>, AllocError> {
     if name == "weights" {
         return weights_words(alloc, value);
     }
     if Kind::of(name).is_none() {
-        return Ok(Some(key_words(
-            alloc,
-            name,
-            "no kind of fence; these are r,r r,w r,rw w,r w,w w,rw rw,r rw,w rw,rw tso",
-        )?));
+        return Ok(Some(key_words(alloc, name, KINDS)?));
     }
     if !is_whole(value, 1, 1_000_000) {
         return Ok(Some(key_words(alloc, name, "a price is a whole number from 1 to 1000000")?));

@@ -17,7 +17,7 @@ fn is_narrow(word: &str) -> bool {
 
 /// Accesses of 64 bits.
 fn is_wide(word: &str) -> bool {
-    matches!(word, "ld" | "sd" | "lwu") || word.ends_with(".d") || word.contains(".d.")
+    matches!(word, "ld" | "sd" | "ld.aq" | "sd.rl") || word.ends_with(".d") || word.contains(".d.")
 }
 
 /// The name of an instruction of the table with a w behind it.
@@ -52,6 +52,12 @@ fn other_words(word: &str) -> &'static str {
     if word == "zext.b" {
         return "not of this profile: write `andi x5,x6,255` for `zext.b x5,x6`";
     }
+    if word == "lwu" {
+        return "registers have 32 bits here: write `lw`";
+    }
+    if word == "pause" {
+        return "`pause` is a hint to the processor, which orders nothing: leave it out";
+    }
     if word.starts_with("fence.") {
         return "the letters are operands: write `fence rw,w`, or `fence.tso`";
     }
@@ -75,7 +81,7 @@ pub(crate) fn operand_words(op: Op) -> &'static str {
         Op::Sc(_) => "expected `x5,x7,(x6)`, no other offset than 0, and no more",
         Op::Amo(_, _) => "expected `x5,x7,(x6)`, no other offset than 0, and no more",
         Op::Branch(_) | Op::Swapped(_) =>
-            "expected two registers and a label, as `x5,x6,L`, and no more",
+            "expected two registers and the name of a label, as `x5,x6,L`, and no more",
         _ => other_operands(op),
     }
 }
@@ -88,8 +94,8 @@ fn other_operands(op: Op) -> &'static str {
         Op::Mv | Op::Seqz | Op::Not | Op::OfZero(_) | Op::WithZero(_) =>
             "expected two registers, as `x5,x6`, and no more",
         Op::BranchZero(_) | Op::ZeroBranch(_) =>
-            "expected a register and a label, as `x5,L`, and no more",
-        Op::J => "expected a label, and no more",
+            "expected a register and the name of a label, as `x5,L`, and no more",
+        Op::J => "expected the name of a label, as `L`, and no more",
         _ => "expected no operands, and no more in this cell",
     }
 }
