@@ -218,6 +218,7 @@ class Test:
 
 
 TOKEN = re.compile(r'[A-Za-z0-9_.]+|/\\|\\/|[^ \t\r\n]')
+COMMENT_SIGN = re.compile(r'\(\*|\*\)')
 SIGNS = {*'{};|,:=()[]~-*&<>!', '/\\', '\\/'}
 CONNECTIVES = {'/\\': 'and', '\\/': 'or'}
 FAULTS = {3: 'Syntax', 4: 'UnknownInstr', 5: 'BadAnnotation', 6: 'BadLabel', 7: 'BadInit'}
@@ -244,6 +245,16 @@ def is_name(token):
     return re.fullmatch('[A-Za-z_][A-Za-z0-9_]*', token) is not None
 
 
+def end_of_comment(text, place):
+    """Where the comment that begins here ends, or None where it doesn't. Comments nest."""
+    depth = 0
+    for sign in COMMENT_SIGN.finditer(text, place):
+        depth += 1 if sign[0] == '(*' else -1
+        if depth == 0:
+            return sign.end()
+    return None
+
+
 class Tokens:
     """The tokens of a text with their lines, and a place among them. `last` is the line where the text ends."""
 
@@ -253,9 +264,9 @@ class Tokens:
         place = 0
         while place < len(text):
             if text.startswith('(*', place):
-                end = text.find('*)', place + 2)
-                self.is_closed = end >= 0
-                end = end + 2 if self.is_closed else len(text)
+                end = end_of_comment(text, place)
+                self.is_closed = end is not None
+                end = end if self.is_closed else len(text)
                 line += text.count('\n', place, end)
                 place = end
             elif text[place] in ' \t\r\n':

@@ -1,47 +1,81 @@
 -- A walk over the bytes of a text.
-use Rattle.std.proofs.Common.{◌≡◌, ℕ, ◌+◌, ◌<◌, List, [], ◌∷◌, Option, None, Some, Bool, true, false, cond, refl, sym, ap, ◌∙◌, subst, suc, length, length-drop, ◌≤◌, ◌==◌, ◌&&◌, drop, take, get_or, arith, option_map}
+use Rattle.std.proofs.Common.{◌≡◌, ℕ, ◌+◌, ◌<◌, List, [], ◌∷◌, Option, None, Some, Bool, true, false, cond, refl, sym, ap, ◌∙◌, subst, zero, suc, ◌-◌, length, length-drop, ◌≤◌, ◌==◌, ◌&&◌, drop, take, get_or, arith, option_map}
 use Rattle.std.specs.List.{prefix_len}
 use Rattle.fs_litmus_tokens.specs.declared.token.Mark.TheVariants as mark
 use Rattle.std.proofs.lemmas.List.{at_drop_more, drop-drop}
-use Rattle.fs_litmus_tokens.specs.Bytes.{is_letter, is_blank, begins, comment_end, tail}
+use Rattle.fs_litmus_tokens.specs.Bytes.{is_letter, is_blank, begins, closing, comment_from, comment_end, tail}
 use Rattle.fs_litmus_tokens.specs.Tokens.{Tok, Sign, word, Front, Skip, Take, Unclosed, after_comment, single, mark_of, piece, AreTokens, none as no_tokens, skip as skips, token as takes, unclosed as unclosed}
-use Rattle.fs_app_error_messages.specs.Walks.{AreAtMost, BeginsAt, here, skip, later, Blank, Token, Open, shape_of, ends_comment}
+use Rattle.fs_app_error_messages.specs.Walks.{AreAtMost, BeginsAt, here, skip, later, Blank, Token, Open, shape_of, ends_comment, begins_comment}
 
 -- what comes after a comment, in whatever line
-abbrev pub after : List ℕ → Option (List ℕ)
-after bs = option_map (λ x. x.0) (comment_end bs 0)
+abbrev pub after : ℕ → Bool → List ℕ → Option (List ℕ)
+after inner second bs = option_map (λ x. x.0) (comment_from inner second bs 0)
 
 abbrev rest_of : Option (List ℕ × ℕ) → Option (List ℕ)
 rest_of o = option_map (λ x. x.0) o
 
-picked : (b : Bool) (rest : List ℕ) (l m : ℕ) (x y : Option (List ℕ × ℕ)) → rest_of x ≡ rest_of y → rest_of (cond b (Some (rest, l)) x) ≡ rest_of (cond b (Some (rest, m)) y)
-picked true rest l m x y e = refl
-picked false rest l m x y e = e
+picked : (ends begins : Bool) (x y z u v w : Option (List ℕ × ℕ)) → rest_of x ≡ rest_of u → rest_of y ≡ rest_of v → rest_of z ≡ rest_of w → rest_of (cond ends x (cond begins y z)) ≡ rest_of (cond ends u (cond begins v w))
+picked true begins x y z u v w e f g = e
+picked false true x y z u v w e f g = f
+picked false false x y z u v w e f g = g
+
+closing_any : (inner : ℕ) (rest : List ℕ) (l m : ℕ) (x y : Option (List ℕ × ℕ)) → rest_of x ≡ rest_of y → rest_of (closing inner rest l x) ≡ rest_of (closing inner rest m y)
+closing_any zero rest l m x y e = refl
+closing_any (suc inner) rest l m x y e = e
+
+closing_inside : (inner : ℕ) (rest : List ℕ) (l : ℕ) (x : Option (List ℕ × ℕ)) → 0 < inner → closing inner rest l x ≡ x
+closing_inside zero rest l x some = absurd (omega (arith, some))
+closing_inside (suc inner) rest l x some = refl
+
+any_from : (inner : ℕ) (second : Bool) (bs : List ℕ) (l m : ℕ) → rest_of (comment_from inner second bs l) ≡ rest_of (comment_from inner second bs m)
+any_from inner second [] l m = refl
+any_from inner true (b ∷ bs) l m = any_from inner false bs l m
+any_from inner false (b ∷ bs) l m =
+    picked (ends_comment b bs) (begins_comment b bs) _ _ _ _ _ _ (closing_any inner (tail bs) l m _ _ (any_from (inner - 1) true bs l m)) (any_from (inner + 1) true bs l m) (any_from inner false bs _ _)
 
 any_line : (bs : List ℕ) (l m : ℕ) → rest_of (comment_end bs l) ≡ rest_of (comment_end bs m)
-any_line [] l m = refl
-any_line (b ∷ bs) l m = picked (ends_comment b bs) (tail bs) l m _ _ (any_line bs _ _)
+any_line bs l m = any_from 0 false bs l m
 
 tail_drop : (bs : List ℕ) → tail bs ≡ drop 1 bs
 tail_drop [] = refl
 tail_drop (b ∷ bs) = refl
 
-later_one : (b : ℕ) (bs : List ℕ) → ends_comment b bs ≡ false → after (b ∷ bs) ≡ after bs
-later_one b bs e = rw e (any_line bs _ 0)
+pub alike : (xs : List ℕ) (i j : ℕ) (s t : Bool) → i ≡ j → s ≡ t → after i s xs ≡ after j t xs
+alike xs i j s t e f = ap (λ n. after n s xs) e ∙ ap (λ b. after j b xs) f
 
-pub later_comment : (bs : List ℕ) (i d : ℕ) (next : List ℕ) (ends : Bool) → i < length bs → next ≡ drop (i + 1) bs → ends ≡ ends_comment (get_or bs i d) next → ends ≡ false → after (drop (i + 1) bs) ≡ after (drop i bs)
-later_comment bs i d next ends h same is last =
-    let e = subst (λ l. ends_comment (get_or bs i d) l ≡ false) same (sym is ∙ last) in
-    sym (at_drop_more after bs i d h ∙ later_one (get_or bs i d) (drop (i + 1) bs) e)
+module _ (bs : List ℕ) (i d : ℕ) (next : List ℕ) (low : i < length bs) (same : next ≡ drop (i + 1) bs) where
+  abbrev byte : ℕ
+  byte = get_or bs i d
 
-ends_here : (b : ℕ) (bs : List ℕ) → ends_comment b bs ≡ true → after (b ∷ bs) ≡ Some (tail bs)
-ends_here b bs e = rw e refl
+  -- a test of this byte and those behind it
+  tested : (test : ℕ → List ℕ → Bool) (r b : Bool) → r ≡ test byte next → r ≡ b → test byte (drop (i + 1) bs) ≡ b
+  tested test r b is e = subst (λ l. test byte l ≡ b) same (sym is ∙ e)
 
-pub comment_here : (bs : List ℕ) (i d : ℕ) (next : List ℕ) (ends : Bool) → i < length bs → next ≡ drop (i + 1) bs → ends ≡ ends_comment (get_or bs i d) next → ends ≡ true → Some (drop (i + 2) bs) ≡ after (drop i bs)
-comment_here bs i d next ends h same is last =
-    let e = subst (λ l. ends_comment (get_or bs i d) l ≡ true) same (sym is ∙ last) in
-    let two : drop (i + 2) bs ≡ drop 1 (drop (i + 1) bs) = simp drop-drop (ap (λ n. drop n bs) (omega arith)) in
-    ap Some (two ∙ sym (tail_drop (drop (i + 1) bs))) ∙ sym (at_drop_more after bs i d h ∙ ends_here (get_or bs i d) (drop (i + 1) bs) e)
+  pub second_step : (inner : ℕ) → after inner false (drop (i + 1) bs) ≡ after inner true (drop i bs)
+  second_step inner = sym (at_drop_more (after inner true) bs i d low)
+
+  pub inner_step : (inner : ℕ) (ends : Bool) → 0 < inner → ends ≡ ends_comment byte next → ends ≡ true → after (inner - 1) true (drop (i + 1) bs) ≡ after inner false (drop i bs)
+  inner_step inner ends some is e =
+      let f = tested ends_comment ends true is e in
+      sym (at_drop_more (after inner false) bs i d low ∙ (rw f (ap rest_of (closing_inside inner _ 0 _ some))))
+
+  pub outer_step : (inner : ℕ) (ends begins : Bool) → ends ≡ ends_comment byte next → ends ≡ false → begins ≡ begins_comment byte next → begins ≡ true → after (inner + 1) true (drop (i + 1) bs) ≡ after inner false (drop i bs)
+  outer_step inner ends begins is e is2 e2 =
+      let f = tested ends_comment ends false is e in
+      let g = tested begins_comment begins true is2 e2 in
+      sym (at_drop_more (after inner false) bs i d low ∙ (rw (f, g) refl))
+
+  pub plain_step : (inner : ℕ) (ends begins : Bool) → ends ≡ ends_comment byte next → ends ≡ false → begins ≡ begins_comment byte next → begins ≡ false → after inner false (drop (i + 1) bs) ≡ after inner false (drop i bs)
+  plain_step inner ends begins is e is2 e2 =
+      let f = tested ends_comment ends false is e in
+      let g = tested begins_comment begins false is2 e2 in
+      sym (at_drop_more (after inner false) bs i d low ∙ (rw (f, g) (any_from inner false (drop (i + 1) bs) _ 0)))
+
+  pub comment_here : (ends : Bool) → ends ≡ ends_comment byte next → ends ≡ true → Some (drop (i + 2) bs) ≡ after 0 false (drop i bs)
+  comment_here ends is e =
+      let f = tested ends_comment ends true is e in
+      let two : drop (i + 2) bs ≡ drop 1 (drop (i + 1) bs) = simp drop-drop (ap (λ n. drop n bs) (omega arith)) in
+      ap Some (two ∙ sym (tail_drop (drop (i + 1) bs))) ∙ sym (at_drop_more (after 0 false) bs i d low ∙ (rw f refl))
 
 -- ---- from token to token
 

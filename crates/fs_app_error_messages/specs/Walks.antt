@@ -28,6 +28,10 @@ pub data Shape : Type 0 where
 abbrev pub ends_comment : ℕ → List ℕ → Bool
 ends_comment b bs = b == 42 && begins 41 bs
 
+-- and two begin one
+abbrev pub begins_comment : ℕ → List ℕ → Bool
+begins_comment b bs = b == 40 && begins 42 bs
+
 abbrev pub shape_of : Front → Shape
 shape_of (Skip rest line) = Blank rest
 shape_of (Take t rest) = Token rest

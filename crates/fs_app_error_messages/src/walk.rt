@@ -4,7 +4,8 @@ ghost use Rattle.std.specs.Prelude.{◌≡◌, ◌∷◌, ◌≤◌, ◌<◌, le
 ghost use Rattle.std.specs.List.{prefix_len};
 ghost use Rattle.fs_litmus_tokens.specs.Bytes.{is_letter, is_blank, begins, comment_end};
 ghost use Rattle.fs_litmus_tokens.specs.Tokens.{piece};
-ghost use Rattle.fs_app_error_messages.specs.Walks.{AreAtMost, BeginsAt, Moves, ends_comment, step_of, shape_of};
+ghost use Rattle.fs_app_error_messages.specs.Walks.{AreAtMost, BeginsAt, Moves, ends_comment, begins_comment, step_of};
+ghost use Rattle.fs_app_error_messages.specs.Walks.{shape_of};
 
 use crate::slices::from;
 
@@ -56,14 +57,32 @@ fn ends_comment(byte: u8, after: &[u8]) -> bool
     byte == b'*' && begins(b')', after)
 }
 
-/// How many bytes there are up to the end of the first `*)`.
+fn begins_comment(byte: u8, after: &[u8]) -> bool
+    ensures { result ≡ begins_comment byte after.now }
+{
+    byte == b'(' && begins(b'*', after)
+}
+
+/// How many bytes there are up to the end of the `*)` that closes a comment.
 fn comment_len(bytes: &[u8]) -> Option<usize>
     ensures value { option_map (λ n. drop n bytes.now) result ≡ option_map (λ x. x.0) (comment_end bytes.now 0) }
     ensures within { IfSome result (λ n. n ≤ length bytes.now) }
 {
+    let mut inner: usize = 0;
+    let mut is_second = false;
     for (i, byte) in bytes.iter().enumerate() {
-        if ends_comment(*byte, from(bytes, i + 1)) {
-            return Some(i + 2);
+        let after = from(bytes, i + 1);
+        if is_second {
+            is_second = false;
+        } else if ends_comment(*byte, after) {
+            if inner == 0 {
+                return Some(i + 2);
+            }
+            inner -= 1;
+            is_second = true;
+        } else if begins_comment(*byte, after) {
+            inner += 1;
+            is_second = true;
         }
     }
     None

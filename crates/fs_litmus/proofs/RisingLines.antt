@@ -1,7 +1,7 @@
 -- The lines of tokens rise, and so do those of entries.
-use Rattle.std.proofs.Common.{ℕ, ◌+◌, ◌≤◌, List, [], ◌∷◌, Bool, true, false, ◌&&◌, ◌==◌, cond, Option, Some, None, subst, arith}
+use Rattle.std.proofs.Common.{ℕ, zero, suc, ◌+◌, ◌-◌, ◌≤◌, List, [], ◌∷◌, Bool, true, false, ◌&&◌, ◌==◌, cond, Option, Some, None, subst, arith}
 use Rattle.fs_litmus_tokens.specs.declared.token.Mark.{Mark}
-use Rattle.fs_litmus_tokens.specs.Bytes.{is_letter, is_blank, comment_end, begins, tail}
+use Rattle.fs_litmus_tokens.specs.Bytes.{is_letter, is_blank, closing, comment_from, comment_end, begins, tail}
 use Rattle.fs_litmus_tokens.specs.Tokens.{Lined, Front, Skip, Take, Unclosed, after_comment, single, mark_of, piece, AreTokens, none as no_tokens, skip, token, unclosed}
 use Rattle.fs_litmus_tokens.specs.Values.{Target, Value, IsTarget, register, location, bracketed, IsValue, number, minus, address}
 use Rattle.fs_litmus_syntax.specs.Init.{Entry, IsInitial, direct, reference, IsBare, bare, alone, IsEntry, untyped, typed, pointer, IsEntries, none, entry, IsEntryEnd, brace, semicolon, IsInit, block}
@@ -32,13 +32,24 @@ one_line : (line : ℕ) (b : Bool) → line ≤ cond b (line + 1) line
 one_line line true = omega arith
 one_line line false = omega arith
 
-ends_step : (here : Bool) (line next : ℕ) (rest : List ℕ) (o : Option (List ℕ × ℕ)) → line ≤ next → EndsOn next o → EndsOn line (cond here (Some (rest, line)) o)
-ends_step true line next rest o h e = omega arith
-ends_step false line next rest o h e = ends_later line next o h e
+closing_later : (inner line : ℕ) (rest : List ℕ) (o : Option (List ℕ × ℕ)) → EndsOn line o → EndsOn line (closing inner rest line o)
+closing_later zero line rest o e = omega arith
+closing_later (suc inner) line rest o e = e
 
-comment_later : (bs : List ℕ) (line : ℕ) → EndsOn line (comment_end bs line)
-comment_later [] line = tt
-comment_later (b ∷ bs) line = ends_step (b == 42 && begins 41 bs) line (cond (b == 10) (line + 1) line) (tail bs) (comment_end bs (cond (b == 10) (line + 1) line)) (one_line line (b == 10)) (comment_later bs (cond (b == 10) (line + 1) line))
+one_of : (line : ℕ) (here opens : Bool) (x y z : Option (List ℕ × ℕ)) → EndsOn line x → EndsOn line y → EndsOn line z → EndsOn line (cond here x (cond opens y z))
+one_of line true opens x y z e f g = e
+one_of line false true x y z e f g = f
+one_of line false false x y z e f g = g
+
+comment_later : (inner : ℕ) (second : Bool) (bs : List ℕ) (line : ℕ) → EndsOn line (comment_from inner second bs line)
+comment_later inner second [] line = tt
+comment_later inner true (b ∷ bs) line = comment_later inner false bs line
+comment_later inner false (b ∷ bs) line =
+    let next = cond (b == 10) (line + 1) line in
+    one_of line (b == 42 && begins 41 bs) (b == 40 && begins 42 bs) _ _ _
+    (closing_later inner line (tail bs) _ (comment_later (inner - 1) true bs line))
+    (comment_later (inner + 1) true bs line)
+    (ends_later line next _ (one_line line (b == 10)) (comment_later inner false bs next))
 
 after_later : (line : ℕ) (o : Option (List ℕ × ℕ)) → EndsOn line o → GoesOn line (after_comment o)
 after_later line None h = tt
@@ -61,7 +72,7 @@ piece_later b bs line =
     either line (is_letter b) _ _ tt (
     either line (b == 47 && begins 92 bs) _ _ tt (
     either line (b == 92 && begins 47 bs) _ _ tt (
-    either line (b == 40 && begins 42 bs) _ _ (after_later line (comment_end (tail bs) line) (comment_later (tail bs) line)) (one_later line (mark_of b) bs))))))
+    either line (b == 40 && begins 42 bs) _ _ (after_later line (comment_end (tail bs) line) (comment_later 0 false (tail bs) line)) (one_later line (mark_of b) bs))))))
 
 pub tokens_rise : {bs : List ℕ} {line : ℕ} {ts : List Lined} {closed : Bool} → AreTokens bs line ts closed → Rising line (token_lines ts)
 tokens_rise no_tokens = tt

@@ -78,6 +78,13 @@ fn forms(rt: HostRuntime) -> Result<(), Fail> {
             "{} P0|P1|P2|P3|P4|P5|P6|P7|P8|P9|P10; exists",
             "exists, 11 columns, 0 cells, 0 left",
         ),
+        (
+            "{ (*\n(* *) (*(*)\n*) *)\n*) x=1; (*) *) } P0 ; exists",
+            "4 x=1; exists, 1 columns, 0 cells, 0 left",
+        ),
+        ("{ (* (* *) x=1; } P0 ; exists", "too soon"),
+        ("{ (*(*)*) x=1; } P0 ; exists", "too soon"),
+        ("{ (* *) *) x=1; } P0 ; exists", "line 1"),
         ("{}\nP1 ; exists", "line 2"),
         ("{} P0 |\nP2 ; exists", "line 2"),
         ("{} P0 |\nP01 ; exists", "line 2"),

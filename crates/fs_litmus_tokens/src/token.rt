@@ -109,7 +109,7 @@ fn run_len(b: &[u8]) -> usize
     b.len()
 }
 
-/// What comes after the first `*)`, and its line.
+/// What comes after the `*)` that closes a comment, and its line.
 fn comment_end(bytes: &[u8], line: usize) -> Option<(&[u8], usize)>
     requires { line + length bytes.now < 2 ^ 64 }
     ensures value { option_map (λ x. (x.0.now, x.1)) result ≡ comment_end bytes.now line }
@@ -118,14 +118,24 @@ fn comment_end(bytes: &[u8], line: usize) -> Option<(&[u8], usize)>
 {
     let mut rest = bytes;
     let mut line = line;
+    let mut inner: usize = 0;
+    let mut is_second = false;
     while let Some((first, after)) = rest.split_first() {
-        if *first == b'*' && begins(b')', after) {
-            return Some((tail(after), line));
-        }
-        if *first == b'\n' {
+        rest = after;
+        if is_second {
+            is_second = false;
+        } else if *first == b'*' && begins(b')', after) {
+            if inner == 0 {
+                return Some((tail(after), line));
+            }
+            inner -= 1;
+            is_second = true;
+        } else if *first == b'(' && begins(b'*', after) {
+            inner += 1;
+            is_second = true;
+        } else if *first == b'\n' {
             line += 1;
         }
-        rest = after;
     }
     None
 }
@@ -189,7 +199,7 @@ pub(crate) fn front<'a>(first: u8, after: &'a [u8], all: &'a [u8], line: usize) 
 
 /// The tokens of a text whose first byte stands in line `line`, each with the number of its line, up to a comment that
 /// isn't closed; and whether there is no such comment (herd7's format: words of letters, digits, `_` and `.`; comments
-/// `(* .. *)`, which don't nest). Linear in the text; 32 bytes of memory a token. Fails only for want of memory.
+/// `(* .. *)`, which nest). Linear in the text; 32 bytes of memory a token. Fails only for want of memory.
 pub fn tokens<'a>(
     alloc: Global,
     text: &'a [u8],
