@@ -26,8 +26,8 @@ pub enum AtomPlace<'a> {
     AfterMinus(bool, Target<'a>),
 }
 
-/// What one more token of an atom does: there is more to come, or the atom ends with it, denied or not, or it can't
-/// stand there.
+/// What one more token of an atom does: there is more to come, or the atom ends with it, denied or not, or it can't stand
+/// there.
 #[derive(Clone, Copy, Debug)]
 pub enum AtomStep<'a> {
     Go(AtomPlace<'a>),

@@ -253,9 +253,8 @@ fn take<'a>(
 
 /// The initial values, in braces, at the front of the tokens, and the tokens after them: entries ended by `;`, of which
 /// the last may be missing. An entry is a target, `=` and a value, or a target alone, whose value is 0; before a name
-/// that is a value `&` may stand. Before the target may stand a type, which changes nothing: names, each with `*`
-/// behind it or without. Linear in the tokens; fails for want of memory, or at the first token with which no such block
-/// begins.
+/// that is a value `&` may stand. Before the target may stand a type, which changes nothing: names, each with `*` behind
+/// it or without. Linear in the tokens; fails for want of memory, or at the first token with which no such block begins.
 pub fn read_init<'b, 'a>(
     alloc: Global,
     tokens: &'b [Token<'a>],

@@ -13,8 +13,7 @@ use Rattle.fs_model.specs.Operations.{PreExecution, is_load, is_store, same_word
 
 -- The instruction is a FENCE that orders operations of the first classes before those of the second: where a letter r
 -- or w before the comma is among the first, and one behind it among the second. fence.tso orders a load before all, and
--- a store before a store. fence.i orders the fetching of instructions, which isn't modelled. (Sets of pairs of classes
--- are in `Kind` of fs_kinds. By letters: the law rule_4_by_letters.)
+-- a store before a store. fence.i orders the fetching of instructions, which isn't modelled. (Sets of pairs of classes are in `Kind` of fs_kinds. By letters: the law rule_4_by_letters.)
 abbrev pub instr_orders : Classes → Classes → Instr → Bool
 instr_orders first second (Fence before after) = pairs_order (product before.reads before.writes after.reads after.writes) first second
 instr_orders first second FenceTso = pairs_order tso_pairs first second
