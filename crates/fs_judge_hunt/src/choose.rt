@@ -108,8 +108,10 @@ impl Chooser<'_> {
             .all(|origin| *origin == Origin::Unknown)
     }
 
-    /// The first wanted condition that has cases.
+    /// The wanted condition that has cases, where it is the only one: those of several would be multiplied, and a
+    /// region ends without them too, where one of the conditions can't have its truth value any more.
     fn cases(&self) -> Result<Option<Decision>, AllocError> {
+        let mut found = None;
         for (number, wanted) in self.region.wanted.iter().enumerate() {
             let wanted: &Wanted = wanted;
             if has_cases(
@@ -117,10 +119,13 @@ impl Chooser<'_> {
                 within(self.field.nodes, wanted.node),
                 wanted.truth,
             )? {
-                return Ok(Some(Decision::Cases(number)));
+                if found.is_some() {
+                    return Ok(None);
+                }
+                found = Some(Decision::Cases(number));
             }
         }
-        Ok(None)
+        Ok(found)
     }
 
     /// Do the runs that are left make several choices there?
