@@ -179,7 +179,8 @@ impl Chooser<'_> {
         Ok(options)
     }
 
-    /// The one of these that leaves the fewest regions open.
+    /// The one of these that leaves the fewest regions open. One that leaves at most one, and so only narrows the
+    /// region, is taken at once.
     fn best(&self, options: &[Decision]) -> Result<Option<Split>, AllocError> {
         let mut best: Option<Split> = None;
         for decision in options {
@@ -191,9 +192,9 @@ impl Chooser<'_> {
                 None => true,
             };
             if is_better {
-                let is_enough = split.live == 0 || split.children.len() == 1;
+                let only_narrows = split.live <= 1;
                 best = Some(split);
-                if is_enough {
+                if only_narrows {
                     break;
                 }
             }
