@@ -1,10 +1,11 @@
 //! The search: regions are split until each has ended, or one has nothing left to decide.
 
 use crate::choose::{Chooser, Split};
+use crate::clash::{Ending, Step};
 use crate::facts::Facts;
 use crate::names::Relation;
 use crate::region::{Field, Region};
-use crate::saturate::{Ending, Looked, Step, saturate};
+use crate::saturate::{Looked, saturate};
 use crate::splits::Decision;
 use fs_cert_evidence::Inference;
 use std::alloc::{AllocError, Global};
@@ -43,24 +44,18 @@ struct Search<'a> {
 
 impl Search<'_> {
     /// Writes, before what was written of a region, what followed in it and is used.
-    fn write_steps(&mut self, mut steps: Vec<Step>, used: &mut Relation) -> Result<(), AllocError> {
-        for _ in 0..steps.len() {
-            let Some(step) = steps.pop() else {
-                break;
-            };
-            let Step {
-                first,
-                second,
-                ending,
-            } = step;
+    fn write_steps(&mut self, steps: &[Step], used: &mut Relation) -> Result<(), AllocError> {
+        for step in steps.iter().rev() {
+            let (first, second) = (step.first, step.second);
             if !used.has(first, second) {
                 continue;
             }
             used.remove(first, second);
-            let mut more = ending.used;
+            let mut more = step.ending.used;
             more.remove(second, first);
             used.join(&more);
-            self.written.push(ending.inference)?;
+            let inference = step.ending.clash.inference(self.alloc, self.field)?;
+            self.written.push(inference)?;
             let opposite = Decision::Order(second, first);
             self.written.push(opposite.inference(self.field))?;
         }
@@ -74,12 +69,11 @@ impl Search<'_> {
         }
     }
 
-    fn end(&mut self, steps: Vec<Step>, ending: Ending) -> Result<(), AllocError> {
-        let Ending {
-            inference,
-            mut used,
-        } = ending;
+    /// Writes a region that has ended.
+    fn end(&mut self, steps: &[Step], ending: &Ending) -> Result<(), AllocError> {
+        let inference = ending.clash.inference(self.alloc, self.field)?;
         self.written.push(inference)?;
+        let mut used = ending.used;
         self.write_steps(steps, &mut used)?;
         self.hand_up(&used);
         Ok(())
@@ -106,7 +100,7 @@ impl Search<'_> {
             ending,
         } = looked;
         if let Some(ending) = ending {
-            self.end(steps, ending)?;
+            self.end(&steps, &ending)?;
             return Ok(None);
         }
         let Some(split) = self.split(&region)? else {
@@ -134,7 +128,7 @@ impl Search<'_> {
             used.remove(second, first);
         }
         self.written.push(decision.inference(self.field))?;
-        self.write_steps(steps, &mut used)?;
+        self.write_steps(&steps, &mut used)?;
         self.hand_up(&used);
         Ok(())
     }

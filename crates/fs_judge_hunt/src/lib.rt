@@ -7,6 +7,7 @@
 mod access;
 mod cases;
 mod choose;
+mod clash;
 mod condition;
 mod endings;
 mod facts;

@@ -1,9 +1,10 @@
 //! What follows from what loads return from: an earlier store isn't later in coherence order.
 
+use crate::clash::{Clash, Ending};
 use crate::names::{Origin, Relation, bit, has};
 use crate::region::Region;
-use crate::saturate::{Ending, Looked, Round};
-use fs_cert_evidence::{Cause, Inference};
+use crate::saturate::{Looked, Round};
+use fs_cert_evidence::Cause;
 use std::alloc::AllocError;
 
 /// A load, and a store at its location.
@@ -66,10 +67,7 @@ impl Round<'_> {
             used.add(source, store);
         }
         Ending {
-            inference: Inference::Stale {
-                load: self.field.name(load),
-                store: self.field.name(store),
-            },
+            clash: Clash::Stale { load, store },
             used,
         }
     }

@@ -1,10 +1,10 @@
 //! What follows from pairs of an lr.w and an sc.w: no store of another hart is between the two.
 
 use crate::access::NOWHERE;
+use crate::clash::{Clash, Ending};
 use crate::names::{Origin, Relation, has};
 use crate::region::Region;
-use crate::saturate::{Ending, Looked, Round};
-use fs_cert_evidence::Inference;
+use crate::saturate::{Looked, Round};
 use std::alloc::AllocError;
 
 /// An lr.w and its sc.w.
@@ -66,10 +66,7 @@ impl Round<'_> {
         let mut used = Relation::new();
         used.add(store, source);
         let ending = Ending {
-            inference: Inference::Reversed {
-                load: self.field.name(load),
-                store: self.field.name(store),
-            },
+            clash: Clash::Reversed { load, store },
             used,
         };
         if looked.is_before(store, source) {
@@ -89,11 +86,7 @@ impl Round<'_> {
             used.add(source, other);
         }
         Ending {
-            inference: Inference::Parted {
-                load: self.field.name(load),
-                store: self.field.name(store),
-                other: self.field.name(other),
-            },
+            clash: Clash::Parted { load, store, other },
             used,
         }
     }

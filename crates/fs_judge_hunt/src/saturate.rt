@@ -1,32 +1,18 @@
 //! What follows in a region by itself: which stores come before others, until it ends or nothing more follows.
 
+use crate::clash::{Clash, Ending, Step};
 use crate::endings::Outlook;
 use crate::facts::Facts;
-use crate::links::{Edge, inference_of};
+use crate::links::Edge;
 use crate::names::{MOST_NAMES, Relation, bit, has};
 use crate::paths::{cycle, way};
 use crate::region::{Field, Region};
 use crate::uses::of_filter;
-use fs_cert_evidence::{Cause, Inference};
+use fs_cert_evidence::Cause;
 use std::alloc::{AllocError, Global};
 
 /// More rounds than there are pairs of names.
 const MOST_ROUNDS: usize = MOST_NAMES * MOST_NAMES + 1;
-
-/// An inference that ends a region, and the pairs of stores that it rests on.
-#[derive(Drop)]
-pub(crate) struct Ending {
-    pub(crate) inference: Inference,
-    pub(crate) used: Relation,
-}
-
-/// The first store must come before the second: in the other order the inference would end the region.
-#[derive(Drop)]
-pub(crate) struct Step {
-    pub(crate) first: u8,
-    pub(crate) second: u8,
-    pub(crate) ending: Ending,
-}
 
 /// A region in which everything was drawn that follows; at the end what ends it, if something does.
 #[derive(Drop)]
@@ -167,7 +153,7 @@ impl Round<'_> {
             edges.push(edge)?;
         }
         Ok(Ending {
-            inference: inference_of(self.alloc, self.field, &edges)?,
+            clash: Clash::Cycle(edges),
             used,
         })
     }
@@ -182,7 +168,7 @@ impl Round<'_> {
         if !outlook.may_show(self.alloc)? {
             let used = of_filter(&outlook, known);
             looked.end(Ending {
-                inference: Inference::Filter(0),
+                clash: Clash::Outcome,
                 used,
             });
         }
