@@ -2,6 +2,7 @@
 
 use crate::access::Takes;
 use crate::cases::is_at_once;
+use crate::clash::Step;
 use crate::condition::{Node, Part, Wanted, within};
 use crate::endings::Outlook;
 use crate::facts::Facts;
@@ -10,14 +11,25 @@ use crate::region::{Field, Region};
 use crate::rows::{do_meet, has_several, is_within};
 use crate::saturate::{Looked, saturate};
 use crate::splits::{Decision, Splitter};
+use crate::trail::{Dead, Trail};
 use crate::uses::of_filter;
 use std::alloc::{AllocError, Global};
+use std::sync::Arc;
+
+/// A region that was looked at.
+#[derive(Drop)]
+pub(crate) enum Child {
+    /// It ends so, and these pairs of stores were known in it before.
+    Ended(Arc<Dead>, Relation),
+    /// It is open, and this followed in it.
+    Open(Region, Vec<Step>),
+}
 
 /// A split with what it makes of a region, of which so many are left open.
 #[derive(Drop)]
 pub(crate) struct Split {
     pub(crate) decision: Decision,
-    pub(crate) children: Vec<Looked>,
+    pub(crate) children: Vec<Child>,
     /// The pairs of stores that it rests on.
     pub(crate) used: Relation,
     live: usize,
@@ -53,6 +65,23 @@ fn has_cases(alloc: Global, nodes: &[Node], truth: bool) -> Result<bool, AllocEr
     Ok(false)
 }
 
+/// Looks at the region.
+pub(crate) fn look(alloc: Global, field: Field<'_>, region: Region) -> Result<Child, AllocError> {
+    let before = region.before;
+    let Looked {
+        region,
+        steps,
+        ending,
+    } = saturate(alloc, field, region)?;
+    match ending {
+        Some(ending) => {
+            let dead = Arc::new(alloc, Dead { steps, ending })?;
+            Ok(Child::Ended(dead, before))
+        }
+        None => Ok(Child::Open(region, steps)),
+    }
+}
+
 impl Chooser<'_> {
     fn splitter(&self) -> Splitter<'_> {
         Splitter {
@@ -61,8 +90,43 @@ impl Chooser<'_> {
         }
     }
 
-    /// Looks at what the decision makes of the region; nothing where that is the region itself.
-    fn try_split(&self, decision: Decision) -> Result<Option<Split>, AllocError> {
+    /// Puts the region among the split's children, looked at where no look on the way has shown that it ends. Where so
+    /// many are open, it is only counted.
+    fn add_child(
+        &self,
+        trail: &mut Trail,
+        split: &mut Split,
+        region: Region,
+        most: usize,
+    ) -> Result<(), AllocError> {
+        let branch = self.splitter().branch(split.decision, &region);
+        if let Some(dead) = branch.and_then(|branch| trail.dead(branch, &region.before)) {
+            split
+                .children
+                .push(Child::Ended(Arc::try_clone(dead)?, region.before))?;
+            return Ok(());
+        }
+        if split.live >= most {
+            split.live = split.live.saturating_add(1);
+            return Ok(());
+        }
+        let child = look(self.alloc, self.field, region)?;
+        match (&child, branch) {
+            (Child::Ended(dead, _), Some(branch)) => trail.add(branch, dead)?,
+            (Child::Ended(_, _), None) => {}
+            (Child::Open(_, _), _) => split.live = split.live.saturating_add(1),
+        }
+        split.children.push(child)?;
+        Ok(())
+    }
+
+    /// Looks at what the decision makes of the region; nothing where that is the region itself, or so many are open.
+    fn try_split(
+        &self,
+        trail: &mut Trail,
+        decision: Decision,
+        most: usize,
+    ) -> Result<Option<Split>, AllocError> {
         let mut regions = self.splitter().children(self.region, self.facts, decision)?;
         if is_vain(self.region, decision, &regions) {
             return Ok(None);
@@ -78,13 +142,10 @@ impl Chooser<'_> {
             let Some(region) = regions.pop() else {
                 break;
             };
-            let looked = saturate(self.alloc, self.field, region)?;
-            if looked.ending.is_none() {
-                split.live = split.live.saturating_add(1);
-            }
-            split.children.push(looked)?;
+            self.add_child(trail, &mut split, region, most)?;
         }
-        Ok(Some(split))
+        trail.set_open(decision, split.live);
+        Ok(if split.live < most { Some(split) } else { None })
     }
 
     fn used_by(&self, decision: Decision) -> Relation {
@@ -163,8 +224,8 @@ impl Chooser<'_> {
     }
 
     /// What is tried first: filters, as long as no load has a source; then the sources of loads, and whether an sc.w
-    /// succeeds.
-    fn options(&self) -> Result<Vec<Decision>, AllocError> {
+    /// succeeds, first what left the fewest regions open further up.
+    fn options(&self, trail: &Trail) -> Result<Vec<Decision>, AllocError> {
         let mut options = Vec::new(self.alloc);
         if self.is_undecided() {
             self.add_filters(&mut options)?;
@@ -176,27 +237,24 @@ impl Chooser<'_> {
                 options.push(Decision::Choice(name))?;
             }
         }
+        options.sort_by_key(|decision| trail.open(*decision))?;
         Ok(options)
     }
 
     /// The one of these that leaves the fewest regions open. One that leaves at most one, and so only narrows the
     /// region, is taken at once.
-    fn best(&self, options: &[Decision]) -> Result<Option<Split>, AllocError> {
+    fn best(&self, trail: &mut Trail) -> Result<Option<Split>, AllocError> {
         let mut best: Option<Split> = None;
-        for decision in options {
-            let Some(split) = self.try_split(*decision)? else {
+        let mut most = usize::MAX;
+        let options = self.options(trail)?;
+        for decision in &options {
+            let Some(split) = self.try_split(trail, *decision, most)? else {
                 continue;
             };
-            let is_better = match &best {
-                Some(known) => split.live < known.live,
-                None => true,
-            };
-            if is_better {
-                let only_narrows = split.live <= 1;
-                best = Some(split);
-                if only_narrows {
-                    break;
-                }
+            most = split.live;
+            best = Some(split);
+            if most <= 1 {
+                break;
             }
         }
         Ok(best)
@@ -224,20 +282,20 @@ impl Chooser<'_> {
     }
 
     /// The split to make; nothing where all is decided.
-    pub(crate) fn split(&self) -> Result<Option<Split>, AllocError> {
+    pub(crate) fn split(&self, trail: &mut Trail) -> Result<Option<Split>, AllocError> {
         if self.is_undecided() {
             if let Some(cases) = self.cases()? {
-                return self.try_split(cases);
+                return self.try_split(trail, cases, usize::MAX);
             }
         }
-        if let Some(split) = self.best(&self.options()?)? {
+        if let Some(split) = self.best(trail)? {
             return Ok(Some(split));
         }
         if let Some(choice) = self.choice() {
-            return self.try_split(choice);
+            return self.try_split(trail, choice, usize::MAX);
         }
         match self.order() {
-            Some(order) => self.try_split(order),
+            Some(order) => self.try_split(trail, order, usize::MAX),
             None => Ok(None),
         }
     }

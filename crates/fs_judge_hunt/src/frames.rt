@@ -1,12 +1,12 @@
 //! The search: regions are split until each has ended, or one has nothing left to decide.
 
-use crate::choose::{Chooser, Split};
-use crate::clash::{Ending, Step};
+use crate::choose::{Child, Chooser, Split, look};
+use crate::clash::Step;
 use crate::facts::Facts;
 use crate::names::Relation;
 use crate::region::{Field, Region};
-use crate::saturate::{Looked, saturate};
 use crate::splits::Decision;
+use crate::trail::{Dead, Mark, Trail};
 use fs_cert_evidence::Inference;
 use std::alloc::{AllocError, Global};
 
@@ -27,9 +27,11 @@ struct Frame {
     steps: Vec<Step>,
     decision: Decision,
     /// The last one is the next.
-    children: Vec<Looked>,
+    children: Vec<Child>,
     /// The pairs of stores on which rests what was written below it.
     used: Relation,
+    /// What the trail was above its split.
+    mark: Mark,
 }
 
 /// A search. The inferences stand in reverse, since of a region's children the last is looked through first.
@@ -38,16 +40,22 @@ struct Search<'a> {
     alloc: Global,
     field: Field<'a>,
     stack: Vec<Frame>,
+    trail: Trail,
     written: Vec<Inference>,
     entered: usize,
 }
 
 impl Search<'_> {
-    /// Writes, before what was written of a region, what followed in it and is used.
-    fn write_steps(&mut self, steps: &[Step], used: &mut Relation) -> Result<(), AllocError> {
+    /// Writes, before what was written of a region, what followed in it and is used, unless it was known before.
+    fn write_steps(
+        &mut self,
+        steps: &[Step],
+        before: &Relation,
+        used: &mut Relation,
+    ) -> Result<(), AllocError> {
         for step in steps.iter().rev() {
             let (first, second) = (step.first, step.second);
-            if !used.has(first, second) {
+            if !used.has(first, second) || before.has(first, second) {
                 continue;
             }
             used.remove(first, second);
@@ -70,17 +78,17 @@ impl Search<'_> {
     }
 
     /// Writes a region that has ended.
-    fn end(&mut self, steps: &[Step], ending: &Ending) -> Result<(), AllocError> {
-        let inference = ending.clash.inference(self.alloc, self.field)?;
+    fn end(&mut self, dead: &Dead, before: &Relation) -> Result<(), AllocError> {
+        let inference = dead.ending.clash.inference(self.alloc, self.field)?;
         self.written.push(inference)?;
-        let mut used = ending.used;
-        self.write_steps(steps, &mut used)?;
+        let mut used = dead.ending.used;
+        self.write_steps(&dead.steps, before, &mut used)?;
         self.hand_up(&used);
         Ok(())
     }
 
     /// The split that is made of the region.
-    fn split(&self, region: &Region) -> Result<Option<Split>, AllocError> {
+    fn split(&mut self, region: &Region) -> Result<Option<Split>, AllocError> {
         let facts = Facts::of(self.field, region);
         let chooser = Chooser {
             alloc: self.alloc,
@@ -88,21 +96,12 @@ impl Search<'_> {
             region,
             facts: &facts,
         };
-        chooser.split()
+        chooser.split(&mut self.trail)
     }
 
-    /// Looks through a region. The region itself where nothing is left to decide.
-    fn enter(&mut self, looked: Looked) -> Result<Option<Region>, AllocError> {
-        self.entered = self.entered.saturating_add(1);
-        let Looked {
-            region,
-            steps,
-            ending,
-        } = looked;
-        if let Some(ending) = ending {
-            self.end(&steps, &ending)?;
-            return Ok(None);
-        }
+    /// Looks through a region in which this followed. The region itself where nothing is left to decide.
+    fn open(&mut self, region: Region, steps: Vec<Step>) -> Result<Option<Region>, AllocError> {
+        let mark = self.trail.mark();
         let Some(split) = self.split(&region)? else {
             return Ok(Some(region));
         };
@@ -111,8 +110,20 @@ impl Search<'_> {
             decision: split.decision,
             children: split.children,
             used: split.used,
+            mark,
         })?;
         Ok(None)
+    }
+
+    fn enter(&mut self, child: Child) -> Result<Option<Region>, AllocError> {
+        self.entered = self.entered.saturating_add(1);
+        match child {
+            Child::Ended(dead, before) => {
+                self.end(&dead, &before)?;
+                Ok(None)
+            }
+            Child::Open(region, steps) => self.open(region, steps),
+        }
     }
 
     /// Writes a region whose children have been written.
@@ -122,19 +133,21 @@ impl Search<'_> {
             decision,
             children: _,
             mut used,
+            mark,
         } = frame;
+        self.trail.go_back(&mark);
         if let Decision::Order(first, second) = decision {
             used.remove(first, second);
             used.remove(second, first);
         }
         self.written.push(decision.inference(self.field))?;
-        self.write_steps(&steps, &mut used)?;
+        self.write_steps(&steps, &Relation::new(), &mut used)?;
         self.hand_up(&used);
         Ok(())
     }
 
     /// The next region, if the one that was split last has one left; else that one is done.
-    fn advance(&mut self) -> Result<Option<Looked>, AllocError> {
+    fn advance(&mut self) -> Result<Option<Child>, AllocError> {
         let Some(frame) = self.stack.last_mut() else {
             return Ok(None);
         };
@@ -162,15 +175,15 @@ impl Search<'_> {
         written
     }
 
-    fn run(mut self, looked: Looked, most: usize) -> Result<Hunted, AllocError> {
-        let mut next = Some(looked);
+    fn run(mut self, root: Child, most: usize) -> Result<Hunted, AllocError> {
+        let mut next = Some(root);
         for _ in 0..most.saturating_mul(4).saturating_add(8) {
             if self.size() > most {
                 return Ok(Hunted::GaveUp);
             }
             match next.take() {
-                Some(looked) => {
-                    if let Some(region) = self.enter(looked)? {
+                Some(child) => {
+                    if let Some(region) = self.enter(child)? {
                         return Ok(Hunted::Shown(region));
                     }
                 }
@@ -191,13 +204,14 @@ pub(crate) fn hunt(
     region: Region,
     most: usize,
 ) -> Result<Hunted, AllocError> {
-    let looked = saturate(alloc, field, region)?;
+    let root = look(alloc, field, region)?;
     let search = Search {
         alloc,
         field,
         stack: Vec::new(alloc),
+        trail: Trail::new(alloc),
         written: Vec::new(alloc),
         entered: 0,
     };
-    search.run(looked, most)
+    search.run(root, most)
 }

@@ -29,6 +29,7 @@ mod rules;
 mod saturate;
 mod splits;
 mod sum;
+mod trail;
 mod uses;
 mod witness;
 
