@@ -1,14 +1,12 @@
 //! Which way a region is split.
 
-use crate::access::Takes;
-use crate::cases::is_at_once;
+use crate::cases::cases;
 use crate::clash::Step;
-use crate::condition::{Node, Part, Wanted, within};
 use crate::endings::Outlook;
 use crate::facts::Facts;
-use crate::names::{Origin, Relation, bit, has};
+use crate::learned::Learned;
+use crate::names::{Relation, bit, has};
 use crate::region::{Field, Region};
-use crate::rows::{do_meet, has_several, is_within};
 use crate::saturate::{Looked, saturate};
 use crate::splits::{Decision, Splitter};
 use crate::trail::{Dead, Trail};
@@ -19,8 +17,8 @@ use std::sync::Arc;
 /// A region that was looked at.
 #[derive(Drop)]
 pub(crate) enum Child {
-    /// It ends so, and these pairs of stores were known in it before.
-    Ended(Arc<Dead>, Relation),
+    /// It ends so.
+    Ended(Arc<Dead>, Region),
     /// It is open, and this followed in it.
     Open(Region, Vec<Step>),
 }
@@ -42,32 +40,13 @@ pub(crate) struct Chooser<'a> {
     pub(crate) field: Field<'a>,
     pub(crate) region: &'a Region,
     pub(crate) facts: &'a Facts,
-}
-
-/// Has the part, with a truth value, cases? The truth values of parts are on the stack.
-fn has_cases(alloc: Global, nodes: &[Node], truth: bool) -> Result<bool, AllocError> {
-    let mut stack = Vec::new(alloc);
-    stack.push(truth)?;
-    for node in nodes {
-        let truth = stack.pop().unwrap_or(true);
-        match node.part {
-            Part::Deny => stack.push(!truth)?,
-            Part::Both | Part::Either => {
-                if !is_at_once(node.part, truth) {
-                    return Ok(true);
-                }
-                stack.push(truth)?;
-                stack.push(truth)?;
-            }
-            _ => {}
-        }
-    }
-    Ok(false)
+    /// The pairs of stores that are known with any fences.
+    pub(crate) firm: Relation,
+    pub(crate) learned: &'a Learned,
 }
 
 /// Looks at the region.
 pub(crate) fn look(alloc: Global, field: Field<'_>, region: Region) -> Result<Child, AllocError> {
-    let before = region.before;
     let Looked {
         region,
         steps,
@@ -75,8 +54,8 @@ pub(crate) fn look(alloc: Global, field: Field<'_>, region: Region) -> Result<Ch
     } = saturate(alloc, field, region)?;
     match ending {
         Some(ending) => {
-            let dead = Arc::new(alloc, Dead { steps, ending })?;
-            Ok(Child::Ended(dead, before))
+            let dead = Arc::new(alloc, Dead::new(alloc, steps, ending)?)?;
+            Ok(Child::Ended(dead, region))
         }
         None => Ok(Child::Open(region, steps)),
     }
@@ -101,15 +80,15 @@ impl Chooser<'_> {
     ) -> Result<(), AllocError> {
         let branch = self.splitter().branch(split.decision, &region);
         if let Some(dead) = branch.and_then(|branch| trail.dead(branch, &region.before)) {
-            split
-                .children
-                .push(Child::Ended(Arc::try_clone(dead)?, region.before))?;
+            let dead = Arc::try_clone(dead)?;
+            split.children.push(Child::Ended(dead, region))?;
             return Ok(());
         }
         if split.live >= most {
             split.live = split.live.saturating_add(1);
             return Ok(());
         }
+        trail.looks = trail.looks.saturating_add(1);
         let child = look(self.alloc, self.field, region)?;
         match (&child, branch) {
             (Child::Ended(dead, _), Some(branch)) => trail.add(branch, dead)?,
@@ -127,7 +106,7 @@ impl Chooser<'_> {
         decision: Decision,
         most: usize,
     ) -> Result<Option<Split>, AllocError> {
-        let mut regions = self.splitter().children(self.region, self.facts, decision)?;
+        let (mut regions, used) = self.regions(decision)?;
         if is_vain(self.region, decision, &regions) {
             return Ok(None);
         }
@@ -135,7 +114,7 @@ impl Chooser<'_> {
         let mut split = Split {
             decision,
             children: Vec::new(self.alloc),
-            used: self.used_by(decision),
+            used,
             live: 0,
         };
         for _ in 0..regions.len() {
@@ -148,97 +127,26 @@ impl Chooser<'_> {
         Ok(if split.live < most { Some(split) } else { None })
     }
 
-    fn used_by(&self, decision: Decision) -> Relation {
-        match decision {
-            Decision::Filter(_) => {
-                let outlook = Outlook {
-                    field: self.field,
-                    region: self.region,
-                    facts: self.facts,
-                };
-                of_filter(&outlook, &self.region.before)
-            }
-            _ => Relation::new(),
-        }
-    }
-
-    fn is_undecided(&self) -> bool {
-        self.region
-            .origins
-            .iter()
-            .all(|origin| *origin == Origin::Unknown)
-    }
-
-    /// The wanted condition that has cases, where it is the only one: those of several would be multiplied, and a
-    /// region ends without them too, where one of the conditions can't have its truth value any more.
-    fn cases(&self) -> Result<Option<Decision>, AllocError> {
-        let mut found = None;
-        for (number, wanted) in self.region.wanted.iter().enumerate() {
-            let wanted: &Wanted = wanted;
-            if has_cases(
-                self.alloc,
-                within(self.field.nodes, wanted.node),
-                wanted.truth,
-            )? {
-                if found.is_some() {
-                    return Ok(None);
-                }
-                found = Some(Decision::Cases(number));
-            }
-        }
-        Ok(found)
-    }
-
-    /// Do the runs that are left make several choices there?
-    fn has_choices(&self, name: u8) -> bool {
-        let Some(doing) = self.field.hart_of(name).and_then(|hart| hart.doing(name)) else {
-            return false;
+    /// The regions that the decision makes, and the pairs of stores that it rests on. A filter looks only at pairs that
+    /// are known with any fences, so that it leaves the same runs with all.
+    fn regions(&self, decision: Decision) -> Result<(Vec<Region>, Relation), AllocError> {
+        let Decision::Filter(_) = decision else {
+            let regions = self.splitter().children(self.region, self.facts, decision)?;
+            return Ok((regions, Relation::new()));
         };
-        let row = self.region.row(self.field.owner(name));
-        doing.choices.iter().any(|group| do_meet(row, &group.row) && !is_within(row, &group.row))
-    }
-
-    /// Is it an sc.w?
-    fn may_fail(&self, name: u8) -> bool {
-        self.field
-            .hart_of(name)
-            .and_then(|hart| hart.doing(name))
-            .is_some_and(|doing| doing.takes == Takes::Success)
-    }
-
-    /// Is the name worth a split by its source?
-    fn may_source(&self, name: u8) -> bool {
-        has(self.facts.may_load, name) && self.region.origin(name) != Origin::Initial
-    }
-
-    /// Adds the filters of harts.
-    fn add_filters(&self, options: &mut Vec<Decision>) -> Result<(), AllocError> {
-        let mut hart: u8 = 0;
-        for left in &self.region.left {
-            if has_several(&left.row) {
-                options.push(Decision::Filter(hart))?;
-            }
-            hart = hart.saturating_add(1);
+        let mut bare = self.region.copy(self.alloc)?;
+        bare.before = self.firm;
+        let mut regions = self.splitter().children(&bare, self.facts, decision)?;
+        for region in regions.iter_mut() {
+            region.before = self.region.before;
         }
-        Ok(())
-    }
-
-    /// What is tried first: filters, as long as no load has a source; then the sources of loads, and whether an sc.w
-    /// succeeds, first what left the fewest regions open further up.
-    fn options(&self, trail: &Trail) -> Result<Vec<Decision>, AllocError> {
-        let mut options = Vec::new(self.alloc);
-        if self.is_undecided() {
-            self.add_filters(&mut options)?;
-        }
-        for name in 0..self.field.count {
-            if self.may_source(name) {
-                options.push(Decision::Source(name))?;
-            } else if self.may_fail(name) && self.has_choices(name) {
-                options.push(Decision::Choice(name))?;
-            }
-        }
-        options.sort_by_key(|decision| trail.open(*decision))?;
-        Ok(options)
+        let outlook = Outlook {
+            field: self.field,
+            region: &bare,
+            facts: self.facts,
+        };
+        let used = of_filter(&outlook, &self.firm);
+        Ok((regions, used))
     }
 
     /// The one of these that leaves the fewest regions open. One that leaves at most one, and so only narrows the
@@ -247,8 +155,11 @@ impl Chooser<'_> {
         let mut best: Option<Split> = None;
         let mut most = usize::MAX;
         let options = self.options(trail)?;
-        for decision in &options {
-            let Some(split) = self.try_split(trail, *decision, most)? else {
+        for (number, choice) in options.choices.iter().enumerate() {
+            if best.is_some() && options.is_late(number, choice, most) {
+                break;
+            }
+            let Some(split) = self.try_split(trail, choice.decision, most)? else {
                 continue;
             };
             most = split.live;
@@ -284,7 +195,7 @@ impl Chooser<'_> {
     /// The split to make; nothing where all is decided.
     pub(crate) fn split(&self, trail: &mut Trail) -> Result<Option<Split>, AllocError> {
         if self.is_undecided() {
-            if let Some(cases) = self.cases()? {
+            if let Some(cases) = cases(self.alloc, self.field, self.region)? {
                 return self.try_split(trail, cases, usize::MAX);
             }
         }

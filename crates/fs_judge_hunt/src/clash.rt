@@ -1,8 +1,9 @@
 //! What ends regions, by names: the inference is made where it is written.
 
-use crate::links::{Edge, inference_of};
+use crate::links::{Edge, add_needs, inference_of};
 use crate::names::Relation;
-use crate::region::Field;
+use crate::needs::Need;
+use crate::region::{Field, Region};
 use fs_cert_evidence::Inference;
 use std::alloc::{AllocError, Global};
 
@@ -36,7 +37,29 @@ pub(crate) struct Step {
     pub(crate) ending: Ending,
 }
 
+impl Step {
+    /// What the step rests on, where what ends the other order does.
+    pub(crate) fn used(&self) -> Relation {
+        let mut used = self.ending.used;
+        used.remove(self.second, self.first);
+        used
+    }
+}
+
 impl Clash {
+    /// Adds what it needs of the placement in the region.
+    pub(crate) fn add_needs(
+        &self,
+        need: &mut Need,
+        field: Field<'_>,
+        region: &Region,
+    ) -> Result<(), AllocError> {
+        match self {
+            Clash::Cycle(edges) => add_needs(need, field, region, edges),
+            _ => Ok(()),
+        }
+    }
+
     /// The inference by which it ends a region.
     pub(crate) fn inference(
         &self,

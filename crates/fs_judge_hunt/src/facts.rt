@@ -3,6 +3,8 @@
 use crate::access::NOWHERE;
 use crate::names::{MOST_NAMES, Origin, Relation, bit, has};
 use crate::region::{Field, Region};
+use crate::rows::is_within;
+use crate::rules::Rule;
 use crate::sum::Sum;
 use fs_kinds::MOST_LOCATIONS;
 
@@ -49,8 +51,11 @@ impl Facts {
     /// Those of the region.
     pub(crate) fn of(field: Field<'_>, region: &Region) -> Facts {
         let mut facts = blank();
+        let mut hart: u8 = 0;
         for left in &region.left {
             facts.add_sum(region, &left.sum, field.count);
+            facts.add_fenced(field.fenced_in(hart), &left.row);
+            hart = hart.saturating_add(1);
         }
         for name in 0..field.count {
             facts.add_stored(name);
@@ -70,6 +75,15 @@ impl Facts {
         self.pairs.join(&sum.pairs);
         self.add_same(region, sum, count);
         self.add_through(region, sum);
+    }
+
+    /// Rule 4, where it holds in each of the hart's runs.
+    fn add_fenced(&mut self, rules: &[Rule], row: &[u64]) {
+        for rule in rules {
+            if rule.is_whole || is_within(row, &rule.row) {
+                self.edges.add(rule.first, rule.second);
+            }
+        }
     }
 
     /// Rule 2, where the sources are known and differ.

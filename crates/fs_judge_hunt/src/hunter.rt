@@ -5,13 +5,15 @@ ghost use Rattle.fs_kinds.specs.declared.fault.Fault.TheVariants.{Memory};
 
 use crate::access::initial_word;
 use crate::condition::Condition;
-use crate::fences::all_fenced;
+use crate::fences::{all_fenced, pairs_at};
 use crate::first::hunt_first;
-use crate::frames::{Hunted, hunt};
+use crate::frames::{Hunted, Limits, Search};
 use crate::hart::{Hart, may_store_often};
+use crate::needs::Fences;
 use crate::region::Field;
 use crate::rules::Rule;
 use crate::witness::{Execution, execution_of};
+use crate::written::refutation;
 use fs_cert_evidence::Inference;
 use fs_kinds::{Fault, List, MOST_LOCATIONS, OperationName, Placement};
 use fs_model::Test;
@@ -36,6 +38,42 @@ struct Runs {
 pub struct Hunter {
     runs: Arc<Runs>,
     condition: Condition,
+}
+
+/// What the hunts of one hunter keep, for the next one: which regions were split, and what ended them, under whatever
+/// fences.
+#[derive(Drop)]
+pub struct Kept {
+    search: Option<Search>,
+    looks: usize,
+    refusals: usize,
+}
+
+impl Kept {
+    /// Nothing yet.
+    pub fn new() -> Kept {
+        Kept {
+            search: None,
+            looks: 0,
+            refusals: 0,
+        }
+    }
+
+    /// At how many regions the last hunt has looked. In constant time.
+    pub fn looks(&self) -> usize {
+        self.looks
+    }
+
+    /// How often what was found didn't hold. In constant time.
+    pub fn refusals(&self) -> usize {
+        self.refusals
+    }
+
+    /// Forgets all, since what was found didn't hold.
+    pub fn refuse(&mut self) {
+        self.search = None;
+        self.refusals = self.refusals.saturating_add(1);
+    }
 }
 
 /// What a hunt comes to.
@@ -102,10 +140,15 @@ impl Hunter {
         self.runs.has_many_stores
     }
 
-    fn field<'a>(&'a self, fenced: &'a [Vec<Rule>]) -> Field<'a> {
+    fn field<'a>(&'a self, fenced: &'a [Vec<Rule>], placement: &'a Placement) -> Field<'a> {
+        let entries = placement.as_slice();
         Field {
             harts: &self.runs.harts,
             fenced,
+            fences: Fences {
+                entries,
+                pairs: pairs_at(entries),
+            },
             nodes: &self.condition.nodes,
             atoms: &self.condition.atoms,
             words: &self.runs.words,
@@ -114,46 +157,97 @@ impl Hunter {
         }
     }
 
-    fn hunt_for(
+    /// What the search has come to.
+    fn found(
+        &self,
+        alloc: Global,
+        field: Field<'_>,
+        search: &Search,
+        hunted: Hunted,
+        most: usize,
+    ) -> Result<Found, AllocError> {
+        let _ = &self.condition;
+        match hunted {
+            Hunted::Refuted => Ok(match refutation(alloc, field, &search.tree, most)? {
+                Some(inferences) => Found::Refuted(List::new(inferences)),
+                None => Found::GaveUp,
+            }),
+            Hunted::Shown(region) => Ok(Found::Shown(execution_of(alloc, field, &region)?)),
+            Hunted::GaveUp => Ok(Found::GaveUp),
+        }
+    }
+
+    /// A search over all candidates that show the outcome, if there can be one.
+    fn search(&self, alloc: Global, field: Field<'_>) -> Result<Option<Search>, AllocError> {
+        match field.root(alloc, self.condition.truth)? {
+            Some(root) => Ok(Some(Search::new(alloc, root)?)),
+            None => Ok(None),
+        }
+    }
+
+    /// A refutation of the test under the placement, or an execution that shows the outcome with the placed fences; or
+    /// it gives up where the refutation would have more than so many inferences. It begins with what earlier hunts of
+    /// this hunter have kept. Nothing is promised of what it finds: the one is checked by `reason_against`, the other
+    /// by `shown_by` of fs_check. The cost is exponential in the memory instructions; the memory is that of the tree.
+    /// The error is F19.
+    pub fn hunt(
+        &self,
+        alloc: Global,
+        kept: &mut Kept,
+        placement: &Placement,
+        most: usize,
+    ) -> Result<Found, Fault>
+        ensures err { IsOkUnless result Memory }
+    {
+        Ok(self.hunt_on(alloc, kept, placement, most)?)
+    }
+
+    fn hunt_on(
+        &self,
+        alloc: Global,
+        kept: &mut Kept,
+        placement: &Placement,
+        most: usize,
+    ) -> Result<Found, AllocError> {
+        let fenced = all_fenced(alloc, &self.runs.harts, placement)?;
+        let field = self.field(&fenced, placement);
+        let search = match kept.search.take() {
+            Some(search) => Some(search),
+            None => self.search(alloc, field)?,
+        };
+        let Some(mut search) = search else {
+            return Ok(Found::Refuted(List::new(Vec::new(alloc))));
+        };
+        let hunted = search.hunt(alloc, field, Limits::of(most))?;
+        kept.looks = search.looks();
+        let found = self.found(alloc, field, &search, hunted, most)?;
+        if !search.is_large() {
+            kept.search = Some(search);
+        }
+        Ok(found)
+    }
+
+    fn hunt_first(
         &self,
         alloc: Global,
         placement: &Placement,
         most: usize,
-        first: bool,
     ) -> Result<Found, AllocError> {
         let fenced = all_fenced(alloc, &self.runs.harts, placement)?;
-        let field = self.field(&fenced);
+        let field = self.field(&fenced, placement);
         let Some(root) = field.root(alloc, self.condition.truth)? else {
             return Ok(Found::Refuted(List::new(Vec::new(alloc))));
         };
-        let hunted = if first {
-            hunt_first(alloc, field, root, most)?
-        } else {
-            hunt(alloc, field, root, most)?
-        };
-        Ok(match hunted {
-            Hunted::Refuted(inferences) => Found::Refuted(List::new(inferences)),
-            Hunted::Shown(region) => Found::Shown(execution_of(alloc, field, &region)?),
-            Hunted::GaveUp => Found::GaveUp,
-        })
+        let mut search = Search::new(alloc, root.copy(alloc)?)?;
+        let hunted = hunt_first(alloc, field, &mut search, root, Limits::of(most))?;
+        self.found(alloc, field, &search, hunted, most)
     }
 
-    /// A refutation of the test under the placement, or an execution that shows the outcome with the placed fences; or
-    /// it gives up where the refutation would have more than so many inferences. Nothing is promised of either: the
-    /// one is checked by `reason_against`, the other by `shown_by` of fs_check. The cost is exponential in the
-    /// memory instructions; the memory is that of the refutation, and of the regions that are open at once. The error
-    /// is F19.
-    pub fn hunt(&self, alloc: Global, placement: &Placement, most: usize) -> Result<Found, Fault>
-        ensures err { IsOkUnless result Memory }
-    {
-        Ok(self.hunt_for(alloc, placement, most, false)?)
-    }
-
-    /// The same, but of the executions the one whose candidate comes first in the order of candidates. Each hunt that
-    /// it takes may have so many inferences. The error is F19.
+    /// The same from nothing, but of the executions the one whose candidate comes first in the order of candidates.
+    /// Each hunt that it takes may have so many inferences. The error is F19.
     pub fn first(&self, alloc: Global, placement: &Placement, most: usize) -> Result<Found, Fault>
         ensures err { IsOkUnless result Memory }
     {
-        Ok(self.hunt_for(alloc, placement, most, true)?)
+        Ok(self.hunt_first(alloc, placement, most)?)
     }
 }

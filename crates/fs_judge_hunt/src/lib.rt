@@ -17,10 +17,13 @@ mod forms;
 mod frames;
 mod hart;
 mod hunter;
+mod learned;
 mod links;
 mod loads;
 mod marks;
 mod names;
+mod needs;
+mod options;
 mod pairs;
 mod paths;
 mod region;
@@ -30,8 +33,10 @@ mod saturate;
 mod splits;
 mod sum;
 mod trail;
+mod tree;
 mod uses;
 mod witness;
+mod written;
 
 pub use access::{
     Access, Doing, Own, Place, Takes, class_key, class_of, initial_word, location_in, location_of,
@@ -41,7 +46,7 @@ pub use condition::{Condition, Node, Part, nodes};
 pub use fences::written;
 pub use forms::{Form, Outline};
 pub use hart::Hart;
-pub use hunter::{Found, Hunter};
+pub use hunter::{Found, Hunter, Kept};
 pub use rows::{Group, Row, both, do_meet, has_all, is_empty, join, no_run, put, words_for};
 pub use rules::{Forwarded, Numbered, Rule};
 pub use witness::Execution;

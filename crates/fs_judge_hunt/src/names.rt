@@ -37,6 +37,11 @@ impl Relation {
         has(self.row(first), second)
     }
 
+    /// Has it no pair?
+    pub(crate) fn is_empty(&self) -> bool {
+        self.rows.iter().all(|row| *row == 0)
+    }
+
     /// Puts the name before each of these.
     pub(crate) fn add_all(&mut self, first: u8, names: u64) {
         if let Some(row) = self.rows.get_mut(usize::from(first)) {

@@ -35,6 +35,8 @@ struct Ended {
 /// What looks at splits have shown.
 #[derive(Drop)]
 pub(crate) struct Trail {
+    /// How many looks were made in all.
+    pub(crate) looks: usize,
     ended: Vec<Ended>,
     /// For each name how many regions the split by it left open, when it was last tried.
     open: [usize; MOST_NAMES],
@@ -47,7 +49,33 @@ pub(crate) struct Mark {
     open: [usize; MOST_NAMES],
 }
 
+/// The steps on which the pairs rest, in their order.
+fn used_among(
+    alloc: Global,
+    mut steps: Vec<Step>,
+    mut used: Relation,
+) -> Result<Vec<Step>, AllocError> {
+    let mut kept = Vec::new(alloc);
+    for _ in 0..steps.len() {
+        let Some(step) = steps.pop() else {
+            break;
+        };
+        if used.has(step.first, step.second) {
+            used.join(&step.used());
+            kept.push(step)?;
+        }
+    }
+    kept.reverse();
+    Ok(kept)
+}
+
 impl Dead {
+    /// What ends a region in which this followed: of the steps those that it rests on.
+    pub(crate) fn new(alloc: Global, steps: Vec<Step>, ending: Ending) -> Result<Dead, AllocError> {
+        let steps = used_among(alloc, steps, ending.used)?;
+        Ok(Dead { steps, ending })
+    }
+
     /// Can it be written in a region with these pairs? What followed in the one that ended isn't the other way round.
     fn fits(&self, before: &Relation) -> bool {
         self.steps
@@ -90,6 +118,7 @@ impl Trail {
     /// That at the root.
     pub(crate) fn new(alloc: Global) -> Trail {
         Trail {
+            looks: 0,
             ended: Vec::new(alloc),
             open: [usize::MAX; MOST_NAMES],
         }
