@@ -69,6 +69,14 @@ impl Kept {
         self.refusals
     }
 
+    /// Keeps what the search has, unless a new tree is better.
+    fn put(&mut self, search: Search) {
+        self.looks = search.looks();
+        if !search.is_large() {
+            self.search = Some(search);
+        }
+    }
+
     /// Forgets all, since what was found didn't hold.
     pub fn refuse(&mut self) {
         self.search = None;
@@ -177,8 +185,16 @@ impl Hunter {
         }
     }
 
-    /// A search over all candidates that show the outcome, if there can be one.
-    fn search(&self, alloc: Global, field: Field<'_>) -> Result<Option<Search>, AllocError> {
+    /// A search over all candidates that show the outcome, if there can be one: that which is kept, or a new one.
+    fn search(
+        &self,
+        alloc: Global,
+        field: Field<'_>,
+        kept: &mut Kept,
+    ) -> Result<Option<Search>, AllocError> {
+        if let Some(search) = kept.search.take() {
+            return Ok(Some(search));
+        }
         match field.root(alloc, self.condition.truth)? {
             Some(root) => Ok(Some(Search::new(alloc, root)?)),
             None => Ok(None),
@@ -211,20 +227,48 @@ impl Hunter {
     ) -> Result<Found, AllocError> {
         let fenced = all_fenced(alloc, &self.runs.harts, placement)?;
         let field = self.field(&fenced, placement);
-        let search = match kept.search.take() {
-            Some(search) => Some(search),
-            None => self.search(alloc, field)?,
-        };
-        let Some(mut search) = search else {
+        let Some(mut search) = self.search(alloc, field, kept)? else {
             return Ok(Found::Refuted(List::new(Vec::new(alloc))));
         };
         let hunted = search.hunt(alloc, field, Limits::of(most))?;
-        kept.looks = search.looks();
         let found = self.found(alloc, field, &search, hunted, most)?;
-        if !search.is_large() {
-            kept.search = Some(search);
-        }
+        kept.put(search);
         Ok(found)
+    }
+
+    /// An execution that shows the outcome with the placed fences, if the same hunt finds one before it has looked at
+    /// more than so many regions. The error is F19.
+    pub fn glimpse(
+        &self,
+        alloc: Global,
+        kept: &mut Kept,
+        placement: &Placement,
+        looks: usize,
+    ) -> Result<Option<Execution>, Fault>
+        ensures err { IsOkUnless result Memory }
+    {
+        Ok(self.glimpse_on(alloc, kept, placement, looks)?)
+    }
+
+    fn glimpse_on(
+        &self,
+        alloc: Global,
+        kept: &mut Kept,
+        placement: &Placement,
+        looks: usize,
+    ) -> Result<Option<Execution>, AllocError> {
+        let fenced = all_fenced(alloc, &self.runs.harts, placement)?;
+        let field = self.field(&fenced, placement);
+        let Some(mut search) = self.search(alloc, field, kept)? else {
+            return Ok(None);
+        };
+        let regions = usize::MAX;
+        let shown = match search.hunt(alloc, field, Limits { regions, looks })? {
+            Hunted::Shown(region) => Some(execution_of(alloc, field, &region)?),
+            _ => None,
+        };
+        kept.put(search);
+        Ok(shown)
     }
 
     fn hunt_first(
