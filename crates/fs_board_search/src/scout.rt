@@ -20,6 +20,7 @@ use crate::floor_and_filled::{
 };
 use crate::taken::{Child, Taken, push_children};
 use crate::watch::Watch;
+use crate::wider::store_wider;
 use fs_board::{Decision, Event, Part, Reply};
 use fs_board_plan::{MOST_STEPS, Store, cheapest_breaking};
 use fs_cert_evidence::{Forbidden, Question, Witness, is_same};
@@ -261,6 +262,14 @@ impl Scout {
         let verdict = self.judge.verdict(alloc, &placement, &[])?;
         let found = forbidden_or_stored(alloc, prices, &mut self.store, part, verdict)?;
         let Some(forbidden) = found else {
+            store_wider(
+                alloc,
+                &mut self.judge,
+                prices,
+                &mut self.store,
+                part,
+                &placement,
+            )?;
             return Ok(false);
         };
         self.planned = Some(Arc::new(alloc, forbidden)?);
