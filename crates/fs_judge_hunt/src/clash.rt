@@ -1,7 +1,7 @@
 //! What ends regions, by names: the inference is made where it is written.
 
 use crate::links::{Edge, add_needs, inference_of};
-use crate::names::Relation;
+use crate::names::{Pairs, Relation};
 use crate::needs::Need;
 use crate::region::{Field, Region};
 use fs_cert_evidence::Inference;
@@ -26,7 +26,7 @@ pub(crate) enum Clash {
 #[derive(Drop)]
 pub(crate) struct Ending {
     pub(crate) clash: Clash,
-    pub(crate) used: Relation,
+    pub(crate) used: Pairs,
 }
 
 /// The first store must come before the second: in the other order the region would end.
@@ -40,7 +40,7 @@ pub(crate) struct Step {
 impl Step {
     /// What the step rests on, where what ends the other order does.
     pub(crate) fn used(&self) -> Relation {
-        let mut used = self.ending.used;
+        let mut used = self.ending.used.relation();
         used.remove(self.second, self.first);
         used
     }

@@ -171,7 +171,7 @@ impl Search {
         let placed = &ground.field.fences.pairs;
         let known = self.known(self.path.len(), placed);
         let mut need = Need::new(ground.alloc);
-        let mut used = dead.ending.used;
+        let mut used = dead.ending.used.relation();
         dead.ending
             .clash
             .add_needs(&mut need, ground.field, region)?;

@@ -3,7 +3,7 @@
 use crate::facts::Facts;
 use crate::fences::add_fences;
 use crate::hart::Hart;
-use crate::names::{Origin, Relation, has};
+use crate::names::{Origin, Pairs, has};
 use crate::needs::Need;
 use crate::region::{Field, Region};
 use crate::rows::is_within;
@@ -126,13 +126,13 @@ impl Edge {
         field: Field<'_>,
         region: &Region,
         facts: &Facts,
-        used: &mut Relation,
+        used: &mut Pairs,
         name: u8,
         next: u8,
-    ) -> Edge {
+    ) -> Result<Edge, AllocError> {
         let cause = cause(field, region, facts, name, next);
-        add_link(used, region, cause, name, next);
-        Edge { name, cause }
+        add_link(used, region, cause, name, next)?;
+        Ok(Edge { name, cause })
     }
 }
 

@@ -1,9 +1,10 @@
 //! What follows from what loads return from: an earlier store isn't later in coherence order.
 
 use crate::clash::{Clash, Ending};
-use crate::names::{Origin, Relation, bit, has};
+use crate::names::{Origin, Pairs, bit, has};
 use crate::region::Region;
 use crate::saturate::{Looked, Round};
+use crate::uses::add_overwriting;
 use fs_cert_evidence::Cause;
 use std::alloc::AllocError;
 
@@ -38,7 +39,7 @@ impl Round<'_> {
             Origin::Unknown => {}
             Origin::Initial => {
                 if is_own {
-                    let ending = self.stale(&looked.region, meeting);
+                    let ending = self.stale(&looked.region, meeting)?;
                     looked.end(ending);
                 }
             }
@@ -60,16 +61,14 @@ impl Round<'_> {
     }
 
     /// The load would return from a store that the own one overwrites.
-    fn stale(self, region: &Region, meeting: Meeting) -> Ending {
+    fn stale(self, region: &Region, meeting: Meeting) -> Result<Ending, AllocError> {
         let Meeting { load, store } = meeting;
-        let mut used = Relation::new();
-        if let Origin::From(source) = region.origin(load) {
-            used.add(source, store);
-        }
-        Ending {
+        let mut used = Pairs::new(self.alloc);
+        add_overwriting(&mut used, region, load, store)?;
+        Ok(Ending {
             clash: Clash::Stale { load, store },
             used,
-        }
+        })
     }
 
     /// An own store comes before what the load returns from.
@@ -79,7 +78,7 @@ impl Round<'_> {
         meeting: Meeting,
         source: u8,
     ) -> Result<(), AllocError> {
-        let ending = self.stale(&looked.region, meeting);
+        let ending = self.stale(&looked.region, meeting)?;
         if looked.is_before(source, meeting.store) {
             looked.end(ending);
         } else {

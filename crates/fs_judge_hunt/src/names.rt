@@ -1,5 +1,7 @@
 //! Names of memory instructions as numbers, hart by hart in the order of the code; sets of them as bits, and relations.
 
+use std::alloc::{AllocError, Global};
+
 /// As many names as a test may have.
 pub(crate) const MOST_NAMES: usize = 48;
 
@@ -80,6 +82,52 @@ impl Relation {
             }
         }
         closed
+    }
+}
+
+/// Pairs of names in a list, since mostly there are few.
+#[derive(Drop)]
+pub(crate) struct Pairs {
+    items: Vec<(u8, u8)>,
+}
+
+impl Pairs {
+    /// None.
+    pub(crate) fn new(alloc: Global) -> Pairs {
+        Pairs {
+            items: Vec::new(alloc),
+        }
+    }
+
+    /// Adds a pair.
+    pub(crate) fn add(&mut self, first: u8, second: u8) -> Result<(), AllocError> {
+        self.items.push((first, second))?;
+        Ok(())
+    }
+
+    /// Adds the relation's pairs.
+    pub(crate) fn add_all(&mut self, relation: &Relation) -> Result<(), AllocError> {
+        for first in 0..MOST_NAMES as u8 {
+            let row = relation.row(first);
+            if row == 0 {
+                continue;
+            }
+            for second in 0..MOST_NAMES as u8 {
+                if has(row, second) {
+                    self.add(first, second)?;
+                }
+            }
+        }
+        Ok(())
+    }
+
+    /// The relation that has these.
+    pub(crate) fn relation(&self) -> Relation {
+        let mut relation = Relation::new();
+        for (first, second) in &self.items {
+            relation.add(*first, *second);
+        }
+        relation
     }
 }
 

@@ -4,7 +4,7 @@ use crate::clash::{Clash, Ending, Step};
 use crate::endings::Outlook;
 use crate::facts::Facts;
 use crate::links::Edge;
-use crate::names::{MOST_NAMES, Relation, bit, has};
+use crate::names::{MOST_NAMES, Pairs, Relation, bit, has};
 use crate::paths::{cycle, way};
 use crate::region::{Field, Region};
 use crate::uses::of_filter;
@@ -141,14 +141,14 @@ impl Round<'_> {
         closing: Option<Cause>,
     ) -> Result<Ending, AllocError> {
         let mut edges = Vec::new(self.alloc);
-        let mut used = Relation::new();
+        let mut used = Pairs::new(self.alloc);
         for (place, name) in names.iter().enumerate() {
             let is_last = place.saturating_add(1) == names.len();
             let next = names.get(place.saturating_add(1)).or(names.first());
             let next = next.copied().unwrap_or(0);
             let edge = match closing {
                 Some(cause) if is_last => Edge { name: *name, cause },
-                _ => Edge::found(self.field, region, &self.view.facts, &mut used, *name, next),
+                _ => Edge::found(self.field, region, &self.view.facts, &mut used, *name, next)?,
             };
             edges.push(edge)?;
         }
@@ -166,7 +166,8 @@ impl Round<'_> {
             facts: &self.view.facts,
         };
         if !outlook.may_show(self.alloc)? {
-            let used = of_filter(&outlook, known);
+            let mut used = Pairs::new(self.alloc);
+            used.add_all(&of_filter(&outlook, known))?;
             looked.end(Ending {
                 clash: Clash::Outcome,
                 used,

@@ -72,7 +72,7 @@ fn used_among(
 impl Dead {
     /// What ends a region in which this followed: of the steps those that it rests on.
     pub(crate) fn new(alloc: Global, steps: Vec<Step>, ending: Ending) -> Result<Dead, AllocError> {
-        let steps = used_among(alloc, steps, ending.used)?;
+        let steps = used_among(alloc, steps, ending.used.relation())?;
         Ok(Dead { steps, ending })
     }
 

@@ -66,7 +66,7 @@ impl Writer<'_> {
     fn write_leaf(&mut self, leaf: &Leaf, before: &Relation) -> Result<(), AllocError> {
         let inference = leaf.dead.ending.clash.inference(self.alloc, self.field)?;
         self.written.push(inference)?;
-        let mut used = leaf.dead.ending.used;
+        let mut used = leaf.dead.ending.used.relation();
         for step in leaf.dead.steps.iter().rev() {
             self.write_step(step, before, &mut used)?;
         }
