@@ -19,8 +19,10 @@ pub(crate) struct Facts {
     store_at: [u8; MOST_NAMES],
     /// For each location what must be stored there.
     stored: [u64; MOST_LOCATIONS],
-    /// What rules put in order, and stores before the loads of other harts that return from them.
+    /// What rules but 4 put in order, and stores before the loads of other harts that return from them.
     pub(crate) edges: Relation,
+    /// What rule 4 puts in order.
+    pub(crate) fenced: Relation,
     /// Pairs of an lr.w and an sc.w.
     pub(crate) pairs: Relation,
 }
@@ -43,6 +45,7 @@ fn blank() -> Facts {
         store_at: [NOWHERE; MOST_NAMES],
         stored: [0; MOST_LOCATIONS],
         edges: Relation::new(),
+        fenced: Relation::new(),
         pairs: Relation::new(),
     }
 }
@@ -81,7 +84,7 @@ impl Facts {
     fn add_fenced(&mut self, rules: &[Rule], row: &[u64]) {
         for rule in rules {
             if rule.is_whole || is_within(row, &rule.row) {
-                self.edges.add(rule.first, rule.second);
+                self.fenced.add(rule.first, rule.second);
             }
         }
     }
@@ -166,6 +169,13 @@ impl Facts {
 
     /// What must come before what.
     pub(crate) fn all_edges(&self, region: &Region, count: u8) -> Relation {
+        let mut edges = self.plain_edges(region, count);
+        edges.join(&self.fenced);
+        edges
+    }
+
+    /// The same without rule 4.
+    pub(crate) fn plain_edges(&self, region: &Region, count: u8) -> Relation {
         let mut edges = self.edges;
         edges.join(&region.before);
         for load in 0..count {

@@ -36,7 +36,10 @@ fn lack(region: &Region, facts: &Facts, edge: &Edge, next: u8) -> Lack {
             Some(edge.name),
         ),
         Cause::ReadsFrom => (facts.edges.has(edge.name, next), Some(next)),
-        _ => (facts.edges.has(edge.name, next), None),
+        _ => (
+            facts.edges.has(edge.name, next) || facts.fenced.has(edge.name, next),
+            None,
+        ),
     };
     match load {
         _ if holds => Lack::Nothing,
@@ -93,7 +96,7 @@ impl Learned {
     }
 }
 
-/// Are the two one cycle? Each begins with its least name.
+/// Are the two one cycle, from the same name on?
 fn are_same(known: &[Edge], edges: &[Edge]) -> bool {
     known.len() == edges.len() && known.iter().zip(edges).all(|(one, other)| *one == *other)
 }

@@ -70,6 +70,13 @@ impl Relation {
         }
     }
 
+    /// Takes the other's pairs out.
+    pub(crate) fn leave_out(&mut self, other: &Relation) {
+        for (row, less) in self.rows.iter_mut().zip(other.rows.iter()) {
+            *row &= !*less;
+        }
+    }
+
     /// Its transitive closure, where it is of so many names.
     pub(crate) fn closure(&self, count: u8) -> Relation {
         let mut closed = *self;

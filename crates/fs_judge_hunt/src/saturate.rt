@@ -27,6 +27,8 @@ pub(crate) struct Looked {
 pub(crate) struct View {
     pub(crate) facts: Facts,
     edges: Relation,
+    /// Those of the edges for which a fence is needed.
+    fenced: Relation,
     pub(crate) closure: Relation,
 }
 
@@ -46,10 +48,14 @@ pub(crate) fn saturate(
     let mut view = View {
         facts,
         edges: Relation::new(),
+        fenced: Relation::new(),
         closure: Relation::new(),
     };
     for _ in 0..MOST_ROUNDS {
-        view.edges = view.facts.all_edges(&looked.region, field.count);
+        view.edges = view.facts.plain_edges(&looked.region, field.count);
+        view.fenced = view.facts.fenced;
+        view.fenced.leave_out(&view.edges);
+        view.edges.join(&view.fenced);
         view.closure = view.edges.closure(field.count);
         let round = Round {
             alloc,
@@ -66,7 +72,7 @@ pub(crate) fn saturate(
 /// One round.
 #[derive(Clone, Copy)]
 pub(crate) struct Round<'a> {
-    alloc: Global,
+    pub(crate) alloc: Global,
     pub(crate) field: Field<'a>,
     pub(crate) view: &'a View,
 }
@@ -124,6 +130,7 @@ impl Round<'_> {
             self.alloc,
             &self.view.edges,
             &self.view.closure,
+            &self.view.fenced,
             self.field.count,
         )?;
         if let Some(names) = found {
