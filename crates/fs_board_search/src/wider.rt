@@ -10,7 +10,7 @@ use fs_kinds::{Fault, Kind, Placement, Prices};
 use std::alloc::Global;
 
 /// Does a stored witness show the outcome with these fences, or one that a short hunt finds, and that is stored then?
-fn is_borne(
+pub(crate) fn is_borne(
     alloc: Global,
     judge: &mut Judge,
     prices: &Prices,
