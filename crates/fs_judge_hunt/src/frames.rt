@@ -325,10 +325,12 @@ impl Search {
 
     /// Puts the parts of the node at the path's end into the tree.
     fn add_parts(&mut self, ground: Ground<'_>, children: Vec<Child>) -> Result<(), AllocError> {
-        for (part, child) in children.into_iter().enumerate() {
+        let mut part: usize = 0;
+        for child in children {
             if let Some(frame) = self.path.last_mut() {
                 frame.part = part;
             }
+            part = part.saturating_add(1);
             let mut node = Node::new(ground.alloc);
             match child {
                 Child::Ended(dead, region) => {

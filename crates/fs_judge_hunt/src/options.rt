@@ -155,7 +155,9 @@ impl Chooser<'_> {
         let harts = self.named_harts();
         for name in 0..self.field.count {
             if let Some(choice) = self.choice_at(trail, &votes, harts, name) {
-                asked = asked.saturating_add(usize::from(choice.class == Class::Asked));
+                if choice.class == Class::Asked {
+                    asked = asked.saturating_add(1);
+                }
                 choices.push(choice)?;
             }
         }
