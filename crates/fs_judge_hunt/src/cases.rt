@@ -49,7 +49,7 @@ fn ways_of(part: Part, stack: &mut Vec<Ways>) -> Ways {
 }
 
 /// In how many ways the condition gets its truth value.
-fn ways(alloc: Global, nodes: &[Node], truth: bool) -> Result<u64, AllocError> {
+fn ways_in(alloc: Global, nodes: &[Node], truth: bool) -> Result<u64, AllocError> {
     let mut stack = Vec::new(alloc);
     for node in nodes.iter().rev() {
         let ways = ways_of(node.part, &mut stack);
@@ -71,7 +71,7 @@ pub(crate) fn cases(
     let mut all: u64 = 1;
     for (number, wanted) in region.wanted.iter().enumerate() {
         let wanted: &Wanted = wanted;
-        let ways = ways(alloc, within(field.nodes, wanted.node), wanted.truth)?;
+        let ways = ways_in(alloc, within(field.nodes, wanted.node), wanted.truth)?;
         all = all.saturating_mul(ways);
         if ways > 1 && found.is_some() {
             has_several = true;

@@ -8,7 +8,7 @@ use crate::learned::Learned;
 use crate::names::Relation;
 use crate::needs::{Need, SlotPairs};
 use crate::region::{Field, Region};
-use crate::splits::Splitter;
+use crate::splits::{Decision, Splitter};
 use crate::trail::{Dead, Mark, Trail};
 use crate::tree::{Branching, Fresh, Held, Leaf, Node, Tree};
 use std::alloc::{AllocError, Global};
@@ -411,14 +411,37 @@ impl Search {
         }
     }
 
+    /// Is the part into which the path goes at its end against an order that follows above with these pairs placed?
+    fn is_contrary(&self, placed: &SlotPairs) -> bool {
+        let Some(frame) = self.path.last() else {
+            return false;
+        };
+        let Some(branching) = self.tree.branching(frame.node) else {
+            return false;
+        };
+        if !matches!(branching.decision, Decision::Order(_, _)) {
+            return false;
+        }
+        let mut known = self.known(self.path.len().saturating_sub(1), placed);
+        branching.add_held(&mut known, placed);
+        branching
+            .known_part(&known)
+            .is_some_and(|part| part != frame.part)
+    }
+
     /// The next node, if the one at the path's end has a part left; else that one is done.
-    fn advance(&mut self) -> Option<usize> {
+    fn advance(&mut self, placed: &SlotPairs) -> Option<usize> {
         let frame = self.path.last_mut()?;
         let branching = self.tree.branching(frame.node)?;
         if frame.taken < branching.count {
             frame.part = branching.part(frame.taken);
             frame.taken = frame.taken.saturating_add(1);
-            return Some(branching.first.saturating_add(frame.part));
+            let next = branching.first.saturating_add(frame.part);
+            return if self.is_contrary(placed) {
+                None
+            } else {
+                Some(next)
+            };
         }
         let has_many = self.tree.nodes.len() > MANY_NODES;
         let frame = self.path.pop()?;
@@ -473,7 +496,7 @@ impl Search {
                         return Ok(Hunted::Shown(region));
                     }
                 }
-                None => next = self.advance(),
+                None => next = self.advance(&field.fences.pairs),
             }
             if next.is_none() && self.path.is_empty() {
                 return Ok(Hunted::Refuted);

@@ -28,7 +28,7 @@ enum Lack {
 }
 
 /// What the edge to the next name lacks.
-fn lack(region: &Region, facts: &Facts, edge: &Edge, next: u8) -> Lack {
+fn lack_of(region: &Region, facts: &Facts, edge: &Edge, next: u8) -> Lack {
     let (holds, load) = match edge.cause {
         Cause::Coherence => (region.before.has(edge.name, next), None),
         Cause::FromReads => (
@@ -54,7 +54,7 @@ fn lacking(region: &Region, facts: &Facts, edges: &[Edge]) -> Option<u8> {
     for (place, edge) in edges.iter().enumerate() {
         let next = edges.get(place.saturating_add(1)).or(edges.first());
         let next = next.map_or(edge.name, |next| next.name);
-        match lack(region, facts, edge, next) {
+        match lack_of(region, facts, edge, next) {
             Lack::Nothing => {}
             Lack::Source(load) if found.is_none() || found == Some(load) => found = Some(load),
             _ => return None,
@@ -84,7 +84,7 @@ impl Learned {
 
     /// For each name how many cycles lack only its source.
     pub(crate) fn votes(&self, region: &Region, facts: &Facts) -> [usize; MOST_NAMES] {
-        let mut votes = [0; MOST_NAMES];
+        let mut votes = [0usize; MOST_NAMES];
         for cycle in &self.cycles {
             if let Some(load) = lacking(region, facts, cycle) {
                 if let Some(count) = votes.get_mut(usize::from(load)) {

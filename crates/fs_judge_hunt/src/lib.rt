@@ -17,6 +17,7 @@ mod forms;
 mod frames;
 mod hart;
 mod hunter;
+mod inferences;
 mod learned;
 mod links;
 mod loads;
@@ -36,7 +37,6 @@ mod trail;
 mod tree;
 mod uses;
 mod witness;
-mod written;
 
 pub use access::{
     Access, Doing, Own, Place, Takes, class_key, class_of, initial_word, location_in, location_of,

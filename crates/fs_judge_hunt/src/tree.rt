@@ -113,6 +113,24 @@ impl Branching {
         }
     }
 
+    /// Takes out the pairs that are decided in the parts.
+    pub(crate) fn drop_decided(&self, used: &mut Relation) {
+        if let Decision::Order(first, second) = self.decision {
+            used.remove(first, second);
+            used.remove(second, first);
+        }
+    }
+
+    /// The part that agrees with the known pairs, where they have an order that is decided here: with other fences it
+    /// may follow above.
+    pub(crate) fn known_part(&self, known: &Relation) -> Option<usize> {
+        match self.decision {
+            Decision::Order(first, second) if known.has(first, second) => Some(0),
+            Decision::Order(first, second) if known.has(second, first) => Some(1),
+            _ => None,
+        }
+    }
+
     /// Adds what those of the pairs need that followed here, and takes them out.
     pub(crate) fn move_needs(
         &self,

@@ -5,7 +5,7 @@ use crate::names::Relation;
 use crate::needs::SlotPairs;
 use crate::region::Field;
 use crate::splits::Decision;
-use crate::tree::{Held, Leaf, Tree};
+use crate::tree::{Branching, Leaf, Tree};
 use fs_cert_evidence::Inference;
 use std::alloc::{AllocError, Global};
 
@@ -15,6 +15,8 @@ struct Frame {
     node: usize,
     /// How many of its parts are still to be written, the last one first.
     left: usize,
+    /// How many inferences were written before.
+    start: usize,
     /// The pairs of stores that are known above it, and in it.
     above: Relation,
     known: Relation,
@@ -35,10 +37,12 @@ struct Writer<'a> {
 }
 
 impl Writer<'_> {
-    /// Writes the step, if it is used and wasn't known before.
+    /// Writes the step of a region, if it is used and wasn't known before. Where the other order was known, what ends
+    /// that ends the region, in the place of all that was written of it.
     fn write_step(
         &mut self,
         step: &Step,
+        start: usize,
         before: &Relation,
         used: &mut Relation,
     ) -> Result<(), AllocError> {
@@ -46,9 +50,15 @@ impl Writer<'_> {
         if !used.has(first, second) || before.has(first, second) {
             return Ok(());
         }
+        let inference = step.ending.clash.inference(self.alloc, self.field)?;
+        if before.has(second, first) {
+            *used = step.ending.used.relation();
+            self.written.truncate(start);
+            self.written.push(inference)?;
+            return Ok(());
+        }
         used.remove(first, second);
         used.join(&step.used());
-        let inference = step.ending.clash.inference(self.alloc, self.field)?;
         self.written.push(inference)?;
         let opposite = Decision::Order(second, first);
         self.written.push(opposite.inference(self.field))?;
@@ -64,11 +74,12 @@ impl Writer<'_> {
 
     /// Writes a region that has ended.
     fn write_leaf(&mut self, leaf: &Leaf, before: &Relation) -> Result<(), AllocError> {
+        let start = self.written.len();
         let inference = leaf.dead.ending.clash.inference(self.alloc, self.field)?;
         self.written.push(inference)?;
         let mut used = leaf.dead.ending.used.relation();
         for step in leaf.dead.steps.iter().rev() {
-            self.write_step(step, before, &mut used)?;
+            self.write_step(step, start, before, &mut used)?;
         }
         self.hand_up(&used);
         Ok(())
@@ -89,6 +100,7 @@ impl Writer<'_> {
             self.stack.push(Frame {
                 node: number,
                 left: branching.count,
+                start: self.written.len(),
                 above,
                 known,
                 used: branching.used,
@@ -97,16 +109,20 @@ impl Writer<'_> {
         Ok(())
     }
 
-    /// Writes what followed in a region, as far as it holds.
-    fn write_held(
+    /// Writes how the region is split, unless its order was known, and what followed in it, as far as it holds.
+    fn write_split(
         &mut self,
-        all: &[Held],
-        before: &Relation,
+        branching: &Branching,
+        frame: &Frame,
         used: &mut Relation,
     ) -> Result<(), AllocError> {
-        for held in all.iter().rev() {
+        if branching.known_part(&frame.known).is_none() {
+            branching.drop_decided(used);
+            self.written.push(branching.decision.inference(self.field))?;
+        }
+        for held in branching.held.iter().rev() {
             if held.need.is_met(&self.placed) {
-                self.write_step(&held.step, before, used)?;
+                self.write_step(&held.step, frame.start, &frame.above, used)?;
             }
         }
         Ok(())
@@ -117,12 +133,7 @@ impl Writer<'_> {
         let mut used = frame.used;
         let tree = self.tree;
         if let Some(branching) = tree.branching(frame.node) {
-            if let Decision::Order(first, second) = branching.decision {
-                used.remove(first, second);
-                used.remove(second, first);
-            }
-            self.written.push(branching.decision.inference(self.field))?;
-            self.write_held(&branching.held, &frame.above, &mut used)?;
+            self.write_split(branching, &frame, &mut used)?;
         }
         self.hand_up(&used);
         Ok(())
@@ -130,6 +141,7 @@ impl Writer<'_> {
 
     /// Goes on with the next part of the last node, or ends that node.
     fn advance(&mut self) -> Result<(), AllocError> {
+        let tree = self.tree;
         let Some(frame) = self.stack.last_mut() else {
             return Ok(());
         };
@@ -137,7 +149,10 @@ impl Writer<'_> {
             frame.left = frame.left.saturating_sub(1);
             let part = frame.left;
             let mut known = frame.known;
-            if let Some(branching) = self.tree.branching(frame.node) {
+            if let Some(branching) = tree.branching(frame.node) {
+                if branching.known_part(&known).is_some_and(|one| one != part) {
+                    return Ok(());
+                }
                 branching.add_decided(&mut known, part);
                 let number = branching.first.saturating_add(part);
                 return self.enter(number, known);
