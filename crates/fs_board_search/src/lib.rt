@@ -11,7 +11,6 @@ mod solving;
 mod sweep;
 mod taken;
 mod watch;
-mod wider;
 
 pub use answer::{Answer, Solved};
 pub use fs_judge::Problem;

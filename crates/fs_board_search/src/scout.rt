@@ -20,7 +20,6 @@ use crate::floor_and_filled::{
 };
 use crate::taken::{Child, Taken, push_children};
 use crate::watch::Watch;
-use crate::wider::{is_borne, store_wider};
 use fs_board::{Decision, Event, Part, Reply};
 use fs_board_plan::{MOST_STEPS, Store, cheapest_breaking};
 use fs_cert_evidence::{Forbidden, Question, Witness, is_same};
@@ -237,34 +236,12 @@ impl Scout {
         if self.rounds == 0 {
             return Ok(());
         }
-        if self.rounds == MOST_ROUNDS {
-            self.begin(alloc, &taken.part)?;
-        }
         let is_last = self.judge_cheapest(alloc, &taken.part)?;
         self.rounds = if is_last {
             0
         } else {
             self.rounds.saturating_sub(1)
         };
-        Ok(())
-    }
-
-    /// Begins the plan: a short hunt with `rw,rw` in each undecided slot, whose witness is one against each plan, and
-    /// which else meets a cycle in each region that it looks at.
-    fn begin(&mut self, alloc: Global, part: &Part) -> Result<(), Fault>
-        ensures value { self.new ≡ self.old }
-        ensures err { IsOkUnless result Fault.Memory }
-    {
-        let prices = &self.question.prices;
-        let filled = part.filled(alloc)?;
-        is_borne(
-            alloc,
-            &mut self.judge,
-            prices,
-            &mut self.store,
-            part,
-            &filled,
-        )?;
         Ok(())
     }
 
@@ -284,14 +261,6 @@ impl Scout {
         let verdict = self.judge.verdict(alloc, &placement, &[])?;
         let found = forbidden_or_stored(alloc, prices, &mut self.store, part, verdict)?;
         let Some(forbidden) = found else {
-            store_wider(
-                alloc,
-                &mut self.judge,
-                prices,
-                &mut self.store,
-                part,
-                &placement,
-            )?;
             return Ok(false);
         };
         self.planned = Some(Arc::new(alloc, forbidden)?);

@@ -80,7 +80,7 @@ impl Judge {
         Judge {
             problem,
             known: Vec::new(alloc),
-            kept: Kept::new(),
+            kept: Kept::widening(),
         }
     }
 
@@ -113,29 +113,6 @@ impl Judge {
         witness_among(alloc, self.problem.test(), &self.known, placement, first)
     }
 
-    /// The same by a longer look: also by a hunt that looks at no more than 200 regions. The error is F19.
-    pub fn glimpse(
-        &mut self,
-        alloc: Global,
-        placement: &Placement,
-        first: &[Slot],
-    ) -> Result<Option<Witness>, Fault>
-        ensures value { self.new ≡ self.old }
-        ensures ok { IfOk result (λ found. IfSome found (IsShownWith self.old placement.now)) }
-        ensures err { IsOkUnless result Memory }
-    {
-        let looked = self.look(alloc, placement, first)?;
-        if looked.is_some() {
-            return Ok(looked);
-        }
-        let Some(known) = self.problem.glimpsed(alloc, &mut self.kept, placement)? else {
-            return Ok(None);
-        };
-        let witness = known.witness(alloc, self.problem.test(), placement, first)?;
-        self.known.push(known)?;
-        Ok(witness)
-    }
-
     /// Whether the placement, one of the test's slots, forbids the outcome: the executions that were found before are
     /// tried first, and then a hunt, which begins with what earlier ones have kept, finds a refutation or a new
     /// execution. Where it gives up, after 1,000,000 inferences, all candidates are judged in turn, and F15 comes where
@@ -158,7 +135,12 @@ impl Judge {
         match self.problem.sought(alloc, &mut self.kept, placement)? {
             Sought::Refuted(inferences) => self.problem.refuted(placement, inferences),
             Sought::Shown(known) => {
-                let verdict = self.problem.shown(alloc, &known, placement, first)?;
+                let slots = if first.is_empty() {
+                    self.kept.borne()
+                } else {
+                    first
+                };
+                let verdict = self.problem.shown(alloc, &known, placement, slots)?;
                 self.known.push(known)?;
                 Ok(verdict)
             }

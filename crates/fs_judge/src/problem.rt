@@ -12,7 +12,6 @@ ghost use Rattle.fs_model.specs.TooMany.{IsRunFault};
 ghost use Rattle.fs_cert_evidence.specs.CandidateFaults.{IsCandidateFault};
 ghost use Rattle.fs_values.specs.ThinAir.{CanBeListed};
 ghost use Rattle.fs_judge.specs.Verdicts.{IsVerdict};
-ghost use Rattle.fs_judge.specs.inner.Bases.{IsKnown};
 ghost use Rattle.fs_judge.specs.inner.Findings.{IsSought};
 
 use crate::known::Known;
@@ -32,9 +31,6 @@ use std::sync::Arc;
 
 /// How many inferences a hunt may make before it gives up.
 const MOST_INFERENCES: usize = 1_000_000;
-
-/// At how many regions a short hunt looks.
-const FEW_LOOKS: usize = 200;
 
 /// A test with all that judging a placement takes: all runs of each hart, and what hunts over them need. No call
 /// changes it, so several workers may share one. Contracts see the test.
@@ -186,26 +182,6 @@ impl Problem {
         match self.hunted(alloc, kept, placement)? {
             Some(sought) => Ok(sought),
             None => Ok(Sought::Nothing),
-        }
-    }
-
-    /// The candidate of an execution that shows the outcome, if a hunt soon finds one. The error is F19.
-    pub(crate) fn glimpsed(
-        &self,
-        alloc: Global,
-        kept: &mut Kept,
-        placement: &Placement,
-    ) -> Result<Option<Known>, Fault>
-        ensures ok { IfOk result (λ found. IfSome found (IsKnown self.now)) }
-        ensures err { IsOkUnless result Memory }
-    {
-        let found = self.hunter.glimpse(alloc, kept, placement, FEW_LOOKS)?;
-        let Some(execution) = found else {
-            return Ok(None);
-        };
-        match checked(alloc, &self.basis, placement, Found::Shown(execution))? {
-            Sought::Shown(known) => Ok(Some(known)),
-            _ => Ok(None),
         }
     }
 

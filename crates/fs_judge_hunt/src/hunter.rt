@@ -15,10 +15,13 @@ use crate::region::Field;
 use crate::rules::Rule;
 use crate::witness::{Execution, execution_of};
 use fs_cert_evidence::Inference;
-use fs_kinds::{Fault, List, MOST_LOCATIONS, OperationName, Placement};
+use fs_kinds::{Fault, Kind, List, MOST_LOCATIONS, OperationName, Placement, Slot};
 use fs_model::Test;
 use std::alloc::{AllocError, Global};
 use std::sync::Arc;
+
+/// At how many regions a short hunt looks.
+const FEW_LOOKS: usize = 200;
 
 /// So many stores to one location are many.
 const MANY_STORES: usize = 11;
@@ -45,6 +48,8 @@ pub struct Hunter {
 #[derive(Drop)]
 pub struct Kept {
     search: Option<Search>,
+    widens: bool,
+    borne: Option<Vec<Slot>>,
     looks: usize,
     refusals: usize,
 }
@@ -54,8 +59,25 @@ impl Kept {
     pub fn new() -> Kept {
         Kept {
             search: None,
+            widens: false,
+            borne: None,
             looks: 0,
             refusals: 0,
+        }
+    }
+
+    /// Nothing yet; where a hunt finds an execution it is to look for one that bears more fences.
+    pub fn widening() -> Kept {
+        let mut kept = Kept::new();
+        kept.widens = true;
+        kept
+    }
+
+    /// The slots at which the last execution bears `rw,rw`, as far as hunts have looked for that. In constant time.
+    pub fn borne(&self) -> &[Slot] {
+        match &self.borne {
+            Some(slots) => slots.as_slice(),
+            None => &[],
         }
     }
 
@@ -215,7 +237,12 @@ impl Hunter {
     ) -> Result<Found, Fault>
         ensures err { IsOkUnless result Memory }
     {
-        Ok(self.hunt_on(alloc, kept, placement, most)?)
+        match self.hunt_on(alloc, kept, placement, most)? {
+            Found::Shown(execution) if kept.widens => Ok(Found::Shown(self.widened(
+                alloc, kept, placement, execution,
+            )?)),
+            found => Ok(found),
+        }
     }
 
     fn hunt_on(
@@ -236,34 +263,54 @@ impl Hunter {
         Ok(found)
     }
 
-    /// An execution that shows the outcome with the placed fences, if the same hunt finds one before it has looked at
-    /// more than so many regions. The error is F19.
-    pub fn glimpse(
+    /// The execution, or one that bears `rw,rw` in more and more slots, from the last one on, as far as short hunts
+    /// find one.
+    fn widened(
         &self,
         alloc: Global,
         kept: &mut Kept,
         placement: &Placement,
-        looks: usize,
-    ) -> Result<Option<Execution>, Fault>
+        execution: Execution,
+    ) -> Result<Execution, Fault>
         ensures err { IsOkUnless result Memory }
     {
-        Ok(self.glimpse_on(alloc, kept, placement, looks)?)
+        let looks = kept.looks;
+        let mut widest = execution;
+        let mut borne = placement.copy()?;
+        let mut slots = Vec::new(alloc);
+        for entry in placement.as_slice().iter().rev() {
+            let mut more = borne.copy()?;
+            if more.with(entry.slot, Some(Kind::RwRw)).is_err() {
+                continue;
+            }
+            if let Some(wider) = self.glimpse(alloc, kept, &more)? {
+                widest = wider;
+                borne = more;
+                slots.push(entry.slot)?;
+            }
+        }
+        kept.borne = Some(slots);
+        kept.looks = looks;
+        Ok(widest)
     }
 
-    fn glimpse_on(
+    /// An execution that shows the outcome with the placed fences, if a hunt soon finds one.
+    fn glimpse(
         &self,
         alloc: Global,
         kept: &mut Kept,
         placement: &Placement,
-        looks: usize,
     ) -> Result<Option<Execution>, AllocError> {
         let fenced = all_fenced(alloc, &self.runs.harts, placement)?;
         let field = self.field(&fenced, placement);
         let Some(mut search) = self.search(alloc, field, kept)? else {
             return Ok(None);
         };
-        let regions = usize::MAX;
-        let shown = match search.hunt(alloc, field, Limits { regions, looks })? {
+        let limits = Limits {
+            regions: usize::MAX,
+            looks: FEW_LOOKS,
+        };
+        let shown = match search.hunt(alloc, field, limits)? {
             Hunted::Shown(region) => Some(execution_of(alloc, field, &region)?),
             _ => None,
         };
