@@ -40,8 +40,8 @@ pub(crate) struct Chooser<'a> {
     pub(crate) field: Field<'a>,
     pub(crate) region: &'a Region,
     pub(crate) facts: &'a Facts,
-    /// The pairs of stores that are known with any fences.
-    pub(crate) firm: Relation,
+    /// Are the pairs of stores that are known here known with any fences?
+    pub(crate) is_firm: bool,
     pub(crate) learned: &'a Learned,
 }
 
@@ -106,7 +106,7 @@ impl Chooser<'_> {
         decision: Decision,
         most: usize,
     ) -> Result<Option<Split>, AllocError> {
-        let (mut regions, used) = self.regions(decision)?;
+        let mut regions = self.splitter().children(self.region, self.facts, decision)?;
         if is_vain(self.region, decision, &regions) {
             return Ok(None);
         }
@@ -114,7 +114,7 @@ impl Chooser<'_> {
         let mut split = Split {
             decision,
             children: Vec::new(self.alloc),
-            used,
+            used: self.used(decision),
             live: 0,
         };
         for _ in 0..regions.len() {
@@ -127,26 +127,17 @@ impl Chooser<'_> {
         Ok(if split.live < most { Some(split) } else { None })
     }
 
-    /// The regions that the decision makes, and the pairs of stores that it rests on. A filter looks only at pairs that
-    /// are known with any fences, so that it leaves the same runs with all.
-    fn regions(&self, decision: Decision) -> Result<(Vec<Region>, Relation), AllocError> {
-        let Decision::Filter(_) = decision else {
-            let regions = self.splitter().children(self.region, self.facts, decision)?;
-            return Ok((regions, Relation::new()));
-        };
-        let mut bare = self.region.copy(self.alloc)?;
-        bare.before = self.firm;
-        let mut regions = self.splitter().children(&bare, self.facts, decision)?;
-        for region in regions.iter_mut() {
-            region.before = self.region.before;
-        }
+    /// The pairs of stores that the decision rests on.
+    fn used(&self, decision: Decision) -> Relation {
         let outlook = Outlook {
             field: self.field,
-            region: &bare,
+            region: self.region,
             facts: self.facts,
         };
-        let used = of_filter(&outlook, &self.firm);
-        Ok((regions, used))
+        match decision {
+            Decision::Filter(_) => of_filter(&outlook, &self.region.before),
+            _ => Relation::new(),
+        }
     }
 
     /// The one of these that leaves the fewest regions open. One that leaves at most one, and so only narrows the

@@ -10,7 +10,7 @@ use crate::needs::{Need, SlotPairs};
 use crate::region::{Field, Region};
 use crate::splits::{Decision, Splitter};
 use crate::trail::{Dead, Mark, Trail};
-use crate::tree::{Branching, Fresh, Held, Leaf, Node, Tree};
+use crate::tree::{Branching, Fresh, Held, Leaf, Node, Tree, are_firm};
 use std::alloc::{AllocError, Global};
 use std::sync::Arc;
 
@@ -298,6 +298,16 @@ impl Search {
         }
     }
 
+    /// Follows with any fences what followed on the path, and this?
+    fn is_firm(&self, held: &[Held]) -> bool {
+        are_firm(held)
+            && self.path.iter().all(|frame| {
+                self.tree
+                    .branching(frame.node)
+                    .is_none_or(|branching| are_firm(&branching.held))
+            })
+    }
+
     /// The split that is made of the region of the node below the path.
     fn choose(
         &mut self,
@@ -305,19 +315,13 @@ impl Search {
         region: &Region,
         held: &[Held],
     ) -> Result<Option<Split>, AllocError> {
-        let mut firm = self.known(self.path.len(), &SlotPairs::new());
-        for one in held {
-            if one.need.is_nothing() {
-                firm.add(one.step.first, one.step.second);
-            }
-        }
         let facts = Facts::of(ground.field, region);
         let chooser = Chooser {
             alloc: ground.alloc,
             field: ground.field,
             region,
             facts: &facts,
-            firm,
+            is_firm: self.is_firm(held),
             learned: &self.learned,
         };
         chooser.split(&mut self.trail)

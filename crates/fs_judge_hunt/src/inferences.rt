@@ -38,7 +38,7 @@ struct Writer<'a> {
 
 impl Writer<'_> {
     /// Writes the step of a region, if it is used and wasn't known before. Where the other order was known, what ends
-    /// that ends the region, in the place of all that was written of it.
+    /// that ends the region, in the place of all that was written of it: this rests on that order.
     fn write_step(
         &mut self,
         step: &Step,
@@ -53,6 +53,7 @@ impl Writer<'_> {
         let inference = step.ending.clash.inference(self.alloc, self.field)?;
         if before.has(second, first) {
             *used = step.ending.used.relation();
+            used.add(second, first);
             self.written.truncate(start);
             self.written.push(inference)?;
             return Ok(());

@@ -142,11 +142,12 @@ impl Chooser<'_> {
         })
     }
 
-    /// What is tried first: filters, as long as no load has a source; then the sources of loads, and whether an sc.w
-    /// succeeds: what most cycles ask for, and then what left the fewest regions open further up.
+    /// What is tried first: filters, as long as no load has a source, and where they leave the same runs with any
+    /// fences; then the sources of loads, and whether an sc.w succeeds: what most cycles ask for, and then what left the
+    /// fewest regions open further up.
     pub(crate) fn options(&self, trail: &Trail) -> Result<Options, AllocError> {
         let mut choices = Vec::new(self.alloc);
-        if self.is_undecided() {
+        if self.is_firm && self.is_undecided() {
             self.add_filters(&mut choices)?;
         }
         let filters = choices.len();

@@ -27,6 +27,11 @@ pub(crate) struct Held {
     pub(crate) need: Need,
 }
 
+/// Needs none of these a fence?
+pub(crate) fn are_firm(held: &[Held]) -> bool {
+    held.iter().all(|one| one.need.is_nothing())
+}
+
 /// How a region is split.
 #[derive(Drop)]
 pub(crate) struct Branching {
