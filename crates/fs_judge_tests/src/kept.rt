@@ -1,11 +1,8 @@
 //! Hunts that begin with what earlier ones have kept.
 
-ghost use Rattle.std.specs.Arc.{arc_value};
-ghost use Rattle.fs_model.specs.Test.{IsBounded};
-
 use crate::questions::problem_of;
 use crate::texts::{ALWAYS, CASES, LOCK, LOCK3};
-use fs_judge::{Judge, Problem, Verdict};
+use fs_judge::{Judge, Verdict};
 use fs_judge_hunt::{Found, Hunter, Kept};
 use fs_judge_runs::hunter_of;
 use fs_kinds::{Fault, Placement};
@@ -84,26 +81,35 @@ fn is_allowed(verdict: &Verdict) -> bool {
     matches!(verdict, Verdict::Allowed(_))
 }
 
-/// Writes what a judge says in turn of the placements that the words name: `+` for allowed, `-` for forbidden, `?` where
-/// a judge that has judged nothing says something else. At the end stands how often a check has refused what was found.
+/// Writes what the judge says of the placement that the words name: `+` for allowed, `-` for forbidden, `?` where a
+/// judge that has judged nothing says something else.
 fn write_judged(
     alloc: Global,
-    problem: &Arc<Problem>,
+    judge: &mut Judge,
+    words: &str,
+    text: &mut String,
+) -> Result<(), Fault> {
+    let placement = placement_of(alloc, judge.problem().test(), words)?;
+    let verdict = judge.verdict(alloc, &placement, &[])?;
+    let alone = judge.problem().judged(alloc, &placement, &[])?;
+    let said = match (is_allowed(&verdict), is_allowed(&alone)) {
+        (true, true) => "+",
+        (false, false) => "-",
+        _ => "?",
+    };
+    Ok(text.push_str(said)?)
+}
+
+/// The same of placements in turn, and at the end how often a check has refused what was found.
+fn write_all_judged(
+    alloc: Global,
+    test: &str,
     fences: &[&str],
     text: &mut String,
-) -> Result<(), Fault>
-    requires { IsBounded (arc_value problem.now) }
-{
-    let mut judge = Judge::new(alloc, Arc::try_clone(problem)?);
+) -> Result<(), Fault> {
+    let mut judge = Judge::new(alloc, problem_of(alloc, test)?);
     for words in fences {
-        let placement = placement_of(alloc, problem.test(), words)?;
-        let verdict = judge.verdict(alloc, &placement, &[])?;
-        let alone = problem.judged(alloc, &placement, &[])?;
-        text.push_str(match (is_allowed(&verdict), is_allowed(&alone)) {
-            (true, true) => "+",
-            (false, false) => "-",
-            _ => "?",
-        })?;
+        write_judged(alloc, &mut judge, words, text)?;
     }
     write!(text, " {}\n", judge.refusals())?;
     Ok(())
@@ -113,8 +119,7 @@ fn write_judged(
 fn all_judged(alloc: Global, tests: &[&str], fences: &[&str]) -> Result<String, Fault> {
     let mut text = String::new(alloc);
     for test in tests {
-        let problem = problem_of(alloc, test)?;
-        write_judged(alloc, &problem, fences, &mut text)?;
+        write_all_judged(alloc, test, fences, &mut text)?;
     }
     Ok(text)
 }
