@@ -1,7 +1,7 @@
 //! Hunts that begin with what earlier ones have kept.
 
 use crate::questions::problem_of;
-use crate::texts::{ALWAYS, CASES, LOCK, LOCK3};
+use crate::texts::{ALWAYS, CASES, LOCK, LOCK3, WAITERS};
 use fs_judge::{Judge, Verdict};
 use fs_judge_hunt::{Found, Hunter, Kept};
 use fs_judge_runs::hunter_of;
@@ -148,6 +148,16 @@ const LOCK_FENCES: [&str; 9] = [
     "P0:3=r,r P0:7=w,w P1:3=r,r P1:7=w,w",
 ];
 
+const WAITERS_FENCES: [&str; 7] = [
+    "",
+    "P0:1=r,r P4:1=rw,rw",
+    "P0:1=r,r P1:1=r,r P4:1=rw,rw",
+    "P0:1=r,r P1:1=r,r P2:1=r,r P4:1=rw,rw",
+    "P0:1=r,r P1:1=r,r P2:1=r,r P3:1=r,r P4:1=rw,rw",
+    "P1:1=r,r P2:1=r,r P3:1=r,r P4:1=rw,rw",
+    "P0:1=rw,rw P1:1=rw,rw P2:1=rw,rw P3:1=rw,rw P4:1=rw,rw",
+];
+
 /// Store buffering needs a fence of stores before loads in both harts. Of the lock's four fences each is needed: a hart
 /// that comes second may load what there was before the first one stored, if its load isn't behind its AMO or the store
 /// of the first one isn't before the release.
@@ -165,6 +175,19 @@ fn kept_trees_hold(rt: HostRuntime) -> Result<(), Fail> {
     assert_eq!(rt;
         lock.as_str(),
         "-++++-+-- 0
+"
+    );
+    Ok(())
+}
+
+/// Each of the five harts needs a fence between its AMO or store and its load. With more fences orders of AMOs follow
+/// near the root that with fewer were decided, or followed the other way, below.
+#[test]
+fn orders_that_follow_above_hold(rt: HostRuntime) -> Result<(), Fail> {
+    let found = all_judged(rt.alloc(), &[WAITERS], &WAITERS_FENCES)?;
+    assert_eq!(rt;
+        found.as_str(),
+        "++++-+- 0
 "
     );
     Ok(())
