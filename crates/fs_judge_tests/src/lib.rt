@@ -9,6 +9,8 @@ mod executions;
 mod hunts;
 #[cfg(test)]
 mod judges;
+#[cfg(test)]
+mod kept;
 mod questions;
 #[cfg(test)]
 mod runs;
