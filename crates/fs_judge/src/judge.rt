@@ -72,6 +72,12 @@ fn witness_among(
     Ok(None)
 }
 
+/// The slots at which a witness is widened before the others: these, or where there are none those that it is known to
+/// bear.
+fn widened_first<'a>(first: &'a [Slot], borne: &'a [Slot]) -> &'a [Slot] {
+    if first.is_empty() { borne } else { first }
+}
+
 impl Judge {
     /// A judge of the problem, which has judged nothing yet.
     pub fn new(alloc: Global, problem: Arc<Problem>) -> Judge
@@ -135,11 +141,7 @@ impl Judge {
         match self.problem.sought(alloc, &mut self.kept, placement)? {
             Sought::Refuted(inferences) => self.problem.refuted(placement, inferences),
             Sought::Shown(known) => {
-                let slots = if first.is_empty() {
-                    self.kept.borne()
-                } else {
-                    first
-                };
+                let slots = widened_first(first, self.kept.borne());
                 let verdict = self.problem.shown(alloc, &known, placement, slots)?;
                 self.known.push(known)?;
                 Ok(verdict)

@@ -9,11 +9,12 @@ use crate::splits::Decision;
 use crate::trail::Trail;
 use std::alloc::AllocError;
 
-/// Of splits that cycles ask for so many are tried, and no others, if one of them can be made.
+/// Where a split leaves few regions open, so many of those that cycles ask for are tried, and no others.
 const MOST_ASKED: usize = 8;
 
-/// Where a split leaves so few regions open, harts are not looked at of which the wanted conditions don't speak.
-const FEW_OPEN: usize = 3;
+/// So many open regions are few. Where a split leaves few, harts are not looked at of which the wanted conditions don't
+/// speak.
+const FEW_OPEN: usize = 2;
 
 /// Which splits are tried before others.
 #[derive(Clone, Copy, PartialEq, Eq, PartialOrd, Ord)]
@@ -39,14 +40,14 @@ pub(crate) struct Choice {
 #[derive(Drop)]
 pub(crate) struct Options {
     pub(crate) choices: Vec<Choice>,
-    /// How many are tried at most, if one of them can be made.
+    /// How many are tried at most, where one of them leaves few regions open.
     most: usize,
 }
 
 impl Options {
     /// Is the split of this number not worth a try, where another one leaves so many regions open?
     pub(crate) fn is_late(&self, number: usize, choice: &Choice, open: usize) -> bool {
-        number >= self.most || (choice.class == Class::Other && open <= FEW_OPEN)
+        open <= FEW_OPEN && (number >= self.most || choice.class == Class::Other)
     }
 }
 
