@@ -5,35 +5,18 @@ import check_certificate as model
 import solve_reference as reference
 from litmus import Maker
 from running import rvfence, written
-from verdicts import shows_outcome
-
-
-def by_program(folder, test, prices):
-    """The lines and the status of the program on these bytes."""
-    said = rvfence("solve", written(f"{folder}/test.litmus", test), written(f"{folder}/prices.json", prices))
-    return (said.out or said.err).splitlines(), said.status       # beside an answer there may be a note
-
-
-def agree(test, wanted, found):
-    """Are two answers the same, where each right execution will do for `none`?"""
-    if wanted[0][:1] != ["none"]:
-        return wanted == found
-    return found[1] == 1 and len(found[0]) == 2 and found[0][0] == "none" and shows_outcome(test, found[0][1])
-
-
-def kind_of(lines):
-    """An answer in a word or two, for the count of what was made."""
-    return f"fenced by {len(lines) - 1}" if lines[0].startswith("fenced") else " ".join(lines[0].split()[:2])
+from verdicts import is_same
 
 
 def check(run):
     for number in run.numbers():
         test, prices = Maker(number).make()
         read = model.test_of(test)
-        wanted = reference.answer(read, model.prices_of(prices))
+        wanted = out, error, _ = reference.answer(read, model.prices_of(prices))
         if run.options.show:
-            print(test.decode() + prices.decode(), *wanted[0], sep="\n")
-        found = by_program(run.folder, test, prices)
-        run.kinds[kind_of(wanted[0])] += 1
+            print(test.decode() + prices.decode(), out + error, sep="\n")
+        found = rvfence("solve", "-q", written(run.path("test.litmus"), test), written(run.path("prices.json"), prices))
+        first = " ".join((out + error).split()[:2])
+        run.kinds[f"fenced by {out.count('fence ')}" if first.startswith("fenced") else first.split(" {")[0]] += 1
         texts = [test.decode(), prices.decode(), f"\nwanted: {wanted}", f"\nfound:  {found}"]
-        run.check(f"made test {number}", agree(read, wanted, found), "".join(texts))
+        run.check(f"made test {number}", is_same(read, wanted, found), "".join(texts))
