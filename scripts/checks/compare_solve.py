@@ -1,7 +1,11 @@
 """Compares `rvfence solve` with scripts/solve_reference.py on known tests at lists of two and three kinds, and on the
 tests and price lists that scripts/litmus.py makes.
 
-What differs is printed with the test; `--show` prints each test, its prices and the reference's answer."""
+With 1, 4 and 16 workers it must print the same bytes, and write the same certificate beside an answer, to which `check`
+says yes. (In no test do others join the first worker; crates/fs_board_tests has such.) What differs is printed with the
+test; `--show` prints each test, its prices and the reference's answer."""
+import os
+
 import check_certificate as model
 import solve_reference as reference
 from litmus import Maker
@@ -15,20 +19,37 @@ LISTS = [b'{"w,r":4,"rw,rw":5}', b'{"r,r":1,"w,w":1,"rw,rw":3,"weights":{"P1:1":
 
 
 def compare(run, name, test, prices):
-    """Compares the answers to this test, of this name."""
+    """Compares the answers to this test, of this name. Gives the files, and what the program said."""
     read_test = model.test_of(test)
     wanted = out, error, _ = reference.answer(read_test, model.prices_of(prices))
     if run.options.show:
         print(test.decode() + prices.decode(), out + error, sep="\n")
-    found = rvfence("solve", "-q", written(run.path("test.litmus"), test), written(run.path("prices.json"), prices))
+    files = [written(run.path("test.litmus"), test), written(run.path("prices.json"), prices)]
+    found = rvfence("solve", "-q", *files)
     first = " ".join((out + error).split()[:2])
     run.kinds[f"fenced by {out.count('fence ')}" if first.startswith("fenced") else first.split(" {")[0]] += 1
     texts = [test.decode(), prices.decode(), f"\nwanted: {wanted}", f"\nfound:  {found}"]
     run.check(name, is_same(read_test, wanted, found), "".join(texts))
+    return files, found
+
+
+def compare_workers(run, number, files, found):
+    """Compares what is said by so many workers with this, and their certificates."""
+    certificates = set()
+    for workers in ("1", "4", "16"):
+        path = run.path("certificate.json")
+        said = rvfence("solve", "-q", *files, "--workers", workers, "--cert", path)
+        run.expect(f"made test {number} by {workers} workers", found, said)
+        if os.path.exists(path):
+            certificates.add(read(path))
+            run.expect(f"its certificate, {number}", (f"yes\n{found.out}", "", 0), rvfence("check", *files, path))
+            os.remove(path)
+    run.expect(f"certificates of made test {number}", int(found.status < 2), len(certificates))
 
 
 def check(run):
     for name, prices in [(name, prices) for name in KNOWN for prices in LISTS]:
         compare(run, f"{name} at {prices.decode()}", read(f"{EXAMPLES}/{name}.litmus"), prices)
     for number in run.numbers():
-        compare(run, f"made test {number}", *Maker(number).make())
+        files, found = compare(run, f"made test {number}", *Maker(number).make())
+        compare_workers(run, number, files, found)
