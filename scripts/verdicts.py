@@ -11,7 +11,6 @@ from running import EXAMPLES, Said, rvfence, written
 
 YES = Said("yes\n", "", 0)
 READ = "a test"                     # the answer of a file that has no fault
-ANSWERED = "yes or no"              # of one that is a witness: which of the two is a matter of the memory model
 
 
 class Judge:

@@ -10,10 +10,10 @@ import json
 import sys
 
 import check_certificate
-from running import PRICES, TOP, Said, decoded, here, ran, read, rvfence, written
+from running import PRICES, TOP, Said, encoded, here, ran, read, rvfence, written
+from stored import expanded, rows
 
 FAULT = "fault F18 BadCertificate"
-TABLE = f"{TOP}/scripts/transcripts/certificates.table"
 
 
 def stored(name):
@@ -69,9 +69,11 @@ def links(text):
 
 
 def changed(certificate, changes):
-    """The bytes of the certificate with these values in it, by their keys, and by a key and a number in its list."""
+    """The bytes of the certificate with these values in it, by their keys, and by a key and a number in its list; or
+    with another text in place of one in it, or of all."""
     old, new = changes.pop("text", ("", ""))
-    certificate = json.loads(json.dumps(certificate))
+    if "whole" in changes:
+        return changes["whole"].encode()
     for key, value in changes.items():
         if key == "cycles" and isinstance(value, list):
             value = [links(cycle) if isinstance(cycle, str) else cycle for cycle in value]
@@ -80,19 +82,18 @@ def changed(certificate, changes):
             certificate[key][int(number)] = value
         else:
             certificate[key] = value
-    return json.dumps(certificate).replace(old, new).encode()
+    return encoded(json.dumps(certificate).replace(old, new))
 
 
 def check_table(judge):
     """The certificates of the table, and every beginning of one."""
-    for line in decoded(read(TABLE)).splitlines():
-        if line and not line.startswith("# "):
-            wanted, test, name, what, changes = line.split(" | ", 4)
-            wanted, _, fault = wanted.partition("; ")
-            test, _, prices = test.partition("@")
-            wanted = FAULT if wanted == "F18" else wanted.replace(" / ", "\n")
-            judge.judge(what, here(f"{test}.litmus"), changed(stored(name), json.loads(changes)), wanted,
-                  here(prices or "prices.json"), fault)
+    for row in rows("certificates"):
+        wanted, test, name, what, changes = row.split(" | ", 4)
+        wanted, _, fault = wanted.partition("; ")
+        test, _, prices = test.partition("@")
+        wanted = FAULT if wanted == "F18" else wanted.replace(" / ", "\n")
+        judge.judge(what, here(f"{test}.litmus"), changed(stored(name), json.loads(expanded(changes))), wanted,
+                    here(prices or "prices.json"), fault)
     whole = json.dumps(stored("CoRR"), separators=(",", ":")).encode()
     for count in range(len(whole) + 1):
         wanted = FAULT if count < len(whole) else "yes"
@@ -118,28 +119,8 @@ def check_written(judge):
 
 
 def check_files(judge):
-    """Which bytes are a certificate."""
-    sb, test = stored("SB"), here("SB.litmus")
-    text = json.dumps(sb)
-    data = text.encode()
-    for what, data, wanted in [
-            ("empty", b"", FAULT), ("half", data[:-1], FAULT), ("with more behind", data + b"{}", FAULT),
-            ("a byte order mark", b"\xef\xbb\xbf" + data, FAULT), ("UTF-16", text.encode("utf-16"), FAULT),
-            ("a byte that is no UTF-8", text.replace('"c"', '"\xff"').encode("latin-1"), FAULT),
-            ("a comma at the end", data[:-1] + b",}", FAULT),
-            ("a bad version last", data[:-1] + b',"version":3}', FAULT),
-            ("a number of 5000 digits", data.replace(b"18", b"1" * 5000), FAULT), ("a list", b"[]", FAULT),
-            ("many lists", b"[" * 100000, FAULT), ("a price list", b'{"rw,rw":1}', FAULT),
-            ("a good version last", b'{"version":1e9,' + data[1:], "yes"),
-            ("a number of 300 digits that does not count", b'{"tree":' + b"1" * 300 + b"," + data[1:], "yes"),
-            ("a number past all doubles that does not count", b'{"tree":1e309,' + data[1:], FAULT),
-            ("one of 5000 digits", b'{"tree":' + b"1" * 5000 + b"," + data[1:], FAULT),
-            ("blanks", f"\r\n\t {json.dumps(sb, indent=8)}\n".encode(), "yes"),
-            ("a key without a value", {key: value for key, value in sb.items() if key != "witnesses"}, FAULT),
-            ("a key more", {**sb, "note": ""}, FAULT), ("64 links", {**sb, "cycles": [sb["cycles"][0] * 16]}, "yes"),
-            ("65 links", {**sb, "cycles": [links("P0:1 p4") * 65]}, FAULT)]:
-        judge.judge(f"file: {what}", test, data, wanted)
-    good = here("certificates/SB.json")
+    """Files that can't be read."""
+    test, good = here("SB.litmus"), here("certificates/SB.json")
     for what, files in [("no such certificate", (test, PRICES, "nothing")), ("no test", (PRICES, PRICES, good)),
                         ("no prices", (test, test, good))]:
         out, err, status = run(*files)

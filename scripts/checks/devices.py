@@ -26,8 +26,7 @@ import termios
 import time
 
 from checks import transcripts
-from litmus import text_of
-from running import LONGEST, PRICES, Said, compiled, decoded, program, ran, read, waited_for, written
+from running import EXAMPLES, LONGEST, PRICES, Said, compiled, decoded, program, ran, read, waited_for, written
 
 MISSING, FOLDER, UNREAD = "there is no such file", "it is a folder", "it can't be opened or read"
 UNWRITTEN = Said("", "fault F21 WriteFault\n", 2)
@@ -38,12 +37,6 @@ STREAMS = [[0], [1], [2], [0, 1], [0, 2], [1, 2], [0, 1, 2]]
 SB = decoded(read(f"{transcripts.FOLDER}/files/printed.litmus"))
 SB_WITNESS = '{"choices":[[0],[0]],"order":["P0:1","P1:1","P0:0","P1:0"]}'
 SB_ANSWER = Said("fenced 18\nfence P0 1 w,r\nfence P1 1 w,r\n", "", 0)
-
-
-def stores(count):
-    """A test whose hart stores 1, 2 and so on to one word: there are as many candidates as orders of them."""
-    entries = ["0:x28=a;", *[f"0:x{5 + at}={1 + at};" for at in range(count)]]
-    return text_of("stores", entries, [[f"sw x{5 + at},0(x28)" for at in range(count)]], "exists a=1")
 
 
 def unread(name, why):
@@ -125,11 +118,10 @@ def check_readers(checks):
     for line in [["place", checks.test, "--prices", checks.prices], *lines]:
         for at in range(1, len(line)):
             for name, (path, why) in failing.items() if line[at] != "--prices" else ():
-                words = line[:at] + [path] + line[at + 1:]
-                found = checks.run(words, **(others if path == locked else {}))
-                checks.expect(f"{name} as word {at} of {line[0]}", unread(path, why), found)
-                found = checks.run([*words, "-q"], **(others if path == locked else {}))
-                checks.expect(f"{name} as word {at} of {line[0]} -q", Said("", "fault F20 ReadFault\n", 2), found)
+                for more, wanted in ([], unread(path, why)), (["-q"], Said("", "fault F20 ReadFault\n", 2)):
+                    words = [*line[:at], path, *line[at + 1:], *more]
+                    found = checks.run(words, **(others if path == locked else {}))
+                    checks.expect(f"{name} as word {at} of {' '.join([line[0], *more])}", wanted, found)
 
 
 def check_inputs(checks):
@@ -281,28 +273,6 @@ def check_links(checks):
         checks.expect(f"a certificate where standard output is {name}", (UNWRITTEN, whole), (found, read(path)))
 
 
-def check_signals(checks):
-    """A run that a signal ends, each time a little later, leaves under the name of its certificate what was there or
-    the whole of it. The test has many candidates, so that its certificate takes some time to be made and to be
-    written."""
-    test = written(f"{checks.folder}/stores.litmus", stores(7))
-    path = f"{checks.folder}/stores.json"
-    words = ["solve", test, checks.prices, "--cert", path]
-    start = time.monotonic()
-    checks.expect("seven stores", Said("fenced 0\n", "", 0), checks.run(words))
-    took = time.monotonic() - start
-    whole = read(path)
-    for at in range(40):
-        for number in (signal.SIGINT, signal.SIGTERM, signal.SIGKILL):
-            written(path, OLD)
-            child = subprocess.Popen([checks.program, *words], stdout=subprocess.DEVNULL, stderr=subprocess.DEVNULL)
-            longest = waited_for(child.pid, LONGEST)
-            time.sleep(took * at / 40)
-            child.send_signal(number)
-            child.wait(longest)
-            checks.check(f"signal {number} after {at} of 40 parts of a run", read(path) in (OLD, whole))
-
-
 # --- Two runs at once, and calls that are interrupted ----------------------------------------------------------------
 
 # each call of a run at the file that it writes, and at one beside it
@@ -351,7 +321,7 @@ def check_two_runs(checks):
     goes on before the other one or behind it. Both say what they say alone, the certificate of one of them stands
     there whole, and nothing beside it."""
     runs = []
-    for test in (checks.test, written(f"{checks.folder}/three.litmus", stores(3))):
+    for test in (checks.test, f"{EXAMPLES}/MP.litmus"):
         said = checks.run(["solve", test, checks.prices, "--cert", f"{checks.folder}/alone.json"])
         runs.append((test, said, read(f"{checks.folder}/alone.json")))
     wanted, wholes = [said for _, said, _ in runs], [whole for _, _, whole in runs]
@@ -429,14 +399,11 @@ def check_modes(checks):
         checks.expect("a mode that can't be given", wanted, found)
 
 
-def hindering(checks, call, error, count=None, name=None):
-    """The settings of a run in which these calls fail with this error."""
-    settings = {"HINDER_CALL": call, "HINDER_ERROR": str(error), "LD_PRELOAD": checks.hinder}
-    if count is not None:
-        settings["HINDER_COUNT"] = str(count)
-    if name is not None:
-        settings["HINDER_NAME"] = name
-    return {**os.environ, **settings}
+def hindering(checks, call, error, count=1000, name=""):
+    """The settings of a run in which the first so many of these calls fail with this error, those at files of this
+    name."""
+    return {**os.environ, "HINDER_CALL": call, "HINDER_ERROR": str(error), "HINDER_COUNT": str(count),
+            "HINDER_NAME": name, "LD_PRELOAD": checks.hinder}
 
 
 def check_interrupted(checks):
@@ -473,6 +440,6 @@ def check_stacks(checks):
 def check(run):
     checks = Checks(run)
     for part in (check_readers, check_inputs, check_outputs, check_errors, check_certificates, check_links,
-                 check_signals, check_two_runs, check_ended_runs, check_beside, check_modes, check_interrupted,
+                 check_two_runs, check_ended_runs, check_beside, check_modes, check_interrupted,
                  check_stacks):
         part(checks)

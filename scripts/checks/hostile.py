@@ -14,6 +14,7 @@ are processors.
 With `--huge` it feeds `check` certificates of 100 MB, one after the other, and nothing else: these may take 60
 seconds and 8 GB, and what each takes is printed."""
 import collections
+import contextlib
 import os
 import re
 import resource
@@ -22,7 +23,7 @@ from concurrent.futures import ProcessPoolExecutor
 
 from checks import hostile_files as files
 from running import EXAMPLES, PRICES, program, read, written
-from verdicts import ANSWERED, READ
+from verdicts import READ
 
 MP = f"{EXAMPLES}/MP.litmus"
 SB = f"{EXAMPLES}/SB.litmus"
@@ -57,48 +58,42 @@ SAID = {
     "solve": {0: FENCED, 1: NONE},
     "check": {0: rb"yes\n(" + FENCED + rb"|" + NONE + rb")", 1: rb"no: [a-z]+( \d+)?\n"},
 }
-# The answers of `solve`, `order` and `check` for any test: which it is, is a matter of the memory model.
-SOLVED = "fences, none or a limit"
-ORDERED = "yes, no, or no witness for this test"
-CHECKED = "yes, no or a limit"
-TESTED = "forbidden, allowed, vacuous or a limit"
-AUDITED = "what is said of fences, or a limit"
-LISTED = "all states, or a limit"
-LISTED_ITEMS = "all states, or an item of `locations` that is none"
-LOGGED = files.LOGGED
-MATCHES = {ANSWERED: "yes|no: .*", SOLVED: f"(?s)(fenced |none\n).*|{BEYOND}", ORDERED: f"yes|no: .*|{files.WITNESS}",
-           CHECKED: f"(?s)(yes\n|no: ).*|{BEYOND}", TESTED: f"(forbidden|allowed|vacuous) .*|{BEYOND}",
-           AUDITED: f"(?s)(forbidden|allowed|vacuous) as written.*|{BEYOND}", LISTED: f"(?s)Test .*|{BEYOND}",
-           LISTED_ITEMS: "(?s)Test .*|fault F3 Syntax line 5",
-           LOGGED: r"(?s)SB: .*|error: log line \d+: expected .*"}
+# The answers of commands for any test: which it is, is a matter of the memory model, or there is a limit.
+SOLVED = re.compile(rf"(?s)(fenced |none\n).*|{BEYOND}")
+ORDERED = re.compile(f"yes|no: .*|{files.WITNESS}")
+CHECKED = re.compile(rf"(?s)(yes\n|no: ).*|{BEYOND}")
+TESTED = re.compile(f"(forbidden|allowed|vacuous) .*|{BEYOND}")
+AUDITED = re.compile(f"(?s)(forbidden|allowed|vacuous) as written.*|{BEYOND}")
+LISTED = re.compile(f"(?s)Test .*|{BEYOND}")
+LISTED_ITEMS = re.compile("(?s)Test .*|fault F3 Syntax line 5")      # or an item of `locations` is none
 
-# How the program gets a file: the words of its command line, what stands before the names of the runs, the answer
-# where a reader has READ, and what is said of the group.
-Use = collections.namedtuple("Use", "words prefix read shown", defaults=("", READ, ""))
+# How the program gets a file: what stands before the names of the runs, the words of its command line, and the answer
+# where a reader has READ.
+Use = collections.namedtuple("Use", "name words read", defaults=(READ,))
 CERTIFICATE = f"{EXAMPLES}/certificates/MP.json"
-PLACED = Use(["place", "-v", "stdin"])
-PRICED = Use(["place", "-v", MP, "--prices", "/dev/stdin"])
-CERTIFIED = Use(["solve", "-q", "stdin", PRICES, "--cert", "/dev/null"], "solve --cert: ", SOLVED, ", certified")
-WITHIN_SEARCH = Use(["solve", "-q", "stdin", PRICES], "solve: ", SOLVED, ", searched")
-CHECKED_WITH = Use(["check", "-v", "stdin", PRICES, CERTIFICATE], "check: ", CHECKED, ", checked")
-TESTED_AS = Use(["test", "stdin"], "test: ", TESTED, ", tested")
-LOG_OF = Use(["states", SB, "--log", "/dev/stdin"], "log: ", LOGGED, ", held against SB")
-LISTED_OF = Use(["states", "stdin"], "states: ", LISTED, ", all states")
-AUDITED_AS = Use(["audit", "stdin", PRICES], "audit: ", AUDITED, ", audited")
-GROUPS = [(group, PLACED) for group in files.TESTS]
-GROUPS += [(files.logs, LOG_OF), (files.prices, PRICED), (files.prices_changed, PRICED),
-           (files.fences, Use(["place", "-v", MP])), (files.witnesses, Use(["order", "-v", SB, "/dev/stdin"])),
-           (files.certificates, Use(["check", "-v", SB, PRICES, "/dev/stdin"])),
-           (files.refutations, Use(["check", "-v", SB, PRICES, "/dev/stdin"]))]
-GROUPS += [(group, use) for group in files.SEARCHED for use in (WITHIN_SEARCH, TESTED_AS, AUDITED_AS)]
-GROUPS += [(files.prices, Use(["solve", MP, "/dev/stdin"], "solve: ", SOLVED, ", searched with")),
-           (files.numbers_of_parts, CERTIFIED), (files.samples, WITHIN_SEARCH),
-           (files.samples, TESTED_AS), (files.samples, AUDITED_AS), (files.samples, LISTED_OF),
-           (files.prices, Use(["audit", MP, "/dev/stdin"], "audit: ", AUDITED, ", audited with")),
-           (files.samples,
-            Use(["order", "-v", "stdin", f"{EXAMPLES}/witnesses/MP.json"], "order: ", ORDERED, ", ordered")),
-           (files.samples, CHECKED_WITH),
-           (files.prices, Use(["check", "-v", MP, "/dev/stdin", CERTIFICATE], "check: ", CHECKED, ", checked with"))]
+TESTED_AS = Use("test: ", ["test", "stdin"], TESTED)
+LISTED_OF = Use("states: ", ["states", "stdin"], LISTED)
+AUDITED_AS = Use("audit: ", ["audit", "stdin", PRICES], AUDITED)
+SEARCHED_AS = Use("solve: ", ["solve", "-q", "stdin", PRICES], SOLVED)
+CERTIFIED_AS = Use("solve --cert: ", [*SEARCHED_AS.words, "--cert", "/dev/null"], SOLVED)
+ORDERED_AS = Use("order: ", ["order", "-v", "stdin", f"{EXAMPLES}/witnesses/MP.json"], ORDERED)
+CHECKED_AS = Use("check: ", ["check", "-v", "stdin", PRICES, CERTIFICATE], CHECKED)
+JUDGED = Use("", ["check", "-v", SB, PRICES, "/dev/stdin"])
+GROUPS = [(name, make, Use("", ["place", "-v", "stdin"])) for name, make in files.TESTS.items()]
+GROUPS += [(name, make, use) for name, make in files.SEARCHED.items() for use in (SEARCHED_AS, TESTED_AS, AUDITED_AS)]
+GROUPS += [("samples", files.samples, use)
+           for use in (SEARCHED_AS, TESTED_AS, AUDITED_AS, LISTED_OF, ORDERED_AS, CHECKED_AS)]
+GROUPS += [("prices", files.prices, use)
+           for use in (Use("", ["place", "-v", MP, "--prices", "/dev/stdin"]),
+                       Use("solve: ", ["solve", MP, "/dev/stdin"], SOLVED),
+                       Use("audit: ", ["audit", MP, "/dev/stdin"], AUDITED),
+                       Use("check: ", ["check", "-v", MP, "/dev/stdin", CERTIFICATE], CHECKED))]
+GROUPS += [("prices changed", files.prices_changed, Use("", ["place", "-v", MP, "--prices", "/dev/stdin"])),
+           ("numbers of parts", files.SEARCHED["numbers of parts"], CERTIFIED_AS),
+           ("logs", files.logs, Use("log: ", ["states", SB, "--log", "/dev/stdin"])),
+           ("fences", files.fences, Use("", ["place", "-v", MP])),
+           ("witnesses", files.witnesses, Use("", ["order", "-v", SB, "/dev/stdin"])),
+           ("certificates", files.certificates, JUDGED), ("refutations", files.refutations, JUDGED)]
 
 Found = collections.namedtuple("Found", "end answer seconds memory")
 # Of runs their number, those that failed by name with what is wrong, and the most of both.
@@ -124,10 +119,8 @@ class Runner:
         written(self.paths[0], text)
         self.child = os.posix_spawn(program(), [program(), *words], os.environ, file_actions=actions)
         signal.alarm(LONGEST_WAIT)
-        try:
+        with contextlib.suppress(ProcessLookupError):
             resource.prlimit(self.child, resource.RLIMIT_CPU, (self.most_seconds + 1, self.most_seconds + 1))
-        except ProcessLookupError:
-            pass
         _, raw, used = os.wait4(self.child, 0)
         signal.alarm(0)
         with open(self.paths[1], "rb") as file:
@@ -194,7 +187,7 @@ def end_of(words, raw, said, error):
 def complaint(wanted, found, limits):
     """What is wrong with a run, or nothing."""
     wrong = [found.end] if found.end else []
-    is_wanted = re.fullmatch(MATCHES.get(wanted, re.escape(wanted)), found.answer)
+    is_wanted = wanted == found.answer if isinstance(wanted, str) else wanted.fullmatch(found.answer)
     if not found.end and not is_wanted:
         wrong.append(f"{found.answer}, and {wanted} is wanted")
     if found.seconds > limits[0]:
@@ -224,13 +217,13 @@ def begin(folder):
 def run_group(number):
     """What came of the group of this number, all of whose files are fed to the program. Those of `fences` are
     words."""
-    group, use = GROUPS[number]
+    _, make, use = GROUPS[number]
 
     def runs():
-        for name, text, wanted in group():
+        for name, text, wanted in make():
             text, words = (text, use.words) if isinstance(text, bytes) else (b"", [*use.words, *text])
             answer = LISTED_ITEMS if use is LISTED_OF and name.endswith(" in locations") else use.read
-            yield use.prefix + name, answer if wanted == READ else wanted, runner.run(text, words)
+            yield use.name + name, answer if wanted == READ else wanted, runner.run(text, words)
 
     return tally_of(runs(), LIMITS)
 
@@ -238,8 +231,8 @@ def run_group(number):
 def tallies_of_groups(folder):
     """What came of each group."""
     with ProcessPoolExecutor(initializer=begin, initargs=[folder]) as pool:
-        for (group, use), tally in zip(GROUPS, pool.map(run_group, range(len(GROUPS)))):
-            print(f"{group.__name__.replace('_', ' ')}{use.shown}: {tally.count} runs", flush=True)
+        for (name, _, use), tally in zip(GROUPS, pool.map(run_group, range(len(GROUPS)))):
+            print(f"{use.name}{name}: {tally.count} runs", flush=True)
             yield tally
 
 
@@ -255,7 +248,7 @@ def tallies_of_huge(folder):
 def check(run):
     tallies = list(tallies_of_huge(run.folder) if run.options.huge else tallies_of_groups(run.folder))
     for tally in tallies:
-        run.counts.add(tally.count - len(tally.failed))
+        run.add(tally.count - len(tally.failed))
         for name, wrong in tally.failed:
             run.check(name, False, wrong)
     seconds, memory = max(tally.seconds for tally in tallies), max(tally.memory for tally in tallies)
