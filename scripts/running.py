@@ -162,7 +162,7 @@ def transcript(said):
     return f"{said.out}{said.err}[status {said.status}]"
 
 
-def stored_answers():
-    """The transcripts of examples/answers/solve.transcripts, without their commands, by test and price list."""
-    blocks = decoded(read(f"{EXAMPLES}/answers/solve.transcripts")).strip("\n").split("\n\n")
-    return {tuple(command.split()[3:]): rest for command, rest in (block.split("\n", 1) for block in blocks)}
+def stored_answers(command):
+    """The transcripts of examples/answers/ of this command, by the words behind it."""
+    blocks = decoded(read(f"{EXAMPLES}/answers/{command}.transcripts")).split(f"$ rvfence {command} ")[1:]
+    return {tuple(words.split()): rest for words, rest in (it.removesuffix("\n\n").split("\n", 1) for it in blocks)}

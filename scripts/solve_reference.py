@@ -329,10 +329,10 @@ def lines_of(problem, placement):
 
 
 def answer(test, prices):
-    """The lines that are printed for this test and these prices, a fault's included, and the exit status."""
+    """What is printed for this test and these prices, and of a fault on standard error, and the exit status."""
     try:
         problem = Problem(test, prices)
         placement = solved(problem)
     except Fault as fault:
-        return [str(fault)], 2
-    return lines_of(problem, placement), 1 if placement is None else 0
+        return '', f'{fault}\n', 2
+    return ''.join(f'{line}\n' for line in lines_of(problem, placement)), '', 1 if placement is None else 0

@@ -10,45 +10,34 @@ import check_certificate as model
 import solve_reference as reference
 from litmus import Maker
 from running import read, rvfence, written
-from states_reference import Listing, ends_so, shown_places, wanted_lines
-
-
-def compare_witnesses(run, listing, asked, states, lines):
-    """Compares the witnesses, a line for each of the states."""
-    name, placement, fences, places = asked
-    run.expect(f"how many witnesses of {name}", len(states), len(lines))
-    for state, line in zip(states, lines):
-        shown = f"{name} with {fences} in {state}"
-        run.check(f"the witness of {shown}", ends_so(listing.test, placement, places, state, line), line)
-        is_outcome = listing.is_true(places, state) == listing.test.wanted[1]
-        said = rvfence("order", name, written(f"{run.folder}/witness", line), *fences)
-        run.expect(f"order of {shown}", "yes\n" if is_outcome else "no: outcome\n", said.out)
+from states_reference import Listing
 
 
 def compare_states(run, listing, name, placement, flags):
     """Compares what is printed of a test with these fences, and says how many states there are."""
     fences = [f"P{hart}:{at}={kind}" for (hart, at), kind in zip(listing.test.slots(), placement) if kind]
-    places = shown_places(listing.test, "--all" in flags)
-    states = listing.states(placement, places)
-    condition = rvfence("place", name, *fences).out.rstrip("\n").rsplit("\n", 1)[-1]
-    wanted = "".join(f"{line}\n" for line in wanted_lines(listing, places, states, condition))
-    found = rvfence("states", *flags, name, *fences)
-    run.expect(f"{name} with {fences}\n{read(name).decode()}", wanted, found.out)
-    run.expect(f"the status of {name} with {fences}", 0, found.status)
-    lines = rvfence("states", *flags, "--witnesses", name, *fences).out.splitlines()
-    without = "".join(f"{line}\n" for line in lines if not line.startswith("{"))
-    run.expect(f"{name} with {fences} without its witnesses", wanted, without)
-    witnesses = [line for line in lines if line.startswith("{")]
-    compare_witnesses(run, listing, (name, placement, fences, places), states, witnesses)
+    what = f"{name} with {fences}\n{read(name).decode()}"
+    wanted = listing.answer(placement, rvfence("place", name, *fences).out)
+    run.expect(what, wanted, rvfence("states", "-q", *flags, name, *fences))
+    lines = rvfence("states", *flags, "--witnesses", name, *fences).out.splitlines(keepends=True)
+    run.expect(f"{what} without witnesses", wanted.out, "".join(line for line in lines if not line.startswith("{")))
+    states, witnesses = listing.states(placement), [line for line in lines if line.startswith("{")]
+    run.expect(f"how many witnesses of {what}", len(states), len(witnesses))
+    for state, witness in zip(states, witnesses):
+        is_right = listing.ends_so(witness, listing.line_of(state), placement)
+        run.check(f"the witness of {state} of {what}", is_right, witness)
+        is_outcome = listing.is_true(state) == listing.test.wanted[1]
+        said = rvfence("order", name, written(run.path("witness"), witness), *fences)
+        run.expect(f"order of {state} of {what}", "yes\n" if is_outcome else "no: outcome\n", said.out)
     return len(states)
 
 
 def compare(run, number):
     """Compares on the test of this number, and says how many states it has, without fences and with some."""
-    data = Maker(number).make()[0]
-    name = written(f"{run.folder}/made{number}", data)
+    data, is_all = Maker(number).make()[0], number % 2 == 1
+    name = written(run.path(f"made{number}"), data)
     try:
-        listing = Listing(data)
+        listing = Listing(data, is_all)
     except reference.Fault as fault:
         said = rvfence("states", "-q", name)
         run.expect(f"the fault of {name}", (f"{fault}\n", 2), (said.err, said.status))
@@ -56,8 +45,7 @@ def compare(run, number):
     chance = random.Random(f"states {number}")
     slots = listing.test.slots()
     placements = [(None,) * len(slots), tuple(chance.choice([None, *model.KINDS]) for _ in slots)]
-    flags = ["--all"] if number % 2 else []
-    return sum(compare_states(run, listing, name, placement, flags) for placement in placements)
+    return sum(compare_states(run, listing, name, placement, ["--all"] * is_all) for placement in placements)
 
 
 def check(run):

@@ -1,7 +1,6 @@
 """All checks, in the order of the lines at the end of a run of all."""
-from checks import (certificate_rows, compare_audit, compare_check, compare_solve, compare_states, compare_test,
-                    devices, hostile, install, launcher, limits, program, refused_memory, solve_answers, states_answers,
-                    workers)
+from checks import (answers, certificate_rows, compare_audit, compare_check, compare_solve, compare_states,
+                    compare_test, devices, hostile, install, launcher, limits, program, refused_memory, workers)
 from checks.registry import GATE, NOTHING, Check
 from running import TOP
 
@@ -12,7 +11,7 @@ CHECKS = [
     Check("trusted", 10, command=(f"{SCRIPTS}/trusted",), needs=NOTHING, text="The list of what must be believed"),
     Check("tables", 20, command=(f"{SCRIPTS}/tables", "--check"), needs=NOTHING, text="The lists of the documents"),
     Check("manual", 10, command=(f"{SCRIPTS}/manual", "--check"), needs=NOTHING, text="The manual page"),
-    Check("solve-reference", 120, solve_answers.check_reference, needs=NOTHING),
+    Check("solve-reference", 120, answers.check_reference, needs=NOTHING),
     Check("gate", None, command=("rt", "ci"), needs=GATE,
           text="Every proof from nothing, the must-fail edits, tests and stored runs"),
     Check("release", 60, command=(f"{SCRIPTS}/check-release",), needs=GATE,
@@ -23,8 +22,8 @@ CHECKS = [
     Check("devices", 150, devices.check),
     Check("certificate-rows", 20, certificate_rows.check),
     Check("compare-check", 130, compare_check.check, words=MADE),
-    Check("solve-answers", 110, solve_answers.check, words={"--write": False}),
-    Check("states-answers", 60, states_answers.check, words={"--write": False}),
+    Check("solve-answers", 110, answers.check_solve, words={"--write": False}),
+    Check("states-answers", 60, answers.check_states, words={"--write": False}),
     Check("compare-solve", 300, compare_solve.check, words={**MADE, "--show": False}),
     Check("compare-test", 150, compare_test.check, words=MADE),
     Check("compare-audit", 450, compare_audit.check, words=MADE),

@@ -6,18 +6,19 @@ examples with their answers, the commands of the documents with what stands belo
 shell completes, and whether the other commands take what it answers; messages, and how far it is, as it says on a
 terminal; the help that the launcher prints where there is no program; and whether `solve` reads measured prices."""
 import glob
+import itertools
 import json
 import os
 import re
 import shutil
 import time
 
+import check_certificate as model
 from bench_tests import votes
 from checks.transcripts import FOLDER, Transcripts, blocks_of
 from running import (EXAMPLES, PRICES, TOP, Said, decoded, program, ran, ran_on_terminal, read, rvfence, side_by_side,
                      stored_answers, tests_of_examples, transcript, written)
-from verdicts import YES, is_accepted
-
+from verdicts import YES
 
 
 def text_of(path):
@@ -54,7 +55,7 @@ def fences_of(lines):
 def check_idioms(checks):
     """Each idiom goes wrong without fences. And where of those of its answer at prices-linux.json one is missing, or a
     kind that costs less stands in its place, an execution goes wrong that all of them forbid."""
-    folder, answers, names = f"{EXAMPLES}/idioms", stored_answers(), []
+    folder, answers, names = f"{EXAMPLES}/idioms", stored_answers("solve"), []
     price = json.loads(read(f"{EXAMPLES}/prices-linux.json"))
     for test in tests_of_examples():
         if not test.startswith(folder):
@@ -107,7 +108,9 @@ def check_answers(checks):
             checks.expect(f"the note for {test}", f"note: vacuous: {vacuous[1]}" if vacuous else "", said.err)
         lines = said.out.splitlines()
         if lines[:1] == ["none"]:
-            checks.check(f"the execution of none for {test}", is_accepted(test, lines[1]), lines[1])
+            full = [f"P{hart}:{at}=rw,rw" for hart, at in model.read(test, model.test_of).slots()]
+            found = rvfence("order", test, written(f"{checks.folder}/witness.json", lines[1]), *full)
+            checks.expect(f"the execution of none for {test}", YES, found)
         elif not test.endswith("/STRAY.litmus"):
             fences = fences_of(lines)
             cost = "".join(lines[:1]).replace("fenced", "\n(* cost") + " *)\n"
@@ -115,12 +118,6 @@ def check_answers(checks):
             checks.expect(f"the cost of the fences for {test}", cost, placed[-len(cost):])
             found = rvfence("solve", "stdin", PRICES, stdin=rvfence("place", test, *fences).out)
             checks.expect(f"{test} with its fences", ("fenced 0\n", 0), (found.out, found.status))
-
-
-def line_of(found, width):
-    """The line of `test` that says what its JSON object says."""
-    verdict = "" if found["verdict"] == "fault" else f"{found['verdict']:9}  "
-    return f"{found['file']:{width}}  {verdict}{found['why']}"
 
 
 def answer_of(found):
@@ -132,35 +129,21 @@ def answer_of(found):
 
 
 def check_objects(checks):
-    """With `--json` the commands say what they say without, of each test of the examples and each certificate. `order`
-    accepts the execution of an outcome that is allowed. With any number of jobs `test` prints the same."""
-    tests = [*tests_of_examples(), *glob.glob(f"{EXAMPLES}/tests/*.litmus")]
-    plain, objects = rvfence("test", *tests), rvfence("test", "--json", *tests)
-    width, found = max(map(len, tests)), [json.loads(line) for line in objects.out.splitlines()]
-    checks.expect("the objects of the examples", plain.out.splitlines()[:-1], [line_of(each, width) for each in found])
-    checks.expect("their end", plain[1:], objects[1:])
-    for each in found:
-        checks.check(f"{each['file']} has an execution", ("witness" in each) == (each["verdict"] == "allowed"), each)
-        if "witness" in each:
-            witness = written(f"{checks.folder}/witness.json", json.dumps(each["witness"]))
-            checks.expect(f"the execution for {each['file']}", YES, rvfence("order", each["file"], witness))
-    for jobs in ("1", "2", "3", "16"):
-        checks.expect(f"the examples by {jobs} jobs", plain, rvfence("test", "--jobs", jobs, *tests))
-        checks.expect(f"the objects by {jobs} jobs", objects, rvfence("test", "--jobs", jobs, "--json", *tests))
-    for test in tests:
+    """With `--json` `solve` and `check` say what they say without, of each test of the examples and each
+    certificate."""
+    for test in [*tests_of_examples(), *glob.glob(f"{EXAMPLES}/tests/*.litmus")]:
         plain, said = rvfence("solve", test, PRICES), rvfence("solve", test, PRICES, "--json")
         if plain.status != 2:
             said = said._replace(out=answer_of(json.loads(said.out)))
         checks.expect(f"the object of the answer for {test}", plain, said)
-    for path in sorted(glob.glob(f"{EXAMPLES}/certificates/*.json")):
-        for name in ("MP", "SB", "MP11"):
-            words = ["check", f"{EXAMPLES}/{name}.litmus", PRICES, path]
-            plain, said = rvfence(*words), rvfence(*words, "--json")
-            if plain.status != 2:
-                each = json.loads(said.out)
-                text = f"yes\n{answer_of(each['answer'])}" if each["valid"] else f"no: {each['reason']}\n"
-                said = said._replace(out=text)
-            checks.expect(f"the object of {path} for {name}", plain, said)
+    for path, name in itertools.product(sorted(glob.glob(f"{EXAMPLES}/certificates/*.json")), ("MP", "SB", "MP11")):
+        words = ["check", f"{EXAMPLES}/{name}.litmus", PRICES, path]
+        plain, said = rvfence(*words), rvfence(*words, "--json")
+        if plain.status != 2:
+            each = json.loads(said.out)
+            text = f"yes\n{answer_of(each['answer'])}" if each["valid"] else f"no: {each['reason']}\n"
+            said = said._replace(out=text)
+        checks.expect(f"the object of {path} for {name}", plain, said)
 
 
 def check_completions(checks):
@@ -193,18 +176,16 @@ def check_messages(checks):
 def check_progress(checks):
     """Past two seconds `solve` says on a terminal how far it is, in a line that changes and that is wiped before a
     fault and its message are printed. It says nothing of it elsewhere, nor of a short search, and answers the same."""
-    folder = checks.folder
-    three = written(f"{folder}/three.json", '{"w,r":9,"tso":5,"rw,rw":10}')
+    three = written(f"{checks.folder}/three.json", '{"w,r":9,"tso":5,"rw,rw":10}')
     # one that comes to the limit of nodes late, and one that has an answer before, in about two seconds
-    late, long = (written(f"{folder}/votes-{spare}.litmus", votes(4, 2, spare)) for spare in (20, 24))
-    by_one = r"\d+ verdicts to plan(, \d+ nodes(, best cost \d+)?)?"
-    # a second worker joins neither
-    by_two = by_one
-    cases = [(late, PRICES, 1, by_one, "{2,}", ""), (late, PRICES, 2, by_two, "{2,}", ""),
-             (long, three, 1, by_one, "+", "?"), (f"{EXAMPLES}/MP.litmus", PRICES, 1, by_one, "+", "{0}")]
+    late, long = (written(f"{checks.folder}/votes-{spare}.litmus", votes(4, 2, spare)) for spare in (20, 24))
+    line = r"\r\d+ verdicts to plan(, \d+ nodes(, best cost \d+)?)?\x1b\[K"
+    # (a second worker joins neither)
+    cases = [(late, PRICES, 1, "{2,}", ""), (late, PRICES, 2, "{2,}", ""), (long, three, 1, "+", "?"),
+             (f"{EXAMPLES}/MP.litmus", PRICES, 1, "+", "{0}")]
 
     def check(case):
-        test, prices, workers, line, lines, times = case
+        test, prices, workers, lines, times = case
         command = [program(), "solve", test, prices, "--workers", str(workers)]
         elsewhere, start = ran(command), time.monotonic()
         shown = ran_on_terminal(command)
@@ -213,7 +194,7 @@ def check_progress(checks):
         name = f"how far {os.path.basename(test)} is by {workers} workers"
         fault = elsewhere.err.replace("\n", "\r\n")
         message = rf"{re.escape(test)}: {re.escape(fault)}  [^\r]+\r\n" if fault else ""
-        wanted = rf"((\r{line}\x1b\[K){lines}\r\x1b\[K){times}{re.escape(fault)}{message}"
+        wanted = rf"(({line}){lines}\r\x1b\[K){times}{re.escape(fault)}{message}"
         checks.check(name, re.fullmatch(wanted, shown.err), repr(shown.err[-200:]))
         checks.check(f"{name}, elsewhere", fault in ("", "fault F16 NodeLimit\r\n"), fault)
         checks.expect(f"{name}, the answer", (elsewhere.out, elsewhere.status), (shown.out, shown.status))
