@@ -69,18 +69,19 @@ def test_of(name, lines, outcome, words=''):
     return text_of(name, entries, [hart.cells for hart in harts], f'exists {outcome}'), fences
 
 
-# --- Idioms that grow --------------------------------------------------------------------------------------------
+# --- Tests that grow ---------------------------------------------------------------------------------------------
 
-def number(text, n):
-    """A number that is written with n: `3`, `n`, `n-1` or `2n`."""
-    times, has_n, more = re.fullmatch(r'(\d*)(n?)([-+]\d+)?', text).groups()
-    return int(times or 1) * (n if has_n else 1) + int(more or 0)
+def number(text, sizes):
+    """A number that is written with the sizes: `3`, `n`, `n-1` or `2n`."""
+    times, size, more = re.fullmatch(r'(\d*)([ns]?)([-+]\d+)?', text).groups()
+    return int(times or 1) * sizes.get(size, 1) + int(more or 0)
 
 
-def numbers(text, n):
+def numbers(text, sizes):
     """Those of a range, or those below a number."""
     first, _, end = text.rpartition('..')
-    return range(number(first or '0', n), number(end, n))
+    first, end = number(first or '0', sizes), number(end, sizes)
+    return range(first, end, 1 if first <= end else -1)
 
 
 def rows(which, text):
@@ -88,96 +89,44 @@ def rows(which, text):
     return [text.replace('#', str(at)).replace('$', str(at + 1)).replace('%', str(2 ** at)) for at in which]
 
 
-def expanded(text, n):
+def expanded(text, sizes):
     """The text with all that it says of numbers."""
     def each(found):
         how, atom, which = found.groups()
-        made = rows(numbers(which or 'n', n), atom)
+        made = rows(numbers(which or 'n', sizes), atom)
         if how == 'two':
             made = [f'({AND.join(pair)})' for pair in itertools.combinations(made, 2)]
         return f'({(AND if how == "every" else OR).join(made)})' if how else ' '.join(made)
 
-    text = re.sub(r'\{(.*?)\}', lambda found: str(number(found[1], n)), text)
+    text = re.sub(r'\{(.*?)\}', lambda found: str(number(found[1], sizes)), text)
     return re.sub(r'(some|every|two|)«(.*?)(?:;([^;»]*))?»', each, text)
 
 
-def idioms():
-    """The tests of the table, and the lines of their fences, by their names."""
+def sizes_of(text):
+    """The sizes of a test: a range, or numbers."""
+    return numbers(text, {}) if '..' in text else map(int, text.split(','))
+
+
+def of_table(name):
+    """The tests of a stored table, and the lines of their fences, by their names."""
     found = {}
-    for block in decoded(read(f'{TOP}/scripts/transcripts/idioms.table')).rstrip('\n').split('\n\n'):
-        title, *lines = [line for line in block.split('\n') if not line.startswith('# ')]
-        if title.startswith('## '):
-            _, idiom, sizes = title.split()
-            for n in numbers(sizes, 0):
-                words, *harts, outcome = [expanded(line, n) for line in lines]
-                parts = [hart.split(': ', 1) for hart in harts]
-                harts = [row for which, text in parts for row in rows(numbers(which, n), text)]
-                found[f'{idiom}-{n}'] = test_of(f'{idiom}-{n}', harts, outcome, words.removeprefix('words'))
+    for block in decoded(read(f'{TOP}/scripts/transcripts/{name}.table')).rstrip('\n').split('\n\n'):
+        title, *lines = [line for line in block.split('\n') if not line.startswith('# ')] or ['']
+        if not title.startswith('## '):
+            continue
+        _, kind, *ranges = title.split()
+        for each in itertools.product(*map(sizes_of, ranges)):
+            words, *harts, outcome = [expanded(line, dict(zip('ns', each))) for line in lines]
+            parts = [hart.split(': ', 1) for hart in harts]
+            harts = [row for which, text in parts for row in rows(numbers(which, dict(zip('ns', each))), text)]
+            title = '-'.join([kind, *map(str, each)])
+            found[title] = test_of(title, harts, outcome, words.removeprefix('words'))
     return found
-
-
-# --- Tests that grow ---------------------------------------------------------------------------------------------
-
-def ring(kind, count, spare):
-    """A ring of harts with two accesses each, and between them some loads of a word to which nobody stores."""
-    words, harts = ['abcdefgh'[at % count] for at in range(count + 1)], range(count)
-    first, last, condition = {
-        # each hart stores to its word and loads the next one's, and all loads come too early
-        'SB': (lambda at: words[at] + '=1', lambda at: 'x10=' + words[at + 1], [f'{at}:x10=0' for at in harts]),
-        # each hart loads its word and stores to the next one's, and all stores come too early
-        'LB': (lambda at: 'x10=' + words[at], lambda at: words[at + 1] + '=1', [f'{at}:x10=1' for at in harts]),
-        # a message is stored and a flag is handed on from hart to hart, and the last one misses the message
-        'MP': (lambda at: 'x10=' + words[at] if at else words[0] + '=1',
-               lambda at: words[at + 1] + '=1' if at < count - 1 else 'x11=' + words[0],
-               [f'{at}:x10=1' for at in harts[1:]] + [f'{count - 1}:x11=0']),
-        # each hart stores 2 to its word and 1 to the next one's, and all words end at 2
-        '2+2W': (lambda at: words[at] + '=2', lambda at: words[at + 1] + '=1', [f'{words[at]}=2' for at in harts]),
-    }[kind]
-    return [f'{first(at)} {"x19=spare " * spare}{last(at)}' for at in harts], condition
-
-
-def chain(count):
-    """One hart stores to many words, and the other loads them the other way round: it sees the last, not the first."""
-    words = 'abcdefgh'[:count]
-    loads = [f'x{10 + at}={word}' for at, word in enumerate(reversed(words))]
-    return [' '.join(f'{word}=1' for word in words), ' '.join(loads)], ['1:x10=1', f'1:x{9 + count}=0']
-
-
-def independent_readers(count):
-    """As many readers as writers, each of two words, which don't agree on what was stored first."""
-    words = 'abcdefgh'[:count]
-    readers = [f'x10={words[at]} x11={words[(at + 1) % count]}' for at in range(count)]
-    condition = [f'{count + at}:{end}' for at in range(count) for end in ('x10=1', 'x11=0')]
-    return [f'{word}=1' for word in words] + readers, condition
-
-
-def message(stores, loads):
-    """Message passing, with many stores to the message, or many loads of it."""
-    return [' '.join(f'a={word}' for word in range(1, stores + 1)) + ' b=1',
-            'x10=b ' + 'x12=a ' * (loads - 1) + 'x11=a'], ['1:x10=1', '1:x11=0']
-
-
-def rounds(count):
-    """Two harts that store and load in turns, and in some round both loads miss all stores of the other hart."""
-    harts = [' '.join(f'{own}={1 + at} x{10 + at}={other}' for at in range(count)) for own, other in ('ab', 'ba')]
-    return harts, [OR.join(f'(0:x{at}=0 /\\ 1:x{at}=0)' for at in range(10, 10 + count))]
-
-
-# Two harts that add 1 to a word in a spinlock by swaps; both have been in, and an addition is lost.
-LOCK = ['x10=swap(held,1) x10==0 x11=a x11=x11+1 a=x11 x12=1 held=0'] * 2, ['0:x12=1', '1:x12=1', 'a=1']
 
 
 def families():
     """The texts of all tests that grow, by their names."""
-    made = {f'{kind}-{count}-{spare}': ring(kind, count, spare)
-            for kind in ('SB', 'LB', 'MP', '2+2W') for count in range(2, 9)
-            for spare in range(5) if count < 8 or spare == 0}           # eight words are all that a test may have
-    made |= {f'chain-{count}': chain(count) for count in range(2, 9)}
-    made |= {f'IRIW-{count}': independent_readers(count) for count in range(2, 5)}
-    made |= {f'stores-{count}': message(count, 1) for count in range(1, 9)}
-    made |= {f'loads-{count}': message(1, count) for count in (1, 2, 4, 6, 8, 10, 12, 14)}
-    made |= {f'rounds-{count}': rounds(count) for count in (1, 2, 3)} | {'lock': LOCK}
-    return {name: test_of(name, harts, f'({AND.join(condition)})')[0] for name, (harts, condition) in made.items()}
+    return {name: text for name, (text, _) in of_table('grown').items()}
 
 
 # --- Tests whose search takes long -------------------------------------------------------------------------------
