@@ -22,11 +22,10 @@ import signal
 from concurrent.futures import ProcessPoolExecutor
 
 from checks import hostile_files as files
-from running import EXAMPLES, PRICES, program, read, written
+from running import EXAMPLES, PRICES, TOP, program, read, written
+from stored import rows
 from verdicts import READ
 
-MP = f"{EXAMPLES}/MP.litmus"
-SB = f"{EXAMPLES}/SB.litmus"
 # Seconds of processor time, and bytes: for files up to a mebibyte, and for huge ones.
 LIMITS, HUGE_LIMITS = (2, 400_000_000), (60, 8_000_000_000)
 # The stack that a process has by default, in bytes.
@@ -35,66 +34,27 @@ STACK = 8 * 1024 * 1024
 LONGEST_WAIT = 1800
 # What is said of a test is shorter than this: `test` names the location that nothing stores to, which may fill a file.
 MOST_SAID = 2 << 20
-# What `solve` says of a test and prices that are read.
-FENCED = rb"fenced \d+\n(fence P\d \d+ [rwtso,]+\n)*"
-NONE = rb'none\n\{"choices":\[[\[\]0-9a-z,]*\],"order":\[[P0-9:",]*\]\}\n'
-BEYOND = r"fault F(13 TooManyTraces|14 Astray P\d:\d+|15 TooManyCandidates|16 NodeLimit)"
-# What `test` and `audit` say of a file.
-TESTED_LINE = rb"stdin  (forbidden  |allowed    |vacuous    |fault F)[^\n]+\n1 test: 1 [a-z]+\n"
-AUDIT = (rb"(forbidden|allowed|vacuous) as written(, \d+)?; (cheapest \d+|no fences rule it out)\n"
-         rb"(line \d+ +P\d:\d+ +[iorwtsne,]+ +[a-z, ]+\n)*")
-# What `states` prints of a file.
-STATES = (rb"Test [^\n]+ (Allowed|Forbidden|Required)\nStates \d+\n([^\n]*;\n|\n)*(Ok|No)\nWitnesses\n"
-          rb"Positive: \d+ Negative: \d+\nCondition [^\n]+\nObservation [^\n]+ (Never|Sometimes|Always) \d+ \d+\n\n")
 LOG_ERROR = rb"error: (log line \d+: expected [^\n]+|the log (isn't UTF-8|has no block of a test))"
-# What each command prints, by its status.
-SAID = {
-    "test": {status: TESTED_LINE for status in (0, 1, 2, 4)},
-    "audit": {status: AUDIT for status in (0, 1, 4)},
-    "states": {0: rb"(?s)" + STATES + rb"|SB: .*", 1: rb"(?s)SB: .*",
-               2: rb"SB: not in the log\n(T\d+: in the log, and not given\n)*"},
-    "place": {0: rb"(?s).+"},
-    "order": {0: rb"yes\n", 1: rb"no: [a-z]+( [P0-9:]+)*\n"},
-    "solve": {0: FENCED, 1: NONE},
-    "check": {0: rb"yes\n(" + FENCED + rb"|" + NONE + rb")", 1: rb"no: [a-z]+( \d+)?\n"},
-}
-# The answers of commands for any test: which it is, is a matter of the memory model, or there is a limit.
-SOLVED = re.compile(rf"(?s)(fenced |none\n).*|{BEYOND}")
-ORDERED = re.compile(f"yes|no: .*|{files.WITNESS}")
-CHECKED = re.compile(rf"(?s)(yes\n|no: ).*|{BEYOND}")
-TESTED = re.compile(f"(forbidden|allowed|vacuous) .*|{BEYOND}")
-AUDITED = re.compile(f"(?s)(forbidden|allowed|vacuous) as written.*|{BEYOND}")
-LISTED = re.compile(f"(?s)Test .*|{BEYOND}")
-LISTED_ITEMS = re.compile("(?s)Test .*|fault F3 Syntax line 5")      # or an item of `locations` is none
 
-# How the program gets a file: what stands before the names of the runs, the words of its command line, and the answer
-# where a reader has READ.
-Use = collections.namedtuple("Use", "name words read", defaults=(READ,))
-CERTIFICATE = f"{EXAMPLES}/certificates/MP.json"
-TESTED_AS = Use("test: ", ["test", "stdin"], TESTED)
-LISTED_OF = Use("states: ", ["states", "stdin"], LISTED)
-AUDITED_AS = Use("audit: ", ["audit", "stdin", PRICES], AUDITED)
-SEARCHED_AS = Use("solve: ", ["solve", "-q", "stdin", PRICES], SOLVED)
-CERTIFIED_AS = Use("solve --cert: ", [*SEARCHED_AS.words, "--cert", "/dev/null"], SOLVED)
-ORDERED_AS = Use("order: ", ["order", "-v", "stdin", f"{EXAMPLES}/witnesses/MP.json"], ORDERED)
-CHECKED_AS = Use("check: ", ["check", "-v", "stdin", PRICES, CERTIFICATE], CHECKED)
-JUDGED = Use("", ["check", "-v", SB, PRICES, "/dev/stdin"])
-GROUPS = [(name, make, Use("", ["place", "-v", "stdin"])) for name, make in files.TESTS.items()]
-GROUPS += [(name, make, use) for name, make in files.SEARCHED.items() for use in (SEARCHED_AS, TESTED_AS, AUDITED_AS)]
-GROUPS += [("samples", files.samples, use)
-           for use in (SEARCHED_AS, TESTED_AS, AUDITED_AS, LISTED_OF, ORDERED_AS, CHECKED_AS)]
-GROUPS += [("prices", files.prices, use)
-           for use in (Use("", ["place", "-v", MP, "--prices", "/dev/stdin"]),
-                       Use("solve: ", ["solve", MP, "/dev/stdin"], SOLVED),
-                       Use("audit: ", ["audit", MP, "/dev/stdin"], AUDITED),
-                       Use("check: ", ["check", "-v", MP, "/dev/stdin", CERTIFICATE], CHECKED))]
-GROUPS += [("prices changed", files.prices_changed, Use("", ["place", "-v", MP, "--prices", "/dev/stdin"])),
-           ("numbers of parts", files.SEARCHED["numbers of parts"], CERTIFIED_AS),
-           ("logs", files.logs, Use("log: ", ["states", SB, "--log", "/dev/stdin"])),
-           ("fences", files.fences, Use("", ["place", "-v", MP])),
-           ("witnesses", files.witnesses, Use("", ["order", "-v", SB, "/dev/stdin"])),
-           ("certificates", files.certificates, JUDGED), ("refutations", files.refutations, JUDGED)]
 
+def patterns(group, parts=()):
+    """The patterns of a group of the table, by what stands before them, with the parts in place of their names."""
+    found = {}
+    for row in rows("hostile", group):
+        key, found[key] = row.split(" | ", 1)
+        for name in parts:
+            found[key] = found[key].replace(name, parts[name])
+    return found
+
+
+PARTS = patterns("parts of what is said")
+ANSWERS = {name: re.compile(text) for name, text in patterns("answers", PARTS).items()}
+SAID = {key: re.compile(text.encode()) for key, text in patterns("said", PARTS).items()}
+# How the program gets the files of a group: what stands before the names of the runs, the words of its command line,
+# and the answer where a reader has READ.
+Use = collections.namedtuple("Use", "group name words read")
+USES = [Use(group, name, words.split(), read) for groups, name, words, read
+        in (row.split(" | ") for row in rows("hostile", "uses")) for group in groups.split(", ")]
 Found = collections.namedtuple("Found", "end answer seconds memory")
 # Of runs their number, those that failed by name with what is wrong, and the most of both.
 Tally = collections.namedtuple("Tally", "count failed seconds memory")
@@ -175,11 +135,12 @@ def end_of(words, raw, said, error):
     """What is wrong with this end of a run with these words: its raw status, and what it printed on both outputs."""
     if os.WIFSIGNALED(raw):
         return f"ended by signal {os.WTERMSIG(raw)}"
-    status, wanted = os.WEXITSTATUS(raw), SAID[words[0]]
-    if status == 2 and not (said and status in wanted):
+    status = os.WEXITSTATUS(raw)
+    wanted = SAID.get(f"{words[0]} {status}")
+    if status == 2 and not (said and wanted):
         is_right = not said and is_explained(words, said, error)
     else:
-        is_right = status in wanted and re.fullmatch(wanted[status], said)
+        is_right = wanted and wanted.fullmatch(said)
         is_right = is_right and (is_explained(words, said, error) if words[0] == "test" else not error)
     return "" if is_right else f"status {status} with {said[:80]!r} and {error[:200]!r}"
 
@@ -211,19 +172,18 @@ def begin(folder):
     """Gives this process its runner. An interrupt ends it at once."""
     global runner
     signal.signal(signal.SIGINT, signal.SIG_DFL)
+    os.chdir(TOP)
     runner = Runner(folder, LIMITS[0])
 
 
-def run_group(number):
-    """What came of the group of this number, all of whose files are fed to the program. Those of `fences` are
-    words."""
-    _, make, use = GROUPS[number]
-
+def run_group(use):
+    """What came of a group, all of whose files are fed to the program. Those of `fences` are words."""
     def runs():
-        for name, text, wanted in make():
+        for name, text, wanted in files.group(use.group):
             text, words = (text, use.words) if isinstance(text, bytes) else (b"", [*use.words, *text])
-            answer = LISTED_ITEMS if use is LISTED_OF and name.endswith(" in locations") else use.read
-            yield use.name + name, answer if wanted == READ else wanted, runner.run(text, words)
+            is_item = use.read == "LISTED" and name.endswith(" in locations")
+            answer = ANSWERS["LISTED_ITEMS" if is_item else use.read]
+            yield f"{use.name} {name}".strip(), answer if wanted == READ else wanted, runner.run(text, words)
 
     return tally_of(runs(), LIMITS)
 
@@ -231,8 +191,8 @@ def run_group(number):
 def tallies_of_groups(folder):
     """What came of each group."""
     with ProcessPoolExecutor(initializer=begin, initargs=[folder]) as pool:
-        for (name, _, use), tally in zip(GROUPS, pool.map(run_group, range(len(GROUPS)))):
-            print(f"{use.name}{name}: {tally.count} runs", flush=True)
+        for use, tally in zip(USES, pool.map(run_group, USES)):
+            print(f"{use.name} {use.group}: {tally.count} runs", flush=True)
             yield tally
 
 
@@ -240,7 +200,7 @@ def tallies_of_huge(folder):
     """Feeds `check` the huge certificates, and prints what each takes."""
     runner = Runner(folder, HUGE_LIMITS[0])
     for name, text, wanted in files.huge_certificates():
-        found = runner.run(text, ["check", SB, PRICES, "/dev/stdin"])
+        found = runner.run(text, ["check", f"{EXAMPLES}/SB.litmus", PRICES, "/dev/stdin"])
         print(f"100 MB of {name}: {found.seconds:.2f} seconds, {found.memory / 1e6:.0f} MB", flush=True)
         yield tally_of([(f"100 MB of {name}", wanted, found)], HUGE_LIMITS)
 

@@ -448,11 +448,7 @@ def huge_certificates():
     yield from flooded("flooded certificates", signs, CERTIFICATE, HUGE)
 
 
-def group_of_table(name):
-    return functools.partial(of_table, name)
-
-
-# All the kinds of hostile tests, and those that are searched too.
-SEARCHED = {"tokens changed": tokens_changed, "tests composed": tests_composed,
-            **{name: group_of_table(name) for name in ("depths", "numbers of parts", "long words")}}
-TESTS = {"beginnings": beginnings, "bytes changed": bytes_changed, **SEARCHED, "floods": floods, "sizes": sizes}
+def group(name):
+    """The files of the group of this name, which is made here or stands in the table."""
+    made = globals().get(name.replace(" ", "_"))
+    return made() if made else of_table(name)

@@ -1,4 +1,5 @@
 # What the transcripts of this folder call beside `rvfence`, in a folder that has examples/ and the files of files/.
+top=${BASH_SOURCE[0]%/scripts/*}
 
 # The test of so many harts with these rows, the first of which is line 4.
 rows() {
@@ -122,4 +123,9 @@ completed() {
     COMP_CWORD=$#
     _rvfence
     printf '%s\n' "${COMPREPLY[@]}" | sed '/^$/d' | sort
+}
+
+# What scripts/install says that puts the program into the folder $own.
+installed() {
+    RVFENCE_PROGRAM=$(readlink -f "$(command -v rvfence)") DESTDIR=$own "$top/scripts/install" "$@" 2>&1 | sed "s|$own||"
 }
