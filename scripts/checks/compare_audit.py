@@ -13,7 +13,7 @@ import check_certificate as model
 import solve_reference as reference
 from litmus import FENCES, Maker
 from running import rvfence, written
-from verdicts import is_vacuous
+from verdicts import verdict_of
 
 LABEL = "OUT:"
 EASED = "fence io,io"                                           # orders no memory
@@ -161,15 +161,6 @@ def written_placement(harts, slots, prices):
     return tuple(placed[slot] for slot in slots), are_all
 
 
-def verdict_of(data, prices):
-    """What `test` says of these bytes."""
-    test = model.test_of(data)
-    problem = reference.Problem(test, prices)
-    if is_vacuous(test):
-        return "vacuous"
-    return "allowed" if problem.live else "forbidden"
-
-
 class Advised:
     """The fences that are advised over the slots of the columns `left`, and what that says of the fences of `asked`."""
 
@@ -202,7 +193,7 @@ def by_reference(columns, data):
     """The verdict; the lines and the status that are to be printed, or a fault; and what is advised for `--write`."""
     prices, lines = model.prices_of(data), columns.lines()
     try:
-        kind = verdict_of(columns.text().encode(), prices)
+        kind, _ = verdict_of(columns.text().encode(), prices)
         advised = Advised(columns, columns.without_fences().eased(), prices)
         mended = Advised(columns.eased(), columns.without_fences(), prices)
     except reference.Fault as fault:

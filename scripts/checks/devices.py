@@ -1,13 +1,11 @@
-"""Runs the built program where files and devices fail: readers that fail at once or later, files that may not be
-read, standard output that is closed, full, gone, or full after each number of bytes, and disks that are so while a
-certificate is written; calls that a signal interrupts; and two runs at once that write one certificate, each of which
-is held at each of its calls (scripts/checks/hinder.c).
+"""Runs the built program where files and devices fail: what it reads, prints and writes as a certificate; calls that a
+signal interrupts; and two runs at once that write one certificate, each held at each of its calls
+(scripts/checks/hinder.c).
 
 What can't be read is F20 and what can't be written F21, with status 2, and of F20 a line says which file it is, and
-why; nothing more is on standard output than what it took before it failed, and that is a beginning of the answer;
-status 0 or 1 comes only where the whole answer was written. No signal ends a run where a file may not grow further.
-A certificate stands under its name whole or not at all, with the mode of what was there; what was there stays where it
-can't be written, and so does each other file."""
+why; what is on standard output is a beginning of the answer; status 0 or 1 comes only where the whole answer was
+written. No signal ends a run where a file may not grow further. A certificate stands under its name whole or not at
+all, with the mode of what was there; what was there stays where it can't be written, and so does each other file."""
 import array
 import contextlib
 import errno

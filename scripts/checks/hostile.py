@@ -1,15 +1,9 @@
 """Feeds the built program the hostile files of scripts/checks/hostile_files.py.
 
-Each run must end by itself with the answer that is wanted: status 0 and nothing on standard error, or status 2,
-nothing on standard output and on standard error the one line of the fault, and with -v, of F20, and of `audit` and
-`states` its message; within 2 seconds of processor time, 400 MB and a stack of 8 MiB. `order` ends with status 0 and
-the line `yes`, or with status 1 and a line with its reason. `solve` ends with status 0 and lines of fences, or with
-status 1 and an execution, or says that it can't be answered within its limits (F13 to F16). `test` ends with status 0,
-1, 2 or 4 and a line for the file, and a message where that has a fault of it, and `audit` with status 0, 1 or 4 and
-its lines, or like `solve`. `states` ends with status 0 and its block, or like `solve`. `check` says of a certificate
-what scripts/check_certificate.py says. A message has the form of docs/FORMAT.md, section 14, and the line of its
-fault. Memory is ample, so status 3 is no answer here. The groups of files are split over as many processes as there
-are processors.
+Each run must end by itself with the answer that is wanted, and print what the patterns of the table say: an answer, or
+the one line of a fault and its message where one is due (docs/FORMAT.md, section 14); within 2 seconds of processor
+time, 400 MB and a stack of 8 MiB. `check` says of a certificate what scripts/check_certificate.py says. Memory is
+ample, so status 3 is no answer here. The groups of files are split over as many processes as there are processors.
 
 With `--huge` it feeds `check` certificates of 100 MB, one after the other, and nothing else: these may take 60
 seconds and 8 GB, and what each takes is printed."""

@@ -1,8 +1,7 @@
-"""Hostile tests and prices for all commands of `rvfence`, hostile witnesses for `order`, logs for `states` and
-certificates for `check`, each with its answer: the line of its fault, or READ, or what the command says. The answers
-are those of docs/FORMAT.md. None is taken from the program: they are derived where the file is made, as the comments
-say, and for the files that are changed or composed by a second reader of the formats. Those that a line describes are
-in scripts/transcripts/hostile.table."""
+"""Hostile tests, prices, witnesses, logs and certificates, each with its answer: the line of its fault, or READ, or
+what the command says. The answers are those of docs/FORMAT.md, and none is taken from the program: they are derived
+where the file is made, and for files that are changed or composed by a second reader of the formats. Those that a line
+describes are in scripts/transcripts/hostile.table."""
 import functools
 import itertools
 import json
@@ -253,13 +252,10 @@ def within(answer, line, text):
 
 
 def sizes():
-    """A mebibyte is read, and not a byte more."""
-    whole = litmus()
-    for size, wanted in ((MEBIBYTE, READ), (MEBIBYTE + 1, TOO_LONG), (2 * MEBIBYTE, TOO_LONG)):
-        yield f"{size} bytes with blanks at the end", whole + b" " * (size - len(whole)), wanted
-        yield f"{size} bytes with line ends", whole + b"\n" * (size - len(whole)), wanted
-        # a file that is too long is not looked at
-        yield f"{size} bytes of 0xff", b"\xff" * size, UTF8 if size == MEBIBYTE else TOO_LONG
+    """A mebibyte is read, and not a byte more: a file that is too long is not looked at."""
+    yield from of_table("sizes of tests")
+    for size, wanted in ((MEBIBYTE, UTF8), (MEBIBYTE + 1, TOO_LONG), (2 * MEBIBYTE, TOO_LONG)):
+        yield f"{size} bytes of 0xff", b"\xff" * size, wanted
 
 
 def noise():
@@ -304,20 +300,6 @@ def prices_changed():
     yield from bytes_replaced("prices", whole, TELLING, lambda text: fault_of(text, prices_of))
     for name, text in values_changed(value):
         yield f"prices with {name}", text, fault_of(text, prices_of)
-    yield from pairs_of_surrogates("prices", b"tso", whole, READ, PRICES)
-
-
-# Escapes of surrogates, which stand for a sign only as a pair: the first half and then the second.
-PAIRS = [("a pair", b"\\ud83d\\ude00"), ("a first half", b"\\ud83d"), ("a second half", b"\\ude00"),
-         ("two first halves", b"\\ud83d\\ud83d"), ("a first half before another sign", b"\\ud83dx"),
-         ("the halves the other way round", b"\\ude00\\uD83D")]
-
-
-def pairs_of_surrogates(what, key, whole, good, bad):
-    """The text with each of PAIRS under a key that comes again, where it doesn't count."""
-    for name, text in PAIRS:
-        wanted = good if name == "a pair" else bad
-        yield f"{what} with {name} of surrogates", b'{"' + key + b'":"' + text + b'",' + whole[1:], wanted
 
 
 def values_changed(whole):
@@ -386,7 +368,6 @@ def witnesses():
         # a name with a number of nines is one, and no operation has it
         yield name, text, "no: order" if name == "b'9' for a number" else wanted
     yield from of_table("witness parts")
-    yield from pairs_of_surrogates("a witness", b"order", whole, "yes", WITNESS)
     for text in (b"\xff", b"\xc0\xaf", b"\xed\xa0\x80", b"\\ud800", b"\\u0000", b"\n", b"\0"):
         yield f"{text!r} in a name", whole.replace(b"P0:2", b"P0:2" + text), WITNESS
 
@@ -426,11 +407,7 @@ def certificates():
     yield from changed_certificates("a certificate", "SB", b'"[]{,: 0129w\xff')
     for name, text, _ in noise():
         yield f"{name} for a certificate", text, CERTIFICATE
-    whole = stored("SB").encode()
-    yield from pairs_of_surrogates("a certificate", b"tree", whole, checked(whole), CERTIFICATE)
-    for name, text in PAIRS:
-        wanted = "no: answer" if name == "a pair" else CERTIFICATE
-        yield f"a certificate with {name} of surrogates for a fence", whole.replace(b"P0:2=w,r", text), wanted
+    yield from rewritten("surrogates in certificates", stored("SB"))
     signs = (b"[", b'{"', b'{"tree":', b'"', b" ", b"0", b"[[", b"\xff")
     yield from flooded("flooded certificates", signs, CERTIFICATE)
 

@@ -1,21 +1,15 @@
 """Refuses each request for memory of some runs in turn, one request a run. Every such run must either end with status
-3, nothing on standard output and `fault F19 Memory` on standard error, or end as it does with ample memory: with the
-same status, text on standard output and text on standard error, of which messages that explain faults may be missing.
-Prints for each command line how many requests were refused. The command lines are in
-scripts/transcripts/refused.table.
-
-Where several threads search, a thread that lacks memory leaves with its node, and the others or the end of the run
-finish it: so a run may answer all the same. (In no run here do others join the first one; crates/fs_board_tests has
-such.) A run leaves no part of a certificate: if it has left one, `check` says yes to it, and where it was asked for
-one and has answered, it has left one.
+3, nothing on standard output and `fault F19 Memory` on standard error, or end as it does with ample memory, but
+perhaps without messages that explain faults: where several threads search, others or the end of the run finish what one
+that lacks memory leaves. It leaves no part of a certificate, and a whole one where it has answered. The command lines
+are in scripts/transcripts/refused.table. (In none do other threads join the first; crates/fs_board_tests has such.)
 
 Then come the calls of the program `fs_tests_out_of_memory`. Where the gate hasn't built that, or a source is newer, it
 is built now; with --quick they are left out then. A run of one part of it makes that part's calls, and makes a call
 again that answers F19. So each run must print what it prints with ample memory, but for two lines, `F19` and `again`,
-where a call was refused; or, where no call but the making ready of its arguments was refused, the beginning of that,
-whole lines of it, and `stopped by fault F19 Memory`, with status 3. A run may also print the same: a call that asks for
-room ahead, and is refused it, asks again for less. What the parts print with ample memory, one after the other, must be
-what crates/fs_tests_out_of_memory/stdout has."""
+where a call was refused; or, where the making ready of its arguments was, a beginning of that, and `stopped by fault
+F19 Memory`, with status 3. A run may also print the same: a call that asks for room ahead asks again for less. What the
+parts print with ample memory, one after the other, must be what crates/fs_tests_out_of_memory/stdout has."""
 import collections
 import glob
 import os

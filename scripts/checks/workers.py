@@ -1,13 +1,11 @@
 """Checks that `rvfence solve` answers the same with 1, 2, 4 and 16 workers, again and again.
 
 The questions are the tests of examples/ at each price list; the rows of scripts/transcripts/workers.table, with answers
-worked out by hand; and tests that scripts/bench_tests.py and scripts/litmus.py make. First each is asked without
-`--workers`; whether that is the right answer is a matter of other checks, but for the rows. Then it is asked ROUNDS
-times with each number of workers, alone and with `--cert`. Each run must print the same bytes on both outputs and end
-with the same status; and beside an answer stands a certificate, to which `check` says yes, with that answer. A question
-has one certificate, whatever the number of workers: in none of them does judging take so long that others join the
-first one, and then nothing depends on the turns of the threads. (That they answer the same where they join,
-crates/fs_board_tests looks at.) Beside a fault there is none."""
+worked out by hand; and tests that scripts/bench_tests.py and scripts/litmus.py make. Whether the answers of the others
+are right is a matter of other checks. Each question is asked without `--workers`, and then ROUNDS times with each
+number of workers, alone and with `--cert`: each run must print the same bytes and end with the same status. Beside an
+answer alone stands a certificate, always the same one, to which `check` says yes. (In no question do others join the
+first worker; crates/fs_board_tests has such.)"""
 import os
 import tempfile
 
