@@ -4,7 +4,8 @@ scripts/transcripts/idioms.table says, which has idioms and locks that grow."""
 import itertools
 import re
 
-from litmus import text_of                                      # of this folder
+import stored                                                   # of this folder
+from litmus import text_of
 from running import TOP, decoded, read
 
 AND, OR = ' /\\ ', ' \\/ '
@@ -162,34 +163,23 @@ def long_searches():
 
 # --- Large files -------------------------------------------------------------------------------------------------
 
-HEAD = 'RISCV T\n'
-BODY = '{ 0:x6=x; }\nP0 ;\nlw x5,0(x6) ;\n'
-TAIL = 'exists (0:x5=0)\n'
-TINY = HEAD + BODY + TAIL
-# Each kind of file: what stands before a unit, the unit that is repeated (numbered in place of its `#`), what stands
-# after it, and the exit status of `place`.
-FILES = {
-    'doc lines': (HEAD, 'a line of text that says what the test shows\n', BODY + TAIL, 0),
-    'one long comment': (HEAD + BODY + '(* ', 'long ', '*)\n' + TAIL, 0),
-    'open parentheses': (HEAD + BODY + 'exists ', '(', '\n', 2),
-    'denials': (HEAD + BODY + 'exists ', '~', 'x=0\n', 2),
-    'empty rows': (HEAD + BODY, ';\n', TAIL, 0),
-    'empty cells': (HEAD + '{ }\nP0 | P1 ;\n', '|;', '\nexists x=0\n', 0),
-    'a deep condition': (HEAD + BODY + 'exists x=0', ' /\\ x=0', '\n', 2),
-    'a wide condition': (HEAD + BODY + 'exists ', None, '\n', 0),
-    'entries': (HEAD + '{\n', 'a#=1;\n', '}\nP0 ;\nexists x=0\n', 2),
-    'one entry again and again': (HEAD + '{\n', 'x=1;\n', '}\nP0 ;\nexists x=0\n', 2),
-    'labels': (HEAD + BODY, 'L#: ', ';\n' + TAIL, 0),
-    'instructions': (HEAD + BODY, 'lw x5,0(x6) ;\n', TAIL, 2),
-    'one long word': (HEAD + BODY, 'w', ' ;\n' + TAIL, 2),
-    'atoms of many names': (HEAD + BODY + 'exists (x=0', ' \\/ a#=1', ')\n', 2),
-}
+PARTS = {'⏎': '\n', 'HEAD': 'RISCV T\n', 'BODY': '{ 0:x6=x; }\nP0 ;\nlw x5,0(x6) ;\n', 'TAIL': 'exists (0:x5=0)\n'}
+TINY = PARTS['HEAD'] + PARTS['BODY'] + PARTS['TAIL']
+
+
+def kinds_of_files():
+    """Of each kind what stands before a unit, the unit, what stands after it, and the exit status of `place`."""
+    for row in stored.rows('files'):
+        name, *texts, status = row.split(' ¦ ')
+        for part, text in PARTS.items():
+            texts = [it.replace(part, text) for it in texts]
+        yield name, texts, int(status)
 
 
 def file_of(before, unit, after, size):
-    """The unit between the two texts as often as fits; for None a balanced tree of `/\\`, which isn't deep."""
+    """The unit between the two texts as often as fits, or a balanced tree of `/\\`, which isn't deep."""
     room = size - len(before) - len(after)
-    if unit is None:
+    if unit == 'TREE':
         tree = 'x=0'
         while 2 * len(tree) + 6 <= room:
             tree = f'({tree} /\\ {tree})'

@@ -200,13 +200,8 @@ def check_outputs(checks):
 
 
 def check_errors(checks):
-    """Where standard error fails too, the status tells."""
-    missing, place = ["place", f"{checks.folder}/missing"], ["place", checks.test]
-    checks.expect("a fault where standard error is closed", Said("", "", 2), checks.run(missing, preexec_fn=before(2)))
-    with open("/dev/full", "wb") as full:
-        checks.expect("a fault where standard error is full", Said("", "", 2), checks.run(missing, stderr=full))
-        checks.expect("an answer where standard error is full", Said(SB, "", 0), checks.run(place, stderr=full))
-        checks.expect("both are full", Said("", "", 2), checks.run(place, stdout=full, stderr=full))
+    """Where standard error takes some bytes, whole lines come and the status tells."""
+    missing = ["place", f"{checks.folder}/missing"]
     line = unread(missing[1], MISSING).err
     for size, is_ignored in itertools.product(range(0, len(line) + 8, 7), (True, False)):
         path = f"{checks.folder}/said"
@@ -251,24 +246,6 @@ def certified(checks, kept, size, is_ignored, closed=()):
         if beside:
             return found, beside
         return found, read(path) if os.path.exists(path) else None
-
-
-def check_links(checks):
-    """Paths at which there can be no certificate, and where standard output fails behind it: then the certificate is
-    whole."""
-    folder, whole = checks.folder, read(checks.certificate)
-    for name, path in (("a missing folder", f"{folder}/missing/c.json"), ("a folder", folder), ("an empty name", ""),
-                       ("a name below a file", f"{checks.test}/c.json"), ("a full device", "/dev/full"),
-                       ("a name of 300 letters", f"{folder}/{'n' * 300}")):
-        checks.expect(f"{name} for a certificate", UNWRITTEN, checks.certify(path))
-    longest = f"{folder}/{'n' * 255}"
-    checks.certify(longest)
-    checks.expect("a name of 255 letters, which leaves no room for a name beside it", whole, read(longest))
-    for name, prepare in (("closed", before(1)), ("full", None)):
-        path = f"{folder}/{name}.json"
-        with open("/dev/full", "wb") as full:
-            found = checks.certify(path, stdout=full, preexec_fn=prepare)
-        checks.expect(f"a certificate where standard output is {name}", (UNWRITTEN, whole), (found, read(path)))
 
 
 # --- Two runs at once, and calls that are interrupted ----------------------------------------------------------------
@@ -351,19 +328,6 @@ def check_ended_runs(checks):
             checks.expect(f"{name}: a later run's certificate", {**left, "kept.json": whole}, contents(folder))
 
 
-def check_beside(checks):
-    """What stands under the names beside a certificate is nobody's to remove."""
-    whole = read(checks.certificate)
-    with folder_with(checks, None) as (folder, path):
-        written(f"{path}.part", "mine")
-        os.mkdir(f"{path}.1.part")
-        os.symlink("nowhere", f"{path}.2.part")
-        before_run = contents(folder)
-        for kept in ("nothing", "a certificate"):
-            checks.expect(f"files beside, {kept} there", checks.answer, checks.certify(path))
-            checks.expect(f"what is left of them, {kept} there", {**before_run, "kept.json": whole}, contents(folder))
-
-
 def check_modes(checks):
     """A certificate has the mode of the file that it replaces, from the first moment on; else that of a new file. So
     it is where a mode can't be given, too."""
@@ -423,21 +387,8 @@ def check_interrupted(checks):
         checks.expect(f"a certificate whose {call} is interrupted", (checks.answer, whole), found)
 
 
-def check_stacks(checks):
-    """A stack that is too small for some run is refused, from the one on at which a program begins at all; one of half
-    a mebibyte is none."""
-    refused = Said("", "error: a run may need a stack of 512 KiB, and there is less: see `ulimit -s`\n", 2)
-    for kibibytes in (64, 96, 128, 256, 511, 512, 1024):
-        for command, (words, answer) in checks.commands.items():
-            # what stands in the environment lies on the stack, too
-            found = checks.run(words, limits={resource.RLIMIT_STACK: kibibytes * 1024}, env={})
-            wanted = refused if kibibytes < 512 else answer
-            checks.expect(f"{command}: a stack of {kibibytes} KiB", wanted, found)
-
-
 def check(run):
     checks = Checks(run)
-    for part in (check_readers, check_inputs, check_outputs, check_errors, check_certificates, check_links,
-                 check_two_runs, check_ended_runs, check_beside, check_modes, check_interrupted,
-                 check_stacks):
+    for part in (check_readers, check_inputs, check_outputs, check_errors, check_certificates, check_two_runs,
+                 check_ended_runs, check_modes, check_interrupted):
         part(checks)

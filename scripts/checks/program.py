@@ -1,10 +1,8 @@
 """Checks the built program from outside: what it prints on both outputs, and its exit status.
 
-What it must print stands in scripts/transcripts/*.txt, command by command: the command line, faults and their order,
-tests as they are printed, prices, witnesses good and bad, answers worked out by hand, certificates. Then come the
-examples with their answers, the commands of the documents with what stands below them, what is printed as JSON, what a
-shell completes, and whether the other commands take what it answers; messages, and how far it is, as it says on a
-terminal; the help that the launcher prints where there is no program; and whether `solve` reads measured prices."""
+What it must print stands in scripts/transcripts/*.txt, by command or subject. Then come the examples with their
+answers, the commands of the documents with what stands below them, what is printed as JSON, whether the other commands
+take what it answers; messages, and how far it is, as it says on a terminal."""
 import glob
 import itertools
 import json
@@ -16,7 +14,7 @@ import time
 import check_certificate as model
 from bench_tests import votes
 from checks.transcripts import FOLDER, Transcripts, blocks_of
-from running import (EXAMPLES, PRICES, TOP, Said, decoded, program, ran, ran_on_terminal, read, rvfence, side_by_side,
+from running import (EXAMPLES, PRICES, TOP, decoded, program, ran, ran_on_terminal, read, rvfence, side_by_side,
                      stored_answers, tests_of_examples, transcript, written)
 from verdicts import YES
 
@@ -88,15 +86,6 @@ def check_documents(checks):
                 checks.expect(f"{document}: {command}", wanted.rstrip("\n"), said.out.rstrip("\n"))
 
 
-def check_launcher(checks):
-    """The launcher runs the program from another folder, through a link, and with paths from there."""
-    folder, test = checks.folder, f"{EXAMPLES}/MP.litmus"
-    os.symlink(f"{TOP}/rvfence", f"{folder}/linked")
-    shutil.copy(test, f"{folder}/here.litmus")
-    for name, command in (("from another folder", f"{TOP}/rvfence"), ("through a link", "./linked")):
-        checks.expect(name, rvfence("place", test), ran([command, "place", "here.litmus"], cwd=folder))
-
-
 def check_answers(checks):
     """What `solve` answers, the other commands take: `place` prints the test with the fences, at the same cost, and
     that test needs no more; `order` accepts the execution that comes with `none`. Beside an answer it notes that the
@@ -144,14 +133,6 @@ def check_objects(checks):
             text = f"yes\n{answer_of(each['answer'])}" if each["valid"] else f"no: {each['reason']}\n"
             said = said._replace(out=text)
         checks.expect(f"the object of {path} for {name}", plain, said)
-
-
-def check_completions(checks):
-    """A shell that is here reads its script for completion."""
-    for shell in ("bash", "zsh", "fish"):
-        if shutil.which(shell):
-            said = ran([shell, "-n"], stdin=rvfence("completions", shell).out)
-            checks.expect(f"{shell} reads its script", Said("", "", 0), said)
 
 
 def check_messages(checks):
@@ -202,26 +183,10 @@ def check_progress(checks):
     side_by_side(check, cases)
 
 
-def check_help(checks):
-    """What the launcher prints while there is no program is what scripts/store-help writes."""
-    made = checks.shell(f'mkdir made && "{TOP}/scripts/store-help" made && diff -r "{TOP}/scripts/help" made')
-    checks.expect("the stored help", Said("", "", 0), made)
-
-
-def check_measured(checks):
-    """What examples/prices/measure.c prints on an emulator is a price list. This is skipped where there is none."""
-    if not (shutil.which("riscv64-linux-gnu-gcc") and shutil.which("qemu-riscv64")):
-        print("skipped, as there is no riscv64-linux-gnu-gcc or no qemu-riscv64: examples/prices/measure.c")
-        return
-    said = checks.shell("riscv64-linux-gnu-gcc -O2 -static -pthread -o measure examples/prices/measure.c && "
-                        "qemu-riscv64 ./measure 1 >measured.json && rvfence solve examples/SB.litmus measured.json")
-    checks.check("prices that were measured", said.out.startswith("fenced ") and said.status == 0, said)
-
-
 def check(run):
     # the launcher builds the program, so that no progress comes between later checks
     ran([f"{TOP}/rvfence", "place", f"{EXAMPLES}/MP.litmus"], seconds=None)
     checks = Transcripts(run)
-    for part in (check_transcripts, check_examples, check_idioms, check_documents, check_launcher, check_answers,
-                 check_objects, check_completions, check_messages, check_progress, check_help, check_measured):
+    for part in (check_transcripts, check_examples, check_idioms, check_documents, check_answers, check_objects,
+                 check_messages, check_progress):
         part(checks)
