@@ -1,13 +1,12 @@
-"""Checks scripts/check_certificate.py and the command `check`: valid certificates, and mangled ones for each reason of
-docs/CERTIFICATE.md, section 5. Of each the two must print the same lines and end with the same status.
+"""Checks scripts/check_certificate.py and the command `check`, by the rows of scripts/transcripts/certificates.table:
+valid certificates, and mangled ones for each reason of docs/CERTIFICATE.md, section 5. Of each the two must print the
+same lines and end with the same status.
 
-The valid ones are in examples/certificates/, and `solve --cert` writes one more. What is expected of the mangled ones
-was worked out by hand; scripts/transcripts/certificates.table has most of them. The valid ones and files that can't
-be read go through the command; the others are judged in this process, which takes less time."""
+The valid ones are in examples/certificates/. What is expected of the mangled ones was worked out by hand. The valid
+ones go through the command; the others are judged in this process, which takes less time."""
 import json
 import sys
 
-import check_certificate
 from running import PRICES, TOP, Said, encoded, here, ran, read, rvfence, written
 from stored import expanded, rows
 from verdicts import Judge
@@ -22,16 +21,12 @@ def stored(name):
     return json.loads(read(here(f"certificates/{name}.json", f"{name}.json")))
 
 
-def by_checker(*files):
-    """What the checker says, as a command."""
-    return ran([sys.executable, f"{TOP}/scripts/check_certificate.py", *files])
-
-
 def judge(run, what, test, data, wanted, prices=PRICES, fault=None):
     """Is the verdict on this certificate as wanted? `yes` alone stands for all answers; with its answer the command is
     run. `check` must print the same, but for the fault, where one is given: it looks for faults in the runs too."""
     files = [test, prices, written(run.path("certificate.json"), data)]
-    said = by_checker(*files) if "\n" in wanted else Judge(test, prices).verdict(data)
+    command = [sys.executable, f"{TOP}/scripts/check_certificate.py", *files]
+    said = ran(command) if "\n" in wanted else Judge(test, prices).verdict(data)
     run.expect(f"{what}, by check", Said("", f"{fault}\n", 2) if fault else said, rvfence("check", *files))
     if wanted == FAULT:
         run.expect(what, Said("", f"{FAULT}\n", 2), said)
@@ -64,7 +59,7 @@ def changed(certificate, changes):
     return encoded(json.dumps(certificate).replace(old, new))
 
 
-def check_table(run):
+def check(run):
     """The certificates of the table, and every beginning of one."""
     for row in rows("certificates"):
         wanted, test, name, what, changes = row.split(" | ", 4)
@@ -77,33 +72,3 @@ def check_table(run):
     for count in range(len(whole) + 1):
         wanted = FAULT if count < len(whole) else "yes"
         judge(run, f"coherent reads: the first {count} bytes", here("CoRR.litmus"), whole[:count], wanted)
-
-
-def check_written(run):
-    """What `solve --cert` writes begins each cycle at its least operation, and is accepted however they are turned."""
-    test, path = here("ROUND.litmus"), run.path("certificate.json")
-    run.expect("ROUND is answered", Said("fenced 0\n", "", 0), rvfence("solve", test, PRICES, "--cert", path))
-    certificate = json.loads(read(path))
-    items = certificate["cycles"]
-    numbers = [number for number, item in enumerate(items) if isinstance(item[0], list)]
-    run.check("ROUND has cycles", numbers, items)
-    for number, turns in ((number, turns) for number in numbers for turns in range(len(items[number]))):
-        turned = items[number][turns:] + items[number][:turns]
-        name = f"cycle {number} of ROUND, turned by {turns}"
-        run.expect(name, turns == 0, check_certificate.begins_at_least(turned))
-        whole = {**certificate, "cycles": [*items[:number], turned, *items[number + 1:]]}
-        judge(run, name, test, json.dumps(whole).encode(), "yes")
-
-
-def check_files(run):
-    """Files that can't be read."""
-    test, good = here("SB.litmus"), here("certificates/SB.json")
-    for what, files in [("no such certificate", (test, PRICES, "nothing")), ("no test", (PRICES, PRICES, good)),
-                        ("no prices", (test, test, good))]:
-        out, err, status = by_checker(*files)
-        run.expect(what, ("", 1, 2), (out, err.count("\n"), status))
-
-
-def check(run):
-    for part in (check_table, check_written, check_files):
-        part(run)

@@ -6,12 +6,13 @@ say yes to the same with the items of examples/refutations.json. Then COUNT cert
 those of versions 1 and 2 in examples/certificates/, each with one change or two by a number. Of each the two must print
 the same and end with the same status."""
 import copy
+import itertools
 import json
 import os
 import random
 
 import check_certificate as model
-from running import EXAMPLES, PRICE_LISTS, Said, read, rvfence, tests_of_examples, written
+from running import EXAMPLES, PRICE_LISTS, Said, here, read, rvfence, tests_of_examples, written
 from verdicts import Judge
 
 LISTED = ['CoRR', 'MP', 'SB', 'SBF']    # of version 1, and of version 2
@@ -75,7 +76,7 @@ def certified(run):
     """For each test and price list with a certificate: a name, the two files, the judge of both, and the
     certificate; and the same in version 4."""
     found, path = [], run.path('answer.json')
-    for test, name in [(test, name) for test in tests_of_examples() for name in PRICE_LISTS]:
+    for test, name in itertools.product([*tests_of_examples(), here('ROUND.litmus')], PRICE_LISTS):
         prices, what = f'{EXAMPLES}/{name}', f'{os.path.relpath(test, EXAMPLES)} at {name}'
         said = rvfence('solve', test, prices, '--cert', path)
         if said.status == 2:
