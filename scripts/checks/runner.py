@@ -39,7 +39,8 @@ class Step:
             self.process = subprocess.Popen(self.command, cwd=TOP, stdin=subprocess.DEVNULL, stdout=log,
                                             stderr=subprocess.STDOUT, start_new_session=True)
         if self.check.seconds is None:
-            subprocess.run(["tail", "-n", "+1", "-f", f"--pid={self.process.pid}", self.log], check=False)
+            with subprocess.Popen(["tail", "-n", "+1", "-f", f"--pid={self.process.pid}", self.log]):
+                self.process.wait()
         else:
             most = MUCH * self.check.seconds + 60
             with contextlib.suppress(ProcessLookupError):       # it has ended
