@@ -141,8 +141,9 @@ def check(run, command):
 
 
 def check_solve(run):
-    """`rvfence solve` on the examples at each price list."""
+    """`rvfence solve` on the examples at each price list, by one worker and many."""
     check(run, 'solve')
+    compare(run, 'solve', lambda *words: asked(*words, '--workers', '16'), QUESTIONS['solve'])
 
 
 def check_states(run):

@@ -1,7 +1,11 @@
 """Compares `rvfence solve` with scripts/solve_reference.py on known tests at lists of two and three kinds, and on the
 tests and price lists that scripts/litmus.py makes.
 
-What differs is printed with the test; `--show` prints each test, its prices and the reference's answer."""
+With 1, 4 and 16 workers it must print the same bytes, and write the same certificate beside an answer, to which `check`
+says yes. (In no test do others join the first worker; crates/fs_board_tests has such.) What differs is printed with the
+test; `--show` prints each test, its prices and the reference's answer."""
+import os
+
 import check_certificate as model
 import solve_reference as reference
 from litmus import Maker
@@ -14,17 +18,31 @@ LISTS = [b'{"w,r":4,"rw,rw":5}', b'{"r,r":1,"w,w":1,"rw,rw":3,"weights":{"P1:1":
          b'{"r,rw":2,"rw,w":2,"rw,rw":3}', b'{"rw,rw":1}']
 
 
+def compare_workers(run, name, files, found):
+    """Compares what is said by so many workers with this, and their certificates."""
+    certificates, path = set(), run.path("certificate.json")
+    for workers in ("1", "4", "16"):
+        said = rvfence("solve", "-q", *files, "--workers", workers, "--cert", path)
+        run.expect(f"{name} by {workers} workers", found, said)
+        if os.path.exists(path):
+            certificates.add(read(path))
+            run.expect(f"the certificate of {name}", (f"yes\n{found.out}", "", 0), rvfence("check", *files, path))
+            os.remove(path)
+    run.expect(f"how many certificates {name} has", int(found.status < 2), len(certificates))
+
+
 def compare(run, name, data, prices):
     """Compares the answers to this test, of this name."""
-    test = model.test_of(data)
+    test, files = model.test_of(data), [written(run.path("test.litmus"), data), written(run.path("prices.json"), prices)]
     wanted = out, error, _ = reference.answer(test, model.prices_of(prices))
     if run.options.show:
         print(data.decode() + prices.decode(), out + error, sep="\n")
-    found = rvfence("solve", "-q", written(run.path("test.litmus"), data), written(run.path("prices.json"), prices))
+    found = rvfence("solve", "-q", *files)
     first = " ".join((out + error).split()[:2])
     run.kinds[f"fenced by {out.count('fence ')}" if first.startswith("fenced") else first.split(" {")[0]] += 1
     texts = [data.decode(), prices.decode(), f"\nwanted: {wanted}", f"\nfound:  {found}"]
     run.check(name, is_same(test, wanted, found), "".join(texts))
+    compare_workers(run, name, files, found)
 
 
 def check(run):

@@ -1,6 +1,6 @@
 """All checks, in the order of the lines at the end of a run of all."""
 from checks import (answers, certificate_rows, compare_audit, compare_check, compare_solve, compare_states,
-                    compare_test, devices, hostile, launcher, limits, program, refused_memory, workers)
+                    compare_test, devices, hostile, launcher, limits, program, refused_memory)
 from checks.registry import GATE, NOTHING, Check
 from running import TOP
 
@@ -27,7 +27,6 @@ CHECKS = [
     Check("compare-test", 150, compare_test.check, words=MADE),
     Check("compare-audit", 450, compare_audit.check, words=MADE),
     Check("compare-states", 180, compare_states.check, words={**MADE, "count": 100}),
-    Check("workers", 150, workers.check, words={"rounds": 5}),
     Check("refused-memory", 300, refused_memory.check, words={"--quick": False}, quick=("--quick",)),
     Check("hostile", 500, hostile.check, words={"--huge": False}),
 ]

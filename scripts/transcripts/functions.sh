@@ -100,6 +100,18 @@ certified() {
     rvfence solve "$1" "$2" -q --cert "$own/certificate.json" && rvfence check "$1" "$2" "$own/certificate.json"
 }
 
+# What `solve` says of a test, prices in a file or here, and further words, but for an execution; and where it says
+# something else by so many workers, that.
+by_workers() {
+    local prices=$2 workers said first=''
+    [[ $prices != {* ]] || { echo "$prices" >"$own/prices.json" && prices=$own/prices.json; }
+    for workers in '' '--workers 1' '--workers 2' '--workers 4' '--workers 16'; do
+        said=$(rvfence solve -q "$1" "$prices" "${@:3}" $workers 2>&1; echo "status $?")
+        [[ -n $first ]] || { first=$said && sed '/^{/d' <<<"$said"; }
+        [[ $said == "$first" ]] || echo "with $workers: $said"
+    done
+}
+
 # A test in the printed form without its documentation.
 printed() { sed '1n; /^{/,$!d' "$1"; }
 
