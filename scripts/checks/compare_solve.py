@@ -33,7 +33,8 @@ def compare_workers(run, name, files, found):
 
 def compare(run, name, data, prices):
     """Compares the answers to this test, of this name."""
-    test, files = model.test_of(data), [written(run.path("test.litmus"), data), written(run.path("prices.json"), prices)]
+    test = model.test_of(data)
+    files = [written(run.path("test.litmus"), data), written(run.path("prices.json"), prices)]
     wanted = out, error, _ = reference.answer(test, model.prices_of(prices))
     if run.options.show:
         print(data.decode() + prices.decode(), out + error, sep="\n")
