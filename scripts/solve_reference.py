@@ -27,7 +27,7 @@ class Fault(Exception):
 # --- Faults of a test's runs and candidates (MODEL 11 and 15) ----------------------------------------------------
 
 def refuse_runs(test, words):
-    """Raises the first fault of a hart whose loads take these words. Of the runs no more is kept than where they end."""
+    """Raises the first fault of a hart whose loads take these words. Of runs no more is kept than where they end."""
     for hart in range(len(test.code)):
         ends = [end.position if isinstance(end, model.GoesAstray) else None
                 for end in itertools.islice(model.ends_over(test, hart, words), MOST_RUNS + 1)]

@@ -18,38 +18,36 @@ LISTS = [b'{"w,r":4,"rw,rw":5}', b'{"r,r":1,"w,w":1,"rw,rw":3,"weights":{"P1:1":
          b'{"r,rw":2,"rw,w":2,"rw,rw":3}', b'{"rw,rw":1}']
 
 
-def compare(run, name, test, prices):
-    """Compares the answers to this test, of this name. Gives the files, and what the program said."""
-    read_test = model.test_of(test)
-    wanted = out, error, _ = reference.answer(read_test, model.prices_of(prices))
+def compare_workers(run, name, files, found):
+    """Compares what is said by so many workers with this, and their certificates."""
+    certificates, path = set(), run.path("certificate.json")
+    for workers in ("1", "4", "16"):
+        said = rvfence("solve", "-q", *files, "--workers", workers, "--cert", path)
+        run.expect(f"{name} by {workers} workers", found, said)
+        if os.path.exists(path):
+            certificates.add(read(path))
+            run.expect(f"the certificate of {name}", (f"yes\n{found.out}", "", 0), rvfence("check", *files, path))
+            os.remove(path)
+    run.expect(f"how many certificates {name} has", int(found.status < 2), len(certificates))
+
+
+def compare(run, name, data, prices):
+    """Compares the answers to this test, of this name."""
+    test = model.test_of(data)
+    files = [written(run.path("test.litmus"), data), written(run.path("prices.json"), prices)]
+    wanted = out, error, _ = reference.answer(test, model.prices_of(prices))
     if run.options.show:
-        print(test.decode() + prices.decode(), out + error, sep="\n")
-    files = [written(run.path("test.litmus"), test), written(run.path("prices.json"), prices)]
+        print(data.decode() + prices.decode(), out + error, sep="\n")
     found = rvfence("solve", "-q", *files)
     first = " ".join((out + error).split()[:2])
     run.kinds[f"fenced by {out.count('fence ')}" if first.startswith("fenced") else first.split(" {")[0]] += 1
-    texts = [test.decode(), prices.decode(), f"\nwanted: {wanted}", f"\nfound:  {found}"]
-    run.check(name, is_same(read_test, wanted, found), "".join(texts))
-    return files, found
-
-
-def compare_workers(run, number, files, found):
-    """Compares what is said by so many workers with this, and their certificates."""
-    certificates = set()
-    for workers in ("1", "4", "16"):
-        path = run.path("certificate.json")
-        said = rvfence("solve", "-q", *files, "--workers", workers, "--cert", path)
-        run.expect(f"made test {number} by {workers} workers", found, said)
-        if os.path.exists(path):
-            certificates.add(read(path))
-            run.expect(f"its certificate, {number}", (f"yes\n{found.out}", "", 0), rvfence("check", *files, path))
-            os.remove(path)
-    run.expect(f"certificates of made test {number}", int(found.status < 2), len(certificates))
+    texts = [data.decode(), prices.decode(), f"\nwanted: {wanted}", f"\nfound:  {found}"]
+    run.check(name, is_same(test, wanted, found), "".join(texts))
+    compare_workers(run, name, files, found)
 
 
 def check(run):
     for name, prices in [(name, prices) for name in KNOWN for prices in LISTS]:
         compare(run, f"{name} at {prices.decode()}", read(f"{EXAMPLES}/{name}.litmus"), prices)
     for number in run.numbers():
-        files, found = compare(run, f"made test {number}", *Maker(number).make())
-        compare_workers(run, number, files, found)
+        compare(run, f"made test {number}", *Maker(number).make())

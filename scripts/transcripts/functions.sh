@@ -133,5 +133,6 @@ completed() {
 
 # What scripts/install says that puts the program into the folder $own.
 installed() {
-    RVFENCE_PROGRAM=$(readlink -f "$(command -v rvfence)") DESTDIR=$own "$top/scripts/install" "$@" 2>&1 | sed "s|$own||"
+    RVFENCE_PROGRAM=$(readlink -f "$(command -v rvfence)") DESTDIR=$own "$top/scripts/install" "$@" 2>&1 |
+        sed "s|$own||"
 }
