@@ -4,6 +4,7 @@ The list is made in Python, from all candidates of the test, whatever its condit
 words and with some by chance, every second one with `--all`. All lines must be the same. Each witness of
 `--witnesses` must be an execution that ends in the state above it, and `order` must say of it what the condition does.
 What differs is printed with the test."""
+import json
 import random
 
 import check_certificate as model
@@ -25,6 +26,18 @@ def compare_witnesses(run, listing, asked, states, lines):
         run.expect(f"order of {shown}", "yes\n" if is_outcome else "no: outcome\n", said.out)
 
 
+def object_of(lines):
+    """The object of `--json` that says what these lines say."""
+    test, kind = lines[0].removeprefix("Test ").rsplit(" ", 1)
+    count = int(lines[1].removeprefix("States "))
+    rows = [[item.rstrip(";").split("=") for item in line.split()] for line in lines[2:2 + count]]
+    verdict, _, counts, condition, observation = lines[2 + count:][:5]
+    positive, negative = map(int, counts.split()[1::2])
+    return {"condition": condition.removeprefix("Condition "), "kind": kind, "negative": negative,
+            "observation": observation.split()[-3], "ok": verdict == "Ok", "places": [place for place, _ in rows[0]],
+            "positive": positive, "states": [[word for _, word in row] for row in rows], "test": test}
+
+
 def compare_states(run, listing, name, placement, flags):
     """Compares what is printed of a test with these fences, and says how many states there are."""
     fences = [f"P{hart}:{at}={kind}" for (hart, at), kind in zip(listing.test.slots(), placement) if kind]
@@ -38,6 +51,8 @@ def compare_states(run, listing, name, placement, flags):
     lines = rvfence("states", *flags, "--witnesses", name, *fences).out.splitlines()
     without = "".join(f"{line}\n" for line in lines if not line.startswith("{"))
     run.expect(f"{name} with {fences} without its witnesses", wanted, without)
+    wanted = json.dumps(object_of(wanted.splitlines()), separators=(",", ":"), sort_keys=True) + "\n"
+    run.expect(f"{name} with {fences} as JSON", wanted, rvfence("states", *flags, "--json", name, *fences).out)
     witnesses = [line for line in lines if line.startswith("{")]
     compare_witnesses(run, listing, (name, placement, fences, places), states, witnesses)
     return len(states)

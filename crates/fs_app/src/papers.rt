@@ -7,7 +7,7 @@ use crate::missing::Missing;
 use crate::sources::Source;
 use fs_app_error_messages::{
     Located, explain, explain_fences, explain_json, explain_test, explain_unread, locate,
-    locate_json, locate_test,
+    locate_fences, locate_json, locate_test,
 };
 use fs_app_io::Unread;
 use fs_app_test::Note;
@@ -167,14 +167,46 @@ impl<'a> Papers<'a> {
         match fault {
             Fault::BadPrices | Fault::NoTop => noted_json(alloc, &self.prices, fault),
             Fault::BadWitness | Fault::BadCertificate => noted_json(alloc, &self.evidence, fault),
+            Fault::BadFence => {
+                let found = locate_fences(alloc, self.fences, &self.test.bytes)?;
+                Ok(Some(self.noted_test(note_of(found))))
+            }
+            Fault::Syntax { .. } => Ok(Some(self.noted_test(form_note(alloc, &self.test.bytes)?))),
             Fault::ReadFault => noted_unread(alloc, self.unread),
             Fault::Memory | Fault::WriteFault | Fault::Unmatched | Fault::StrangePass => Ok(None),
-            _ => Ok(Some(Noted {
-                file: self.test.name,
-                note: note_of(locate(alloc, &self.test.bytes, fault)?),
-            })),
+            _ => {
+                let found = locate(alloc, &self.test.bytes, fault)?;
+                Ok(Some(self.noted_test(note_of(found))))
+            }
         }
     }
+
+    fn noted_test(&self, note: Note) -> Noted<'a> {
+        Noted {
+            file: self.test.name,
+            note,
+        }
+    }
+}
+
+/// The note of a fault of the form. Where the test has none, the fault is that of an item of `locations`, which is refused
+/// beside the reader of tests.
+fn form_note(alloc: Global, bytes: &[u8]) -> Result<Note, AllocError> {
+    match locate_test(alloc, bytes)? {
+        Some(found) => Ok(note_of(found)),
+        None => placeless(
+            alloc,
+            "an item of `locations` has another form, or names what the test lacks",
+        ),
+    }
+}
+
+fn placeless(alloc: Global, message: &str) -> Result<Note, AllocError> {
+    Ok(Note {
+        line: None,
+        column: None,
+        message: String::from_str(alloc, message)?,
+    })
 }
 
 fn noted_json<'a>(

@@ -81,7 +81,8 @@ executions there). `Ok`: the condition with its `exists`, `~exists` or `forall` 
 A word as P0:3=w,w is a fence, which is placed in each test as `place` does it.
 
 With --all the states have all registers that are written, and all locations. With
---witnesses each state has an execution below it, which `order` reads.
+--witnesses each state has an execution below it, which `order` reads. With --json an object
+stands for a test, in a line; a file with a fault has one as of `test --json`.
 
 With --log LOG the states are not printed, but held against those that herd7 or litmus7 wrote
 to the file, for what it shows of each test:
@@ -321,6 +322,8 @@ const ALL_HELP: &str = "Show all registers that are written, and all locations";
 
 const WITNESSES_HELP: &str = "Print an execution below each state, which `order` reads";
 
+const STATES_JSON_HELP: &str = "Print a JSON object for each test, a line each; not with --log";
+
 const LOG_HELP: &str = "File that herd7 or litmus7 wrote, to hold the states against";
 
 const FENCE_HELP: &str = "Fence to place, as P0:3=w,w: hart, instruction (from 0) and kind";
@@ -397,13 +400,10 @@ impl Task<'_> {
     pub fn is_json(&self) -> bool {
         match self {
             Task::Test(test) => test.json,
+            Task::States(states) => states.json,
             Task::Solve(solve) => solve.json,
             Task::Check(check) => check.json,
-            Task::States(_)
-            | Task::Place(_)
-            | Task::Order(_)
-            | Task::Audit(_)
-            | Task::Completions(_) => false,
+            Task::Place(_) | Task::Order(_) | Task::Audit(_) | Task::Completions(_) => false,
         }
     }
 }
@@ -438,6 +438,8 @@ pub struct States<'a> {
     pub all: bool,
     /// Whether each state gets its execution.
     pub witnesses: bool,
+    /// Whether JSON is to be printed.
+    pub json: bool,
     /// The log that the states are held against, in place of being printed.
     pub log: Option<&'a str>,
 }
@@ -550,6 +552,7 @@ fn states_of<'a>(alloc: Global, found: &ArgMatches<'a>) -> Result<States<'a>, Al
         fences,
         all: found.get_flag("all"),
         witnesses: found.get_flag("witnesses"),
+        json: found.get_flag("json"),
         log: found.get_str("log"),
     })
 }
@@ -705,6 +708,8 @@ fn states_command<'a>(alloc: Global) -> Result<Command<'a>, AllocError> {
     let command = with_argument(Ok(command), files(alloc, FILES_AND_FENCES_HELP));
     let command = with_argument(command, flag(alloc, "all", ALL_HELP));
     let command = with_argument(command, flag(alloc, "witnesses", WITNESSES_HELP));
+    let json = flag(alloc, "json", STATES_JSON_HELP).conflicts_with("log")?;
+    let command = with_argument(command, json);
     let command = with_argument(command, option(alloc, "log", "LOG", LOG_HELP));
     with_voice(alloc, command)
 }

@@ -19,7 +19,7 @@ mod title;
 mod walk;
 mod words;
 
-pub use fences::{explain_fences, explain_unread};
+pub use fences::{explain_fences, explain_unread, locate_fences};
 pub use file::{explain, explain_test};
 pub use json::explain_json;
 pub use located::{Located, locate, locate_json, locate_test};
