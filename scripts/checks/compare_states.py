@@ -3,7 +3,8 @@
 The list is made in Python, from all candidates of the test, whatever its condition. Each test is asked without FENCE
 words and with some by chance, every second one with `--all`. All lines must be the same. Each witness of
 `--witnesses` must be an execution that ends in the state above it, and `order` must say of it what the condition does.
-What differs is printed with the test."""
+The object of `--json` must say what the lines say. What differs is printed with the test."""
+import json
 import random
 
 import check_certificate as model
@@ -11,6 +12,18 @@ import solve_reference as reference
 from litmus import Maker
 from running import read, rvfence, written
 from states_reference import Listing
+
+
+def object_of(lines):
+    """The object of `--json` that says what these lines say."""
+    test, kind = lines[0].removeprefix("Test ").rsplit(" ", 1)
+    count = int(lines[1].removeprefix("States "))
+    rows = [[item.rstrip(";").split("=") for item in line.split()] for line in lines[2:2 + count]]
+    verdict, _, counts, condition, observation = lines[2 + count:][:5]
+    positive, negative = map(int, counts.split()[1::2])
+    return {"condition": condition.removeprefix("Condition "), "kind": kind, "negative": negative,
+            "observation": observation.split()[-3], "ok": verdict == "Ok", "places": [place for place, _ in rows[0]],
+            "positive": positive, "states": [[word for _, word in row] for row in rows], "test": test}
 
 
 def compare_states(run, listing, name, placement, flags):
@@ -21,6 +34,8 @@ def compare_states(run, listing, name, placement, flags):
     run.expect(what, wanted, rvfence("states", "-q", *flags, name, *fences))
     lines = rvfence("states", *flags, "--witnesses", name, *fences).out.splitlines(keepends=True)
     run.expect(f"{what} without witnesses", wanted.out, "".join(line for line in lines if not line.startswith("{")))
+    json_text = json.dumps(object_of(wanted.out.splitlines()), separators=(",", ":"), sort_keys=True) + "\n"
+    run.expect(f"{what} as JSON", json_text, rvfence("states", *flags, "--json", name, *fences).out)
     states, witnesses = listing.states(placement), [line for line in lines if line.startswith("{")]
     run.expect(f"how many witnesses of {what}", len(states), len(witnesses))
     for state, witness in zip(states, witnesses):

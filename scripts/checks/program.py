@@ -117,22 +117,30 @@ def answer_of(found):
     return "".join([f"fenced {found['cost']}\n", *fences])
 
 
+def lines_of(plain, said, text_of):
+    """The run with `--json` with what the lines say in place of its object; nothing where that says this very fault."""
+    found = json.loads(said.out)
+    if plain.status != 2:
+        return said._replace(out=text_of(found))
+    is_same = found["verdict"] == "fault" and found["why"] == plain.err.partition("\n")[0]
+    return said._replace(out="" if is_same else said.out)
+
+
+def verdict_of(found):
+    """The lines of `check` that say what its JSON object says."""
+    return f"yes\n{answer_of(found['answer'])}" if found["valid"] else f"no: {found['reason']}\n"
+
+
 def check_objects(checks):
     """With `--json` `solve` and `check` say what they say without, of each test of the examples and each
     certificate."""
     for test in [*tests_of_examples(), *glob.glob(f"{EXAMPLES}/tests/*.litmus")]:
         plain, said = rvfence("solve", test, PRICES), rvfence("solve", test, PRICES, "--json")
-        if plain.status != 2:
-            said = said._replace(out=answer_of(json.loads(said.out)))
-        checks.expect(f"the object of the answer for {test}", plain, said)
+        checks.expect(f"the object of the answer for {test}", plain, lines_of(plain, said, answer_of))
     for path, name in itertools.product(sorted(glob.glob(f"{EXAMPLES}/certificates/*.json")), ("MP", "SB", "MP11")):
         words = ["check", f"{EXAMPLES}/{name}.litmus", PRICES, path]
         plain, said = rvfence(*words), rvfence(*words, "--json")
-        if plain.status != 2:
-            each = json.loads(said.out)
-            text = f"yes\n{answer_of(each['answer'])}" if each["valid"] else f"no: {each['reason']}\n"
-            said = said._replace(out=text)
-        checks.expect(f"the object of {path} for {name}", plain, said)
+        checks.expect(f"the object of {path} for {name}", plain, lines_of(plain, said, verdict_of))
 
 
 def check_messages(checks):
