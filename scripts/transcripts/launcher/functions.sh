@@ -10,7 +10,8 @@ export LOG=$PWD/log HOLD=$PWD/hold RT_JOBS=4 HOSTTYPE=x86_64 OSTYPE=linux-gnu
 prepare() {
     local name
     mkdir -p "$repo/scripts" "$repo/bin" bin few elsewhere
-    cp "$top/rvfence" "$here/crates.txt" "$repo/"
+    cp "$top/rvfence" "$repo/"
+    cp "$here/crates.table" "$repo/crates.txt"
     cp -r "$top"/scripts/{build.sh,sources.sh,help} "$repo/scripts/"
     ln -s "$here/rt" bin/
     for name in left right both rvfence law; do
