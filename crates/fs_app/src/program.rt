@@ -329,15 +329,30 @@ fn judged_tests<R: Files + Input + Eprint + AllocGlobal + Threads + Sync>(
     };
     let files = sources(rt, &test.files)?;
     let judged = judge_files(rt, &files, test.jobs, wants, expecting)?;
-    let output = lines_output(rt.alloc(), test, &judged.lines)?;
     let not_met = expecting.not_met(rt.alloc())?;
+    let output = tests_output(rt.alloc(), test, &judged.lines, not_met.is_empty())?;
     for message in &judged.messages {
         tell(rt, message);
     }
-    if test.expect.is_none() || not_met.is_empty() {
+    if test.expect.is_some() && !not_met.is_empty() {
+        tell(rt, &not_met);
+    }
+    Ok(output)
+}
+
+/// The lines in print. Where something is expected, the status is 1 unless all of which it is are there.
+fn tests_output(
+    alloc: Global,
+    test: &Test<'_>,
+    lines: &[Line],
+    are_there: bool,
+) -> Result<Output, Fault>
+    ensures { IfOk result (AnswersTest test.now) }
+{
+    let output = lines_output(alloc, test, lines)?;
+    if are_there || test.expect.is_none() {
         return Ok(output);
     }
-    tell(rt, &not_met);
     Ok(denied(output))
 }
 
