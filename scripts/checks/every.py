@@ -1,6 +1,6 @@
 """All checks, in the order of the lines at the end of a run of all."""
 from checks import (answers, certificate_rows, compare_audit, compare_check, compare_solve, compare_states,
-                    compare_test, devices, hostile, launcher, limits, program, refused_memory)
+                    compare_test, devices, from_c, hostile, launcher, limits, program, refused_memory)
 from checks.registry import GATE, NOTHING, Check
 from running import TOP
 
@@ -17,6 +17,7 @@ CHECKS = [
     Check("release", 60, command=(f"{SCRIPTS}/check-release",), needs=GATE,
           text="Whether the program in bin/ is, byte for byte, what was built from its sources"),
     Check("program", 120, program.check),
+    Check("from-c", 60, from_c.check),
     Check("limits", 120, limits.check, words={"--heavy": False}),
     Check("devices", 150, devices.check),
     Check("certificate-rows", 20, certificate_rows.check),
