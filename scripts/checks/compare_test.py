@@ -101,8 +101,8 @@ def compare_objects(run, names, said):
         verdict, why = thing["verdict"], thing["why"]
         wanted = line[width + 2:]
         run.expect(f"{name} with --json", wanted, why if verdict == "fault" else f"{verdict:9}  {why}")
-        keys = ["file", "verdict", "why", "witness"] if verdict == "allowed" else ["file", "verdict", "why"]
-        run.expect(f"the keys of {name}", keys, list(thing))
+        more = {"allowed": ["witness"], "fault": ["column", "line", "message"]}.get(verdict, [])
+        run.expect(f"the keys of {name}", sorted(["file", "verdict", "why", *more]), list(thing))
         if verdict == "allowed":
             witness = written(f"{run.folder}/witness", json.dumps(thing["witness"]).encode())
             run.expect(f"the witness of {name}", YES, rvfence("order", name, witness))
