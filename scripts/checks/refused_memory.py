@@ -1,7 +1,7 @@
 """Refuses each request for memory of some runs in turn, one request a run. Every such run must either end with status
 3, nothing on standard output and `fault F19 Memory` on standard error, or end as it does with ample memory, but
 perhaps without messages that explain faults: where several threads search, others or the end of the run finish what one
-that lacks memory leaves. It leaves no part of a certificate, and a whole one where it has answered. The command lines
+that lacks memory leaves. (`states` says the fault of a file as it comes to it, so that F19 may stand below.) It leaves no part of a certificate, and a whole one where it has answered. The command lines
 are in scripts/transcripts/refused.table. (In none do other threads join the first; crates/fs_board_tests has such.)
 
 Then come the calls of the program `fs_tests_out_of_memory`. Where the gate hasn't built that, or a source is newer, it
@@ -49,6 +49,13 @@ def is_as(said, whole):
     return are_some and alike[0] == alike[1]
 
 
+def is_refused(said, words, whole):
+    """Is this the fault alone, or of `states` below the beginning of what the whole run says of files?"""
+    before = said.err.removesuffix(REFUSED.err)
+    is_begun = words[0] == "states" and "fault F" in before and whole.err.startswith(before)
+    return said == REFUSED or is_begun and said._replace(err=REFUSED.err) == REFUSED
+
+
 def is_left_well(said, words, path):
     """Has a run that said this left its certificate as it should?"""
     if os.path.exists(f"{path}.part"):
@@ -80,9 +87,10 @@ def refuse(check, library, words, status, is_together):
         numbers = range(at + 1, at + 1 + min(64, most + more - at))
         for at, (said, requests, is_well) in zip(numbers, side_by_side(run, numbers)):
             most = max(most, requests) if is_together else most
-            faults += said == REFUSED
+            is_fault = is_refused(said, words, whole)
+            faults += is_fault
             wrong = f"{said}{'' if is_well else ', and its certificate is not whole'}"
-            is_right = is_well and (said == REFUSED or is_as(said, whole))
+            is_right = is_well and (is_fault or is_as(said, whole))
             check(f"{name}: request {at} of {most} refused", is_right, wrong)
     print(f"{name}: {at} requests refused, of these {faults} with the fault", flush=True)
 
