@@ -1,0 +1,16 @@
+pub mod Bettering
+pub mod Bounded
+pub mod Breaks
+pub mod Children
+pub mod Closed
+pub mod Ended
+pub mod Final
+pub mod Floors
+pub mod Growing
+pub mod Leaves
+pub mod Moves
+pub mod OneWitness
+pub mod PartsOfTests
+pub mod Priced
+pub mod Ranked
+pub mod Splitting

@@ -1,0 +1,3 @@
+pub mod Bounds
+pub mod Closing
+pub mod Trees
