@@ -25,14 +25,16 @@ use Rattle.fs_pool_workers.specs.Answers.{Answer, Solved, IsAnswer, IsAtLimit, I
 use Rattle.fs_pool_workers.specs.Forms as answer
 use Rattle.fs_cert.specs.Certified.{Certifies, CertifiesNone}
 use Rattle.fs_app_solve.specs.Solve.{IsCertified, IsWitnessed, IsSolved, PrintsAnswer, PrintsPlaced}
-use Rattle.fs_app_solve.specs.Found.{IsAskedBy, IsFound, IsFoundFor, IsPricedAnswer, Prints, lines_of, value_of, question_of}
+use Rattle.fs_app_solve.specs.Found.{IsAskedBy, IsFound, IsFoundFor, Prints, lines_of, value_of}
 use Rattle.fs_app_solve.specs.inner.Made.{CertifiesAnswer, HasWitness, SaysAnswer}
 use Rattle.fs_litmus.specs.Reads.{Reads}
 use Rattle.fs_app_place_order.specs.Place.{ArePricesOf}
 use Rattle.fs_board_offers.specs.Questions.{Question, HasTop}
 use Rattle.fs_board_offers.specs.Offers.{Offers, offers_of}
 use Rattle.fs_board_offers.specs.Valid.{IsValid}
-use Rattle.fs_board_laws.proofs.Priced.{same-slots, same-cost, same-cheapest, has-top}
+use Rattle.fs_board_laws.proofs.Priced.{has-top}
+use Rattle.fs_board_search.specs.Priced.{IsPricedAnswer, question_of}
+use Rattle.fs_board_search.proofs.PricedAnswers.{priced-answer}
 
 -- what was answered to a copy of the question
 pub found-for : (q asked given : Question) (limit : ℕ) (s : Solved) → asked ≡ q → given ≡ asked → IsBounded q.test
@@ -75,19 +77,10 @@ found-asked test prices asked given limit s by copied listed is rests = record {
   found = found-for (question_of asked.test by.table) asked given limit s by.asked_is copied by.is_test.bounded listed is rests;
 }
 
--- the answer for the offers that prices make, in the words of prices
-priced-answer : (t : Test) (prices : PriceTable) (a : Answer) → IsAnswer t (offers_of t prices) a → IsPricedAnswer t prices a
-priced-answer t prices (answer.Fenced f n) is =
-    let over = is.0.placement.slots ∙ same-slots t prices in
-    ((same-cheapest t prices (placement_in f)).0 is.0, is.1 ∙ same-cost t prices (placement_in f) over, is.2)
-priced-answer t prices (answer.None w) is = is
-
--- and as it was found
-answer-found : (q : Question) (limit : ℕ) (asked : Question) (s : Solved) (t : Test) (prices : PriceTable) → q ≡ question_of t prices
-    → IsFoundFor q limit asked s → IsPricedAnswer t prices s.answer
-answer-found q limit asked s t prices is found =
-    priced-answer t prices s.answer
-    (subst (λ (x : Question). IsAnswer x.test x.offers s.answer) (found.question ∙ is) found.answer)
+-- the answer that was found, in the words of prices
+answer-found : (limit : ℕ) (asked : Question) (s : Solved) (t : Test) (prices : PriceTable) → IsFoundFor (question_of t prices) limit asked s
+    → IsPricedAnswer t prices s.answer
+answer-found limit asked s t prices found = priced-answer t prices asked s.answer found.question found.answer
 
 -- what is printed with this placement is the answer in print
 printed : (t : Test) (prices : PriceTable) (placed : Option (List Entry)) (text : List ℕ) (status : Status)
@@ -121,7 +114,7 @@ module _ (test prices : List ℕ) (limit : ℕ) (asked : Question) (s : Solved) 
     priced = is.priced;
     listed = subst (λ (x : Question). HasNoRunFault x.test) found.question found.listed;
     answer = printed is.the_test is.table (placement_of s.answer) text status
-        (prints is.the_test is.table (answer-found _ limit asked s is.the_test is.table refl found));
+        (prints is.the_test is.table (answer-found limit asked s is.the_test is.table found));
   }
 
   pub is-certified : (other : Question) (bytes : List ℕ) → other ≡ asked → IsFound test prices limit asked s → Prints s.answer text status
@@ -139,7 +132,7 @@ module _ (test prices : List ℕ) (limit : ℕ) (asked : Question) (s : Solved) 
         priced = is.priced;
         listed = subst (λ (x : Question). HasNoRunFault x.test) found.question found.listed;
         placed = placement_of s.answer;
-        answer = prints is.the_test is.table (answer-found _ limit asked s is.the_test is.table refl found);
+        answer = prints is.the_test is.table (answer-found limit asked s is.the_test is.table found);
         certified = there.certified;
         witnessed = witnessed s.answer there.certified.certificate.witnesses text there.witnesses witness;
       }

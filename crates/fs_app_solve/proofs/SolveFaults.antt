@@ -1,33 +1,16 @@
 -- Which fault `solve` answers first.
-use Rattle.std.proofs.Common.{◌≡◌, ◌≢◌, ◌<◌, ◌∙◌, inl, inr, ℕ, List, Some, Result, Ok, Err, IfOk, sym, subst}
+use Rattle.std.proofs.Common.{◌≡◌, ◌≢◌, ◌∙◌, inl, inr, ℕ, List, Some, Result, Ok, Err, IfOk, sym, subst}
 use Rattle.fs_kinds.specs.declared.fault.Fault.{Fault}
 use Rattle.fs_kinds.specs.declared.fault.Fault.TheVariants.{Memory}
 use Rattle.fs_kinds.specs.PriceTable.{PriceTable}
 use Rattle.fs_litmus.specs.Faults.{IsTestFault}
 use Rattle.fs_app_place_order.specs.Place.{ArePricesOf, IsPricesFault}
 use Rattle.fs_app_place_order.proofs.Faults.{is_memory}
-use Rattle.fs_model.specs.declared.test.Test.{Test}
-use Rattle.fs_cert_evidence.specs.Sizes.{IsUnanswered}
 use Rattle.fs_board_offers.specs.Questions.{Question}
-use Rattle.fs_board_laws.proofs.Priced.{same-size}
+use Rattle.fs_board_search.proofs.PricedAnswers.{priced-fault}
 use Rattle.fs_pool_workers.specs.Answers.{IsSolveFault}
 use Rattle.fs_app_solve.specs.Solve.{IsFirstSolveFault, of_prices, of_test, of_search, of_memory}
-use Rattle.fs_app_solve.specs.Found.{IsAskedBy, question_of}
-
--- the fault of a search for offers that prices make, in the words of prices
-pub priced-fault : (t : Test) (table : PriceTable) (limit : ℕ) (f : Fault) → IsSolveFault (question_of t table) limit f → IsUnanswered t table limit f
-priced-fault t table limit f fault = elim fault [
-  | inl of ↦ inl of
-  | inr ends ↦ inr (
-    ends.0,
-    record {
-      needed = ends.1.needed;
-      enough = ends.1.enough;
-      large = subst (λ n. limit < n) (same-size t table) ends.1.large;
-    },
-    ends.2,
-  )
-]
+use Rattle.fs_app_solve.specs.Found.{IsAskedBy}
 
 module _ (test prices : List ℕ) (limit : ℕ) where
   pub solve-memory : (f : Fault) → f ≡ Memory → IsFirstSolveFault test prices limit f
@@ -46,7 +29,7 @@ module _ (test prices : List ℕ) (limit : ℕ) where
       elim (is_memory f) [
         | inl e ↦ solve-memory f e
         | inr n ↦ of_search by.table asked.test by.priced by.reads
-            (priced-fault asked.test by.table limit f (subst (λ q. IsSolveFault q limit f) (copied ∙ by.asked_is) (h n)))
+            (priced-fault asked.test by.table given limit f (copied ∙ by.asked_is) (h n))
       ]
 
 -- what follows from what holds of an answer holds of it

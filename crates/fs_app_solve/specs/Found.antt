@@ -1,17 +1,14 @@
 -- An answer that was found, and how it is printed.
 use Rattle.std.specs.Prelude.{◌≡◌, ℕ, ◌==◌, Bool, false, List}
-use Rattle.std.specs.Arc.{arc_value}
-use Rattle.fs_kinds.specs.PriceTable.{PriceTable, IsPriceTable, cost}
+use Rattle.fs_kinds.specs.PriceTable.{PriceTable, IsPriceTable}
 use Rattle.fs_model.specs.declared.test.Test.{Test}
 use Rattle.fs_model.specs.Test.{IsBounded, IsTest}
-use Rattle.fs_model.specs.Execution.{Execution}
-use Rattle.fs_model.specs.Allows.{IsCheapest, RefutesAll}
 use Rattle.fs_litmus.specs.Reads.{Reads}
 use Rattle.fs_cert_evidence.specs.Sizes.{HasNoRunFault}
-use Rattle.fs_cert_evidence.specs.Evidence.{IsWitnessFor, ShowsForbidden, placement_in}
+use Rattle.fs_cert_evidence.specs.Evidence.{placement_in}
 use Rattle.fs_cert_evidence.specs.Texts.{fenced_lines, none_lines}
-use Rattle.fs_board_offers.specs.Offers.{offers_of}
 use Rattle.fs_board_offers.specs.Questions.{Question}
+use Rattle.fs_board_search.specs.Priced.{IsPricedAnswer, question_of}
 use Rattle.fs_pool_workers.specs.Answers.{Answer, Solved, IsAnswer, Rests, placement_of}
 use Rattle.fs_pool_workers.specs.Forms as answer
 use Rattle.serde_json.specs.Data.{Data}
@@ -19,10 +16,6 @@ use Rattle.fs_report.specs.Objects.{fenced_value, none_value}
 use Rattle.fs_app_io.specs.declared.status.Status.{Status}
 use Rattle.fs_app_place_order.specs.Place.{ArePricesOf}
 use Rattle.fs_app_solve.specs.Solve.{PrintsPlaced}
-
--- the test with the offers that prices make for it
-abbrev pub question_of : Test → PriceTable → Question
-question_of t table = record { test = t; offers = offers_of t table }
 
 -- the bytes read as the question's test, and hold prices that make its offers
 pub record IsAskedBy (test prices : List ℕ) (asked : Question) : Type 0 where
@@ -48,12 +41,6 @@ pub record IsFound (test prices : List ℕ) (limit : ℕ) (asked : Question) (s 
   pub reads : Reads test the_test
   pub priced : ArePricesOf prices table
   pub found : IsFoundFor (question_of the_test table) limit asked s
-
--- the answer at these prices, in the words of prices
-abbrev pub IsPricedAnswer : Test → PriceTable → Answer → Type 0
-IsPricedAnswer t prices (answer.Fenced f n) =
-    IsCheapest t prices (placement_in f) × (n ≡ cost prices (placement_in f)) × ShowsForbidden t (arc_value f)
-IsPricedAnswer t prices (answer.None w) = (e : Execution) × IsWitnessFor t w e × RefutesAll t e
 
 -- ---- in print
 

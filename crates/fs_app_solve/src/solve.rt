@@ -14,7 +14,7 @@ ghost use Rattle.fs_cert.specs.Certified.{Certifies};
 ghost use Rattle.fs_app_place_order.specs.Place.{ArePricesOf};
 ghost use Rattle.fs_report.specs.Objects.{AreOneAnswer};
 ghost use Rattle.fs_app_solve.specs.Found.{IsAskedBy, IsFound, IsFoundFor, Prints, lines_of, value_of, is_free};
-ghost use Rattle.fs_app_solve.specs.Found.{question_of};
+ghost use Rattle.fs_board_search.specs.Priced.{question_of};
 ghost use Rattle.fs_app_io.specs.declared.status.Status.{Status as Ends};
 ghost use Rattle.fs_app_solve.specs.Solve.{IsSolved, IsCertified, IsFirstSolveFault};
 ghost use Rattle.fs_app_solve.specs.inner.Made.{CertifiesAnswer, SaysAnswer};
