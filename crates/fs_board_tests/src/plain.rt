@@ -5,7 +5,7 @@ ghost use Rattle.fs_model.specs.Test.{IsBounded, IsStart};
 
 use crate::made::made_test;
 use fs_board_search::{Answer, Unwatched, solve};
-use fs_kinds::{Fault, Kind, Placement, Prices, Slot};
+use fs_kinds::{Fault, Kind, Placement, Prices, Slot, read_prices};
 use fs_litmus::{Test, read_fences, slots};
 use fs_model_brute_force::allows_over;
 use fs_tests_shared::{
@@ -83,7 +83,8 @@ fn plain_answer(alloc: Global, test: &Test, prices: &Prices) -> Result<String, F
 /// What `solve` answers, and what the plain program does.
 fn both_answers(alloc: Global, text: &str, prices: &str) -> Result<(String, String), Fault> {
     let question = question_of(alloc, text, prices)?;
-    let wanted = plain_answer(alloc, &question.test, &question.prices)?;
+    let table = read_prices(alloc, prices.as_bytes())?;
+    let wanted = plain_answer(alloc, question.test(), &table)?;
     let solved = solve(alloc, question, 1_000_000, &mut Unwatched)?;
     let found = match &solved.answer {
         Answer::Fenced { forbidden, cost } => fenced_text(alloc, &forbidden.placement, *cost)?,

@@ -2,17 +2,20 @@
 ghost use Rattle.std.specs.Prelude.{◌≡◌, Some, IfOk};
 ghost use Rattle.std.specs.Arc.{arc_value};
 ghost use Rattle.fs_kinds.specs.PriceTable.{IsPriceTable};
+ghost use Rattle.fs_board_offers.specs.Questions.{HasTop};
 ghost use Rattle.fs_model.specs.Test.{IsTest};
 ghost use Rattle.fs_cert_evidence.specs.Evidence.{ShowsForbidden};
 ghost use Rattle.fs_board_search.specs.Answers.{IsAnswer, Rests, placement_of};
 
 use crate::printing::{print_fences, say_refused};
+use fs_board_offers::Question;
 use fs_board_search::{Answer, Solved, Unwatched, solve};
 use fs_cert::{from_board, from_witness};
-use fs_cert_evidence::{Forbidden, Question};
+use fs_cert_evidence::Forbidden;
 use fs_cert_json::Certificate;
 use fs_check_certificate::{CheckVerdict, check};
-use fs_kinds::Fault;
+use fs_kinds::{Fault, Prices, read_prices};
+use fs_litmus::Test;
 use fs_tests_shared::{CO_RR, MP11, PRICES, SBF, question_of};
 use std::alloc::Global;
 use std::sync::Arc;
@@ -23,8 +26,8 @@ const LIMIT: usize = 10_000;
 /// The answer to the question.
 fn solved_of(alloc: Global, question: &Arc<Question>) -> Result<Solved, Fault>
     requires test { IsTest (arc_value question.now).test }
-    requires prices { IsPriceTable (arc_value question.now).prices }
-    ensures ok { IfOk result (λ s. IsAnswer (arc_value question.now).test (arc_value question.now).prices s.answer) }
+    requires top { HasTop (arc_value question.now).offers }
+    ensures ok { IfOk result (λ s. IsAnswer (arc_value question.now).test (arc_value question.now).offers s.answer) }
     ensures rests { IfOk result (Rests (arc_value question.now) 10000) }
 {
     solve(alloc, Arc::try_clone(question)?, LIMIT, &mut Unwatched)
@@ -55,7 +58,7 @@ fn certificate_of(
     solved: &Solved,
 ) -> Result<Certificate, Fault>
     requires test { IsTest (arc_value question.now).test }
-    requires answer { IsAnswer (arc_value question.now).test (arc_value question.now).prices solved.now.answer }
+    requires answer { IsAnswer (arc_value question.now).test (arc_value question.now).offers solved.now.answer }
     requires rests { Rests (arc_value question.now) 10000 solved.now }
 {
     match &solved.answer {
@@ -70,11 +73,17 @@ fn text_of(alloc: Global, certificate: &Certificate) -> Result<String, Fault> {
 }
 
 /// What the checker says of the certificate with this text.
-fn verdict_of(alloc: Global, question: &Question, text: &str) -> Result<CheckVerdict, Fault>
-    requires { IsTest question.now.test }
+fn verdict_of(
+    alloc: Global,
+    test: &Arc<Test>,
+    prices: &Prices,
+    text: &str,
+) -> Result<CheckVerdict, Fault>
+    requires test { IsTest (arc_value test.now) }
+    requires table { IsPriceTable prices.now }
 {
-    let test = Arc::try_clone(&question.test)?;
-    check(alloc, test, &question.prices, text.as_bytes())
+    let test = Arc::try_clone(test)?;
+    check(alloc, test, prices, text.as_bytes())
 }
 
 /// Prints the verdict.
@@ -116,38 +125,41 @@ fn read_back<R: Print>(rt: &R, alloc: Global, written: &str) -> Result<(), Fault
 fn check_text<R: Print>(
     rt: &R,
     alloc: Global,
-    question: &Question,
+    test: &Arc<Test>,
+    prices: &Prices,
     written: &str,
 ) -> Result<(), Fault>
-    requires { IsTest question.now.test }
+    requires test { IsTest (arc_value test.now) }
+    requires table { IsPriceTable prices.now }
 {
-    let verdict = twice!(rt, verdict_of(alloc, question, written))?;
+    let verdict = twice!(rt, verdict_of(alloc, test, prices, written))?;
     print_verdict(rt, &verdict);
     Ok(())
 }
 
-/// Writes the certificate, reads it, and checks it. Its text is printed where that is asked for.
+/// Writes the certificate, reads it, and checks it at these prices. Its text is printed where that is asked for.
 fn check_written<R: Print>(
     rt: &R,
     alloc: Global,
-    question: &Question,
+    test: &Arc<Test>,
     certificate: &Certificate,
     is_printed: bool,
 ) -> Result<(), Fault>
-    requires { IsTest question.now.test }
+    requires { IsTest (arc_value test.now) }
 {
     let written = twice!(rt, text_of(alloc, certificate))?;
     read_back(rt, alloc, written.as_str())?;
     if is_printed {
         let _ = rt.println(written.as_str());
     }
-    check_text(rt, alloc, question, written.as_str())
+    let prices = read_prices(alloc, PRICES.as_bytes())?;
+    check_text(rt, alloc, test, &prices, written.as_str())
 }
 
 /// Answers the question, and gives a certificate of the answer.
 fn answered<R: Print>(rt: &R, alloc: Global, question: &Arc<Question>) -> Result<Certificate, Fault>
     requires test { IsTest (arc_value question.now).test }
-    requires prices { IsPriceTable (arc_value question.now).prices }
+    requires top { HasTop (arc_value question.now).offers }
 {
     let solved = twice!(rt, solved_of(alloc, question))?;
     twice!(rt, certificate_of(alloc, question, &solved))
@@ -158,7 +170,7 @@ fn certify<R: Print>(rt: &R, alloc: Global, text: &str, is_printed: bool) -> Res
     let question = question_of(alloc, text, PRICES)?;
     let _ = rt.println("a certificate");
     let certificate = answered(rt, alloc, &question)?;
-    check_written(rt, alloc, &question, &certificate, is_printed)
+    check_written(rt, alloc, question.test(), &certificate, is_printed)
 }
 
 /// Certificates of two loads of a word, of store buffering where each hart loads its own store first, and of message

@@ -1,5 +1,6 @@
 use Rattle.std.proofs.Common.{Some, ap, subst, sym, ◌∙◌}
-use Rattle.fs_cert_evidence.specs.Evidence.{Question, Refuted, ShowsForbidden}
+use Rattle.fs_cert_evidence.specs.Evidence.{Refuted, ShowsForbidden}
+use Rattle.fs_board_offers.specs.Questions.{Question}
 use Rattle.fs_board_search.specs.Answers.{IsAnswer, placement_of}
 use Rattle.fs_tests_out_of_memory.proofs.certificates.certificate_of.Goals as goal
 
@@ -11,4 +12,4 @@ pub fenced_certificate-requires-clause-cycles : goal.fenced_certificate-requires
 fenced_certificate-requires-clause-cycles c =
     let q : Question = c.args.question.now.value in
     subst (ShowsForbidden q.test) (sym c.deref.ensures)
-    (subst (IsAnswer q.test q.prices) c.in-Fenced.is c.requires.answer).2
+    (subst (IsAnswer q.test q.offers) c.in-Fenced.is c.requires.answer).2

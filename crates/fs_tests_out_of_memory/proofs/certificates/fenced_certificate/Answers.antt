@@ -1,6 +1,7 @@
 use Rattle.std.proofs.Common.{◌≡◌, Option, Some, MatchOption, subst, sym, ◌∙◌}
 use Rattle.fs_model.specs.Test.{IsBounded}
-use Rattle.fs_cert_evidence.specs.Evidence.{Question, ShowsForbidden}
+use Rattle.fs_cert_evidence.specs.Evidence.{ShowsForbidden}
+use Rattle.fs_board_offers.specs.Questions.{Question}
 use Rattle.fs_board.specs.View.{Search}
 use Rattle.fs_board_search.specs.declared.answer.Solved.{Solved}
 use Rattle.fs_board_search.specs.Answers.{IsAtLimit, IsBoardOf, Rests}
