@@ -5,7 +5,7 @@ use Rattle.fs_model.specs.declared.test.Test.{Test}
 use Rattle.fs_model.specs.Allows.{IsCheapest}
 use Rattle.fs_cert_evidence.specs.Evidence.{Refuted}
 use Rattle.fs_board_offers.specs.Questions.{Question, HasTop}
-use Rattle.fs_board_laws.proofs.Priced.{has-top}
+use Rattle.fs_board_offers.proofs.Priced.{has-top}
 use Rattle.fs_board_search.specs.Answers.{IsAnswer}
 use Rattle.fs_board_search.specs.Priced.{IsPricedAnswer, question_of}
 use Rattle.fs_board_search.specs.declared.answer.Answer.{Answer}

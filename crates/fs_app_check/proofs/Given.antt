@@ -18,7 +18,7 @@ use Rattle.fs_cert_evidence.specs.Texts.{fenced_lines, none_lines}
 use Rattle.fs_cert_evidence.specs.Valid.{IsValidForNone}
 use Rattle.fs_board_offers.specs.Offers.{offers_of}
 use Rattle.fs_board_offers.specs.Valid.{IsAnswered}
-use Rattle.fs_board_laws.proofs.Priced.{same-slots, same-cost}
+use Rattle.fs_board_offers.proofs.Priced.{same-slots, same-cost}
 use Rattle.fs_cert_evidence.specs.WitnessFile.{in_range, KeepsWitness}
 use Rattle.fs_cert_evidence.specs.declared.witness.WitnessFile.{WitnessFile}
 use Rattle.fs_cert_json.specs.declared.certificate.Certificate.{Certificate as Kept}

@@ -9,7 +9,7 @@ use Rattle.fs_app_guarantees.proofs.KeptCertificates.{valid_same}
 use Rattle.fs_cert_evidence.specs.Certificate.{Certificate}
 use Rattle.fs_cert_evidence.specs.Texts.{fenced_lines, none_lines}
 use Rattle.fs_board_offers.specs.Priced.{IsValid}
-use Rattle.fs_board_laws.proofs.Priced.{same-slots}
+use Rattle.fs_board_offers.proofs.Priced.{same-slots}
 use Rattle.fs_check_certificate.proofs.OneFile.{file_once}
 use Rattle.fs_app_guarantees.proofs.Verdicts.{one_answer, not_refused}
 use Rattle.fs_app_io.specs.declared.status.Status.{Status}

@@ -19,7 +19,7 @@ use Rattle.fs_board_offers.specs.Offers.{Offers, slots, cost, offers_of}
 use Rattle.fs_board_offers.specs.Parts.{undecided}
 use Rattle.fs_board_offers.specs.Priced as priced
 use Rattle.fs_board_offers.specs.Refusals.{IsBad, IsBadAnswer, Fails, IsPlacedRefusal, IsRefusedAfter, IsRefusal}
-use Rattle.fs_board_laws.proofs.Priced.{same-slots}
+use Rattle.fs_board_offers.proofs.Priced.{same-slots}
 use Rattle.fs_check_certificate.proofs.Words.{small_slots}
 use Rattle.fs_cert_evidence.specs.Cycles.{IsCycle}
 use Rattle.fs_cert_evidence.specs.Regions.{Region}

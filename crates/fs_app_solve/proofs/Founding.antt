@@ -32,7 +32,7 @@ use Rattle.fs_app_place_order.specs.Place.{ArePricesOf}
 use Rattle.fs_board_offers.specs.Questions.{Question, HasTop}
 use Rattle.fs_board_offers.specs.Offers.{Offers, offers_of}
 use Rattle.fs_board_offers.specs.Valid.{IsValid}
-use Rattle.fs_board_laws.proofs.Priced.{has-top}
+use Rattle.fs_board_offers.proofs.Priced.{has-top}
 use Rattle.fs_board_search.specs.Priced.{IsPricedAnswer, question_of}
 use Rattle.fs_board_search.proofs.PricedAnswers.{priced-answer}
 

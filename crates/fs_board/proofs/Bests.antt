@@ -7,7 +7,7 @@ use Rattle.fs_board_offers.specs.Parts.{Part, floor}
 use Rattle.fs_board_offers.specs.Pruning.{is_pruned}
 use Rattle.fs_board_offers.specs.Board.{better_of}
 use Rattle.fs_board_offers.specs.Bests.{is_best}
-use Rattle.fs_board_laws.proofs.Floors.{cost-alone}
+use Rattle.fs_board_offers.proofs.Floors.{cost-alone}
 
 pub pruned_by_cost : (offers : Offers) (bound : Option (List Entry)) (part : Part) → is_pruned offers bound part [] ≡ not (is_best offers bound (floor part))
 pruned_by_cost offers None part = refl

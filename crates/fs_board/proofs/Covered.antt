@@ -19,7 +19,7 @@ use Rattle.fs_board_offers.specs.Parts.{Part, floor, filled_with, slots_in_part}
 use Rattle.fs_board_offers.specs.Pruning.{is_pruned}
 use Rattle.fs_cert_evidence.specs.Shown.{ShowsAs, IsShownBy}
 use Rattle.fs_cert_evidence.specs.Widths.{Width, width, is_within_width}
-use Rattle.fs_board_laws.proofs.Bounded.{rising-filled}
+use Rattle.fs_board_offers.proofs.Bounded.{rising-filled}
 use Rattle.fs_model_laws.proofs.ExactWidths.{exact}
 use Rattle.fs_model_laws.proofs.Weakening.{shows-weaker}
 use Rattle.fs_cert_evidence.specs.Evidence.{Shown, IsWitnessFor, witness_in, widths_of}

@@ -8,9 +8,9 @@ use Rattle.fs_model.specs.declared.test.Test.{Test}
 use Rattle.fs_board_offers.specs.Parts.{Part}
 use Rattle.fs_board_offers.specs.Board.{Board, Status, Event, Reply, Take, Claim, Adopt, SplitAt, CutCost, CutWitness, CutBound, Post, Peek, Given, Seen, is_open, is_held, part_at}
 use Rattle.fs_board_offers.specs.Histories.{LogEntry, Steps, IsHistory}
-use Rattle.fs_board_laws.specs.Trees.{IsPart}
-use Rattle.fs_board_laws.proofs.Moves.{node_of, status-at, Move, Stays, Marks, Splits, moves}
-use Rattle.fs_board_laws.proofs.Leaves.{history-parts}
+use Rattle.fs_board_offers.specs.Trees.{IsPart}
+use Rattle.fs_board_offers.proofs.Moves.{node_of, status-at, Move, Stays, Marks, Splits, moves}
+use Rattle.fs_board_offers.proofs.Leaves.{history-parts}
 use Rattle.fs_board_offers.specs.Questions.{Question}
 use Rattle.fs_board.specs.declared.event.Reply.{Reply as CodeReply}
 use Rattle.fs_board.specs.declared.event.Reply.TheVariants as reply

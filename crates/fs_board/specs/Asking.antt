@@ -3,7 +3,7 @@ use Rattle.std.specs.Prelude.{option_map, map}
 use Rattle.std.specs.Arc.{arc_value}
 use Rattle.fs_model.specs.Allows.{Allows}
 use Rattle.fs_model.specs.Execution.{Execution}
-use Rattle.fs_board_laws.specs.Trees.{IsPart}
+use Rattle.fs_board_offers.specs.Trees.{IsPart}
 use Rattle.fs_cert_evidence.specs.Evidence.{IsWitnessFor, ShowsForbidden, placement_in}
 use Rattle.fs_board_offers.specs.Questions.{Question}
 use Rattle.fs_board.specs.declared.event.Event.{Event}

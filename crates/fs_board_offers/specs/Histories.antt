@@ -97,7 +97,7 @@ module _ (t : Test) (offers : Offers) where
   Lead old [] new = new ≡ old
   Lead old (entry ∷ entries) new = (next : Board) × Steps old entry.worker entry.event entry.reply next × Lead next entries new
 
-  -- A legal history, and the board that it leads to. A finished board has an answer, by a law of fs_board_laws, where
+  -- A legal history, and the board that it leads to. A finished board has an answer, by a law of fs_board_offers, where
   -- rw,rw is offered at each slot: else each placement of offered kinds may allow the outcome, while rw,rw in every slot
   -- forbids it. Where a finished board has no bound, its leaf over rw,rw everywhere is witnessed, or bounded by a list
   -- with a witness that no offered kind breaks at a slot that the leaf leaves undecided.

@@ -11,3 +11,6 @@ pub mod Sizes
 pub mod Valid
 pub mod Refusals
 pub mod Priced
+pub mod Bounds
+pub mod Closing
+pub mod Trees

@@ -19,14 +19,14 @@ use Rattle.fs_board_offers.specs.Parts.{floor, undecided}
 use Rattle.fs_board_offers.specs.Board.{is_finished}
 use Rattle.fs_board_offers.specs.Histories.{IsHistory}
 use Rattle.fs_board_offers.specs.Sizes.{HasNoRunFault, whole_tree}
-use Rattle.fs_board_laws.proofs.PartsOfTests.{under-root}
-use Rattle.fs_board_laws.proofs.Floors.{floor-best}
+use Rattle.fs_board_offers.proofs.PartsOfTests.{under-root}
+use Rattle.fs_board_offers.proofs.Floors.{floor-best}
 use Rattle.fs_board_offers.specs.Questions.{Question, IsQuestion, HasTop}
 use Rattle.fs_board.specs.View.{Search}
 pub use Rattle.fs_board_search.proofs.Handed.{handed}
 use Rattle.fs_board_search.specs.Answers.{IsEndFault, IsSearchFault, IsSolveFault}
 use Rattle.fs_board_search.specs.Histories.{GoesOn}
-use Rattle.fs_board_laws.proofs.Final.{cheapest, none-forbid}
+use Rattle.fs_board_offers.proofs.Final.{cheapest, none-forbid}
 use Rattle.fs_kinds.specs.Slot.{is_rising}
 
 -- ---- no fence at all

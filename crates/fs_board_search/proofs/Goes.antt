@@ -5,9 +5,9 @@ use Rattle.std.proofs.lemmas.Bool.{false≢true}
 use Rattle.fs_board_offers.specs.Parts.{Part}
 use Rattle.fs_board_offers.specs.Board.{Board, Node, Status, Open, Held, Split, Costly, Witnessed, Bounded, Posted, Event, Reply, is_open, is_held, is_held_by, part_at}
 use Rattle.fs_board_offers.specs.Histories.{IsHistory, HoldsNode}
-use Rattle.fs_board_laws.proofs.Moves.{node_of, status-at}
-use Rattle.fs_board_laws.proofs.Leaves.{history-parts}
-use Rattle.fs_board_laws.proofs.Growing.{history-within}
+use Rattle.fs_board_offers.proofs.Moves.{node_of, status-at}
+use Rattle.fs_board_offers.proofs.Leaves.{history-parts}
+use Rattle.fs_board_offers.proofs.Growing.{history-within}
 use Rattle.fs_board.specs.Counts.{count_of}
 use Rattle.fs_board.specs.View.{Search, Answers, entry_of}
 use Rattle.fs_board.proofs.Telling.{limit-kept}

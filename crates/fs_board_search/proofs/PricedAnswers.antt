@@ -7,7 +7,7 @@ use Rattle.fs_cert_evidence.specs.Evidence.{placement_in}
 use Rattle.fs_cert_evidence.specs.Sizes.{IsUnanswered}
 use Rattle.fs_board_offers.specs.Questions.{Question}
 use Rattle.fs_board_offers.specs.Offers.{offers_of}
-use Rattle.fs_board_laws.proofs.Priced.{same-slots, same-cost, same-cheapest, same-size}
+use Rattle.fs_board_offers.proofs.Priced.{same-slots, same-cost, same-cheapest, same-size}
 use Rattle.fs_board_search.specs.Answers.{IsAnswer, IsSolveFault}
 use Rattle.fs_board_search.specs.Priced.{IsPricedAnswer, question_of}
 use Rattle.fs_board_search.specs.declared.answer.Answer.{Answer}

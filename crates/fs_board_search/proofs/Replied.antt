@@ -7,8 +7,8 @@ use Rattle.fs_cert_evidence.specs.Shown.{IsShownBy}
 use Rattle.fs_board_offers.specs.Board.{Split, Costly, Witnessed, Bounded, Posted, Event, Take, Claim, Adopt, SplitAt, CutCost, CutWitness, CutBound, Post, Reply, Given, Idle, Done, Gone, Children, NotYours, Decided, Full, Closed, Cheaper, NotCovered, Other, is_open, is_held, is_held_by, has_node, part_at, is_finished}
 use Rattle.fs_board_offers.specs.Histories.{IsHistory, HoldsNode}
 use Rattle.fs_board_offers.specs.Sizes.{whole_tree}
-use Rattle.fs_board_laws.proofs.Leaves.{opened}
-use Rattle.fs_board_laws.proofs.Growing.{full-large}
+use Rattle.fs_board_offers.proofs.Leaves.{opened}
+use Rattle.fs_board_offers.proofs.Growing.{full-large}
 use Rattle.fs_cert_evidence.specs.Evidence.{witness_in}
 use Rattle.fs_board.specs.declared.event.Event.{Event as CodeEvent}
 use Rattle.fs_board.specs.declared.event.Event.TheVariants as event

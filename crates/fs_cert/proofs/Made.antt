@@ -26,8 +26,8 @@ use Rattle.fs_cert_json.specs.declared.certificate.Item.{Item as CodeItem}
 use Rattle.fs_cert_json.specs.declared.certificate.CertifiedCycles.TheVariants.{Inferred as KeptInferences}
 use Rattle.fs_cert_json.specs.Kept.{KeepsCycles, answer_of, version_of, item_of}
 use Rattle.fs_cert_evidence.specs.WitnessFile.{KeepsWitness}
-use Rattle.fs_board_laws.proofs.Floors.{cost-alone}
-use Rattle.fs_board_laws.proofs.Ranked.{better-irreflexive}
+use Rattle.fs_board_offers.proofs.Floors.{cost-alone}
+use Rattle.fs_board_offers.proofs.Ranked.{better-irreflexive}
 use Rattle.fs_cert_evidence.specs.Evidence.{Refuted, ShowsForbidden}
 use Rattle.fs_board_offers.specs.Questions.{Question, IsQuestion}
 use Rattle.fs_board_offers.specs.Sizes.{HasNoRunFault}

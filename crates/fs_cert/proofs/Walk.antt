@@ -24,13 +24,13 @@ use Rattle.fs_cert_evidence.specs.Certificate.{Certificate, First, Second, Fourt
 use Rattle.fs_board_offers.specs.Valid.{Covers, Refutes, RefutesBy, is_costly}
 use Rattle.fs_board_offers.specs.Board.{Board, Node, Status, Open, Held, Split, Costly, Witnessed, Bounded, Posted, is_open, is_held, is_finished, has_node, opening}
 use Rattle.fs_board_offers.specs.Histories.{LogEntry, Lead, IsHistory}
-use Rattle.fs_board_laws.specs.Trees.{IsNode, IsSplitAt}
-use Rattle.fs_board_laws.specs.Closing.{IsClosedFor}
+use Rattle.fs_board_offers.specs.Trees.{IsNode, IsSplitAt}
+use Rattle.fs_board_offers.specs.Closing.{IsClosedFor}
 use Rattle.fs_model_laws.proofs.Places.{at-more}
-use Rattle.fs_board_laws.proofs.Moves.{node_of, Move, Stays, Marks, Splits, moves}
-use Rattle.fs_board_laws.proofs.Leaves.{history-parts}
-use Rattle.fs_board_laws.proofs.Closed.{history-right}
-use Rattle.fs_board_laws.proofs.Splitting.{history-split}
+use Rattle.fs_board_offers.proofs.Moves.{node_of, Move, Stays, Marks, Splits, moves}
+use Rattle.fs_board_offers.proofs.Leaves.{history-parts}
+use Rattle.fs_board_offers.proofs.Closed.{history-right}
+use Rattle.fs_board_offers.proofs.Splitting.{history-split}
 use Rattle.fs_board.specs.View.{Search}
 use Rattle.fs_cert.specs.inner.Copies.{StandsAt, AreNumbered}
 use Rattle.fs_cert.specs.inner.Items.{number_in, item_at, below, AreBelow, HasNumbers, IsTreeOf, ways_of}

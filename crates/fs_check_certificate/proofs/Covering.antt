@@ -16,19 +16,19 @@ use Rattle.fs_cert_evidence.specs.Certificate.{Certificate, Version, First, Seco
 use Rattle.fs_cert_evidence.specs.Certificate as priced_answers
 use Rattle.fs_board_offers.specs.Priced as valid_priced
 use Rattle.fs_board_offers.specs.Valid.{Forbid, Covers, IsValid, IsValidFor, IsBest, IsRight, is_costly}
-use Rattle.fs_board_laws.specs.Bounds.{IsNoBetter}
+use Rattle.fs_board_offers.specs.Bounds.{IsNoBetter}
 use Rattle.fs_model_laws.proofs.Ranked.{first-less}
-use Rattle.fs_board_laws.proofs.Floors.{floor-cost}
-use Rattle.fs_board_laws.proofs.Bounded.{bounded}
+use Rattle.fs_board_offers.proofs.Floors.{floor-cost}
+use Rattle.fs_board_offers.proofs.Bounded.{bounded}
 use Rattle.fs_values.specs.ThinAir.{CanBeListed}
 use Rattle.fs_verdict_laws.proofs.Deciding.{cycles_forbid_all}
 use Rattle.fs_verdict_laws.proofs.Covering.{forbids}
-use Rattle.fs_board_laws.specs.Trees.{IsPart}
+use Rattle.fs_board_offers.specs.Trees.{IsPart}
 use Rattle.fs_model_laws.proofs.Places.{count_one, at-append, at-more, at-end, once-counted}
-use Rattle.fs_board_laws.proofs.PartsOfTests.{part-child, part-root, under-root}
-use Rattle.fs_board_laws.proofs.Children.{one-child, rising-part}
-use Rattle.fs_board_laws.proofs.Final.{filling-shows, all-shown}
-use Rattle.fs_board_laws.proofs.Priced.{same-slots, same-cost, same-cheapest, to-prices, from-prices}
+use Rattle.fs_board_offers.proofs.PartsOfTests.{part-child, part-root, under-root}
+use Rattle.fs_board_offers.proofs.Children.{one-child, rising-part}
+use Rattle.fs_board_offers.proofs.Final.{filling-shows, all-shown}
+use Rattle.fs_board_offers.proofs.Priced.{same-slots, same-cost, same-cheapest, to-prices, from-prices}
 
 -- one of the parts has the placement under it
 record IsUnderSome (parts : List Part) (q : List Entry) : Type 0 where

@@ -16,7 +16,7 @@ use std::sync::Arc;
 pub const PRICES: &str = r#"{"r,r":3,"r,w":3,"w,w":2,"w,r":9,"tso":5,"rw,rw":10}"#;
 
 /// The question of the test that this text holds, with what the prices in the other one offer.
-#[tactic(auto, using(fs_board_laws::proofs::Priced::has-top))]
+#[tactic(auto, using(fs_board_offers::proofs::Priced::has-top))]
 pub fn question_of(alloc: Global, text: &str, prices: &str) -> Result<Arc<Question>, Fault>
     ensures test { IfOk result (λ question. IsTest (arc_value question).test) }
     ensures top { IfOk result (λ question. HasTop (arc_value question).offers) }

@@ -2,7 +2,7 @@ use Rattle.std.proofs.Common.{◌≡◌, map, length, sym, ap, subst, ◌∙◌}
 use Rattle.fs_board_offers.specs.Offers.{are_offered}
 use Rattle.fs_cert_evidence.specs.Evidence.{witness_in}
 use Rattle.fs_board_offers.specs.Questions.{Question}
-use Rattle.fs_board_laws.proofs.Closed.{history-right}
+use Rattle.fs_board_offers.proofs.Closed.{history-right}
 use Rattle.fs_cert.specs.Certified.{Certifies, AreDistinct}
 use Rattle.fs_cert.specs.inner.Copies.{AreCopiedWitnesses, AreNumbered, StandsAt}
 use Rattle.fs_cert.specs.inner.Fenced.{IsFenced}

@@ -2,7 +2,7 @@ use Rattle.std.proofs.Common.{IfOk, ap, sym, subst, ◌∙◌}
 use Rattle.fs_model.specs.declared.test.Test.{Test}
 use Rattle.fs_model.specs.Slots as its
 use Rattle.fs_board_offers.specs.Offers.{Offers, slots, offers_of}
-use Rattle.fs_board_laws.proofs.Priced.{same-slots}
+use Rattle.fs_board_offers.proofs.Priced.{same-slots}
 use Rattle.fs_check_certificate.specs.inner.Judgements.{IsJudgement}
 use Rattle.fs_check_certificate.proofs.certificate_verdict.judge_certificate.Goals as goal
 
