@@ -1,6 +1,5 @@
 use Rattle.std.proofs.Common.{◌∙◌, ap, inl, sym, subst}
 use Rattle.std.specs.Prelude.{All}
-use Rattle.std.specs.Arc.{arc_value}
 use Rattle.fs_model.specs.declared.test.Test.{Test}
 use Rattle.fs_model.specs.Test.{IsBounded, IsStart}
 use Rattle.fs_cert_evidence.specs.CandidateFaults.{IsCandidateFault}

@@ -1,5 +1,4 @@
 use Rattle.std.proofs.Common.{◌≡◌, Option, Some, MatchOption, subst, sym, ◌∙◌}
-use Rattle.fs_model.specs.Test.{IsBounded}
 use Rattle.fs_cert_evidence.specs.Evidence.{ShowsForbidden}
 use Rattle.fs_board_offers.specs.Questions.{Question}
 use Rattle.fs_board.specs.View.{Search}
@@ -9,11 +8,6 @@ use Rattle.fs_tests_out_of_memory.proofs.certificates.fenced_certificate.Goals a
 
 board-there : (q : Question) (s : Solved) (b : Search) → Some b ≡ s.board → Rests q 10000 s → IsBoardOf q 10000 s.answer b
 board-there q s b is h = subst (λ (o : Option Search). MatchOption o (IsAtLimit q 10000 s.answer) (IsBoardOf q 10000 s.answer)) (sym is) h
-
-pub from_board-requires-clause-bounded : goal.from_board-requires-clause-bounded
-from_board-requires-clause-bounded c =
-    let of = board-there c.args.question.now.value c.args.solved.now c.in-Some.board.now c.in-Some.ensures c.requires.rests in
-    subst (λ (q : Question). IsBounded q.test) (sym of.question) c.requires.test.bounded
 
 pub from_board-requires-clause-finished : goal.from_board-requires-clause-finished
 from_board-requires-clause-finished c =
