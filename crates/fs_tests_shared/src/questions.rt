@@ -51,18 +51,6 @@ pub fn placement_of(alloc: Global, test: &Test, words: &str) -> Result<Placement
     read_fences(alloc, test, None, &fences)
 }
 
-/// What the placement costs: the sum over the slots of price times weight.
-pub fn cost_of(prices: &Prices, placement: &Placement) -> u64 {
-    let mut cost: u64 = 0;
-    for entry in placement.as_slice() {
-        if let Some(price) = entry.kind.and_then(|kind| prices.of(kind)) {
-            let weight = u64::from(prices.weight(entry.slot));
-            cost = cost.saturating_add(u64::from(price).saturating_mul(weight));
-        }
-    }
-    cost
-}
-
 /// Writes the words of the placement's fences, with a space before each.
 pub fn write_fences(placement: &Placement, text: &mut String) -> Result<(), AllocError> {
     for entry in placement.as_slice() {

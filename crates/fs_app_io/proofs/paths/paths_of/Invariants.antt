@@ -1,6 +1,6 @@
 use Rattle.std.proofs.Common.{◌≡◌, flat_map, map, take, string_bytes}
-use Rattle.fs_app_lists.specs.Paths.{path_of}
-use Rattle.fs_app_lists.proofs.paths.paths_of.Given as goal
+use Rattle.fs_app_io.specs.Paths.{path_of}
+use Rattle.fs_app_io.proofs.paths.paths_of.Given as goal
 
 -- what the lines so far name
 abbrev pub invariant-loop-line : goal.invariant-loop-line

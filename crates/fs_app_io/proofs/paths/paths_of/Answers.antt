@@ -1,8 +1,8 @@
 use Rattle.std.proofs.Common.{◌∙◌, ap, sym, flat_map, arith}
 use Rattle.std.proofs.lemmas.List.{take_all}
 use Rattle.std.proofs.lemmas.List.Folds.{flat_map-map}
-use Rattle.fs_app_lists.specs.Paths.{path_of}
-use Rattle.fs_app_lists.proofs.paths.paths_of.Goals as goal
+use Rattle.fs_app_io.specs.Paths.{path_of}
+use Rattle.fs_app_io.proofs.paths.paths_of.Goals as goal
 
 pub returns : goal.returns
 returns c =

@@ -2,7 +2,7 @@
 
 ghost use Rattle.std.specs.Prelude.{◌≡◌, map, IfOk};
 ghost use Rattle.std.specs.Str.Lines.{lines};
-ghost use Rattle.fs_app_lists.specs.Lines.{says};
+ghost use Rattle.fs_app_io.specs.Lines.{says};
 
 use std::alloc::{AllocError, Global};
 

@@ -1,6 +1,6 @@
 use Rattle.std.proofs.Common.{arith, rules}
-use Rattle.fs_app_states.proofs.Breaks.{rsplit_once_char}
-use Rattle.fs_app_lists.proofs.paths.folder_of.Goals as goal
+use Rattle.fs_app_io.proofs.Breaks.{rsplit_once_char}
+use Rattle.fs_app_io.proofs.paths.folder_of.Goals as goal
 
 pub returns-in-Some : goal.returns-in-Some
 returns-in-Some c =

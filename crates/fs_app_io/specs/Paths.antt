@@ -4,7 +4,7 @@ use Rattle.std.specs.List.{flat_map}
 use Rattle.std.specs.Path.{rsplit_once}
 use Rattle.std.specs.Str.{trim}
 use Rattle.std.specs.Str.Lines.{lines}
-use Rattle.fs_app_lists.specs.Lines.{says}
+use Rattle.fs_app_io.specs.Lines.{says}
 
 abbrev pub is_absolute : List ℕ → Bool
 is_absolute [] = false

@@ -2,7 +2,7 @@
 
 ghost use Rattle.std.specs.Prelude.{◌≡◌, ◌++◌, map, option_map, IfOk, OnOk, string_bytes};
 ghost use Rattle.std.specs.List.{flat_map};
-ghost use Rattle.fs_app_lists.specs.Paths.{is_absolute, folder_of, beside, path_of, paths_in};
+ghost use Rattle.fs_app_io.specs.Paths.{is_absolute, folder_of, beside, path_of, paths_in};
 
 use crate::lines::{lines_of, says};
 use std::alloc::{AllocError, Global};
