@@ -1,106 +1,133 @@
-"""The tests and files that scripts/bench measures. scripts/check workers runs some of the tests too."""
+"""The tests and files that scripts/bench measures. Two checks run some of the tests too. A hart is a line of words, as
+scripts/transcripts/idioms.table says, which has idioms and locks that grow."""
 
+import itertools
 import re
 
-from litmus import text_of                                      # of this folder
+import stored                                                   # of this folder
+from litmus import text_of
+from running import TOP, decoded, read
 
 AND, OR = ' /\\ ', ' \\/ '
+HELD = [f'x{at}' for at in (*range(20, 32), *range(1, 5))]      # registers for addresses and constants
+ELSE = {'==': 'bne {0},{1}', '!=': 'beq {0},{1}', '<': 'bgeu {0},{1}', '>': 'bgeu {1},{0}'}
+COMPUTE = {'+': 'add', '-': 'sub', '&': 'and', '|': 'or', '<<': 'sll', '>>': 'srl'}
+ATOMIC = {'lr': 'lr.w', 'sc': 'sc.w', 'swap': 'amoswap.w', 'add': 'amoadd.w', 'or': 'amoor.w'}
+# What a word of the line becomes: a cell, or nothing.
+FORMS = {
+    r'\[(.*)\]': lambda hart, kind: hart.fences.append((hart.count, kind)),
+    r'(x\d+):(\S+)': lambda hart, register, value: hart.begin(register, value),
+    r'(\w+:)': lambda hart, label: label,
+    r'@(\w+)': lambda hart, label: f'j {label}',
+    r'(x\d+)(==|!=|<|>)([^@]+)@?(\w*)': lambda hart, register, which, value, label:
+        f'{ELSE[which].format(register, hart.of(value))},{label or "OUT"}',
+    r'(x\d+)=([a-z]+)\(([^,]+),?(.*)\)': lambda hart, register, name, place, value:
+        ','.join([f'{ATOMIC[name]} {register}', *map(hart.of, value.split()), hart.place(place)]),
+    r'(x\d+)=(x\d+)(<<|>>|\W)(\d+)': lambda hart, register, left, sign, number:
+        f'{COMPUTE[sign]}i {register},{left},{number}',
+    r'(x\d+)=(x\d+)(\W)(\S+)': lambda hart, register, left, sign, right:
+        f'{COMPUTE[sign]} {register},{left},{hart.of(right)}',
+    r'(x\d+)=(\d+)': lambda hart, register, number: f'li {register},{number}',
+    r'(x\d+)=(\S+)': lambda hart, register, place: f'lw {register},{hart.place(place)}',
+    r'(\S+)=(\S+)': lambda hart, place, value: f'sw {hart.of(value)},{hart.place(place)}',
+}
+
+
+class Hart:
+    """The cells of a hart, the registers that it begins with, and the fences that are wanted, by the instruction."""
+
+    def __init__(self, line):
+        self.cells, self.entries, self.fences, self.held, self.count = [], {}, [], {'0': 'x0'}, 0
+        for word in [*line.split(), 'OUT:']:
+            parts, made = next((parts, made) for form, made in FORMS.items() if (parts := re.fullmatch(form, word)))
+            if cell := made(self, *parts.groups()):
+                self.cells.append(cell)
+                self.count += cell[-1] != ':'
+
+    def begin(self, register, value):
+        """A register at the beginning."""
+        self.entries[register] = value.lstrip('&')
+
+    def of(self, value):
+        """The register that has this value: a register itself, a number, or the address of a word as `&a`."""
+        if not re.fullmatch(r'x\d+', value) and value not in self.held:
+            self.held[value] = HELD[len(self.held) - 1]
+            self.begin(self.held[value], value)
+        return self.held.get(value, value)
+
+    def place(self, place):
+        """The operand for a word of memory."""
+        pointer, _, offset = place.partition('+')
+        return f'{offset or 0}({self.of(pointer[1:] if pointer[0] == "*" else "&" + pointer)})'
+
+
+def test_of(name, lines, outcome, words=''):
+    """A test as a file has it, of a line for each hart, and the lines that `solve` is to print below its first one."""
+    harts = [Hart(line) for line in lines]
+    entries = [f'{word.replace("&", "")};' for word in words.split()]
+    entries += [f'{at}:{name}={value};' for at, hart in enumerate(harts) for name, value in hart.entries.items()]
+    fences = [f'fence P{at} {slot} {kind}' for at, hart in enumerate(harts) for slot, kind in hart.fences]
+    return text_of(name, entries, [hart.cells for hart in harts], f'exists {outcome}'), fences
 
 
 # --- Tests that grow ---------------------------------------------------------------------------------------------
 
-def laid_out(cells):
-    """A hart's code, and the registers that it begins with. `x10=a` stands for a load, `a=1` for a store, `x6:1` for a
-    register at the beginning, and all else for itself."""
-    code, entries, bases = [], {}, {}
-    for cell in cells:
-        parts = re.fullmatch(r'(\w+)([=:])(\w+)', cell)
-        if not parts:
-            code.append(cell)
-        elif parts[2] == ':':
-            entries[parts[1]] = parts[3]
-        else:
-            is_store = parts[3].isdigit()
-            register, name = (f'x{5 + int(parts[3])}', parts[1]) if is_store else (parts[1], parts[3])
-            if is_store:
-                entries[register] = parts[3]
-            base = bases.setdefault(name, f'x{20 + len(bases)}')
-            entries[base] = name
-            code.append(f'{"sw" if is_store else "lw"} {register},0({base})')
-    return code, entries
+def number(text, sizes):
+    """A number that is written with the sizes: `3`, `n`, `n-1` or `2n`."""
+    times, size, more = re.fullmatch(r'(\d*)([ns]?)([-+]\d+)?', text).groups()
+    return int(times or 1) * sizes.get(size, 1) + int(more or 0)
 
 
-def test_of(name, harts, condition):
-    """A test as a file has it, of the cells of each hart and the parts of its condition."""
-    codes, registers = zip(*map(laid_out, harts))
-    entries = [f'{hart}:{name}={value};' for hart, each in enumerate(registers) for name, value in each.items()]
-    return text_of(name, entries, codes, f'exists ({AND.join(condition)})')
+def numbers(text, sizes):
+    """Those of a range, or those below a number."""
+    first, _, end = text.rpartition('..')
+    first, end = number(first or '0', sizes), number(end, sizes)
+    return range(first, end, 1 if first <= end else -1)
 
 
-def ring(kind, count, spare):
-    """A ring of harts with two accesses each, and between them some loads of a word to which nobody stores."""
-    words, harts = ['abcdefgh'[at % count] for at in range(count + 1)], range(count)
-    first, last, condition = {
-        # each hart stores to its word and loads the next one's, and all loads come too early
-        'SB': (lambda at: words[at] + '=1', lambda at: 'x10=' + words[at + 1], [f'{at}:x10=0' for at in harts]),
-        # each hart loads its word and stores to the next one's, and all stores come too early
-        'LB': (lambda at: 'x10=' + words[at], lambda at: words[at + 1] + '=1', [f'{at}:x10=1' for at in harts]),
-        # a message is stored and a flag is handed on from hart to hart, and the last one misses the message
-        'MP': (lambda at: 'x10=' + words[at] if at else words[0] + '=1',
-               lambda at: words[at + 1] + '=1' if at < count - 1 else 'x11=' + words[0],
-               [f'{at}:x10=1' for at in harts[1:]] + [f'{count - 1}:x11=0']),
-        # each hart stores 2 to its word and 1 to the next one's, and all words end at 2
-        '2+2W': (lambda at: words[at] + '=2', lambda at: words[at + 1] + '=1', [f'{words[at]}=2' for at in harts]),
-    }[kind]
-    return [[first(at), *['x19=spare'] * spare, last(at)] for at in harts], condition
+def rows(which, text):
+    """The text for each of these numbers."""
+    return [text.replace('#', str(at)).replace('$', str(at + 1)).replace('%', str(2 ** at)) for at in which]
 
 
-def chain(count):
-    """One hart stores to many words, and the other loads them the other way round: it sees the last, not the first."""
-    words = 'abcdefgh'[:count]
-    loads = [f'x{10 + at}={word}' for at, word in enumerate(reversed(words))]
-    return [[f'{word}=1' for word in words], loads], ['1:x10=1', f'1:x{9 + count}=0']
+def expanded(text, sizes):
+    """The text with all that it says of numbers."""
+    def each(found):
+        how, atom, which = found.groups()
+        made = rows(numbers(which or 'n', sizes), atom)
+        if how == 'two':
+            made = [f'({AND.join(pair)})' for pair in itertools.combinations(made, 2)]
+        return f'({(AND if how == "every" else OR).join(made)})' if how else ' '.join(made)
+
+    text = re.sub(r'\{(.*?)\}', lambda found: str(number(found[1], sizes)), text)
+    return re.sub(r'(some|every|two|)«(.*?)(?:;([^;»]*))?»', each, text)
 
 
-def independent_readers(count):
-    """As many readers as writers, each of two words, which don't agree on what was stored first."""
-    words = 'abcdefgh'[:count]
-    readers = [[f'x10={words[at]}', f'x11={words[(at + 1) % count]}'] for at in range(count)]
-    condition = [f'{count + at}:{end}' for at in range(count) for end in ('x10=1', 'x11=0')]
-    return [[f'{word}=1'] for word in words] + readers, condition
+def sizes_of(text):
+    """The sizes of a test: a range, or numbers."""
+    return numbers(text, {}) if '..' in text else map(int, text.split(','))
 
 
-def message(stores, loads):
-    """Message passing, with many stores to the message, or many loads of it."""
-    return [[f'a={word}' for word in range(1, stores + 1)] + ['b=1'],
-            ['x10=b', *['x12=a'] * (loads - 1), 'x11=a']], ['1:x10=1', '1:x11=0']
-
-
-def rounds(count):
-    """Two harts that store and load in turns, and in some round both loads miss all stores of the other hart."""
-    harts = [[cell for at in range(count) for cell in (f'{own}={1 + at}', f'x{10 + at}={other}')]
-             for own, other in ('ab', 'ba')]
-    return harts, [OR.join(f'(0:x{at}=0 /\\ 1:x{at}=0)' for at in range(10, 10 + count))]
-
-
-def lock():
-    """Two harts that add 1 to a word in a spinlock by swaps; both have been in, and an addition is lost."""
-    hart = ['x20:held', 'x21:a', 'x6:1', 'amoswap.w x10,x6,(x20)', 'bne x10,x0,OUT', 'lw x11,0(x21)',
-            'addi x11,x11,1', 'sw x11,0(x21)', 'ori x12,x0,1', 'sw x0,0(x20)', 'OUT:']
-    return [hart, hart], ['0:x12=1', '1:x12=1', 'a=1']
+def of_table(name):
+    """The tests of a stored table, and the lines of their fences, by their names."""
+    found = {}
+    for block in decoded(read(f'{TOP}/scripts/transcripts/{name}.table')).rstrip('\n').split('\n\n'):
+        title, *lines = [line for line in block.split('\n') if not line.startswith('# ')] or ['']
+        if not title.startswith('## '):
+            continue
+        _, kind, *ranges = title.split()
+        for each in itertools.product(*map(sizes_of, ranges)):
+            words, *harts, outcome = [expanded(line, dict(zip('ns', each))) for line in lines]
+            parts = [hart.split(': ', 1) for hart in harts]
+            harts = [row for which, text in parts for row in rows(numbers(which, dict(zip('ns', each))), text)]
+            title = '-'.join([kind, *map(str, each)])
+            found[title] = test_of(title, harts, outcome, words.removeprefix('words'))
+    return found
 
 
 def families():
     """The texts of all tests that grow, by their names."""
-    made = {f'{kind}-{count}-{spare}': ring(kind, count, spare)
-            for kind in ('SB', 'LB', 'MP', '2+2W') for count in range(2, 9)
-            for spare in range(5) if count < 8 or spare == 0}           # eight words are all that a test may have
-    made |= {f'chain-{count}': chain(count) for count in range(2, 9)}
-    made |= {f'IRIW-{count}': independent_readers(count) for count in range(2, 5)}
-    made |= {f'stores-{count}': message(count, 1) for count in range(1, 9)}
-    made |= {f'loads-{count}': message(1, count) for count in (1, 2, 4, 6, 8, 10, 12, 14)}
-    made |= {f'rounds-{count}': rounds(count) for count in (1, 2, 3)}
-    return {name: test_of(name, *test) for name, test in (made | {'lock': lock()}).items()}
+    return {name: text for name, (text, _) in of_table('grown').items()}
 
 
 # --- Tests whose search takes long -------------------------------------------------------------------------------
@@ -119,11 +146,10 @@ def votes(pairs, least, spare):
     fences, so no few executions tell what an answer must cost, and the tree is wide. So many loads of another pair's
     word, of which the outcome doesn't speak, are dealt out to the harts besides, so that there are more candidates."""
     words = 'abcdefgh'[:2 * pairs]
-    harts = [[f'{word}=1', *[f'x12={words[(at + 2) % len(words)]}'] * len(range(at, spare, len(words))),
-              f'x10={words[at ^ 1]}']
+    harts = [f'{word}=1 {f"x12={words[(at + 2) % len(words)]} " * len(range(at, spare, len(words)))}x10={words[at ^ 1]}'
              for at, word in enumerate(words)]
     seen = [f'({at}:x10=0 /\\ {at + 1}:x10=0)' for at in range(0, 2 * pairs, 2)]
-    return test_of('votes', harts, [at_least(least, seen)])
+    return test_of('votes', harts, f'({at_least(least, seen)})')[0]
 
 
 def long_searches():
@@ -137,34 +163,23 @@ def long_searches():
 
 # --- Large files -------------------------------------------------------------------------------------------------
 
-HEAD = 'RISCV T\n'
-BODY = '{ 0:x6=x; }\nP0 ;\nlw x5,0(x6) ;\n'
-TAIL = 'exists (0:x5=0)\n'
-TINY = HEAD + BODY + TAIL
-# Each kind of file: what stands before a unit, the unit that is repeated (numbered in place of its `#`), what stands
-# after it, and the exit status of `place`.
-FILES = {
-    'doc lines': (HEAD, 'a line of text that says what the test shows\n', BODY + TAIL, 0),
-    'one long comment': (HEAD + BODY + '(* ', 'long ', '*)\n' + TAIL, 0),
-    'open parentheses': (HEAD + BODY + 'exists ', '(', '\n', 2),
-    'denials': (HEAD + BODY + 'exists ', '~', 'x=0\n', 2),
-    'empty rows': (HEAD + BODY, ';\n', TAIL, 0),
-    'empty cells': (HEAD + '{ }\nP0 | P1 ;\n', '|;', '\nexists x=0\n', 0),
-    'a deep condition': (HEAD + BODY + 'exists x=0', ' /\\ x=0', '\n', 2),
-    'a wide condition': (HEAD + BODY + 'exists ', None, '\n', 0),
-    'entries': (HEAD + '{\n', 'a#=1;\n', '}\nP0 ;\nexists x=0\n', 2),
-    'one entry again and again': (HEAD + '{\n', 'x=1;\n', '}\nP0 ;\nexists x=0\n', 2),
-    'labels': (HEAD + BODY, 'L#: ', ';\n' + TAIL, 0),
-    'instructions': (HEAD + BODY, 'lw x5,0(x6) ;\n', TAIL, 2),
-    'one long word': (HEAD + BODY, 'w', ' ;\n' + TAIL, 2),
-    'atoms of many names': (HEAD + BODY + 'exists (x=0', ' \\/ a#=1', ')\n', 2),
-}
+PARTS = {'⏎': '\n', 'HEAD': 'RISCV T\n', 'BODY': '{ 0:x6=x; }\nP0 ;\nlw x5,0(x6) ;\n', 'TAIL': 'exists (0:x5=0)\n'}
+TINY = PARTS['HEAD'] + PARTS['BODY'] + PARTS['TAIL']
+
+
+def kinds_of_files():
+    """Of each kind what stands before a unit, the unit, what stands after it, and the exit status of `place`."""
+    for row in stored.rows('files'):
+        name, *texts, status = row.split(' ¦ ')
+        for part, text in PARTS.items():
+            texts = [it.replace(part, text) for it in texts]
+        yield name, texts, int(status)
 
 
 def file_of(before, unit, after, size):
-    """The unit between the two texts as often as fits; for None a balanced tree of `/\\`, which isn't deep."""
+    """The unit between the two texts as often as fits, or a balanced tree of `/\\`, which isn't deep."""
     room = size - len(before) - len(after)
-    if unit is None:
+    if unit == 'TREE':
         tree = 'x=0'
         while 2 * len(tree) + 6 <= room:
             tree = f'({tree} /\\ {tree})'

@@ -90,13 +90,16 @@ def is_text(value):
     return type(value) is str
 
 
-def is_list(value, is_entry):
-    return type(value) is list and all(is_entry(entry) for entry in value)
-
-
-def has_keys(value, keys):
-    """Is this an object with exactly these keys?"""
-    return type(value) is dict and set(value) == set(keys)
+def has_form(value, form):
+    """Is this an object with these keys, a list of such entries, a list with an entry for each of these, this very
+    value, or what a function says?"""
+    if type(form) is dict:
+        return type(value) is dict and value.keys() == form.keys() and all(has_form(value[it], form[it]) for it in form)
+    if type(form) is list:
+        return type(value) is list and all(has_form(entry, form[0]) for entry in value)
+    if type(form) is tuple:
+        return type(value) is list and len(value) == len(form) and all(map(has_form, value, form))
+    return form(value) if callable(form) else type(value) is type(form) and value == form
 
 
 # --- Kinds of fences (FORMAT 3, MODEL 7) -------------------------------------------------------------------------
@@ -1081,25 +1084,25 @@ def execution_of(test, witness):
 
 # --- The file (CERTIFICATE 1) ------------------------------------------------------------------------------------
 
-NAME = 'P(0|[1-9][0-9]*):(0|[1-9][0-9]*)'
+NAME = re.compile('P(0|[1-9][0-9]*):(0|[1-9][0-9]*)')
 CAUSES = ['p%d' % rule for rule in range(1, 14)] + ['rf', 'co', 'fr']
 
 
 def is_name_of_operation(value):
-    return is_text(value) and re.fullmatch(NAME, value) is not None
+    return is_text(value) and NAME.fullmatch(value) is not None
+
+
+def is_byte_name(value):
+    """A name both numbers of which are of one byte, as in inferences."""
+    return is_name_of_operation(value) and all(len(part) < 4 and int(part) < 256 for part in value[1:].split(':'))
 
 
 def is_answer(value):
-    return (value == 'none'
-            or has_keys(value, ['cost', 'fences']) and is_whole(value['cost']) and is_list(value['fences'], is_text))
-
-
-def is_link(value):
-    return type(value) is list and len(value) == 2 and is_name_of_operation(value[0]) and value[1] in CAUSES
+    return value == 'none' or has_form(value, {'cost': is_whole, 'fences': [is_text]})
 
 
 def is_cycle(value):
-    return is_list(value, is_link) and 1 <= len(value) <= 64
+    return has_form(value, [(is_name_of_operation, lambda cause: cause in CAUSES)]) and 1 <= len(value) <= 64
 
 
 def begins_at_least(cycle):
@@ -1109,41 +1112,28 @@ def begins_at_least(cycle):
     return names[0] == min(names)
 
 
-def is_item(value, version):
+def is_leaf_of_1(value):
+    return value == 'c' or has_form(value, ('w', is_whole))
+
+
+def is_item(value):
     """A split, or a leaf."""
-    if type(value) is not list:
-        return is_whole(value) or value == 'c'
-    if len(value) != 2:
-        return False
-    return (value[0] == 'w' and is_whole(value[1])
-            or version > 1 and value[0] == 'b' and is_list(value[1], is_whole) and value[1] != [])
+    return is_whole(value) or is_leaf_of_1(value) or has_form(value, ('b', [is_whole])) and value[1] != []
 
 
 def is_hart(value):
     return is_whole(value, 256)
 
 
-def is_byte_name(value):
-    """A name both numbers of which are of one byte, as in inferences."""
-    return is_name_of_operation(value) and all(len(part) < 4 and int(part) < 256 for part in value[1:].split(':'))
-
-
-INFERENCES = {'c': [is_byte_name], 's': [is_byte_name], 'o': [is_byte_name] * 2, 'd': [is_whole], 'f': [is_hart],
-              'l': [is_byte_name] * 2}
-"""Of each inference of a refutation but a cycle and one of atomicity the forms of what stands behind its letter."""
+INFERENCES = [('c', is_byte_name), ('s', is_byte_name), ('o', is_byte_name, is_byte_name), ('d', is_whole),
+              ('f', is_hart), ('l', is_byte_name, is_byte_name), ('a', is_byte_name, is_byte_name),
+              ('a', is_byte_name, is_byte_name, is_byte_name)]
 
 
 def is_inference(value):
     """An item of a refutation: a cycle, or a letter and what it speaks of."""
-    if type(value) is not list or not value:
-        return False
-    letter, *rest = value
-    if letter == 'a':
-        return len(rest) in (2, 3) and all(map(is_byte_name, rest))
-    if is_text(letter):
-        forms = INFERENCES.get(letter, ())
-        return len(rest) == len(forms) > 0 and all(is_form(part) for is_form, part in zip(forms, rest))
-    return is_cycle(value) and all(is_byte_name(name) for name, cause in value)
+    return (any(has_form(value, form) for form in INFERENCES)
+            or is_cycle(value) and all(is_byte_name(name) for name, cause in value))
 
 
 def is_choice(value):
@@ -1151,8 +1141,12 @@ def is_choice(value):
 
 
 def is_witness(value):
-    return (has_keys(value, ['choices', 'order']) and is_list(value['order'], is_name_of_operation)
-            and is_list(value['choices'], lambda choices: is_list(choices, is_choice)))
+    return has_form(value, {'choices': [[is_choice]], 'order': [is_name_of_operation]})
+
+
+FILES = {version: {'version': version, 'answer': is_answer, 'cycles': [is_inference if version == 4 else is_cycle],
+                   'tree': [is_item if version > 1 else lambda item: is_whole(item) or is_leaf_of_1(item)],
+                   'witnesses': [is_witness]} for version in (1, 2, 4)}
 
 
 def certificate_of(data):
@@ -1161,12 +1155,7 @@ def certificate_of(data):
         value = json_of(data)
     except (ValueError, RecursionError):
         raise NotACertificate()
-    if not (has_keys(value, ['answer', 'cycles', 'tree', 'version', 'witnesses'])
-            and is_whole(value['version']) and value['version'] in (1, 2, 4)
-            and is_answer(value['answer'])
-            and is_list(value['cycles'], is_inference if value['version'] == 4 else is_cycle)
-            and is_list(value['tree'], lambda item: is_item(item, value['version']))
-            and is_list(value['witnesses'], is_witness)):
+    if not any(has_form(value, form) for form in FILES.values()):
         raise NotACertificate()
     return value
 

@@ -20,55 +20,18 @@ WORD = re.compile(r"[^\s(){};,λ→×↔]+")
 TYPE = r"^(?:pub(?:\(\w+\))? )?(?:struct|enum|type) {}\b.*"
 USE = r"^use (crate|fs_\w+)::(?:\w+::)*(?:\{{[^}}]*\b{}\b[^}}]*\}}|{});"
 PLAIN_TYPES = {"Option", "Box", "Vec", "String", "List", "Self", "Arc"}
-# the contracts that say what a command answers, in the order in which docs/PROVED.md lists what they rest on
-CONTRACTS = {
-    "place": [
-        ("fs_app_io/src/bytes.rt", "read_bytes"),
-        ("fs_app_io/src/bytes.rt", "write_text"),
-        ("fs_app_io/src/status.rt", "code"),
-        ("fs_app_io/src/status.rt", "of_fault"),
-        ("fs_app_place_order/src/place.rt", "run_place"),
-    ],
-    "order": [("fs_app_place_order/src/order.rt", "run_order")],
-    "solve": [("fs_app_solve/src/solve.rt", "run_solve"), ("fs_app_solve/src/solve.rt", "output"),
-              ("fs_app_guarantees/src/promise.rt", "headline")],
-    "test": [
-        ("fs_app_test/src/tested.rt", "test_file"),
-        ("fs_app_test/src/report.rt", "test_report"),
-        ("fs_app_test/src/objects.rt", "test_objects"),
-        ("fs_app_test/src/note.rt", "vacuous_note"),
-    ],
-    "states": [("fs_app_states/src/shown.rt", "run_states")],
-    "audit": [("fs_app_audit/src/audit.rt", "run_audit"), ("fs_app_audit/src/audit.rt", "run_mended")],
-    "states --log": [
-        ("fs_app_states_log/src/reader.rt", "read_log"),
-        ("fs_app_states_log/src/comparison.rt", "compare"),
-        ("fs_app_states_log/src/left.rt", "left_over"),
-    ],
-    "check": [("fs_app_check/src/check_answer.rt", "run_check"), ("fs_app_guarantees/src/checked.rt", "yes_is_true")],
-    "solve --cert": [("fs_app_solve/src/solve.rt", "certificate")],
-    "requests": [("fs_app/src/program.rt", "answer")],
-    "messages": [
-        ("fs_app_error_messages/src/file.rt", "explain"),
-        ("fs_app_error_messages/src/file.rt", "explain_test"),
-        ("fs_app_error_messages/src/json.rt", "explain_json"),
-        ("fs_app_error_messages/src/fences.rt", "explain_fences"),
-        ("fs_app_error_messages/src/fences.rt", "explain_unread"),
-    ],
-}
-# what a program of harts means, in the words of the chapter on the model
-PROGRAMS = {
-    "that an outcome is possible": [("fs_model", "Executions", "Allows")],
-    "that fences are the answer": [("fs_model", "Answers", "IsCheapest"), ("fs_model", "Answers", "NothingRulesOut")],
-}
-# what an answer means of a test in print, in the same words, and on how many lines that may rest
-ANSWERS = {
-    "what an answer of solve means": [("fs_app_guarantees", "Meanings", "SolveIsTrue")],
-    "what a yes of check means": [("fs_app_guarantees", "Meanings", "YesIsTrue")],
-    "what a word of test means": [("fs_app_guarantees", "Meanings", "TestIsTrue")],
-    "what the lines of states mean": [("fs_app_guarantees", "Meanings", "StatesAreTrue")],
-}
-MOST = dict(zip(ANSWERS, [1100, 1110, 860, 840]))
+
+
+def listed(group):
+    """What scripts/contracts.table has in a group: by their names parts of lines."""
+    found = {}
+    for line in text_of("scripts/contracts.table").partition(f"\n## {group}\n")[2].partition("\n\n")[0].splitlines():
+        name, *parts = line.split(" | ")
+        found.setdefault(name, []).append(parts)
+    return found
+
+
+CONTRACTS, PROGRAMS, ANSWERS = map(listed, ["contracts", "programs", "answers"])
 MEANINGS = {**PROGRAMS, **ANSWERS}
 
 
@@ -183,8 +146,9 @@ def reached(roots):
     return found
 
 
-def contract_of(file, function):
-    """What the contract of the first function of this name in the file names."""
+def contract_of(path, function):
+    """What the contract of the first function of this name in the file below crates/ names."""
+    file = f"crates/{path}"
     found = re.search(rf"^( *)(?:pub )?fn {function}\b(?:.*\n)+?\1\{{(?:\}}| |$)", text_of(file), re.M)
     named = set(filter(None, named_in(file, found[0]))) if found else set()
     return named or sys.exit(f"definitions: {file} has no contract of {function}")
@@ -199,20 +163,14 @@ def size(node):
 def needed_by(name):
     """All definitions and types that the contracts of this name rest on, or the definitions in `MEANINGS`."""
     if name in MEANINGS:
-        return reached({node_of(*it) or sys.exit(f"definitions: there is no {'.'.join(it)}") for it in MEANINGS[name]})
-    return reached({it for file, function in CONTRACTS[name] for it in contract_of(f"crates/{file}", function)})
+        nodes = {it[0]: node_of(*it[0].split()) for it in MEANINGS[name]}
+        return reached(nodes[it] or sys.exit(f"definitions: there is no {it}") for it in nodes)
+    return reached(it for words, in CONTRACTS[name] for it in contract_of(*words.split()))
 
 
-@functools.cache
-def all_needed():
-    """All that some contract rests on."""
-    return frozenset(it for name in CONTRACTS for it in needed_by(name))
-
-
-@functools.cache
-def all_meant():
-    """All that the definitions in `ANSWERS` rest on."""
-    return frozenset(it for name in ANSWERS for it in needed_by(name))
+def all_needed(names):
+    """All that these rest on."""
+    return {it for name in names for it in needed_by(name)}
 
 
 def size_of(nodes):

@@ -30,79 +30,74 @@ class Code:
     """The code of a hart in the making."""
 
     def __init__(self, chance, locations):
-        self.chance = chance
+        self.choice, self.random = chance.choice, chance.random
         self.addresses = sorted(LOCATIONS)[:locations]
-        self.cells = []
-        self.accesses = 0
+        self.cells, self.accesses = [], 0
         self.loaded = []                # the registers that loads have written
 
     def fresh(self):
         """A register that nothing has written."""
-        return 'x%d' % (11 + len(self.cells))
+        return f'x{11 + len(self.cells)}'
 
-    def add(self, cell, accesses=0):
+    def access(self, cell, register=None):
+        """Adds an access, which loads to this register, or to none."""
         self.cells.append(cell)
-        self.accesses += accesses
+        self.accesses += 1
+        self.loaded += [register] if register else []
 
     def data(self):
         """A register to store: a word, or what was loaded."""
-        return self.chance.choice(list(WORDS) + self.loaded + ['x0'])
+        return self.choice([*WORDS, *self.loaded, 'x0'])
 
     def address(self):
         """A register with an address, now and then by a dependency on what was loaded, or what was loaded itself."""
-        base = self.chance.choice(self.addresses)
-        if not self.loaded or self.chance.random() < 0.75:
+        base = self.choice(self.addresses)
+        if not self.loaded or self.random() < 0.75:
             return base
-        if self.chance.random() < 0.1:
-            return self.chance.choice(self.loaded)
-        zero = self.fresh()
-        self.add('xor %s,%s,%s' % ((zero,) + (self.chance.choice(self.loaded),) * 2))
+        if self.random() < 0.1:
+            return self.choice(self.loaded)
+        zero, loaded = self.fresh(), self.choice(self.loaded)
+        self.cells.append(f'xor {zero},{loaded},{loaded}')
         address = self.fresh()
-        self.add('add %s,%s,%s' % (address, zero, base))
+        self.cells.append(f'add {address},{zero},{base}')
         return address
 
     def load(self):
-        address = self.address()
-        register = self.fresh()
-        self.add('lw %s,0(%s)' % (register, address), 1)
-        self.loaded.append(register)
+        address, register = self.address(), self.fresh()
+        self.access(f'lw {register},0({address})', register)
 
     def store(self):
         address = self.address()
-        self.add('sw %s,0(%s)' % (self.data(), address), 1)
+        self.access(f'sw {self.data()},0({address})')
 
     def amo(self):
-        address = self.address()
-        register = self.fresh()
-        name = self.chance.choice(['amoswap.w', 'amoswap.w', 'amoadd.w', 'amoor.w', 'amomaxu.w'])
-        self.add('%s%s %s,%s,(%s)' % (name, self.chance.choice(ANNOTATIONS), register, self.data(), address), 1)
-        self.loaded.append(register)
+        address, register = self.address(), self.fresh()
+        name = self.choice(['amoswap.w', 'amoswap.w', 'amoadd.w', 'amoor.w', 'amomaxu.w']) + self.choice(ANNOTATIONS)
+        self.access(f'{name} {register},{self.data()},({address})', register)
 
     def pair(self):
         """lr.w and sc.w, with a look between now and then."""
-        address = self.address()
-        register = self.fresh()
-        self.add('lr.w%s %s,(%s)' % (self.chance.choice(['', '', '.aq', '.aqrl']), register, address), 1)
-        self.loaded.append(register)
-        if self.chance.random() < 0.3:
+        address, register = self.address(), self.fresh()
+        self.access(f"lr.w{self.choice(['', '', '.aq', '.aqrl'])} {register},({address})", register)
+        if self.random() < 0.3:
             self.branch()
         result = self.fresh()
-        self.add('sc.w%s %s,%s,(%s)' % (self.chance.choice(['', '', '.rl', '.aqrl']), result, self.data(), address), 1)
-        self.loaded.append(result)
+        name = f"sc.w{self.choice(['', '', '.rl', '.aqrl'])}"
+        self.access(f'{name} {result},{self.data()},({address})', result)
 
     def branch(self):
         if self.loaded:
-            name = self.chance.choice(['beq', 'bne'])
-            self.add('%s %s,%s,OUT' % (name, self.chance.choice(self.loaded), self.chance.choice(['x0', 'x5'])))
+            name = self.choice(['beq', 'bne'])
+            self.cells.append(f"{name} {self.choice(self.loaded)},{self.choice(['x0', 'x5'])},OUT")
 
     def fence(self):
-        self.add(self.chance.choice(FENCES))
+        self.cells.append(self.choice(FENCES))
 
     def make(self, accesses):
         kinds = [self.load] * 5 + [self.store] * 5 + [self.amo] * 2 + [self.pair, self.branch, self.fence]
         while self.accesses < accesses and len(self.cells) < 12:
-            self.chance.choice(kinds)()
-        return self.cells + ['OUT:']
+            self.choice(kinds)()
+        return [*self.cells, 'OUT:']
 
 
 class Maker:
@@ -120,9 +115,9 @@ class Maker:
 
     def text(self, codes, condition):
         """The test as a file has it."""
-        entries = ['%d:%s=%s;' % (hart, register, value) for hart in range(len(codes))
-                   for register, value in sorted(LOCATIONS.items()) + sorted(WORDS.items())]
-        return text_of('made%d' % self.number, entries + self.words, codes, condition)
+        registers = sorted(LOCATIONS.items()) + sorted(WORDS.items())
+        entries = [f'{hart}:{register}={value};' for hart in range(len(codes)) for register, value in registers]
+        return text_of(f'made{self.number}', entries + self.words, codes, condition)
 
     def condition(self, states):
         """A condition that is true of one or two of these final states."""
@@ -138,7 +133,7 @@ class Maker:
         offered = self.chance.sample(model.KINDS, self.chance.randint(1, 6))
         prices = {kind: self.chance.randint(1, most) for kind in sorted({*offered, 'rw,rw'})}
         if self.chance.random() < 0.5:
-            prices['weights'] = {'P%d:%d' % slot: self.chance.randint(0, 3) for slot in slots
+            prices['weights'] = {f'P{hart}:{at}': self.chance.randint(0, 3) for hart, at in slots
                                  if self.chance.random() < 0.5}
         return {key: prices[key] for key in sorted(prices)}
 

@@ -65,10 +65,8 @@ def waited_for(process, seconds):
     for by the clock, in seconds, in case it takes none."""
     if seconds is None:
         return None
-    try:
+    with contextlib.suppress(ProcessLookupError, PermissionError):      # it has ended, or works as another user
         resource.prlimit(process, resource.RLIMIT_CPU, (seconds, seconds + 1))
-    except (ProcessLookupError, PermissionError):       # it has ended, or works as another user
-        pass
     return HANGING * seconds
 
 
@@ -115,17 +113,6 @@ def encoded(text):
 
 def decoded(data):
     return (data or b"").decode("utf-8", "surrogateescape")
-
-
-def seconds_of_groups():
-    """Of each group of processes that there is, the seconds of processor time that those in it have taken, and those
-    that they have waited for."""
-    ticks = collections.Counter()
-    for name in filter(str.isdigit, os.listdir("/proc")):
-        with contextlib.suppress(OSError):              # it has ended
-            fields = read(f"/proc/{name}/stat").rpartition(b")")[2].split()
-            ticks[int(fields[2])] += sum(map(int, fields[11:15]))
-    return collections.Counter({group: count / os.sysconf("SC_CLK_TCK") for group, count in ticks.items()})
 
 
 def side_by_side(function, items):
@@ -175,7 +162,7 @@ def transcript(said):
     return f"{said.out}{said.err}[status {said.status}]"
 
 
-def stored_answers():
-    """The transcripts of examples/answers/solve.transcripts, without their commands, by test and price list."""
-    blocks = decoded(read(f"{EXAMPLES}/answers/solve.transcripts")).strip("\n").split("\n\n")
-    return {tuple(command.split()[3:]): rest for command, rest in (block.split("\n", 1) for block in blocks)}
+def stored_answers(command):
+    """The transcripts of examples/answers/ of this command, by the words behind it."""
+    blocks = decoded(read(f"{EXAMPLES}/answers/{command}.transcripts")).split(f"$ rvfence {command} ")[1:]
+    return {tuple(words.split()): rest for words, rest in (it.removesuffix("\n\n").split("\n", 1) for it in blocks)}

@@ -27,7 +27,7 @@ class Fault(Exception):
 # --- Faults of a test's runs and candidates (MODEL 11 and 15) ----------------------------------------------------
 
 def refuse_runs(test, words):
-    """Raises the first fault of a hart whose loads take these words. Of the runs no more is kept than where they end."""
+    """Raises the first fault of a hart whose loads take these words. Of runs no more is kept than where they end."""
     for hart in range(len(test.code)):
         ends = [end.position if isinstance(end, model.GoesAstray) else None
                 for end in itertools.islice(model.ends_over(test, hart, words), MOST_RUNS + 1)]
@@ -329,10 +329,10 @@ def lines_of(problem, placement):
 
 
 def answer(test, prices):
-    """The lines that are printed for this test and these prices, a fault's included, and the exit status."""
+    """What is printed for this test and these prices, and of a fault on standard error, and the exit status."""
     try:
         problem = Problem(test, prices)
         placement = solved(problem)
     except Fault as fault:
-        return [str(fault)], 2
-    return lines_of(problem, placement), 1 if placement is None else 0
+        return '', f'{fault}\n', 2
+    return ''.join(f'{line}\n' for line in lines_of(problem, placement)), '', 1 if placement is None else 0

@@ -3,15 +3,13 @@ whether runs and last words can make the outcome true at all; which can be liste
 accepts."""
 import functools
 import itertools
-import tempfile
 
 import check_certificate as model                               # of this folder
 import solve_reference as reference
-from running import EXAMPLES, Said, rvfence, written
+from running import EXAMPLES, Said
 
 YES = Said("yes\n", "", 0)
 READ = "a test"                     # the answer of a file that has no fault
-ANSWERED = "yes or no"              # of one that is a witness: which of the two is a matter of the memory model
 
 
 class Judge:
@@ -61,22 +59,23 @@ def is_listed(path, most):
     return True
 
 
-def shows_outcome(test, text):
-    """Is this the text of an execution that shows the outcome of a test with `rw,rw` in every slot?"""
+def execution_of(test, text, placement):
+    """The execution with these fences that this text is, or None."""
     try:
         witness = model.json_of(text.encode())
     except ValueError:
-        return False
+        return None
     execution = model.execution_of(test, witness) if model.is_witness(witness) else None
-    slots = test.slots()
-    return execution is not None and execution.obeys_axioms(slots, ("rw,rw",) * len(slots)) and execution.has_outcome()
+    return execution if execution and execution.obeys_axioms(test.slots(), placement) else None
 
 
-def is_accepted(path, text):
-    """The same of the test in a file, by `order`."""
-    fences = [f"P{hart}:{at}=rw,rw" for hart, at in model.read(path, model.test_of).slots()]
-    with tempfile.NamedTemporaryFile() as file:
-        return rvfence("order", path, written(file.name, text), *fences) == YES
+def is_same(test, wanted, found):
+    """Are two answers of `solve` the same, where each right execution will do for `none`?"""
+    if not wanted[0].startswith("none\n"):
+        return wanted == found
+    none, text, *more = found[0].split("\n")
+    execution = execution_of(test, text, ("rw,rw",) * len(test.slots()))
+    return (none, more, *found[1:]) == ("none", [""], "", 1) and execution is not None and execution.has_outcome()
 
 
 def runs_of(test):
@@ -89,25 +88,21 @@ def stores_of(run):
     return frozenset((step.address, step.stored) for step in run.steps if step.stored is not None)
 
 
-def atoms_of(condition, value):
-    """The atoms of a condition that is to have this truth value, in their order, each with its own."""
-    if condition[0] in ("register", "word"):
-        return [(condition, value)]
-    value = (not value) if condition[0] == "not" else value
-    return [atom for part in condition[1:] if condition[0] != "constant" for atom in atoms_of(part, value)]
-
-
-def has_way(test, spoken, ends):
-    """Is there a last word for each location that is spoken of, one that these runs store there or else the one that it
-    begins with, so that the outcome is true? Of each run these are its final registers and its stores."""
-    stored = frozenset().union(*[stores for _, stores in ends])
-    words = [[word for place, word in stored if place == address] or [test.words[address]] for address in spoken]
-    registers = [registers for registers, _ in ends]
-    return any(model.truth(test.outcome, registers, dict(zip(spoken, last))) for last in itertools.product(*words))
-
-
 def is_vacuous(test):
-    """Is there no such way, whichever run is taken of each hart?"""
-    spoken = sorted({place for (form, place, _), _ in atoms_of(*test.wanted) if form == "word"})
+    """Is there no last word for each location, one that some runs store there or else the one that it begins with, so
+    that with these runs the outcome is true?"""
     ends = [{(tuple(run.registers), stores_of(run)) for run in runs} for runs in runs_of(test)]
-    return not any(has_way(test, spoken, each) for each in itertools.product(*ends))
+    for each in itertools.product(*ends):
+        registers, stored = [end for end, _ in each], frozenset().union(*[stores for _, stores in each])
+        words = [[word for place, word in stored if place == address] or [first]
+                 for address, first in test.words.items()]
+        if any(model.truth(test.outcome, registers, dict(zip(test.words, last))) for last in itertools.product(*words)):
+            return False
+    return True
+
+
+def verdict_of(data, prices):
+    """What `test` says of these bytes, and the reference's problem of them; the prices count for nothing."""
+    test = model.test_of(data)
+    problem = reference.Problem(test, prices)
+    return "vacuous" if is_vacuous(test) else "allowed" if problem.live else "forbidden", problem

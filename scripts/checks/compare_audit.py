@@ -4,6 +4,8 @@ are put by chance, and in which the label that branches go to stands somewhere b
 The fences are taken out of the text here, cell by cell. What `--write` prints has the fences that are due, is judged
 by `test`, and written once more: then it stays as it is. Where no fence names devices it is audited, too: nothing can
 go, and the cost is what was said. What differs is printed with the test."""
+import copy
+import itertools
 import random
 import re
 
@@ -11,7 +13,7 @@ import check_certificate as model
 import solve_reference as reference
 from litmus import FENCES, Maker
 from running import rvfence, written
-from verdicts import is_vacuous
+from verdicts import verdict_of
 
 LABEL = "OUT:"
 EASED = "fence io,io"                                           # orders no memory
@@ -19,77 +21,55 @@ STATUS = {"vacuous": 4, "allowed": 1}
 DEVICES = ["fence i,r", "fence o,w", "fence iorw,iorw", "fence iorw,w", "fence io,io", "fence.i"]
 
 
+class Cell:
+    """A cell: its label, its instruction, of a FENCE what it has before and behind it and which kind that is for
+    memory, and of one that orders memory whether it stays for the devices that it names, or `--write` takes it out."""
+
+    def __init__(self, text):
+        self.label, self.bare = LABEL * text.startswith(LABEL), text.removeprefix(LABEL).strip()
+        self.letters = self.kind = None
+        if self.bare.startswith("fence"):
+            self.letters = self.bare.removeprefix("fence").strip(" .") or "iorw,iorw"
+            kind = self.letters if self.letters == "tso" else re.sub("[io]", "", self.letters)
+            self.kind = kind if kind in model.KINDS else None
+        self.stays = self.kind not in (None, self.letters)
+        self.is_taken = self.kind is not None and not self.stays
+
+    def __str__(self):
+        return f"{self.label} {self.bare}".strip()
+
+
 class Columns:
     """A test file as its columns of cells, which can be changed and put together again."""
 
     def __init__(self, text):
         lines = text.rstrip("\n").split("\n")
-        self.top = next(number for number, line in enumerate(lines) if line.startswith("P0"))
-        self.above, self.condition = lines[:self.top + 1], lines[-1]
-        rows = [line.removesuffix(" ;").split(" | ") for line in lines[self.top + 1:-1]]
-        self.cells = [[cell.strip() for cell in column if cell.strip()] for column in zip(*rows)]
+        top = 1 + next(number for number, line in enumerate(lines) if line.startswith("P0"))
+        self.above, self.condition = lines[:top], lines[-1]
+        rows = [line.removesuffix(" ;").split(" | ") for line in lines[top:-1]]
+        self.cells = [[Cell(cell.strip()) for cell in column if cell.strip()] for column in zip(*rows)]
 
     def text(self):
-        """The file, and of each instruction its line, hart by hart."""
-        rows = max(len(column) for column in self.cells)
-        filled = [column + [""] * (rows - len(column)) for column in self.cells]
-        lines = [[self.top + 2 + row for row, cell in enumerate(column) if bare(cell)] for column in self.cells]
-        body = [" | ".join(row) + " ;" for row in zip(*filled)]
-        return "\n".join([*self.above, *body, self.condition]) + "\n", lines
+        rows = itertools.zip_longest(*self.cells, fillvalue="")
+        return "\n".join([*self.above, *[" | ".join(map(str, row)) + " ;" for row in rows], self.condition, ""])
+
+    def lines(self):
+        """Of each instruction its line, hart by hart."""
+        return [[line for line, cell in enumerate(column, len(self.above) + 1) if cell.bare] for column in self.cells]
 
     def changed(self, change):
-        """The columns with each cell as `change` has it, which may give nothing."""
-        made = Columns(self.text()[0])
-        made.cells = [[cell for cell in map(change, column) if cell] for column in self.cells]
+        """The columns with each cell as `change` has it, which may be nothing."""
+        made = copy.copy(self)
+        made.cells = [[cell for cell in map(change, column) if str(cell)] for column in self.cells]
         return made
 
     def without_fences(self):
         """Without fences, but for those that name devices; labels stay."""
-        return self.changed(lambda cell: label_of(cell) if is_taken(cell) else cell)
+        return self.changed(lambda cell: Cell(cell.label) if cell.is_taken else cell)
 
     def eased(self):
         """With no fence that names devices and orders memory."""
-        return self.changed(lambda cell: f"{label_of(cell)} {EASED}".strip() if stays(cell) else cell)
-
-
-def bare(cell):
-    """The instruction in a cell, without its label."""
-    return cell.removeprefix(LABEL).strip()
-
-
-def label_of(cell):
-    return LABEL if cell.startswith(LABEL) else ""
-
-
-def is_fence(cell):
-    """Is there a FENCE that orders memory?"""
-    return bare(cell).startswith("fence") and kind_of(cell) is not None
-
-
-def names_devices(cell):
-    return is_fence(cell) and bool(re.search("[io]", letters(cell).replace("tso", "")))
-
-
-def is_taken(cell):
-    """Does `--write` take it out?"""
-    return is_fence(cell) and not names_devices(cell)
-
-
-def stays(cell):
-    """Does it stay although it orders memory?"""
-    return is_fence(cell) and names_devices(cell)
-
-
-def letters(cell):
-    """What a FENCE has before and behind it."""
-    word = bare(cell).removeprefix("fence").strip(" .")
-    return word or "iorw,iorw"
-
-
-def kind_of(cell):
-    """The kind of a FENCE: what it orders of memory; None where that is nothing."""
-    kind = re.sub("[io]", "", letters(cell)) if letters(cell) != "tso" else "tso"
-    return kind if kind in model.KINDS else None
+        return self.changed(lambda cell: Cell(f"{cell.label} {EASED}".strip()) if cell.stays else cell)
 
 
 def made(number):
@@ -97,18 +77,19 @@ def made(number):
     text, prices = Maker(number).make()
     columns, chance = Columns(text.decode()), random.Random(f"audit {number}")
     for column in columns.cells:
-        last = max([at for at, cell in enumerate(column) if re.match("b(eq|ne) ", cell)], default=-1)
-        if chance.random() < 0.5 and column[-1] == LABEL:
-            column.pop()
-            at = chance.randint(last + 1, len(column))
-            column[at:at + 1] = [f"{LABEL} {cell}" for cell in column[at:at + 1]] or [LABEL]
+        last = max([at for at, cell in enumerate(column) if re.match("b(eq|ne) ", cell.bare)], default=-1)
+        cells = list(map(str, column))
+        if chance.random() < 0.5 and cells[-1] == LABEL:
+            cells.pop()
+            at = chance.randint(last + 1, len(cells))
+            cells[at:at + 1] = [f"{LABEL} {cell}" for cell in cells[at:at + 1]] or [LABEL]
         for _ in range(chance.choice([0, 1, 1, 2, 3])):
-            at = chance.randint(0, len(column) - (column[-1] == LABEL))
+            at = chance.randint(0, len(cells) - (cells[-1] == LABEL))
             fence = chance.choice(FENCES + ["fence rw,rw"] * 6 + (DEVICES if chance.random() < 0.3 else []))
-            if chance.random() < 0.5 and at < len(column) and column[at].startswith(LABEL):
-                column[at], fence = bare(column[at]), f"{LABEL} {fence}"
-            column.insert(at, fence)
-        column[:] = [cell for cell in column if cell]
+            if chance.random() < 0.5 and at < len(cells) and cells[at].startswith(LABEL):
+                cells[at], fence = Cell(cells[at]).bare, f"{LABEL} {fence}"
+            cells.insert(at, fence)
+        column[:] = [Cell(cell) for cell in cells if cell]
     return columns, prices
 
 
@@ -116,21 +97,20 @@ class Hart:
     """The code of a hart with its fences."""
 
     def __init__(self, number, column, instructions):
-        self.number = number
-        self.cells = [cell for cell in column if bare(cell)]
-        has_label = [column[at].startswith(LABEL) or at > 0 and column[at - 1] == LABEL for at in range(len(column))]
-        self.labelled = [label for label, cell in zip(has_label, column) if bare(cell)]
-        self.is_used = any(re.match("b(eq|ne) ", bare(cell)) for cell in self.cells)
-        self.target = self.labelled.index(True) if True in self.labelled else len(self.cells)
+        self.number, self.cells = number, [cell for cell in column if cell.bare]
+        above = [Cell(""), *column]
+        labelled = [LABEL in (cell.label, str(last)) for last, cell in zip(above, column) if cell.bare]
+        is_used = any(re.match("b(eq|ne) ", cell.bare) for cell in self.cells)
+        self.target = labelled.index(True) if True in labelled else len(self.cells)
+        self.is_reached = [has_label and is_used for has_label in labelled]         # by a branch
         self.memory = [instruction.is_memory() for instruction in instructions]
         self.branch = [instruction.form in ("branch", "jump") for instruction in instructions]
+        self.fences = [at for at, cell in enumerate(self.cells) if cell.kind is not None]
 
     def access_of(self, at):
         """The access that a FENCE stands at, or None."""
         for other in range(at + 1, len(self.cells)):
-            if self.labelled[other] and self.is_used:
-                return None
-            if self.branch[other] and any(self.memory[self.target:]):
+            if self.is_reached[other] or self.branch[other] and any(self.memory[self.target:]):
                 return None
             if self.memory[other]:
                 return other
@@ -138,73 +118,56 @@ class Hart:
 
     def slot(self, access):
         """The slot of an access in the test without fences."""
-        return self.number, sum(not is_taken(cell) for cell in self.cells[:access])
-
-    def fences(self):
-        return [at for at, cell in enumerate(self.cells) if is_fence(cell)]
-
-    def standing(self, access):
-        return [at for at in self.fences() if self.access_of(at) == access]
+        return self.number, sum(not cell.is_taken for cell in self.cells[:access])
 
     def answering(self, access, kind):
         """The FENCE that stands for the kind at the access, or None."""
-        here = self.standing(access)
-        same = [at for at in here if kind_of(self.cells[at]) == kind]
-        strong = [at for at in here if model.PAIRS[kind] <= model.PAIRS[kind_of(self.cells[at])]]
+        here = [at for at in self.fences if self.access_of(at) == access]
+        same = [at for at in here if self.cells[at].kind == kind]
+        strong = [at for at in here if model.PAIRS[kind] <= model.PAIRS[self.cells[at].kind]]
         return (same or strong or here or [None])[0]
 
     def advice(self, at, placed):
         """What is advised at this instruction, or None. `placed` has the kind of each slot."""
+        cell, access = self.cells[at], self.access_of(at)
         if self.memory[at]:
             kind = placed.get(self.slot(at))
             return f"{kind} is missing" if kind and self.answering(at, kind) is None else None
-        if not is_fence(self.cells[at]):
-            return "not for memory" if bare(self.cells[at]).startswith("fence") else None
-        access = self.access_of(at)
-        about = " for memory" if names_devices(self.cells[at]) else ""
+        if cell.kind is None:
+            return "not for memory" if cell.letters else None
+        about = " for memory" if cell.stays else ""
         if access is None or self.slot(access) not in placed:
             is_between = any(self.memory[:at]) and any(self.memory[at:])
             return "at no slot" if is_between else f"orders nothing{about}"
-        kind, own = placed[self.slot(access)], kind_of(self.cells[at])
+        kind = placed[self.slot(access)]
         if kind is None or self.answering(access, kind) != at:
             return f"not needed{about}"
-        if not model.PAIRS[kind] <= model.PAIRS[own]:
+        if not model.PAIRS[kind] <= model.PAIRS[cell.kind]:
             return f"{kind} instead{about}"
-        return f"needed{about}" if own == kind else f"{kind} is enough{about}"
+        return f"needed{about}" if cell.kind == kind else f"{kind} is enough{about}"
 
 
 def written_placement(harts, slots, prices):
     """The fences as they are written, for each slot, and whether these are all: they are not where one has no slot of
     its own, or a kind without a price."""
     placed, are_all = dict.fromkeys(slots), True
-    for hart in harts:
-        for at in hart.fences():
-            access, kind = hart.access_of(at), kind_of(hart.cells[at])
-            slot = None if access is None else hart.slot(access)
-            if slot in placed and placed[slot] is None and kind in prices.offered:
-                placed[slot] = kind
-            else:
-                are_all = False
+    for hart, at in ((hart, at) for hart in harts for at in hart.fences):
+        access, kind = hart.access_of(at), hart.cells[at].kind
+        slot = None if access is None else hart.slot(access)
+        if slot in placed and placed[slot] is None and kind in prices.offered:
+            placed[slot] = kind
+        else:
+            are_all = False
     return tuple(placed[slot] for slot in slots), are_all
-
-
-def verdict_of(data, prices):
-    """What `test` says of these bytes."""
-    test = model.test_of(data)
-    problem = reference.Problem(test, prices)
-    if is_vacuous(test):
-        return "vacuous"
-    return "allowed" if problem.live else "forbidden"
 
 
 class Advised:
     """The fences that are advised over the slots of the columns `left`, and what that says of the fences of `asked`."""
 
     def __init__(self, asked, left, prices):
-        text, _ = asked.text()
-        problem = reference.Problem(model.test_of(left.text()[0].encode()), prices)
+        problem = reference.Problem(model.test_of(left.text().encode()), prices)
         self.harts = [Hart(number, column, code) for number, (column, code)
-                      in enumerate(zip(asked.cells, model.test_of(text.encode()).code))]
+                      in enumerate(zip(asked.cells, model.test_of(asked.text().encode()).code))]
         self.best = reference.solved(problem)
         self.own, self.are_all = written_placement(self.harts, problem.slots, prices)
         is_paid = all(kind is None or prices.at(slot, kind) for slot, kind in zip(problem.slots, self.own))
@@ -228,10 +191,9 @@ class Advised:
 
 def by_reference(columns, data):
     """The verdict; the lines and the status that are to be printed, or a fault; and what is advised for `--write`."""
-    text, lines = columns.text()
-    prices = model.prices_of(data)
+    prices, lines = model.prices_of(data), columns.lines()
     try:
-        kind = verdict_of(text.encode(), prices)
+        kind, _ = verdict_of(columns.text().encode(), prices)
         advised = Advised(columns, columns.without_fences().eased(), prices)
         mended = Advised(columns.eased(), columns.without_fences(), prices)
     except reference.Fault as fault:
@@ -241,19 +203,13 @@ def by_reference(columns, data):
         return kind, ([f"{kind} as written{cost}; no fences rule it out"], advised.status(kind)), mended
     said = [f"{kind} as written{cost}; cheapest {advised.best_cost}"]
     for hart, at, cell, words in advised.lines():
-        shown = letters(cell) if bare(cell).startswith("fence") else "none"
-        said.append(f"{f'line {lines[hart][at]}':8}  {f'P{hart}:{at}':5}  {shown:9}  {words}")
+        said.append(f"{f'line {lines[hart][at]}':8}  {f'P{hart}:{at}':5}  {cell.letters or 'none':9}  {words}")
     return kind, (said, advised.status(kind)), mended
 
 
 def fences_of(text):
     """Of each hart the fences of a printed test, in their places: of each cell its letters, or None."""
-    cells = Columns(re.sub("L[0-9]+:", LABEL, text)).cells
-    return [[fence_in(cell) for cell in column if bare(cell)] for column in cells]
-
-
-def fence_in(cell):
-    return letters(cell) if bare(cell).startswith("fence") else None
+    return [[cell.letters for cell in column if cell.bare] for column in Columns(re.sub("L[0-9]+:", LABEL, text)).cells]
 
 
 def mended_fences(columns, placed):
@@ -261,9 +217,9 @@ def mended_fences(columns, placed):
     harts = []
     for hart, column in enumerate(columns.without_fences().cells):
         harts.append([])
-        for at, cell in enumerate(filter(bare, column)):
+        for at, cell in enumerate(cell for cell in column if cell.bare):
             kind = placed.get((hart, at))
-            harts[-1] += [kind] * (kind is not None) + [fence_in(cell)]
+            harts[-1] += [kind] * (kind is not None) + [cell.letters]
     return harts
 
 
@@ -281,7 +237,7 @@ def check_mended(run, name, files, columns, kind, mended):
     run.expect(f"{name}: the written test", wanted, verdict[1] if len(verdict) > 1 else "")
     again = rvfence("audit", file, files[1], "--write")
     run.expect(f"{name}: written again", (said.out, STATUS.get(wanted, 0)), (again.out, again.status))
-    if not any(stays(cell) for column in columns.cells for cell in column):
+    if not any(cell.stays for column in columns.cells for cell in column):
         again = rvfence("audit", file, files[1])
         first = f"{wanted} as written, {mended.best_cost}; cheapest {mended.best_cost}"
         run.expect(f"{name}: the audit of it", first, again.out.split("\n")[0])
@@ -291,7 +247,7 @@ def check_mended(run, name, files, columns, kind, mended):
 def check(run):
     for number in run.numbers():
         columns, prices = made(number)
-        text, _ = columns.text()
+        text = columns.text()
         kind, wanted, mended = by_reference(columns, prices)
         files = [written(run.path("test.litmus"), text), written(run.path("prices.json"), prices)]
         said = rvfence("audit", "-q", *files)

@@ -3,106 +3,55 @@
 For each test of examples/ and each price list, `solve --cert` must write a certificate to which both say yes, with
 the answer that `solve` printed, and each of its cycles must begin at its least operation. At prices.json both must
 say yes to the same with the items of examples/refutations.json. Then COUNT certificates are made of these, and of
-those of versions 1 and 2 in examples/certificates/, each with one change or two by a number: a link, a cycle, an item
-of a refutation or of the tree, a witness, the cost, a fence. Of each the two must print the same and end with the same
-status."""
+those of versions 1 and 2 in examples/certificates/, each with one change or two by a number. Of each the two must print
+the same and end with the same status."""
 import copy
+import itertools
 import json
 import os
 import random
 
 import check_certificate as model
-from running import EXAMPLES, PRICE_LISTS, Said, read, rvfence, tests_of_examples, written
+from running import EXAMPLES, PRICE_LISTS, Said, here, read, rvfence, tests_of_examples, written
 from verdicts import Judge
 
 LISTED = ['CoRR', 'MP', 'SB', 'SBF']    # of version 1, and of version 2
-# Where changes are made, as often as each stands here; and in a certificate with a refutation.
-PARTS = ['cycles', 'cycles', 'tree', 'tree', 'tree', 'witnesses', 'answer']
-PARTS_OF_REFUTED = ['cycles'] * 6 + ['tree', 'witnesses', 'answer']
+PARTS = ['cycles'] * 4 + ['tree'] * 3 + ['witnesses', 'answer']     # where changes are made, so often
 
 
-def any_name(dice):
-    return f'P{dice.randrange(3)}:{dice.randrange(10)}'
+def places_in(value):
+    """The lists and objects in a value, each with each of its keys."""
+    keys = list(value) if isinstance(value, dict) else range(len(value)) if isinstance(value, list) else []
+    for key in keys:
+        yield value, key
+        yield from places_in(value[key])
 
 
-def any_inference(dice):
-    letter = dice.choice('csofdla')
-    count = {'c': 1, 's': 1, 'a': dice.choice([2, 3])}.get(letter, 2)
-    return [letter, dice.randrange(4)] if letter in 'fd' else [letter, *[any_name(dice) for _ in range(count)]]
+def kind_of(value):
+    """Values of one kind stand for one another: of texts names, fences, letters and causes are kinds."""
+    return type(value), isinstance(value, str) and (':' in value, '=' in value, len(value) == 1)
 
 
-def any_item(dice):
-    """An item of the tree."""
-    numbers = [dice.randrange(4) for _ in range(dice.randint(1, 3))]
-    return dice.choice(['c', numbers[0], ['w', numbers[0]], ['b', numbers]])
-
-
-def is_record(value):
-    """Is this a link, an inference, or an item of two parts: a list in which each place has a meaning of its own?"""
-    return isinstance(value, list) and type(value[0]) is str and (value[0][0] != 'P' or value[-1] in model.CAUSES)
-
-
-def another(value, dice):
-    """Another value of this kind."""
-    if type(value) is bool:
-        return not value
-    if type(value) is int:
-        return max(0, value + dice.choice([-1, 1, 2]))
-    if is_record(value):
-        at = dice.choice([*range(len(value)), len(value) - 1])
-        return [*value[:at], another(value[at], dice), *value[at + 1:]]
-    if isinstance(value, list):
-        return value[::-1] if dice.random() < 0.5 else value[1:] + value[:1]
-    if isinstance(value, dict):
-        return {**value, 'order': another(value['order'], dice)} if 'order' in value else 'none'
-    slot, is_fence, _ = value.partition('=')
-    if value == 'none' or is_fence:
-        return f'{slot}={dice.choice(model.KINDS)}' if is_fence else {'cost': 0, 'fences': []}
-    # a cause, a letter with as many parts behind it, or a name
-    return dice.choice(next((kin for kin in (model.CAUSES, 'cs', 'ola', 'fd') if value in kin), [any_name(dice)]))
-
-
-def place_in(cert, key, dice):
-    """A place in the part of the certificate at this key: the list or the object that it is in, and where."""
-    inside, at = cert, key
-    while isinstance(inside[at], (dict, list)) and inside[at] and dice.random() < (0.9 if inside is cert else 0.5):
-        inside = inside[at]
-        at = dice.choice(list(inside)) if isinstance(inside, dict) else dice.randrange(len(inside))
-    return inside, at
-
-
-def changed(cert, dice):
-    """Makes a change somewhere in the certificate: an entry of a list less or more, two swapped, or another value."""
-    key = dice.choice(PARTS_OF_REFUTED if cert['version'] == 4 else PARTS)
-    inside, at = place_in(cert, key, dice)
-    way = dice.randrange(5) if isinstance(inside, list) and not is_record(inside) or inside is cert['tree'] else 4
-    if way == 0:
-        del inside[at]
-    elif way == 1:
-        inside.insert(at, copy.deepcopy(dice.choice(inside)))
-    elif way == 2:
-        other = dice.randrange(len(inside))
-        inside[at], inside[other] = inside[other], inside[at]
-    elif inside[at] == []:
-        inside[at].append(dice.choice([0, 1, 2, True, False]))
-    elif inside is cert['tree']:
-        inside[at] = any_item(dice)
-    elif inside is cert['cycles'] and cert['version'] == 4 and way == 3:
-        inside[at] = any_inference(dice)
-    else:
-        inside[at] = another(inside[at], dice)
-
-
-def mangled(cert, number):
-    """The certificate with a change or two, in each version."""
-    dice = random.Random(number)
+def mangled(cert, other, dice):
+    """The certificate with a change or two: an entry of a list less or more, two swapped, or a value of another
+    certificate of this version in the place of one of its kind."""
     cert = copy.deepcopy(cert)
-    if cert['version'] == 2 and dice.random() < 0.4:
-        cert['version'] = 1
-        if dice.random() < 0.8:
-            cert['tree'] = [['w', it[1][0]] if type(it) is list and it[0] == 'b' else it for it in cert['tree']]
     for _ in range(dice.choice([1, 1, 2])):
-        changed(cert, dice)
+        key = dice.choice(PARTS)
+        inside, at = dice.choice([(cert, key), *places_in(cert[key])][-200:])
+        # in a link or an item each place has a meaning of its own
+        is_record = inside is not cert['tree'] and any(kind_of(it) in map(kind_of, ['rf', 'w']) for it in inside)
+        way = dice.randrange(5) if isinstance(inside, list) and not is_record else 4
+        if way == 0:
+            del inside[at]
+        elif way == 1:
+            inside.insert(at, copy.deepcopy(dice.choice(inside)))
+        elif way == 2:
+            second = dice.randrange(len(inside))
+            inside[at], inside[second] = inside[second], inside[at]
+        else:
+            values = [box[it] for box, it in places_in({key: other[key]}) if kind_of(box[it]) == kind_of(inside[at])]
+            inside[at] = copy.deepcopy(dice.choice(values or [inside[at]]))
     return cert
 
 
@@ -127,7 +76,7 @@ def certified(run):
     """For each test and price list with a certificate: a name, the two files, the judge of both, and the
     certificate; and the same in version 4."""
     found, path = [], run.path('answer.json')
-    for test, name in [(test, name) for test in tests_of_examples() for name in PRICE_LISTS]:
+    for test, name in itertools.product([*tests_of_examples(), here('ROUND.litmus')], PRICE_LISTS):
         prices, what = f'{EXAMPLES}/{name}', f'{os.path.relpath(test, EXAMPLES)} at {name}'
         said = rvfence('solve', test, prices, '--cert', path)
         if said.status == 2:
@@ -158,8 +107,10 @@ def listed():
 def check(run):
     found = [*certified(run), *listed()]
     for number in run.numbers():
+        dice = random.Random(number)
         what, test, prices, judge, cert = found[number % len(found)]
-        path = written(run.path('mangled.json'), json.dumps(mangled(cert, number)))
+        other = dice.choice([it[-1] for it in found if it[-1]['version'] == cert['version']])
+        path = written(run.path('mangled.json'), json.dumps(mangled(cert, other, dice)))
         wanted = judge.verdict(read(path))
         words = wanted.out.split() or ['fault']
         run.kinds[' '.join(words[:2]) if words[0] != 'yes' else 'yes'] += 1

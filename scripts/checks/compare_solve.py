@@ -1,12 +1,16 @@
 """Compares `rvfence solve` with scripts/solve_reference.py on known tests at lists of two and three kinds, and on the
 tests and price lists that scripts/litmus.py makes.
 
-What differs is printed with the test; `--show` prints each test, its prices and the reference's answer."""
+With 1, 4 and 16 workers it must print the same bytes, and write the same certificate beside an answer, to which `check`
+says yes. (In no test do others join the first worker; crates/fs_board_tests has such.) What differs is printed with the
+test; `--show` prints each test, its prices and the reference's answer."""
+import os
+
 import check_certificate as model
 import solve_reference as reference
 from litmus import Maker
 from running import EXAMPLES, read, rvfence, written
-from verdicts import shows_outcome
+from verdicts import is_same
 
 KNOWN = ["SB", "MP", "LB", "MPA", "SBX", "SBXA", "MPB", "2+2W", "CoRR", "MP11", "LRSC", "LRSCF", "ADD2", "LBD", "SBF"]
 # One list with a weight, and one in which the strongest kind is the cheapest.
@@ -14,34 +18,32 @@ LISTS = [b'{"w,r":4,"rw,rw":5}', b'{"r,r":1,"w,w":1,"rw,rw":3,"weights":{"P1:1":
          b'{"r,rw":2,"rw,w":2,"rw,rw":3}', b'{"rw,rw":1}']
 
 
-def by_program(folder, test, prices):
-    """The lines and the status of the program on these bytes."""
-    said = rvfence("solve", written(f"{folder}/test.litmus", test), written(f"{folder}/prices.json", prices))
-    return (said.out or said.err).splitlines(), said.status       # beside an answer there may be a note
+def compare_workers(run, name, files, found):
+    """Compares what is said by so many workers with this, and their certificates."""
+    certificates, path = set(), run.path("certificate.json")
+    for workers in ("1", "4", "16"):
+        said = rvfence("solve", "-q", *files, "--workers", workers, "--cert", path)
+        run.expect(f"{name} by {workers} workers", found, said)
+        if os.path.exists(path):
+            certificates.add(read(path))
+            run.expect(f"the certificate of {name}", (f"yes\n{found.out}", "", 0), rvfence("check", *files, path))
+            os.remove(path)
+    run.expect(f"how many certificates {name} has", int(found.status < 2), len(certificates))
 
 
-def agree(test, wanted, found):
-    """Are two answers the same, where each right execution will do for `none`?"""
-    if wanted[0][:1] != ["none"]:
-        return wanted == found
-    return found[1] == 1 and len(found[0]) == 2 and found[0][0] == "none" and shows_outcome(test, found[0][1])
-
-
-def kind_of(lines):
-    """An answer in a word or two, for the count of what was made."""
-    return f"fenced by {len(lines) - 1}" if lines[0].startswith("fenced") else " ".join(lines[0].split()[:2])
-
-
-def compare(run, name, test, prices):
+def compare(run, name, data, prices):
     """Compares the answers to this test, of this name."""
-    read_test = model.test_of(test)
-    wanted = reference.answer(read_test, model.prices_of(prices))
+    test = model.test_of(data)
+    files = [written(run.path("test.litmus"), data), written(run.path("prices.json"), prices)]
+    wanted = out, error, _ = reference.answer(test, model.prices_of(prices))
     if run.options.show:
-        print(test.decode() + prices.decode(), *wanted[0], sep="\n")
-    found = by_program(run.folder, test, prices)
-    run.kinds[kind_of(wanted[0])] += 1
-    texts = [test.decode(), prices.decode(), f"\nwanted: {wanted}", f"\nfound:  {found}"]
-    run.check(name, agree(read_test, wanted, found), "".join(texts))
+        print(data.decode() + prices.decode(), out + error, sep="\n")
+    found = rvfence("solve", "-q", *files)
+    first = " ".join((out + error).split()[:2])
+    run.kinds[f"fenced by {out.count('fence ')}" if first.startswith("fenced") else first.split(" {")[0]] += 1
+    texts = [data.decode(), prices.decode(), f"\nwanted: {wanted}", f"\nfound:  {found}"]
+    run.check(name, is_same(test, wanted, found), "".join(texts))
+    compare_workers(run, name, files, found)
 
 
 def check(run):

@@ -16,9 +16,9 @@ import check_certificate as model
 import solve_reference as reference
 from litmus import Maker
 from running import rvfence, written
-from verdicts import YES, is_vacuous, runs_of, stores_of
+from verdicts import YES, runs_of, stores_of, verdict_of
 
-ONES = b'{"rw,rw":1}'
+ONES = model.prices_of(b'{"rw,rw":1}')
 AT_ONCE = 200
 SIGNS = ["/\\", "/\\", "\\/"]                                           # that join two atoms of one place
 STATUS = {"allowed": 1, "fault": 2, "vacuous": 4, "forbidden": 0}     # the first kind that is there gives the status
@@ -71,17 +71,13 @@ def why_vacuous(test):
 
 def by_reference(data):
     """What is to be said of the test, and the words for it, or which form they have."""
-    test = model.test_of(data)
     try:
-        problem = reference.Problem(test, model.prices_of(ONES))
+        kind, problem = verdict_of(data, ONES)
     except reference.Fault as fault:
         return "fault", str(fault).removeprefix("fault ")
-    if is_vacuous(test):
-        return "vacuous", why_vacuous(test)
-    if problem.live:
-        return "allowed", ORDERED
     # where some candidate shows the outcome, a contradiction is needed to rule it out
-    return "forbidden", COUNTED if problem.candidates else FORBIDDEN
+    forbidden = COUNTED if problem.candidates else FORBIDDEN
+    return kind, why_vacuous(problem.test) if kind == "vacuous" else ORDERED if kind == "allowed" else forbidden
 
 
 def agree(wanted, kind, words):
@@ -92,15 +88,6 @@ def agree(wanted, kind, words):
     if kind == "forbidden" or found is None:
         return found is not None
     return found[1] is None or (found[1] == found[3] and int(found[4]) < int(found[2]))
-
-
-def summary(kinds):
-    """The last line."""
-    words = {"fault": "fault" if kinds["fault"] == 1 else "faults"}
-    kept = [kind for kind in ("forbidden", "allowed", "vacuous", "fault") if kinds[kind]]
-    parts = [f"{kinds[kind]} {words.get(kind, kind)}" for kind in kept]
-    total = sum(kinds.values())
-    return f"{total} test{'' if total == 1 else 's'}: {', '.join(parts)}"
 
 
 def compare_objects(run, names, said):
@@ -139,7 +126,7 @@ def compare(run, numbers):
         is_right = line.startswith(f"{name:{width}}  ") and agree(wanted, kind, words)
         run.check(f"made test {number}", is_right, f"{text.decode()}wanted: {wanted}, found: {line}")
     status = next(STATUS[kind] for kind in STATUS if kinds[kind])
-    run.expect("the last line", summary(kinds), lines[-1] if len(lines) == len(names) + 1 else "")
+    run.expect("how many lines", len(names) + 1, len(lines))
     run.expect("the status", status, said.status)
     run.kinds += kinds
 

@@ -1,13 +1,11 @@
-"""Runs the built program where files and devices fail: readers that fail at once or later, files that may not be
-read, standard output that is closed, full, gone, or full after each number of bytes, and disks that are so while a
-certificate is written; calls that a signal interrupts; and two runs at once that write one certificate, each of which
-is held at each of its calls (scripts/checks/hinder.c).
+"""Runs the built program where files and devices fail: what it reads, prints and writes as a certificate; calls that a
+signal interrupts; and two runs at once that write one certificate, each held at each of its calls
+(scripts/checks/hinder.c).
 
 What can't be read is F20 and what can't be written F21, with status 2, and of F20 a line says which file it is, and
-why; nothing more is on standard output than what it took before it failed, and that is a beginning of the answer;
-status 0 or 1 comes only where the whole answer was written. No signal ends a run where a file may not grow further.
-A certificate stands under its name whole or not at all, with the mode of what was there; what was there stays where it
-can't be written, and so does each other file."""
+why; what is on standard output is a beginning of the answer; status 0 or 1 comes only where the whole answer was
+written. No signal ends a run where a file may not grow further. A certificate stands under its name whole or not at
+all, with the mode of what was there; what was there stays where it can't be written, and so does each other file."""
 import array
 import contextlib
 import errno
@@ -26,8 +24,7 @@ import termios
 import time
 
 from checks import transcripts
-from litmus import text_of
-from running import LONGEST, PRICES, Said, compiled, decoded, program, ran, read, waited_for, written
+from running import EXAMPLES, LONGEST, PRICES, Said, compiled, decoded, program, ran, read, waited_for, written
 
 MISSING, FOLDER, UNREAD = "there is no such file", "it is a folder", "it can't be opened or read"
 UNWRITTEN = Said("", "fault F21 WriteFault\n", 2)
@@ -38,12 +35,6 @@ STREAMS = [[0], [1], [2], [0, 1], [0, 2], [1, 2], [0, 1, 2]]
 SB = decoded(read(f"{transcripts.FOLDER}/files/printed.litmus"))
 SB_WITNESS = '{"choices":[[0],[0]],"order":["P0:1","P1:1","P0:0","P1:0"]}'
 SB_ANSWER = Said("fenced 18\nfence P0 1 w,r\nfence P1 1 w,r\n", "", 0)
-
-
-def stores(count):
-    """A test whose hart stores 1, 2 and so on to one word: there are as many candidates as orders of them."""
-    entries = ["0:x28=a;", *[f"0:x{5 + at}={1 + at};" for at in range(count)]]
-    return text_of("stores", entries, [[f"sw x{5 + at},0(x28)" for at in range(count)]], "exists a=1")
 
 
 def unread(name, why):
@@ -125,11 +116,10 @@ def check_readers(checks):
     for line in [["place", checks.test, "--prices", checks.prices], *lines]:
         for at in range(1, len(line)):
             for name, (path, why) in failing.items() if line[at] != "--prices" else ():
-                words = line[:at] + [path] + line[at + 1:]
-                found = checks.run(words, **(others if path == locked else {}))
-                checks.expect(f"{name} as word {at} of {line[0]}", unread(path, why), found)
-                found = checks.run([*words, "-q"], **(others if path == locked else {}))
-                checks.expect(f"{name} as word {at} of {line[0]} -q", Said("", "fault F20 ReadFault\n", 2), found)
+                for more, wanted in ([], unread(path, why)), (["-q"], Said("", "fault F20 ReadFault\n", 2)):
+                    words = [*line[:at], path, *line[at + 1:], *more]
+                    found = checks.run(words, **(others if path == locked else {}))
+                    checks.expect(f"{name} as word {at} of {' '.join([line[0], *more])}", wanted, found)
 
 
 def check_inputs(checks):
@@ -210,13 +200,8 @@ def check_outputs(checks):
 
 
 def check_errors(checks):
-    """Where standard error fails too, the status tells."""
-    missing, place = ["place", f"{checks.folder}/missing"], ["place", checks.test]
-    checks.expect("a fault where standard error is closed", Said("", "", 2), checks.run(missing, preexec_fn=before(2)))
-    with open("/dev/full", "wb") as full:
-        checks.expect("a fault where standard error is full", Said("", "", 2), checks.run(missing, stderr=full))
-        checks.expect("an answer where standard error is full", Said(SB, "", 0), checks.run(place, stderr=full))
-        checks.expect("both are full", Said("", "", 2), checks.run(place, stdout=full, stderr=full))
+    """Where standard error takes some bytes, whole lines come and the status tells."""
+    missing = ["place", f"{checks.folder}/missing"]
     line = unread(missing[1], MISSING).err
     for size, is_ignored in itertools.product(range(0, len(line) + 8, 7), (True, False)):
         path = f"{checks.folder}/said"
@@ -261,46 +246,6 @@ def certified(checks, kept, size, is_ignored, closed=()):
         if beside:
             return found, beside
         return found, read(path) if os.path.exists(path) else None
-
-
-def check_links(checks):
-    """Paths at which there can be no certificate, and where standard output fails behind it: then the certificate is
-    whole."""
-    folder, whole = checks.folder, read(checks.certificate)
-    for name, path in (("a missing folder", f"{folder}/missing/c.json"), ("a folder", folder), ("an empty name", ""),
-                       ("a name below a file", f"{checks.test}/c.json"), ("a full device", "/dev/full"),
-                       ("a name of 300 letters", f"{folder}/{'n' * 300}")):
-        checks.expect(f"{name} for a certificate", UNWRITTEN, checks.certify(path))
-    longest = f"{folder}/{'n' * 255}"
-    checks.certify(longest)
-    checks.expect("a name of 255 letters, which leaves no room for a name beside it", whole, read(longest))
-    for name, prepare in (("closed", before(1)), ("full", None)):
-        path = f"{folder}/{name}.json"
-        with open("/dev/full", "wb") as full:
-            found = checks.certify(path, stdout=full, preexec_fn=prepare)
-        checks.expect(f"a certificate where standard output is {name}", (UNWRITTEN, whole), (found, read(path)))
-
-
-def check_signals(checks):
-    """A run that a signal ends, each time a little later, leaves under the name of its certificate what was there or
-    the whole of it. The test has many candidates, so that its certificate takes some time to be made and to be
-    written."""
-    test = written(f"{checks.folder}/stores.litmus", stores(7))
-    path = f"{checks.folder}/stores.json"
-    words = ["solve", test, checks.prices, "--cert", path]
-    start = time.monotonic()
-    checks.expect("seven stores", Said("fenced 0\n", "", 0), checks.run(words))
-    took = time.monotonic() - start
-    whole = read(path)
-    for at in range(40):
-        for number in (signal.SIGINT, signal.SIGTERM, signal.SIGKILL):
-            written(path, OLD)
-            child = subprocess.Popen([checks.program, *words], stdout=subprocess.DEVNULL, stderr=subprocess.DEVNULL)
-            longest = waited_for(child.pid, LONGEST)
-            time.sleep(took * at / 40)
-            child.send_signal(number)
-            child.wait(longest)
-            checks.check(f"signal {number} after {at} of 40 parts of a run", read(path) in (OLD, whole))
 
 
 # --- Two runs at once, and calls that are interrupted ----------------------------------------------------------------
@@ -351,7 +296,7 @@ def check_two_runs(checks):
     goes on before the other one or behind it. Both say what they say alone, the certificate of one of them stands
     there whole, and nothing beside it."""
     runs = []
-    for test in (checks.test, written(f"{checks.folder}/three.litmus", stores(3))):
+    for test in (checks.test, f"{EXAMPLES}/MP.litmus"):
         said = checks.run(["solve", test, checks.prices, "--cert", f"{checks.folder}/alone.json"])
         runs.append((test, said, read(f"{checks.folder}/alone.json")))
     wanted, wholes = [said for _, said, _ in runs], [whole for _, _, whole in runs]
@@ -381,19 +326,6 @@ def check_ended_runs(checks):
             checks.check(name, is_right, left)
             checks.expect(f"{name}: a later run", checks.answer, checks.certify(path))
             checks.expect(f"{name}: a later run's certificate", {**left, "kept.json": whole}, contents(folder))
-
-
-def check_beside(checks):
-    """What stands under the names beside a certificate is nobody's to remove."""
-    whole = read(checks.certificate)
-    with folder_with(checks, None) as (folder, path):
-        written(f"{path}.part", "mine")
-        os.mkdir(f"{path}.1.part")
-        os.symlink("nowhere", f"{path}.2.part")
-        before_run = contents(folder)
-        for kept in ("nothing", "a certificate"):
-            checks.expect(f"files beside, {kept} there", checks.answer, checks.certify(path))
-            checks.expect(f"what is left of them, {kept} there", {**before_run, "kept.json": whole}, contents(folder))
 
 
 def check_modes(checks):
@@ -429,14 +361,11 @@ def check_modes(checks):
         checks.expect("a mode that can't be given", wanted, found)
 
 
-def hindering(checks, call, error, count=None, name=None):
-    """The settings of a run in which these calls fail with this error."""
-    settings = {"HINDER_CALL": call, "HINDER_ERROR": str(error), "LD_PRELOAD": checks.hinder}
-    if count is not None:
-        settings["HINDER_COUNT"] = str(count)
-    if name is not None:
-        settings["HINDER_NAME"] = name
-    return {**os.environ, **settings}
+def hindering(checks, call, error, count=1000, name=""):
+    """The settings of a run in which the first so many of these calls fail with this error, those at files of this
+    name."""
+    return {**os.environ, "HINDER_CALL": call, "HINDER_ERROR": str(error), "HINDER_COUNT": str(count),
+            "HINDER_NAME": name, "LD_PRELOAD": checks.hinder}
 
 
 def check_interrupted(checks):
@@ -458,21 +387,8 @@ def check_interrupted(checks):
         checks.expect(f"a certificate whose {call} is interrupted", (checks.answer, whole), found)
 
 
-def check_stacks(checks):
-    """A stack that is too small for some run is refused, from the one on at which a program begins at all; one of half
-    a mebibyte is none."""
-    refused = Said("", "error: a run may need a stack of 512 KiB, and there is less: see `ulimit -s`\n", 2)
-    for kibibytes in (64, 96, 128, 256, 511, 512, 1024):
-        for command, (words, answer) in checks.commands.items():
-            # what stands in the environment lies on the stack, too
-            found = checks.run(words, limits={resource.RLIMIT_STACK: kibibytes * 1024}, env={})
-            wanted = refused if kibibytes < 512 else answer
-            checks.expect(f"{command}: a stack of {kibibytes} KiB", wanted, found)
-
-
 def check(run):
     checks = Checks(run)
-    for part in (check_readers, check_inputs, check_outputs, check_errors, check_certificates, check_links,
-                 check_signals, check_two_runs, check_ended_runs, check_beside, check_modes, check_interrupted,
-                 check_stacks):
+    for part in (check_readers, check_inputs, check_outputs, check_errors, check_certificates, check_two_runs,
+                 check_ended_runs, check_modes, check_interrupted):
         part(checks)

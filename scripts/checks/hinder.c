@@ -1,7 +1,7 @@
 /* A library to be put before a program by LD_PRELOAD: it hinders the calls HINDER_CALL (statx, open, fchmod, read,
- * write, rename or unlink) of files whose names have HINDER_NAME in them, or of any file where that is missing. Where
- * HINDER_ERROR is set, the first HINDER_COUNT of them fail with this number of an error. Else the first one is held:
- * it makes the file HINDER_REACHED, and goes on only when the file HINDER_GO is there. None of it goes by a clock. */
+ * write, rename or unlink) of files whose names have HINDER_NAME in them. Where HINDER_ERROR is set, the first
+ * HINDER_COUNT of them fail with this number of an error. Else the first one is held: it makes the file HINDER_REACHED,
+ * and goes on only when the file HINDER_GO is there. None of it goes by a clock. */
 #define _GNU_SOURCE
 #include <errno.h>
 #include <fcntl.h>
@@ -26,16 +26,13 @@ static void hold(void) {
 
 /* Does this call fail? One that is held is held here. */
 static int is_failing(const char *call, const char *path) {
-    const char *wanted = getenv("HINDER_CALL"), *name = getenv("HINDER_NAME"), *error = getenv("HINDER_ERROR");
-    const char *count = getenv("HINDER_COUNT");
-    if (wanted == NULL || strcmp(wanted, call) != 0 || (name != NULL && strstr(path, name) == NULL))
+    const char *wanted = getenv("HINDER_CALL"), *error = getenv("HINDER_ERROR");
+    if (wanted == NULL || strcmp(wanted, call) != 0 || strstr(path, getenv("HINDER_NAME")) == NULL)
         return 0;
-    if (error == NULL) {
-        if (atomic_fetch_add(&calls, 1) == 0)
-            hold();
-        return 0;
-    }
-    if (count != NULL && atomic_fetch_add(&calls, 1) >= atol(count))
+    long number = atomic_fetch_add(&calls, 1);
+    if (error == NULL && number == 0)
+        hold();
+    if (error == NULL || number >= atol(getenv("HINDER_COUNT")))
         return 0;
     errno = atoi(error);
     return 1;

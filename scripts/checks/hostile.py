@@ -1,19 +1,14 @@
 """Feeds the built program the hostile files of scripts/checks/hostile_files.py.
 
-Each run must end by itself with the answer that is wanted: status 0 and nothing on standard error, or status 2,
-nothing on standard output and on standard error the one line of the fault, and with -v, of F20, and of `audit` and
-`states` its message; within 2 seconds of processor time, 400 MB and a stack of 8 MiB. `order` ends with status 0 and
-the line `yes`, or with status 1 and a line with its reason. `solve` ends with status 0 and lines of fences, or with
-status 1 and an execution, or says that it can't be answered within its limits (F13 to F16). `test` ends with status 0,
-1, 2 or 4 and a line for the file, and a message where that has a fault of it, and `audit` with status 0, 1 or 4 and
-its lines, or like `solve`. `states` ends with status 0 and its block, or like `solve`. `check` says of a certificate
-what scripts/check_certificate.py says. A message has the form of docs/FORMAT.md, section 14, and the line of its
-fault. Memory is ample, so status 3 is no answer here. The groups of files are split over as many processes as there
-are processors.
+Each run must end by itself with the answer that is wanted, and print what the patterns of the table say: an answer, or
+the one line of a fault and its message where one is due (docs/FORMAT.md, section 14); within 2 seconds of processor
+time, 400 MB and a stack of 8 MiB. `check` says of a certificate what scripts/check_certificate.py says. Memory is
+ample, so status 3 is no answer here. The groups of files are split over as many processes as there are processors.
 
 With `--huge` it feeds `check` certificates of 100 MB, one after the other, and nothing else: these may take 60
 seconds and 8 GB, and what each takes is printed."""
 import collections
+import contextlib
 import os
 import re
 import resource
@@ -21,11 +16,10 @@ import signal
 from concurrent.futures import ProcessPoolExecutor
 
 from checks import hostile_files as files
-from running import EXAMPLES, PRICES, program, read, written
-from verdicts import ANSWERED, READ
+from running import EXAMPLES, PRICES, TOP, program, read, written
+from stored import rows
+from verdicts import READ
 
-MP = f"{EXAMPLES}/MP.litmus"
-SB = f"{EXAMPLES}/SB.litmus"
 # Seconds of processor time, and bytes: for files up to a mebibyte, and for huge ones.
 LIMITS, HUGE_LIMITS = (2, 400_000_000), (60, 8_000_000_000)
 # The stack that a process has by default, in bytes.
@@ -34,72 +28,27 @@ STACK = 8 * 1024 * 1024
 LONGEST_WAIT = 1800
 # What is said of a test is shorter than this: `test` names the location that nothing stores to, which may fill a file.
 MOST_SAID = 2 << 20
-# What `solve` says of a test and prices that are read.
-FENCED = rb"fenced \d+\n(fence P\d \d+ [rwtso,]+\n)*"
-NONE = rb'none\n\{"choices":\[[\[\]0-9a-z,]*\],"order":\[[P0-9:",]*\]\}\n'
-BEYOND = r"fault F(13 TooManyTraces|14 Astray P\d:\d+|15 TooManyCandidates|16 NodeLimit)"
-# What `test` and `audit` say of a file.
-TESTED_LINE = rb"stdin  (forbidden  |allowed    |vacuous    |fault F)[^\n]+\n1 test: 1 [a-z]+\n"
-AUDIT = (rb"(forbidden|allowed|vacuous) as written(, \d+)?; (cheapest \d+|no fences rule it out)\n"
-         rb"(line \d+ +P\d:\d+ +[iorwtsne,]+ +[a-z, ]+\n)*")
-# What `states` prints of a file.
-STATES = (rb"Test [^\n]+ (Allowed|Forbidden|Required)\nStates \d+\n([^\n]*;\n|\n)*(Ok|No)\nWitnesses\n"
-          rb"Positive: \d+ Negative: \d+\nCondition [^\n]+\nObservation [^\n]+ (Never|Sometimes|Always) \d+ \d+\n\n")
 LOG_ERROR = rb"error: (log line \d+: expected [^\n]+|the log (isn't UTF-8|has no block of a test))"
-# What each command prints, by its status.
-SAID = {
-    "test": {status: TESTED_LINE for status in (0, 1, 2, 4)},
-    "audit": {status: AUDIT for status in (0, 1, 4)},
-    "states": {0: rb"(?s)" + STATES + rb"|SB: .*", 1: rb"(?s)SB: .*",
-               2: rb"SB: not in the log\n(T\d+: in the log, and not given\n)*"},
-    "place": {0: rb"(?s).+"},
-    "order": {0: rb"yes\n", 1: rb"no: [a-z]+( [P0-9:]+)*\n"},
-    "solve": {0: FENCED, 1: NONE},
-    "check": {0: rb"yes\n(" + FENCED + rb"|" + NONE + rb")", 1: rb"no: [a-z]+( \d+)?\n"},
-}
-# The answers of `solve`, `order` and `check` for any test: which it is, is a matter of the memory model.
-SOLVED = "fences, none or a limit"
-ORDERED = "yes, no, or no witness for this test"
-CHECKED = "yes, no or a limit"
-TESTED = "forbidden, allowed, vacuous or a limit"
-AUDITED = "what is said of fences, or a limit"
-LISTED = "all states, or a limit"
-LISTED_ITEMS = "all states, or an item of `locations` that is none"
-LOGGED = files.LOGGED
-MATCHES = {ANSWERED: "yes|no: .*", SOLVED: f"(?s)(fenced |none\n).*|{BEYOND}", ORDERED: f"yes|no: .*|{files.WITNESS}",
-           CHECKED: f"(?s)(yes\n|no: ).*|{BEYOND}", TESTED: f"(forbidden|allowed|vacuous) .*|{BEYOND}",
-           AUDITED: f"(?s)(forbidden|allowed|vacuous) as written.*|{BEYOND}", LISTED: f"(?s)Test .*|{BEYOND}",
-           LISTED_ITEMS: "(?s)Test .*|fault F3 Syntax line 5",
-           LOGGED: r"(?s)SB: .*|error: log line \d+: expected .*"}
 
-# How the program gets a file: the words of its command line, what stands before the names of the runs, the answer
-# where a reader has READ, and what is said of the group.
-Use = collections.namedtuple("Use", "words prefix read shown", defaults=("", READ, ""))
-CERTIFICATE = f"{EXAMPLES}/certificates/MP.json"
-PLACED = Use(["place", "-v", "stdin"])
-PRICED = Use(["place", "-v", MP, "--prices", "/dev/stdin"])
-CERTIFIED = Use(["solve", "-q", "stdin", PRICES, "--cert", "/dev/null"], "solve --cert: ", SOLVED, ", certified")
-WITHIN_SEARCH = Use(["solve", "-q", "stdin", PRICES], "solve: ", SOLVED, ", searched")
-CHECKED_WITH = Use(["check", "-v", "stdin", PRICES, CERTIFICATE], "check: ", CHECKED, ", checked")
-TESTED_AS = Use(["test", "stdin"], "test: ", TESTED, ", tested")
-LOG_OF = Use(["states", SB, "--log", "/dev/stdin"], "log: ", LOGGED, ", held against SB")
-LISTED_OF = Use(["states", "stdin"], "states: ", LISTED, ", all states")
-AUDITED_AS = Use(["audit", "stdin", PRICES], "audit: ", AUDITED, ", audited")
-GROUPS = [(group, PLACED) for group in files.TESTS]
-GROUPS += [(files.logs, LOG_OF), (files.prices, PRICED), (files.prices_changed, PRICED),
-           (files.fences, Use(["place", "-v", MP])), (files.witnesses, Use(["order", "-v", SB, "/dev/stdin"])),
-           (files.certificates, Use(["check", "-v", SB, PRICES, "/dev/stdin"])),
-           (files.refutations, Use(["check", "-v", SB, PRICES, "/dev/stdin"]))]
-GROUPS += [(group, use) for group in files.SEARCHED for use in (WITHIN_SEARCH, TESTED_AS, AUDITED_AS)]
-GROUPS += [(files.prices, Use(["solve", MP, "/dev/stdin"], "solve: ", SOLVED, ", searched with")),
-           (files.numbers_of_parts, CERTIFIED), (files.samples, WITHIN_SEARCH),
-           (files.samples, TESTED_AS), (files.samples, AUDITED_AS), (files.samples, LISTED_OF),
-           (files.prices, Use(["audit", MP, "/dev/stdin"], "audit: ", AUDITED, ", audited with")),
-           (files.samples,
-            Use(["order", "-v", "stdin", f"{EXAMPLES}/witnesses/MP.json"], "order: ", ORDERED, ", ordered")),
-           (files.samples, CHECKED_WITH),
-           (files.prices, Use(["check", "-v", MP, "/dev/stdin", CERTIFICATE], "check: ", CHECKED, ", checked with"))]
 
+def patterns(group, parts=()):
+    """The patterns of a group of the table, by what stands before them, with the parts in place of their names."""
+    found = {}
+    for row in rows("hostile", group):
+        key, found[key] = row.split(" | ", 1)
+        for name in parts:
+            found[key] = found[key].replace(name, parts[name])
+    return found
+
+
+PARTS = patterns("parts of what is said")
+ANSWERS = {name: re.compile(text) for name, text in patterns("answers", PARTS).items()}
+SAID = {key: re.compile(text.encode()) for key, text in patterns("said", PARTS).items()}
+# How the program gets the files of a group: what stands before the names of the runs, the words of its command line,
+# and the answer where a reader has READ.
+Use = collections.namedtuple("Use", "group name words read")
+USES = [Use(group, name, words.split(), read) for groups, name, words, read
+        in (row.split(" | ") for row in rows("hostile", "uses")) for group in groups.split(", ")]
 Found = collections.namedtuple("Found", "end answer seconds memory")
 # Of runs their number, those that failed by name with what is wrong, and the most of both.
 Tally = collections.namedtuple("Tally", "count failed seconds memory")
@@ -124,10 +73,8 @@ class Runner:
         written(self.paths[0], text)
         self.child = os.posix_spawn(program(), [program(), *words], os.environ, file_actions=actions)
         signal.alarm(LONGEST_WAIT)
-        try:
+        with contextlib.suppress(ProcessLookupError):
             resource.prlimit(self.child, resource.RLIMIT_CPU, (self.most_seconds + 1, self.most_seconds + 1))
-        except ProcessLookupError:
-            pass
         _, raw, used = os.wait4(self.child, 0)
         signal.alarm(0)
         with open(self.paths[1], "rb") as file:
@@ -182,11 +129,12 @@ def end_of(words, raw, said, error):
     """What is wrong with this end of a run with these words: its raw status, and what it printed on both outputs."""
     if os.WIFSIGNALED(raw):
         return f"ended by signal {os.WTERMSIG(raw)}"
-    status, wanted = os.WEXITSTATUS(raw), SAID[words[0]]
-    if status == 2 and not (said and status in wanted):
+    status = os.WEXITSTATUS(raw)
+    wanted = SAID.get(f"{words[0]} {status}")
+    if status == 2 and not (said and wanted):
         is_right = not said and is_explained(words, said, error)
     else:
-        is_right = status in wanted and re.fullmatch(wanted[status], said)
+        is_right = wanted and wanted.fullmatch(said)
         is_right = is_right and (is_explained(words, said, error) if words[0] == "test" else not error)
     return "" if is_right else f"status {status} with {said[:80]!r} and {error[:200]!r}"
 
@@ -194,7 +142,7 @@ def end_of(words, raw, said, error):
 def complaint(wanted, found, limits):
     """What is wrong with a run, or nothing."""
     wrong = [found.end] if found.end else []
-    is_wanted = re.fullmatch(MATCHES.get(wanted, re.escape(wanted)), found.answer)
+    is_wanted = wanted == found.answer if isinstance(wanted, str) else wanted.fullmatch(found.answer)
     if not found.end and not is_wanted:
         wrong.append(f"{found.answer}, and {wanted} is wanted")
     if found.seconds > limits[0]:
@@ -218,19 +166,18 @@ def begin(folder):
     """Gives this process its runner. An interrupt ends it at once."""
     global runner
     signal.signal(signal.SIGINT, signal.SIG_DFL)
+    os.chdir(TOP)
     runner = Runner(folder, LIMITS[0])
 
 
-def run_group(number):
-    """What came of the group of this number, all of whose files are fed to the program. Those of `fences` are
-    words."""
-    group, use = GROUPS[number]
-
+def run_group(use):
+    """What came of a group, all of whose files are fed to the program. Those of `fences` are words."""
     def runs():
-        for name, text, wanted in group():
+        for name, text, wanted in files.group(use.group):
             text, words = (text, use.words) if isinstance(text, bytes) else (b"", [*use.words, *text])
-            answer = LISTED_ITEMS if use is LISTED_OF and name.endswith(" in locations") else use.read
-            yield use.prefix + name, answer if wanted == READ else wanted, runner.run(text, words)
+            is_item = use.read == "LISTED" and name.endswith(" in locations")
+            answer = ANSWERS["LISTED_ITEMS" if is_item else use.read]
+            yield f"{use.name} {name}".strip(), answer if wanted == READ else wanted, runner.run(text, words)
 
     return tally_of(runs(), LIMITS)
 
@@ -238,8 +185,8 @@ def run_group(number):
 def tallies_of_groups(folder):
     """What came of each group."""
     with ProcessPoolExecutor(initializer=begin, initargs=[folder]) as pool:
-        for (group, use), tally in zip(GROUPS, pool.map(run_group, range(len(GROUPS)))):
-            print(f"{group.__name__.replace('_', ' ')}{use.shown}: {tally.count} runs", flush=True)
+        for use, tally in zip(USES, pool.map(run_group, USES)):
+            print(f"{use.name} {use.group}: {tally.count} runs", flush=True)
             yield tally
 
 
@@ -247,7 +194,7 @@ def tallies_of_huge(folder):
     """Feeds `check` the huge certificates, and prints what each takes."""
     runner = Runner(folder, HUGE_LIMITS[0])
     for name, text, wanted in files.huge_certificates():
-        found = runner.run(text, ["check", SB, PRICES, "/dev/stdin"])
+        found = runner.run(text, ["check", f"{EXAMPLES}/SB.litmus", PRICES, "/dev/stdin"])
         print(f"100 MB of {name}: {found.seconds:.2f} seconds, {found.memory / 1e6:.0f} MB", flush=True)
         yield tally_of([(f"100 MB of {name}", wanted, found)], HUGE_LIMITS)
 
@@ -255,7 +202,7 @@ def tallies_of_huge(folder):
 def check(run):
     tallies = list(tallies_of_huge(run.folder) if run.options.huge else tallies_of_groups(run.folder))
     for tally in tallies:
-        run.counts.add(tally.count - len(tally.failed))
+        run.add(tally.count - len(tally.failed))
         for name, wrong in tally.failed:
             run.check(name, False, wrong)
     seconds, memory = max(tally.seconds for tally in tallies), max(tally.memory for tally in tallies)

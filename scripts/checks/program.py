@@ -1,23 +1,22 @@
 """Checks the built program from outside: what it prints on both outputs, and its exit status.
 
-What it must print stands in scripts/transcripts/*.txt, command by command: the command line, faults and their order,
-tests as they are printed, prices, witnesses good and bad, answers worked out by hand, certificates. Then come the
-examples with their answers, the commands of the documents with what stands below them, what is printed as JSON, what a
-shell completes, and whether the other commands take what it answers; messages, and how far it is, as it says on a
-terminal; the help that the launcher prints where there is no program; and whether `solve` reads measured prices."""
+What it must print stands in scripts/transcripts/*.txt, by command or subject. Then come the examples with their
+answers, the commands of the documents with what stands below them, what is printed as JSON, whether the other commands
+take what it answers; messages, and how far it is, as it says on a terminal."""
 import glob
+import itertools
 import json
 import os
 import re
 import shutil
 import time
 
+import check_certificate as model
 from bench_tests import votes
 from checks.transcripts import FOLDER, Transcripts, blocks_of
-from running import (EXAMPLES, PRICES, TOP, Said, decoded, program, ran, ran_on_terminal, read, rvfence, side_by_side,
+from running import (EXAMPLES, PRICES, TOP, decoded, program, ran, ran_on_terminal, read, rvfence, side_by_side,
                      stored_answers, tests_of_examples, transcript, written)
-from verdicts import YES, is_accepted
-
+from verdicts import YES
 
 
 def text_of(path):
@@ -54,7 +53,7 @@ def fences_of(lines):
 def check_idioms(checks):
     """Each idiom goes wrong without fences. And where of those of its answer at prices-linux.json one is missing, or a
     kind that costs less stands in its place, an execution goes wrong that all of them forbid."""
-    folder, answers, names = f"{EXAMPLES}/idioms", stored_answers(), []
+    folder, answers, names = f"{EXAMPLES}/idioms", stored_answers("solve"), []
     price = json.loads(read(f"{EXAMPLES}/prices-linux.json"))
     for test in tests_of_examples():
         if not test.startswith(folder):
@@ -87,15 +86,6 @@ def check_documents(checks):
                 checks.expect(f"{document}: {command}", wanted.rstrip("\n"), said.out.rstrip("\n"))
 
 
-def check_launcher(checks):
-    """The launcher runs the program from another folder, through a link, and with paths from there."""
-    folder, test = checks.folder, f"{EXAMPLES}/MP.litmus"
-    os.symlink(f"{TOP}/rvfence", f"{folder}/linked")
-    shutil.copy(test, f"{folder}/here.litmus")
-    for name, command in (("from another folder", f"{TOP}/rvfence"), ("through a link", "./linked")):
-        checks.expect(name, rvfence("place", test), ran([command, "place", "here.litmus"], cwd=folder))
-
-
 def check_answers(checks):
     """What `solve` answers, the other commands take: `place` prints the test with the fences, at the same cost, and
     that test needs no more; `order` accepts the execution that comes with `none`. Beside an answer it notes that the
@@ -107,7 +97,9 @@ def check_answers(checks):
             checks.expect(f"the note for {test}", f"note: vacuous: {vacuous[1]}" if vacuous else "", said.err)
         lines = said.out.splitlines()
         if lines[:1] == ["none"]:
-            checks.check(f"the execution of none for {test}", is_accepted(test, lines[1]), lines[1])
+            full = [f"P{hart}:{at}=rw,rw" for hart, at in model.read(test, model.test_of).slots()]
+            found = rvfence("order", test, written(f"{checks.folder}/witness.json", lines[1]), *full)
+            checks.expect(f"the execution of none for {test}", YES, found)
         elif not test.endswith("/STRAY.litmus"):
             fences = fences_of(lines)
             cost = "".join(lines[:1]).replace("fenced", "\n(* cost") + " *)\n"
@@ -115,12 +107,6 @@ def check_answers(checks):
             checks.expect(f"the cost of the fences for {test}", cost, placed[-len(cost):])
             found = rvfence("solve", "stdin", PRICES, stdin=rvfence("place", test, *fences).out)
             checks.expect(f"{test} with its fences", ("fenced 0\n", 0), (found.out, found.status))
-
-
-def line_of(found, width):
-    """The line of `test` that says what its JSON object says."""
-    verdict = "" if found["verdict"] == "fault" else f"{found['verdict']:9}  "
-    return f"{found['file']:{width}}  {verdict}{found['why']}"
 
 
 def answer_of(found):
@@ -131,44 +117,30 @@ def answer_of(found):
     return "".join([f"fenced {found['cost']}\n", *fences])
 
 
+def lines_of(plain, said, text_of):
+    """The run with `--json` with what the lines say in place of its object; nothing where that says this very fault."""
+    found = json.loads(said.out)
+    if plain.status != 2:
+        return said._replace(out=text_of(found))
+    is_same = found["verdict"] == "fault" and found["why"] == plain.err.partition("\n")[0]
+    return said._replace(out="" if is_same else said.out)
+
+
+def verdict_of(found):
+    """The lines of `check` that say what its JSON object says."""
+    return f"yes\n{answer_of(found['answer'])}" if found["valid"] else f"no: {found['reason']}\n"
+
+
 def check_objects(checks):
-    """With `--json` the commands say what they say without, of each test of the examples and each certificate. `order`
-    accepts the execution of an outcome that is allowed. With any number of jobs `test` prints the same."""
-    tests = [*tests_of_examples(), *glob.glob(f"{EXAMPLES}/tests/*.litmus")]
-    plain, objects = rvfence("test", *tests), rvfence("test", "--json", *tests)
-    width, found = max(map(len, tests)), [json.loads(line) for line in objects.out.splitlines()]
-    checks.expect("the objects of the examples", plain.out.splitlines()[:-1], [line_of(each, width) for each in found])
-    checks.expect("their end", plain[1:], objects[1:])
-    for each in found:
-        checks.check(f"{each['file']} has an execution", ("witness" in each) == (each["verdict"] == "allowed"), each)
-        if "witness" in each:
-            witness = written(f"{checks.folder}/witness.json", json.dumps(each["witness"]))
-            checks.expect(f"the execution for {each['file']}", YES, rvfence("order", each["file"], witness))
-    for jobs in ("1", "2", "3", "16"):
-        checks.expect(f"the examples by {jobs} jobs", plain, rvfence("test", "--jobs", jobs, *tests))
-        checks.expect(f"the objects by {jobs} jobs", objects, rvfence("test", "--jobs", jobs, "--json", *tests))
-    for test in tests:
+    """With `--json` `solve` and `check` say what they say without, of each test of the examples and each
+    certificate."""
+    for test in [*tests_of_examples(), *glob.glob(f"{EXAMPLES}/tests/*.litmus")]:
         plain, said = rvfence("solve", test, PRICES), rvfence("solve", test, PRICES, "--json")
-        if plain.status != 2:
-            said = said._replace(out=answer_of(json.loads(said.out)))
-        checks.expect(f"the object of the answer for {test}", plain, said)
-    for path in sorted(glob.glob(f"{EXAMPLES}/certificates/*.json")):
-        for name in ("MP", "SB", "MP11"):
-            words = ["check", f"{EXAMPLES}/{name}.litmus", PRICES, path]
-            plain, said = rvfence(*words), rvfence(*words, "--json")
-            if plain.status != 2:
-                each = json.loads(said.out)
-                text = f"yes\n{answer_of(each['answer'])}" if each["valid"] else f"no: {each['reason']}\n"
-                said = said._replace(out=text)
-            checks.expect(f"the object of {path} for {name}", plain, said)
-
-
-def check_completions(checks):
-    """A shell that is here reads its script for completion."""
-    for shell in ("bash", "zsh", "fish"):
-        if shutil.which(shell):
-            said = ran([shell, "-n"], stdin=rvfence("completions", shell).out)
-            checks.expect(f"{shell} reads its script", Said("", "", 0), said)
+        checks.expect(f"the object of the answer for {test}", plain, lines_of(plain, said, answer_of))
+    for path, name in itertools.product(sorted(glob.glob(f"{EXAMPLES}/certificates/*.json")), ("MP", "SB", "MP11")):
+        words = ["check", f"{EXAMPLES}/{name}.litmus", PRICES, path]
+        plain, said = rvfence(*words), rvfence(*words, "--json")
+        checks.expect(f"the object of {path} for {name}", plain, lines_of(plain, said, verdict_of))
 
 
 def check_messages(checks):
@@ -193,18 +165,16 @@ def check_messages(checks):
 def check_progress(checks):
     """Past two seconds `solve` says on a terminal how far it is, in a line that changes and that is wiped before a
     fault and its message are printed. It says nothing of it elsewhere, nor of a short search, and answers the same."""
-    folder = checks.folder
-    three = written(f"{folder}/three.json", '{"w,r":9,"tso":5,"rw,rw":10}')
+    three = written(f"{checks.folder}/three.json", '{"w,r":9,"tso":5,"rw,rw":10}')
     # one that comes to the limit of nodes late, and one that has an answer before, in about two seconds
-    late, long = (written(f"{folder}/votes-{spare}.litmus", votes(4, 2, spare)) for spare in (20, 24))
-    by_one = r"\d+ verdicts to plan(, \d+ nodes(, best cost \d+)?)?"
-    # a second worker joins neither
-    by_two = by_one
-    cases = [(late, PRICES, 1, by_one, "{2,}", ""), (late, PRICES, 2, by_two, "{2,}", ""),
-             (long, three, 1, by_one, "+", "?"), (f"{EXAMPLES}/MP.litmus", PRICES, 1, by_one, "+", "{0}")]
+    late, long = (written(f"{checks.folder}/votes-{spare}.litmus", votes(4, 2, spare)) for spare in (20, 24))
+    line = r"\r\d+ verdicts to plan(, \d+ nodes(, best cost \d+)?)?\x1b\[K"
+    # (a second worker joins neither)
+    cases = [(late, PRICES, 1, "{2,}", ""), (late, PRICES, 2, "{2,}", ""), (long, three, 1, "+", "?"),
+             (f"{EXAMPLES}/MP.litmus", PRICES, 1, "+", "{0}")]
 
     def check(case):
-        test, prices, workers, line, lines, times = case
+        test, prices, workers, lines, times = case
         command = [program(), "solve", test, prices, "--workers", str(workers)]
         elsewhere, start = ran(command), time.monotonic()
         shown = ran_on_terminal(command)
@@ -213,7 +183,7 @@ def check_progress(checks):
         name = f"how far {os.path.basename(test)} is by {workers} workers"
         fault = elsewhere.err.replace("\n", "\r\n")
         message = rf"{re.escape(test)}: {re.escape(fault)}  [^\r]+\r\n" if fault else ""
-        wanted = rf"((\r{line}\x1b\[K){lines}\r\x1b\[K){times}{re.escape(fault)}{message}"
+        wanted = rf"(({line}){lines}\r\x1b\[K){times}{re.escape(fault)}{message}"
         checks.check(name, re.fullmatch(wanted, shown.err), repr(shown.err[-200:]))
         checks.check(f"{name}, elsewhere", fault in ("", "fault F16 NodeLimit\r\n"), fault)
         checks.expect(f"{name}, the answer", (elsewhere.out, elsewhere.status), (shown.out, shown.status))
@@ -221,26 +191,10 @@ def check_progress(checks):
     side_by_side(check, cases)
 
 
-def check_help(checks):
-    """What the launcher prints while there is no program is what scripts/store-help writes."""
-    made = checks.shell(f'mkdir made && "{TOP}/scripts/store-help" made && diff -r "{TOP}/scripts/help" made')
-    checks.expect("the stored help", Said("", "", 0), made)
-
-
-def check_measured(checks):
-    """What examples/prices/measure.c prints on an emulator is a price list. This is skipped where there is none."""
-    if not (shutil.which("riscv64-linux-gnu-gcc") and shutil.which("qemu-riscv64")):
-        print("skipped, as there is no riscv64-linux-gnu-gcc or no qemu-riscv64: examples/prices/measure.c")
-        return
-    said = checks.shell("riscv64-linux-gnu-gcc -O2 -static -pthread -o measure examples/prices/measure.c && "
-                        "qemu-riscv64 ./measure 1 >measured.json && rvfence solve examples/SB.litmus measured.json")
-    checks.check("prices that were measured", said.out.startswith("fenced ") and said.status == 0, said)
-
-
 def check(run):
     # the launcher builds the program, so that no progress comes between later checks
     ran([f"{TOP}/rvfence", "place", f"{EXAMPLES}/MP.litmus"], seconds=None)
     checks = Transcripts(run)
-    for part in (check_transcripts, check_examples, check_idioms, check_documents, check_launcher, check_answers,
-                 check_objects, check_completions, check_messages, check_progress, check_help, check_measured):
+    for part in (check_transcripts, check_examples, check_idioms, check_documents, check_answers, check_objects,
+                 check_messages, check_progress):
         part(checks)

@@ -18,14 +18,15 @@ NOTHING, GATE, PROGRAM = "nothing", "the gate", "the program"
 @dataclasses.dataclass(frozen=True)
 class Check:
     """A check. `seconds` is about what it takes of processor time, and None where that has no limit. Its words are
-    pairs of what argparse takes; those of `quick` are given where there is no gate."""
+    numbers that may be given, each with the one that it is else, and options; those of `quick` are given where there is
+    no gate."""
 
     name: str
     seconds: int | None
     run: object = None          # a function that takes a Run
     command: tuple = ()         # or a command that prints its counts itself
     needs: str = PROGRAM
-    words: tuple = ()
+    words: dict = dataclasses.field(default_factory=dict)
     quick: tuple = ()
     text: str = ""              # of a command, what it looks at
 
@@ -35,42 +36,20 @@ class Check:
         return " ".join(text.split("\n\n")[0].split())
 
 
-class Run:
+class Run(Counts):
     """A run of a check: its counts, a folder of its own, its options, and how many there were of each kind."""
 
     def __init__(self, folder, options):
-        self.folder, self.options = folder, options
-        self.counts, self.kinds = Counts(), collections.Counter()
-        self.check, self.expect = self.counts.check, self.counts.expect
+        super().__init__()
+        self.folder, self.options, self.kinds = folder, options, collections.Counter()
 
     def numbers(self):
-        """The numbers of the made tests that are asked for."""
+        """The numbers of the made tests that are asked for: so many, from the first on."""
         return range(self.options.first, self.options.first + self.options.count)
 
     def path(self, name):
+        """The path of a file in its folder."""
         return f"{self.folder}/{name}"
-
-
-def count_of(word):
-    """A number that is given as a word."""
-    if not word.isdecimal():
-        raise ValueError(word)
-    return int(word)
-
-
-def number(name, default):
-    """A number that may be given."""
-    return name, {"type": count_of, "nargs": "?", "default": default}
-
-
-def made(count):
-    """The words COUNT and FIRST: how many made tests, and the first of them."""
-    return number("count", count), number("first", 0)
-
-
-def flags(*names):
-    """Options that may be given."""
-    return tuple((name, {"action": "store_true"}) for name in names)
 
 
 def run_one(check, words):
@@ -81,7 +60,9 @@ def run_one(check, words):
     about = sys.modules[check.run.__module__].__doc__
     parser = argparse.ArgumentParser(f"scripts/check {check.name}", description=about,
                                      formatter_class=argparse.RawDescriptionHelpFormatter)
-    for name, how in check.words:
+    for name, default in check.words.items():
+        is_option = name.startswith("-")
+        how = {"action": "store_true"} if is_option else {"type": int, "nargs": "?", "default": default}
         parser.add_argument(name, **how)
     with tempfile.TemporaryDirectory() as folder:
         run = Run(folder, parser.parse_args(words))
@@ -92,4 +73,4 @@ def run_one(check, words):
             run.check(f"{check.name} comes to its end", False, repr(error))
     if run.kinds:
         print(", ".join(f"{count} {kind}" for kind, count in sorted(run.kinds.items())))
-    return run.counts.end()
+    return run.end()

@@ -17,15 +17,17 @@ def blocks_of(path):
 
 
 class Transcripts:
-    """The counts of a run, and its folder with the program, the examples and the functions of the transcripts. A
-    command may take so many seconds of processor time."""
+    """A run, and its folder with the examples and, where it is wanted, the program. Commands call functions of a file,
+    and each may take so many seconds of processor time."""
 
-    def __init__(self, run, seconds=LONGEST):
-        self.folder, self.check, self.expect, self.seconds = run.folder, run.check, run.expect, seconds
+    def __init__(self, run, seconds=LONGEST, functions=f"{FOLDER}/functions.sh", has_program=True):
+        self.folder, self.check, self.expect = run.folder, run.check, run.expect
+        self.seconds, self.functions = seconds, functions
         os.mkdir(f"{self.folder}/bin")
-        # under the name that help prints
-        os.symlink(program(), f"{self.folder}/bin/rvfence")
         os.symlink(EXAMPLES, f"{self.folder}/examples")
+        if has_program:
+            # under the name that help prints
+            os.symlink(program(), f"{self.folder}/bin/rvfence")
 
     def shell(self, command, own=None, **options):
         """What a command says, for which `rvfence` is the program and $own a folder."""
@@ -37,7 +39,7 @@ class Transcripts:
         """Checks a block: in it a line of standard error stands behind `! `, and `! ...` for whatever is said there."""
         name, command, wanted = block
         with tempfile.TemporaryDirectory() as own:
-            said = self.shell(f"source {FOLDER}/functions.sh\n{command}", own)
+            said = self.shell(f"source {self.functions}\n{command}", own)
         error = re.sub("(?m)^", "! ", said.err[:-1]) + "\n" if said.err else ""
         if error and "\n! ...\n" in f"\n{wanted}":
             error = "! ...\n"

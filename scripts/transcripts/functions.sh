@@ -1,4 +1,5 @@
 # What the transcripts of this folder call beside `rvfence`, in a folder that has examples/ and the files of files/.
+top=${BASH_SOURCE[0]%/scripts/*}
 
 # The test of so many harts with these rows, the first of which is line 4.
 rows() {
@@ -22,21 +23,6 @@ offered() {
     for kind in r,r r,w r,rw w,r w,w w,rw rw,r rw,w rw,rw tso; do
         rvfence place examples/SB.litmus "P0:2=$kind" --prices "$1" 2>&1 | sed -n "s/^(\* cost \(.*\) \*)$/$kind \1/p"
     done | paste -sd ' '
-}
-
-# What `solve` prints first for the test of two harts with these cells, an init block and a condition. Each hart has
-# the addresses of x in x6, of y in x8 and of z in x11, and 1 in x10.
-grounded() {
-    local at first second init='x6=x; H:x8=y; H:x11=z; H:x10=1; '
-    IFS=';' read -r -a first <<<"$1"
-    IFS=';' read -r -a second <<<"$2"
-    rvfence solve <(
-        printf 'RISCV grounded\n{ 0:%s1:%s%s}\nP0 | P1 ;\n' "${init//H/0}" "${init//H/1}" "$3"
-        for at in 0 1 2 3; do
-            echo "${first[at]} | ${second[at]} ;"
-        done
-        echo "exists ($4)"
-    ) examples/prices.json -q 2>&1 | head -n 1
 }
 
 # Message passing with a line below the first that fills it up to this many bytes.
@@ -67,6 +53,13 @@ test_of() {
     echo "${!#}"
 }
 
+# What `solve` prints first for such a test of two harts, an init block and a condition. Each hart has the address of z
+# in x11, too.
+grounded() {
+    test_of "$1" "$2" "exists ($4)" | sed "2s|}|0:x11=z; 1:x11=z; $3 }|" |
+        rvfence solve - examples/prices.json -q 2>&1 | head -n 1
+}
+
 # What `test` says of that test, without the name of the file.
 said() { test_of "$@" | rvfence test - | sed -n '1s/^- *//p'; }
 
@@ -74,8 +67,8 @@ said() { test_of "$@" | rvfence test - | sed -n '1s/^- *//p'; }
 contradictions() { rvfence test "$@" | sed -E 's/[0-9]+ contradictions?$/N contradictions/'; }
 
 # What `audit` prints for the test of two harts with these cells and this condition, at the prices in $prices or else in
-# examples/prices.json, with further words. Each hart has the addresses of x in x6, of y in x8 and of z in x11, and 1 in x10; the first
-# row is line 6.
+# examples/prices.json, with further words. Each hart has the addresses of x in x6, of y in x8 and of z in x11, and 1 in
+# x10; the first row is line 6.
 audited() {
     local -a first second
     local at init='x6=x; H:x8=y; H:x11=z; H:x10=1;'
@@ -103,7 +96,21 @@ states() (
 asked() { states <(sed -e '1s/SB/asked/' -e '$d' examples/SB.litmus && echo "$1") "${@:2}"; }
 
 # What `solve` answers, and what `check` says of the certificate that it writes.
-certified() { rvfence solve "$1" "$2" -q --cert "$own/certificate.json" && rvfence check "$1" "$2" "$own/certificate.json"; }
+certified() {
+    rvfence solve "$1" "$2" -q --cert "$own/certificate.json" && rvfence check "$1" "$2" "$own/certificate.json"
+}
+
+# What `solve` says of a test, prices in a file or here, and further words, but for an execution; and where it says
+# something else by so many workers, that.
+by_workers() {
+    local prices=$2 workers said first=''
+    [[ $prices != {* ]] || { echo "$prices" >"$own/prices.json" && prices=$own/prices.json; }
+    for workers in '' '--workers 1' '--workers 2' '--workers 4' '--workers 16'; do
+        said=$(rvfence solve -q "$1" "$prices" "${@:3}" $workers 2>&1; echo "status $?")
+        [[ -n $first ]] || { first=$said && sed '/^{/d' <<<"$said"; }
+        [[ $said == "$first" ]] || echo "with $workers: $said"
+    done
+}
 
 # A test in the printed form without its documentation.
 printed() { sed '1n; /^{/,$!d' "$1"; }
@@ -113,7 +120,7 @@ padded() { cat "$2" && head -c $(($1 - $(wc -c <"$2"))) /dev/zero | tr '\0' ' ';
 
 # The commands, and the options of one, as help has them.
 commands() { rvfence --help | sed -n '/^Commands:/,/^$/s/^  \([a-z]*\) .*/\1/p'; }
-options_of() { rvfence "$1" --help | sed '1,/^Options:/d' | grep -oE '^ +(-\w, )?--[a-z]+' | grep -oE -- '--[a-z]+' | sort -u; }
+options_of() { rvfence "$1" --help | sed '1,/^Options:/d' | grep -oP '^ +(-\w, )?\K--[a-z]+' | sort -u; }
 
 # What bash completes behind these words, of which the last is begun, a line each.
 completed() {
@@ -122,4 +129,10 @@ completed() {
     COMP_CWORD=$#
     _rvfence
     printf '%s\n' "${COMPREPLY[@]}" | sed '/^$/d' | sort
+}
+
+# What scripts/install says that puts the program into the folder $own.
+installed() {
+    RVFENCE_PROGRAM=$(readlink -f "$(command -v rvfence)") DESTDIR=$own "$top/scripts/install" "$@" 2>&1 |
+        sed "s|$own||"
 }

@@ -1,8 +1,8 @@
 -- What a command answers, of the files that it has read. What a file gives when it is read no definition says.
-use Rattle.std.specs.Prelude.{◌≡◌, ℕ, Bool, true, false, List, Option, IfSome, map, option_map, string_bytes, if◌then◌else◌}
+use Rattle.std.specs.Prelude.{◌≡◌, ℕ, Bool, true, false, List, [], ◌∷◌, Option, IfSome, IsSome, is_some, map, option_map, string_bytes, if◌then◌else◌}
 use Rattle.fs_app_io.specs.declared.status.Output.{Output}
 use Rattle.fs_app_io.specs.declared.status.Status.{Status}
-use Rattle.fs_app_io.specs.declared.status.Status.TheVariants.{Success}
+use Rattle.fs_app_io.specs.declared.status.Status.TheVariants.{Success, Denied, Failure}
 use Rattle.fs_app_place_order.specs.Place.{IsFencedText}
 use Rattle.fs_app_place_order.specs.Order.{IsOrderAnswer}
 use Rattle.fs_report.specs.Objects.{AreOneAnswer}
@@ -11,8 +11,10 @@ use Rattle.fs_app_audit.specs.Audit.{IsAudited, IsMended, IsFirstAuditFault, IsF
 use Rattle.fs_kinds.specs.declared.fault.Fault.{Fault}
 use Rattle.fs_app_check.specs.Check.{IsChecked, AreOneVerdict}
 use Rattle.fs_app_test.specs.declared.said.Line.{Line}
+use Rattle.fs_app_test.specs.SaidVerdicts.{witness_in}
 use Rattle.fs_app_test.specs.Status.{report_status}
 use Rattle.fs_app_test.specs.Report.{report_text, json_text}
+use Rattle.fs_app_test.specs.Verdicts.{NamesFault}
 use Rattle.fs_app_command_line.specs.declared.command.Task.{Task}
 use Rattle.fs_app_command_line.specs.declared.command.Task.TheVariants as task
 use Rattle.fs_app_command_line.specs.declared.command.Test.{Test}
@@ -82,10 +84,25 @@ pub record AnswersCheck (check : Check) (papers : Papers) (output : Output) : Ty
   pub text : string_bytes output.text ≡ in_form check.json lines object
 
 -- the text and the status are those of the same lines
-pub record AnswersTest (test : Test) (output : Output) : Type 0 where
+pub record AnswersLines (test : Test) (output : Output) : Type 0 where
   pub lines : List Line
-  pub text : string_bytes output.text ≡ in_form test.json (report_text lines) (json_text lines)
-  pub ends : output.status ≡ report_status lines
+  pub text : string_bytes output.text
+      ≡ in_form test.json (report_text (is_some test.expect) lines) (json_text (is_some test.expect) lines)
+  pub ends : output.status ≡ report_status (is_some test.expect) lines
+
+-- of the lines alone; or, where something is expected, with status 1 where a test isn't there of which it is, or no text
+-- where what is expected isn't read
+pub data AnswersTest (test : Test) (output : Output) : Type 0 where
+  told : AnswersLines test output → AnswersTest test output
+  lacking : IsSome test.expect → (lines : Output) → AnswersLines test lines → output.text ≡ lines.text
+      → output.status ≡ Denied → AnswersTest test output
+  refused : IsSome test.expect → string_bytes output.text ≡ [] → output.status ≡ Failure → AnswersTest test output
+
+-- the object of a fault, in a line
+pub record IsFaultObject (fault : Fault) (text : List ℕ) : Type 0 where
+  pub line : Line
+  pub names : NamesFault fault line.said.kind (string_bytes line.said.why) (witness_in line.said.witness)
+  pub shown : text ≡ json_text false (line ∷ [])
 
 -- of `states` there is none here: it is the answers of its files, one below the other
 abbrev pub Answers : Task → Papers → Output → Type 0

@@ -1,6 +1,7 @@
 //! Why a run ends without an answer.
 use fs_app_io::Status;
 use fs_app_states_log::LogError;
+use fs_app_test_list::ListError;
 use fs_kinds::Fault;
 use thiserror::Error;
 
@@ -22,6 +23,9 @@ pub(crate) enum Failure {
     /// A log isn't of its form, or doesn't fit a test.
     #[error("{0}\n")]
     BadLog(LogError),
+    /// A list of what tests are expected to be isn't of its form.
+    #[error("{0}\n")]
+    BadList(ListError),
     /// The request has no answer, and a message explains the fault.
     #[error("{0}\n{1}")]
     Told(Fault, String),
@@ -30,8 +34,11 @@ pub(crate) enum Failure {
 impl Failure {
     pub(crate) fn status(&self) -> Status {
         match self {
-            Failure::NotUtf8 | Failure::NoStack | Failure::NoRequest(_) | Failure::BadLog(_) =>
-                Status::Failure,
+            Failure::NotUtf8
+            | Failure::NoStack
+            | Failure::NoRequest(_)
+            | Failure::BadLog(_)
+            | Failure::BadList(_) => Status::Failure,
             Failure::NoAnswer(fault) | Failure::Told(fault, _) => Status::of_fault(*fault),
         }
     }

@@ -1,8 +1,9 @@
 //! What `test` says of files, one after the other or side by side.
+use crate::expecting::Expecting;
 use crate::missing::Missing;
-use crate::papers::message_of_file;
+use crate::papers::{message_of_file, note_of_file, note_or};
 use crate::sources::Source;
-use fs_app_test::{Line, test_file};
+use fs_app_test::{Expected, Line, test_file};
 use fs_kinds::Fault;
 use std::alloc::{AllocError, Global};
 use std::rt::Files;
@@ -12,11 +13,21 @@ use std::thread::Threads;
 /// So many files each thread judges before all go on to the next ones.
 const AT_ONCE: usize = 8;
 
-/// A file that was read: its name, and its bytes or why it has none.
+/// A file that was read: its name, its bytes or why it has none, and what its test is expected to be.
 #[derive(Drop)]
 struct Taken<'a> {
     name: &'a str,
     file: Result<Vec<u8>, Missing>,
+    expected: Option<Expected>,
+}
+
+/// What is wanted of faults beside their lines.
+#[derive(Clone, Copy)]
+pub(crate) struct Wants {
+    /// Messages for people.
+    pub messages: bool,
+    /// Notes for those who read JSON.
+    pub notes: bool,
 }
 
 /// What is said of files, in their order: a line of each, and messages of those that aren't tests, or weren't read.
@@ -34,15 +45,28 @@ impl Judged {
         }
     }
 
-    /// Adds what is said of a file, with its message where that is asked for. Where there is no memory for a message it
-    /// is left out.
-    fn judge(&mut self, alloc: Global, taken: Taken<'_>, explains: bool) -> Result<(), Fault> {
-        let Taken { name, file } = taken;
-        if explains {
+    /// Adds what is said of a file, with its message and its note where they are wanted. Where there is no memory for a
+    /// message it is left out.
+    fn judge(&mut self, alloc: Global, taken: Taken<'_>, wants: Wants) -> Result<(), Fault> {
+        let Taken {
+            name,
+            file,
+            expected,
+        } = taken;
+        if wants.messages {
             self.add_message(message_of_file(alloc, name, &file));
         }
-        self.lines
-            .push(test_file(alloc, name, file.map_err(Missing::fault))?)?;
+        let note = if wants.notes {
+            note_of_file(alloc, &file)?
+        } else {
+            None
+        };
+        let mut line = test_file(alloc, name, file.map_err(Missing::fault))?;
+        if wants.notes {
+            line.note = note_or(alloc, note, line.said.fault)?;
+        }
+        line.expected = expected;
+        self.lines.push(line)?;
         Ok(())
     }
 
@@ -71,19 +95,20 @@ pub(crate) fn judge_files<R: Files + Input + AllocGlobal + Threads + Sync>(
     rt: &R,
     files: &[Source],
     jobs: u8,
-    explains: bool,
+    wants: Wants,
+    expecting: &mut Expecting<'_>,
 ) -> Result<Judged, Fault> {
     if jobs == 1 {
-        return judge_in_turn(rt, files, explains);
+        return judge_in_turn(rt, files, wants, expecting);
     }
     let mut judged = Judged::new(rt.alloc());
     for round in files.chunks(usize::from(jobs.max(1)) * AT_ONCE) {
-        let batches = read_batches(rt, round)?;
+        let batches = read_batches(rt, round, expecting)?;
         let alloc = rt.alloc();
         let said = thread::map_vec(
             rt,
             batches,
-            &|batch: Vec<Taken<'_>>| { judge_batch(alloc, batch, explains) },
+            &|batch: Vec<Taken<'_>>| { judge_batch(alloc, batch, wants) },
         )?;
         add_batches(&mut judged, said)?;
     }
@@ -94,31 +119,43 @@ pub(crate) fn judge_files<R: Files + Input + AllocGlobal + Threads + Sync>(
 fn judge_in_turn<R: Files + Input + AllocGlobal>(
     rt: &R,
     files: &[Source],
-    explains: bool,
+    wants: Wants,
+    expecting: &mut Expecting<'_>,
 ) -> Result<Judged, Fault> {
     let mut judged = Judged::new(rt.alloc());
     for source in files {
-        judged.judge(rt.alloc(), take(rt, source), explains)?;
+        judged.judge(rt.alloc(), take(rt, source, expecting)?, wants)?;
     }
     Ok(judged)
 }
 
 /// The file, read.
-fn take<'a, R: Files + Input + AllocGlobal>(rt: &R, source: &'a Source) -> Taken<'a> {
-    Taken {
+fn take<'a, R: Files + Input + AllocGlobal>(
+    rt: &R,
+    source: &'a Source,
+    expecting: &mut Expecting<'_>,
+) -> Result<Taken<'a>, AllocError> {
+    let file = source.read(rt);
+    let expected = match &file {
+        Ok(bytes) => expecting.expected(rt.alloc(), bytes)?,
+        Err(_) => None,
+    };
+    Ok(Taken {
         name: source.name.as_str(),
-        file: source.read(rt),
-    }
+        file,
+        expected,
+    })
 }
 
 /// The files, read in their order, in batches for a thread each.
 fn read_batches<'a, R: Files + Input + AllocGlobal>(
     rt: &R,
     files: &'a [Source],
+    expecting: &mut Expecting<'_>,
 ) -> Result<Vec<Vec<Taken<'a>>>, AllocError> {
     let mut batches = Vec::new(rt.alloc());
     for batch in files.chunks(AT_ONCE) {
-        batches.push(read_batch(rt, batch)?)?;
+        batches.push(read_batch(rt, batch, expecting)?)?;
     }
     Ok(batches)
 }
@@ -126,19 +163,20 @@ fn read_batches<'a, R: Files + Input + AllocGlobal>(
 fn read_batch<'a, R: Files + Input + AllocGlobal>(
     rt: &R,
     files: &'a [Source],
+    expecting: &mut Expecting<'_>,
 ) -> Result<Vec<Taken<'a>>, AllocError> {
     let mut batch = Vec::new(rt.alloc());
     for source in files {
-        batch.push(take(rt, source))?;
+        batch.push(take(rt, source, expecting)?)?;
     }
     Ok(batch)
 }
 
 /// What is said of the files of a batch.
-fn judge_batch(alloc: Global, batch: Vec<Taken<'_>>, explains: bool) -> Result<Judged, Fault> {
+fn judge_batch(alloc: Global, batch: Vec<Taken<'_>>, wants: Wants) -> Result<Judged, Fault> {
     let mut judged = Judged::new(alloc);
     for taken in batch {
-        judged.judge(alloc, taken, explains)?;
+        judged.judge(alloc, taken, wants)?;
     }
     Ok(judged)
 }

@@ -1,7 +1,9 @@
 //! The program without its `main`: a run from the command line to the exit status, and what each command answers.
 #![tactic(auto)]
 
+mod expecting;
 mod failure;
+mod faults;
 mod input;
 mod judging;
 mod limits;
@@ -20,5 +22,8 @@ pub use fs_app_place_order::{run_order, run_place};
 pub use fs_app_solve::{Found, Gate, Open, Unwatched, Watch, run_solve, run_solve_alone};
 pub use fs_app_states::{Shown, run_states};
 pub use fs_app_states_log::{Compared, LogError, compare, left_over, read_log};
-pub use fs_app_test::{Kind, Line, Said, test_file, test_objects, test_report, vacuous_note};
+pub use fs_app_test::{
+    Expected, Kind, Line, Note, Said, expected_of, test_file, test_objects, test_report,
+    vacuous_note,
+};
 pub use program::run;

@@ -5,8 +5,12 @@ ghost use Rattle.std.specs.Prelude.{◌≡◌, IfOk, OnOk};
 use crate::input::{INPUT_LIMIT, read_file, read_input};
 use crate::missing::Missing;
 use crate::sources::Source;
-use fs_app_error_messages::{explain, explain_fences, explain_json, explain_test, explain_unread};
+use fs_app_error_messages::{
+    Located, explain, explain_fences, explain_json, explain_test, explain_unread, locate,
+    locate_fences, locate_json, locate_test,
+};
 use fs_app_io::Unread;
+use fs_app_test::Note;
 use fs_kinds::Fault;
 use std::alloc::{AllocError, Global};
 use std::rt::Files;
@@ -145,6 +149,91 @@ impl<'a> Papers<'a> {
     }
 }
 
+/// What the message of a fault says, and of which file.
+#[derive(Drop)]
+pub(crate) struct Noted<'a> {
+    pub file: &'a str,
+    pub note: Note,
+}
+
+impl<'a> Papers<'a> {
+    /// What the message of the fault that ended the run says, for those who read JSON. None where it has no message. The
+    /// error is want of memory.
+    pub(crate) fn noted(
+        &self,
+        alloc: Global,
+        fault: Fault,
+    ) -> Result<Option<Noted<'a>>, AllocError> {
+        match fault {
+            Fault::BadPrices | Fault::NoTop => noted_json(alloc, &self.prices, fault),
+            Fault::BadWitness | Fault::BadCertificate => noted_json(alloc, &self.evidence, fault),
+            Fault::BadFence => {
+                let found = locate_fences(alloc, self.fences, &self.test.bytes)?;
+                Ok(Some(self.noted_test(note_of(found))))
+            }
+            Fault::Syntax { .. } => Ok(Some(self.noted_test(form_note(alloc, &self.test.bytes)?))),
+            Fault::ReadFault => noted_unread(alloc, self.unread),
+            Fault::Memory | Fault::WriteFault | Fault::Unmatched | Fault::StrangePass => Ok(None),
+            _ => {
+                let found = locate(alloc, &self.test.bytes, fault)?;
+                Ok(Some(self.noted_test(note_of(found))))
+            }
+        }
+    }
+
+    fn noted_test(&self, note: Note) -> Noted<'a> {
+        Noted {
+            file: self.test.name,
+            note,
+        }
+    }
+}
+
+/// The note of a fault of the form. Where the test has none, the fault is that of an item of `locations`, which is refused
+/// beside the reader of tests.
+fn form_note(alloc: Global, bytes: &[u8]) -> Result<Note, AllocError> {
+    match locate_test(alloc, bytes)? {
+        Some(found) => Ok(note_of(found)),
+        None => placeless(
+            alloc,
+            "an item of `locations` has another form, or names what the test lacks",
+        ),
+    }
+}
+
+fn placeless(alloc: Global, message: &str) -> Result<Note, AllocError> {
+    Ok(Note {
+        line: None,
+        column: None,
+        message: String::from_str(alloc, message)?,
+    })
+}
+
+fn noted_json<'a>(
+    alloc: Global,
+    paper: &Paper<'a>,
+    fault: Fault,
+) -> Result<Option<Noted<'a>>, AllocError> {
+    let note = note_of(locate_json(alloc, &paper.bytes, fault)?);
+    Ok(Some(Noted {
+        file: paper.name,
+        note,
+    }))
+}
+
+fn noted_unread<'a>(
+    alloc: Global,
+    unread: Option<(&'a str, Missing)>,
+) -> Result<Option<Noted<'a>>, AllocError> {
+    match unread {
+        Some((file, why)) => {
+            let note = note_of_missing(alloc, why)?;
+            Ok(Some(Noted { file, note }))
+        }
+        None => Ok(None),
+    }
+}
+
 fn no_paper<'a>(alloc: Global) -> Paper<'a> {
     Paper {
         name: "",
@@ -188,4 +277,50 @@ pub(crate) fn message_of_file(
         Err(Missing::Unread(Unread::NoMemory)) => None,
         Err(why) => unread_line(alloc, name, *why).ok(),
     }
+}
+
+/// What that message says, for those who read JSON. The error is want of memory.
+pub(crate) fn note_of_file(
+    alloc: Global,
+    file: &Result<Vec<u8>, Missing>,
+) -> Result<Option<Note>, AllocError> {
+    match file {
+        Ok(bytes) => match locate_test(alloc, bytes)? {
+            Some(found) => Ok(Some(note_of(found))),
+            None => Ok(None),
+        },
+        Err(why) => Ok(Some(note_of_missing(alloc, *why)?)),
+    }
+}
+
+/// The note; or where there is none that of the fault, which is none of the form of a test.
+pub(crate) fn note_or(
+    alloc: Global,
+    note: Option<Note>,
+    fault: Option<Fault>,
+) -> Result<Option<Note>, AllocError> {
+    if note.is_some() {
+        return Ok(note);
+    }
+    match fault {
+        Some(fault) => Ok(Some(note_of(locate(alloc, &[], fault)?))),
+        None => Ok(None),
+    }
+}
+
+fn note_of(found: Located) -> Note {
+    let Located { place, hint } = found;
+    Note {
+        line: place.map(|place| place.line),
+        column: place.map(|place| place.column),
+        message: hint,
+    }
+}
+
+fn note_of_missing(alloc: Global, why: Missing) -> Result<Note, AllocError> {
+    Ok(Note {
+        line: None,
+        column: None,
+        message: format!(in alloc; "{why}")?,
+    })
 }

@@ -1,19 +1,21 @@
 //! A run of the program: from the words of its command line to what it prints and its exit status.
 
-ghost use Rattle.std.specs.Prelude.{◌≡◌, ◌≤◌, ℕ, List, IfOk, IfErr, map, string_bytes};
+ghost use Rattle.std.specs.Prelude.{◌≡◌, ◌≤◌, ℕ, List, [], IfOk, IfErr, IsSome, map, string_bytes};
 ghost use Rattle.std.specs.Arc.{arc_value};
 ghost use Rattle.std.specs.Option.{option_copied};
-ghost use Rattle.fs_app_io.specs.declared.status.Status.TheVariants.{Success};
+ghost use Rattle.fs_app_io.specs.declared.status.Status.TheVariants.{Success, Denied, Failure as Failed};
 ghost use Rattle.fs_app_place_order.specs.Place.{IsFencedText, IsFirstPlaceFault};
 ghost use Rattle.fs_app_place_order.specs.Order.{IsOrderAnswer, IsFirstOrderFault};
 ghost use Rattle.fs_app_solve.specs.Found.{IsFound};
 ghost use Rattle.fs_app_check.specs.Check.{IsChecked, AreOneVerdict, IsFirstCheckFault};
 ghost use Rattle.fs_app.specs.Answers.{IsSolvedIn, offered, in_form, IsAuditFault, IsAuditText, Answers, AnswersTest, AnswersPlace};
-ghost use Rattle.fs_app.specs.Answers.{AnswersOrder, AnswersSolve, AnswersAudit, AnswersCheck};
+ghost use Rattle.fs_app.specs.Answers.{AnswersLines, AnswersOrder, AnswersSolve, AnswersAudit, AnswersCheck};
 
+use crate::expecting::Expecting;
 use crate::failure::Failure;
+use crate::faults::fault_object;
 use crate::input::INPUT_LIMIT;
-use crate::judging::judge_files;
+use crate::judging::{Wants, judge_files};
 use crate::limits::{has_stack, room_of, tell, write_within};
 use crate::papers::Papers;
 use crate::progress::Progress;
@@ -24,14 +26,15 @@ use clap::error::ErrorKind;
 use fs_app_audit::{run_audit, run_mended};
 use fs_app_check::{Checked, run_check};
 use fs_app_command_line::{
-    Audit, Check, MOST_NODES, MOST_WORKERS, Order, Place, Request, Solve, Task, Test,
+    Audit, Check, Expectations, MOST_NODES, MOST_WORKERS, Order, Place, Request, Solve, Task, Test,
     completion_script, read_request,
 };
 use fs_app_error_messages::shown_name;
 use fs_app_io::{Output, Status};
 use fs_app_place_order::{run_order, run_place};
 use fs_app_solve::{Found, run_solve, run_solve_alone};
-use fs_app_test::{test_objects, test_report, vacuous_note};
+use fs_app_test::{Line, test_objects, test_report, vacuous_note};
+use fs_app_test_list::{ListError, read_rows};
 use fs_kinds::Fault;
 use std::alloc::Global;
 use std::process::ExitCode;
@@ -111,7 +114,12 @@ fn status_of_run<
     let mut papers = Papers::new(rt.alloc());
     match answer(rt, &request.task, voice, &mut papers) {
         Ok(output) => print(rt, &output),
-        Err(fault) => Err(failure_of(rt.alloc(), fault, voice, &papers)),
+        Err(fault) => {
+            if request.task.is_json() {
+                print_fault(rt, fault, &papers)?;
+            }
+            Err(failure_of(rt.alloc(), fault, voice, &papers))
+        }
     }
 }
 
@@ -122,6 +130,21 @@ fn print<R: Files + Print>(rt: &R, output: &Output) -> Result<Status, Failure>
     let room = room_of(rt, "/dev/stdout");
     write_within(&mut io::writer(rt), output.text.as_bytes(), room)?;
     Ok(output.status)
+}
+
+/// Prints the object of a fault that ended the run, where it has one.
+fn print_fault<R: Files + Print + AllocGlobal>(
+    rt: &R,
+    fault: Fault,
+    papers: &Papers<'_>,
+) -> Result<(), Fault> {
+    match fault_object(rt.alloc(), fault, papers)? {
+        Some(object) => {
+            let room = room_of(rt, "/dev/stdout");
+            write_within(&mut io::writer(rt), object.as_bytes(), room)
+        }
+        None => Ok(()),
+    }
 }
 
 /// The failure of a run that a fault ended, with its message where that is said.
@@ -207,7 +230,7 @@ fn answer<'a, R: Files + Input + Eprint + AllocGlobal + Clock + Threads + Wait +
     ensures { IfOk result (Answers task.now papers.new) }
 {
     match task {
-        Task::Test(test) => answer_test(rt, test, voice),
+        Task::Test(test) => answer_test(rt, test, voice, papers),
         Task::States(states) => match states.log {
             Some(path) => answer_log(rt, states, path, voice, papers),
             None => answer_states(rt, states, voice),
@@ -224,25 +247,125 @@ fn answer<'a, R: Files + Input + Eprint + AllocGlobal + Clock + Threads + Wait +
     }
 }
 
-/// Messages come before the lines, and only where there is memory for these.
-fn answer_test<R: Files + Input + Eprint + AllocGlobal + Threads + Sync>(
+fn answer_test<'a, R: Files + Input + Eprint + AllocGlobal + Threads + Sync>(
     rt: &R,
-    test: &Test,
+    test: &'a Test<'a>,
     voice: Voice,
+    papers: &mut Papers<'a>,
 ) -> Result<Output, Fault>
     ensures { IfOk result (AnswersTest test.now) }
 {
-    let files = sources(rt, &test.files)?;
-    let judged = judge_files(rt, &files, test.jobs, voice.explains)?;
-    let output = if test.json {
-        test_objects(rt.alloc(), &judged.lines)?
-    } else {
-        test_report(rt.alloc(), &judged.lines)?
+    match test.expect {
+        Some(Expectations::List(path)) => answer_listed(rt, test, path, voice, papers),
+        _ => judged_tests(rt, test, voice, &mut Expecting::Comments),
+    }
+}
+
+/// The same where the list at this path says what is expected.
+fn answer_listed<'a, R: Files + Input + Eprint + AllocGlobal + Threads + Sync>(
+    rt: &R,
+    test: &'a Test<'a>,
+    path: &'a str,
+    voice: Voice,
+    papers: &mut Papers<'a>,
+) -> Result<Output, Fault>
+    requires { IsSome test.now.expect }
+    ensures { IfOk result (AnswersTest test.now) }
+{
+    papers.read_evidence(rt, path, INPUT_LIMIT)?;
+    match expecting_of(rt.alloc(), &papers.evidence.bytes) {
+        Ok(expecting) => {
+            let mut expecting = expecting;
+            judged_tests(rt, test, voice, &mut expecting)
+        }
+        Err(ListError::Fault(fault)) => Err(fault),
+        Err(error) => {
+            report(rt, &Failure::BadList(error));
+            Ok(refused(rt.alloc()))
+        }
+    }
+}
+
+/// What the list expects.
+fn expecting_of(alloc: Global, list: &[u8]) -> Result<Expecting<'_>, ListError> {
+    Expecting::by_list(alloc, read_rows(alloc, list)?)
+}
+
+/// The same output, with status 1.
+fn denied(output: Output) -> Output
+    ensures text { result.text ≡ output.text }
+    ensures status { result.status ≡ Denied }
+{
+    Output {
+        text: output.text,
+        status: Status::Denied,
+    }
+}
+
+/// No output, with status 2.
+fn refused(alloc: Global) -> Output
+    ensures text { string_bytes result.text ≡ [] }
+    ensures status { result.status ≡ Failed }
+{
+    Output {
+        text: String::new(alloc),
+        status: Status::Failure,
+    }
+}
+
+/// What is said of the files, beside what is expected. Messages come before the lines, and only where there is memory
+/// for these. A test of which something is expected and that isn't there counts as one that isn't as expected.
+fn judged_tests<R: Files + Input + Eprint + AllocGlobal + Threads + Sync>(
+    rt: &R,
+    test: &Test<'_>,
+    voice: Voice,
+    expecting: &mut Expecting<'_>,
+) -> Result<Output, Fault>
+    ensures { IfOk result (AnswersTest test.now) }
+{
+    let wants = Wants {
+        messages: voice.explains,
+        notes: test.json,
     };
+    let files = sources(rt, &test.files)?;
+    let judged = judge_files(rt, &files, test.jobs, wants, expecting)?;
+    let not_met = expecting.not_met(rt.alloc())?;
+    let output = tests_output(rt.alloc(), test, &judged.lines, not_met.is_empty())?;
     for message in &judged.messages {
         tell(rt, message);
     }
+    if test.expect.is_some() && !not_met.is_empty() {
+        tell(rt, &not_met);
+    }
     Ok(output)
+}
+
+/// The lines in print. Where something is expected, the status is 1 unless all of which it is are there.
+fn tests_output(
+    alloc: Global,
+    test: &Test<'_>,
+    lines: &[Line],
+    are_there: bool,
+) -> Result<Output, Fault>
+    ensures { IfOk result (AnswersTest test.now) }
+{
+    let output = lines_output(alloc, test, lines)?;
+    if are_there || test.expect.is_none() {
+        return Ok(output);
+    }
+    Ok(denied(output))
+}
+
+/// The lines in print.
+fn lines_output(alloc: Global, test: &Test<'_>, lines: &[Line]) -> Result<Output, Fault>
+    ensures { IfOk result (AnswersLines test.now) }
+{
+    let expects = test.expect.is_some();
+    if test.json {
+        test_objects(alloc, lines, expects)
+    } else {
+        test_report(alloc, lines, expects)
+    }
 }
 
 fn answer_place<'a, R: Files + Input + AllocGlobal>(

@@ -1,5 +1,6 @@
 //! What `states` answers: the states of each file, or what a log has of them.
 use crate::failure::Failure;
+use crate::faults::fault_object;
 use crate::papers::Papers;
 use crate::program::{Voice, failure_of, report};
 use crate::sources::{Source, sources};
@@ -12,7 +13,8 @@ use fs_kinds::Fault;
 use std::alloc::Global;
 use std::rt::Files;
 
-/// The states of each file, in their order. The fault of one is said on standard error, and the others go on.
+/// The states of each file, in their order. The fault of one is said on standard error, as JSON also where the states
+/// are printed, and the others go on.
 pub(crate) fn answer_states<R: Files + Input + Eprint + AllocGlobal>(
     rt: &R,
     states: &States<'_>,
@@ -22,13 +24,11 @@ pub(crate) fn answer_states<R: Files + Input + Eprint + AllocGlobal>(
     let asked = Shown {
         all: states.all,
         witnesses: states.witnesses,
+        json: states.json,
     };
     let files = sources(rt, &states.files)?;
     for source in &files {
-        match states_of_file(rt, source, &states.fences, asked, voice)? {
-            Some(block) => output.text.push_str(block.as_str())?,
-            None => output.status = Status::Failure,
-        }
+        add_states(rt, source, &states.fences, asked, voice, &mut output)?;
     }
     Ok(output)
 }
@@ -41,23 +41,42 @@ fn nothing<R: AllocGlobal>(rt: &R) -> Output {
     }
 }
 
-/// The states of a file. None where it has a fault, which is said on standard error.
-fn states_of_file<'a, R: Files + Input + Eprint + AllocGlobal>(
+/// Adds the states of a file, or its fault.
+fn add_states<'a, R: Files + Input + Eprint + AllocGlobal>(
     rt: &R,
     source: &'a Source,
     fences: &'a [String],
     asked: Shown,
     voice: Voice,
-) -> Result<Option<String>, Fault> {
+    output: &mut Output,
+) -> Result<(), Fault> {
     let mut papers = Papers::new(rt.alloc());
     papers.fences = fences;
     match read_states(rt, source, asked, &mut papers) {
-        Ok(block) => Ok(Some(block)),
+        Ok(block) => output.text.push_str(block.as_str())?,
         Err(fault) => {
             say_fault(rt, fault, voice, &papers)?;
-            Ok(None)
+            add_fault(rt.alloc(), fault, asked.json, &papers, output)?;
         }
     }
+    Ok(())
+}
+
+/// Makes it the status that a file has a fault, and adds its object where JSON is asked for.
+fn add_fault(
+    alloc: Global,
+    fault: Fault,
+    is_json: bool,
+    papers: &Papers<'_>,
+    output: &mut Output,
+) -> Result<(), Fault> {
+    output.status = Status::Failure;
+    if is_json {
+        if let Some(object) = fault_object(alloc, fault, papers)? {
+            output.text.push_str(object.as_str())?;
+        }
+    }
+    Ok(())
 }
 
 fn read_states<'a, R: Files + Input + AllocGlobal>(

@@ -35,15 +35,21 @@ With --json it prints a JSON object for each file, a line each, and nothing coun
   before P1:1\",\"witness\":{\"choices\":[[0],[0]],\"order\":[\"P1:2\",\"P0:1\",\"P0:3\",\"P1:1\"]}}
 
 (here in two lines). Where the outcome is allowed, the witness is an execution that shows it,
-which `order` reads.
+which `order` reads. Of a file with a fault the object has line, column and a message.
+
+With --expect each file says what is expected of its test, in a comment as
+(* expect forbidden *), or `allowed` or `vacuous`. With --expect=LIST a file does, with lines
+as `SB allowed`: the name of a test, and one of these words. A line that isn't as expected
+says what was; a fault never is, nor a test of which nothing is expected.
 
 FILE may also be a folder, for its files *.litmus and those of its folders; or a list, a file
 whose name begins with @, with a FILE a line, as herd7 reads it.
 
 Exit status:
-  0  each outcome is forbidden
-  1  one is allowed, whatever else there is
-  2  none is allowed, and a file has a fault; or a bad command line
+  0  each outcome is forbidden; with --expect, each test is as expected
+  1  one is allowed, whatever else there is; with --expect, a test isn't as expected, or LIST
+     names one that isn't there
+  2  none is allowed, and a file has a fault; or a bad command line or LIST
   3  memory ran out (fault F19), and nothing is printed
   4  none is allowed, no file has a fault, and one is vacuous
 Faults beside those of the files: a hart has too many runs (F13), a run accesses an
@@ -75,7 +81,8 @@ executions there). `Ok`: the condition with its `exists`, `~exists` or `forall` 
 A word as P0:3=w,w is a fence, which is placed in each test as `place` does it.
 
 With --all the states have all registers that are written, and all locations. With
---witnesses each state has an execution below it, which `order` reads.
+--witnesses each state has an execution below it, which `order` reads. With --json an object
+stands for a test, in a line; a file with a fault has one as of `test --json`.
 
 With --log LOG the states are not printed, but held against those that herd7 or litmus7 wrote
 to the file, for what it shows of each test:
@@ -167,6 +174,8 @@ With --json the answer is a JSON object, in one line:
   {\"before\":2,\"hart\":1,\"kind\":\"w,r\"}]}
   {\"answer\":\"none\",\"witness\":{\"choices\":[[],[1,1]],\"order\":[\"P0:1\",\"P0:3\",\"P1:0\",\"P1:1\"]}}
 
+So is a fault, as of `test --json`, beside its line.
+
 Where the outcome is vacuous (`rvfence test --help`), a note on standard error says why.
 
 With --cert PATH a certificate of the answer is written to PATH first, which `check` reads
@@ -252,6 +261,8 @@ With --json it prints a JSON object, in one line, with the answer as `solve --js
   {\"answer\":{\"answer\":\"fenced\",\"cost\":18,\"fences\":[..]},\"valid\":true}
   {\"reason\":\"cycle 3\",\"valid\":false}
 
+So is a fault, as of `test --json`, beside its line.
+
 A certificate is a JSON file with the answer, a cycle for each candidate execution that
 shows the outcome (in version 4 a refutation of them all), a tree in which nothing better
 than the answer is left, and the executions that the tree names. docs/CERTIFICATE.md says
@@ -311,6 +322,8 @@ const ALL_HELP: &str = "Show all registers that are written, and all locations";
 
 const WITNESSES_HELP: &str = "Print an execution below each state, which `order` reads";
 
+const STATES_JSON_HELP: &str = "Print a JSON object for each test, a line each; not with --log";
+
 const LOG_HELP: &str = "File that herd7 or litmus7 wrote, to hold the states against";
 
 const FENCE_HELP: &str = "Fence to place, as P0:3=w,w: hart, instruction (from 0) and kind";
@@ -327,6 +340,8 @@ const WORKERS_HELP: &str = "Threads to search with, 1 to 16";
 
 const JOBS_HELP: &str = "Threads to judge files with, 1 to 16; the lines are the same";
 
+const EXPECT_HELP: &str = "Is each test as its comments, or LIST, expect it?";
+
 const LINES_HELP: &str = "Print a JSON object for each file, a line each";
 
 const JSON_HELP: &str = "Print a JSON object";
@@ -340,6 +355,9 @@ const QUIET_HELP: &str = "Say nothing on standard error but the line of a fault"
 const VERBOSE_HELP: &str = "Explain a fault: where it is, and what was expected";
 
 const NODES_HELP: &str = "Most nodes that the search may make, 1 to 1000000";
+
+/// What is read of an option that may have a path and has none. No path has such a byte.
+const NO_PATH: &str = "\0";
 
 /// The names of the shells.
 const SHELLS: &[&str] = &["bash", "zsh", "fish"];
@@ -366,7 +384,7 @@ pub struct Request<'a> {
 /// What is to be done. Files go by their paths.
 #[derive(Drop)]
 pub enum Task<'a> {
-    Test(Test),
+    Test(Test<'a>),
     States(States<'a>),
     Place(Place<'a>),
     Order(Order<'a>),
@@ -377,14 +395,38 @@ pub enum Task<'a> {
     Completions(Shell),
 }
 
+impl Task<'_> {
+    /// Whether JSON is to be printed.
+    pub fn is_json(&self) -> bool {
+        match self {
+            Task::Test(test) => test.json,
+            Task::States(states) => states.json,
+            Task::Solve(solve) => solve.json,
+            Task::Check(check) => check.json,
+            Task::Place(_) | Task::Order(_) | Task::Audit(_) | Task::Completions(_) => false,
+        }
+    }
+}
+
 /// What `test` was asked for.
 #[derive(Drop)]
-pub struct Test {
+pub struct Test<'a> {
     pub files: Vec<String>,
+    /// Whether, and where, it is said what is expected of the tests.
+    pub expect: Option<Expectations<'a>>,
     /// How many threads judge files: from 1 to 16.
     pub jobs: u8,
     /// Whether JSON is to be printed.
     pub json: bool,
+}
+
+/// Where it is said what is expected of tests.
+#[derive(Clone, Copy, Debug)]
+pub enum Expectations<'a> {
+    /// In comments of each test file.
+    Comments,
+    /// In the list at this path.
+    List(&'a str),
 }
 
 /// What `states` was asked for.
@@ -396,6 +438,8 @@ pub struct States<'a> {
     pub all: bool,
     /// Whether each state gets its execution.
     pub witnesses: bool,
+    /// Whether JSON is to be printed.
+    pub json: bool,
     /// The log that the states are held against, in place of being printed.
     pub log: Option<&'a str>,
 }
@@ -482,12 +526,23 @@ fn task_of<'a>(alloc: Global, name: &str, found: &ArgMatches<'a>) -> Result<Task
     }
 }
 
-fn test_of(alloc: Global, found: &ArgMatches<'_>) -> Result<Test, AllocError> {
+fn test_of<'a>(alloc: Global, found: &ArgMatches<'a>) -> Result<Test<'a>, AllocError> {
     Ok(Test {
         files: words_of(alloc, found, "FILE")?,
+        expect: expectations_of(found),
         jobs: found.get_one::<u8>("jobs").unwrap_or(ONE_WORKER),
         json: found.get_flag("json"),
     })
+}
+
+/// By `--expect` or `--expect=LIST`.
+fn expectations_of<'a>(found: &ArgMatches<'a>) -> Option<Expectations<'a>> {
+    let path = found.get_str("expect")?;
+    if path == NO_PATH {
+        Some(Expectations::Comments)
+    } else {
+        Some(Expectations::List(path))
+    }
 }
 
 fn states_of<'a>(alloc: Global, found: &ArgMatches<'a>) -> Result<States<'a>, AllocError> {
@@ -497,6 +552,7 @@ fn states_of<'a>(alloc: Global, found: &ArgMatches<'a>) -> Result<States<'a>, Al
         fences,
         all: found.get_flag("all"),
         witnesses: found.get_flag("witnesses"),
+        json: found.get_flag("json"),
         log: found.get_str("log"),
     })
 }
@@ -641,6 +697,7 @@ fn test_command<'a>(alloc: Global) -> Result<Command<'a>, AllocError> {
     let command = with_argument(Ok(command), files(alloc, FILES_HELP));
     let command = with_argument(command, threads(alloc, "jobs", JOBS_HELP));
     let command = with_argument(command, flag(alloc, "json", LINES_HELP));
+    let command = with_argument(command, optional(alloc, "expect", "LIST", EXPECT_HELP));
     with_voice(alloc, command)
 }
 
@@ -651,6 +708,8 @@ fn states_command<'a>(alloc: Global) -> Result<Command<'a>, AllocError> {
     let command = with_argument(Ok(command), files(alloc, FILES_AND_FENCES_HELP));
     let command = with_argument(command, flag(alloc, "all", ALL_HELP));
     let command = with_argument(command, flag(alloc, "witnesses", WITNESSES_HELP));
+    let json = flag(alloc, "json", STATES_JSON_HELP).conflicts_with("log")?;
+    let command = with_argument(command, json);
     let command = with_argument(command, option(alloc, "log", "LOG", LOG_HELP));
     with_voice(alloc, command)
 }
@@ -735,6 +794,14 @@ fn option<'a>(alloc: Global, name: &'a str, value: &'a str, help: &'a str) -> Ar
         .long(name)
         .value_name(value)
         .help(help)
+}
+
+/// A word after `--` by itself, or with `=` and a value. By itself its value is `NO_PATH`.
+fn optional<'a>(alloc: Global, name: &'a str, value: &'a str, help: &'a str) -> Arg<'a> {
+    option(alloc, name, value, help)
+        .num_args(0..=1)
+        .require_equals(true)
+        .default_missing_value(NO_PATH)
 }
 
 /// A word after `--` by itself.

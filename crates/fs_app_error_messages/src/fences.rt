@@ -1,10 +1,11 @@
 //! What is said of FENCE words, and of files that aren't read.
 
-ghost use Rattle.std.specs.Prelude.{◌≡◌, IfOk, string_bytes};
+ghost use Rattle.std.specs.Prelude.{◌≡◌, None, IfOk, string_bytes};
 ghost use Rattle.fs_app_error_messages.specs.Explained.{IsFenceNote};
 ghost use Rattle.fs_app_error_messages.specs.Messages.{unread_line};
 
 use crate::json::KINDS;
+use crate::located::Located;
 use crate::message::{fence_note, shown_name};
 use fs_kinds::{Fault, Kind, Prices, Slot, read_fence, read_prices};
 use fs_litmus::{read_test, slots};
@@ -107,6 +108,18 @@ pub fn explain_fences(
         Some((word, said)) => fence_note(alloc, word, said),
         None => fence_note(alloc, "FENCE", "no more is known"),
     }
+}
+
+/// What is said of that word, behind it, in one line. No word is at a place of a file. Fails only for want of memory.
+pub fn locate_fences(alloc: Global, words: &[String], test: &[u8]) -> Result<Located, AllocError>
+    ensures { IfOk result (λ found. found.place ≡ None) }
+{
+    let slots = slots_of(alloc, test)?;
+    let hint = match first_word(words, &slots, None) {
+        Some((word, said)) => format!(in alloc; "{}: {}", word, said)?,
+        None => String::from_str(alloc, "no more is known")?,
+    };
+    Ok(Located { place: None, hint })
 }
 
 /// The line that says of a file why it isn't read. Fails only for want of memory.

@@ -17,7 +17,7 @@ use fs_litmus_tokens::tokens;
 use std::alloc::{AllocError, Global};
 
 /// The offset of a point.
-fn offset_of(point: Point) -> usize
+pub(crate) fn offset_of(point: Point) -> usize
     ensures { result ≡ offset_of point }
 {
     match point {
@@ -88,7 +88,7 @@ fn token_words(
 }
 
 /// What is said of a fault of a test file.
-fn hint_of(
+pub(crate) fn hint_of(
     alloc: Global,
     bytes: &[u8],
     fault: Fault,

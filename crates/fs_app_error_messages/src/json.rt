@@ -36,7 +36,7 @@ fn line_start(bytes: &[u8], line: usize) -> usize {
 }
 
 /// The offset of a line and a column, both from 1 on, in bytes; the end where there is none.
-fn offset_at(bytes: &[u8], line: usize, column: usize) -> usize
+pub(crate) fn offset_at(bytes: &[u8], line: usize, column: usize) -> usize
     ensures { result ≤ length bytes.now }
 {
     let offset = line_start(bytes, line).saturating_add(column.saturating_sub(1));
@@ -151,7 +151,11 @@ fn certificate_words(alloc: Global, value: &Value) -> Result<String, AllocError>
 }
 
 /// What is wrong with a JSON value for which this fault was given.
-fn value_words(alloc: Global, value: &Value, fault: Fault) -> Result<String, AllocError> {
+pub(crate) fn value_words(
+    alloc: Global,
+    value: &Value,
+    fault: Fault,
+) -> Result<String, AllocError> {
     match fault {
         Fault::BadPrices | Fault::NoTop => prices_words(alloc, value),
         Fault::BadWitness => witness_words(alloc, value),

@@ -89,12 +89,13 @@ pub fn test_is_true()
         → IsTested file said why witness → TestIsTrue test (kind_text said) }
 {}
 
-/// A law, the promise of `states` without `--witnesses`. Where it answers, it prints of a program in print all states
-/// in which executions end, at some places, each once and no other. With FENCE words it is the program that `place`
-/// prints with the same words.
+/// A law, the promise of `states` without `--witnesses` and `--json`. Where it answers, it prints of a program in print
+/// all states in which executions end, at some places, each once and no other. With FENCE words it is the program that
+/// `place` prints with the same words.
 pub fn states_are_true()
     ensures printed { (test text : List ℕ) (all : Bool)
-        → IsStatesText test [] (record { all = all; witnesses = false }) text → StatesAreTrue test text }
+        → IsStatesText test [] (record { all = all; witnesses = false; json = false }) text → StatesAreTrue test text }
     ensures placed { (file test text : List ℕ) (words : List (List ℕ)) (all : Bool) → IsFencedText file None words test
-        → IsStatesText file words (record { all = all; witnesses = false }) text → StatesAreTrue test text }
+        → IsStatesText file words (record { all = all; witnesses = false; json = false }) text
+        → StatesAreTrue test text }
 {}

@@ -43,7 +43,7 @@ module _ (test : List ℕ) (fences : List (List ℕ)) (asked : Shown) where
       elim (is_memory f) [ inl e ↦ first-memory f e | inr n ↦ of_states t p columns reads placed are (h n) ]
 
   pub told : (text : List ℕ) (t : Test) (p : List Entry) (columns : List Column) → Reads test t → IsBounded t
-      → IsPlaced None (slots t) fences (Some p) → AreColumns test t asked.all columns → IsOfStates t p columns asked.witnesses text
+      → IsPlaced None (slots t) fences (Some p) → AreColumns test t asked.all columns → IsOfStates t p columns asked text
       → IsStatesText test fences asked text
   told text t p columns reads bounded placed are of = record {
     the_test = t;

@@ -3,3 +3,4 @@ pub mod Numbered
 pub mod Showing
 pub mod Meaning
 pub mod Answering
+pub mod Whole

@@ -18,7 +18,8 @@ use Rattle.fs_judge_final_states.specs.States.{AreStates, IsShownState, IsStates
 use Rattle.fs_app_states.specs.declared.asked.Shown.{Shown}
 use Rattle.fs_app_states.specs.declared.columns.Column.{Column}
 use Rattle.fs_app_states.specs.Places.{AreColumns, IsColumnsFault}
-use Rattle.fs_app_states.specs.Report.{is_true, states_text}
+use Rattle.fs_app_states.specs.Objects.{shown_text}
+use Rattle.fs_app_states.specs.Report.{is_true}
 
 abbrev pub places_of : List Column → List Place
 places_of = map (λ column. column.place)
@@ -38,7 +39,7 @@ pub record IsStatesText (test : List ℕ) (fences : List (List ℕ)) (asked : Sh
   -- what the condition says of a state, it says of each execution that ends in it
   pub meant : (e : Execution) → is_true columns (condition_of the_test.condition) (state_of the_test (places_of columns) e)
       ≡ holds (final_register the_test e.traces) (final_word (pre_execution the_test e.traces) e.order) (condition_of the_test.condition)
-  pub is_text : text ≡ states_text the_test placement columns asked.witnesses states
+  pub is_text : text ≡ shown_text the_test placement columns asked states
 
 -- The first fault: of the test; else of `locations`; else of the words; else of its runs, its candidates or its states.
 -- Want of memory may come in place of any answer.

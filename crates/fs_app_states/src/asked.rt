@@ -7,4 +7,6 @@ pub struct Shown {
     pub all: bool,
     /// Below each state an execution that ends in it, as the JSON text of a witness.
     pub witnesses: bool,
+    /// A JSON object in place of lines.
+    pub json: bool,
 }

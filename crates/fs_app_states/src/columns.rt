@@ -164,7 +164,11 @@ pub fn place_named(alloc: Global, test: &Test, name: &str) -> Result<Option<Plac
 // ---- a state in print
 
 /// Appends the name of the location whose address the word is, or else the word in decimal.
-fn push_value(text: &mut String, locations: &[Location], word: u32) -> Result<(), AllocError>
+pub(crate) fn push_value(
+    text: &mut String,
+    locations: &[Location],
+    word: u32,
+) -> Result<(), AllocError>
     requires { length locations.now ≤ most_locations }
     ensures { OnOk result (string_bytes text.new ≡ string_bytes text.old ++ value_text locations.now word) }
 {

@@ -1,10 +1,11 @@
 //! What the command `states` answers, from the bytes of a test file to the text that is printed: which final states
-//! the test allows, in herd7's form.
+//! the test allows, in herd7's form or as JSON.
 #![tactic(auto)]
 
 mod asked;
 mod columns;
 mod listed;
+mod objects;
 mod places;
 mod report;
 mod shown;

@@ -73,7 +73,7 @@ fn is_true(columns: &[Column], condition: &Outcome, words: &[u32]) -> bool
 }
 
 /// How many states make the condition true.
-fn positive(columns: &[Column], condition: &Outcome, states: &[State]) -> usize
+pub(crate) fn positive(columns: &[Column], condition: &Outcome, states: &[State]) -> usize
     ensures { result ≡ positive columns.now (condition_of condition.now) states.now }
 {
     states
@@ -83,7 +83,7 @@ fn positive(columns: &[Column], condition: &Outcome, states: &[State]) -> usize
 }
 
 /// How many make it false.
-fn negative(columns: &[Column], condition: &Outcome, states: &[State]) -> usize
+pub(crate) fn negative(columns: &[Column], condition: &Outcome, states: &[State]) -> usize
     ensures { result ≡ negative columns.now (condition_of condition.now) states.now }
 {
     states
@@ -94,7 +94,7 @@ fn negative(columns: &[Column], condition: &Outcome, states: &[State]) -> usize
 
 // ---- words for it
 
-fn quantifier_word(quantifier: Quantifier) -> &'static str
+pub(crate) fn quantifier_word(quantifier: Quantifier) -> &'static str
     ensures { result.now ≡ quantifier_word quantifier }
 {
     match quantifier {
@@ -105,7 +105,7 @@ fn quantifier_word(quantifier: Quantifier) -> &'static str
 }
 
 /// Is the condition with its quantifier true of so many states that make it true without, and so many that don't?
-fn is_met(quantifier: Quantifier, positive: usize, negative: usize) -> bool
+pub(crate) fn is_met(quantifier: Quantifier, positive: usize, negative: usize) -> bool
     ensures { result ≡ is_met quantifier positive negative }
 {
     match quantifier {
@@ -121,7 +121,7 @@ fn met_word(met: bool) -> &'static str
     if met { "Ok" } else { "No" }
 }
 
-fn observation_word(positive: usize, negative: usize) -> &'static str
+pub(crate) fn observation_word(positive: usize, negative: usize) -> &'static str
     ensures { result.now ≡ observation_word positive negative }
 {
     if positive == 0 {
@@ -154,7 +154,11 @@ fn behind_break(text: &str) -> &str
 }
 
 /// The quantifier and the condition, as they stand in the last line of what `place` prints.
-fn condition_line(alloc: Global, test: &Test, placement: &Placement) -> Result<String, Fault>
+pub(crate) fn condition_line(
+    alloc: Global,
+    test: &Test,
+    placement: &Placement,
+) -> Result<String, Fault>
     requires bounded { IsBounded test.now }
     requires slots { slots_of placement.now ≡ slots test.now }
     ensures ok { IfOk result (λ text. string_bytes text ≡ condition_line test.now placement.now) }

@@ -13,8 +13,8 @@ ghost use Rattle.fs_app_states.specs.inner.Parts.{IsOfStates};
 
 use crate::asked::Shown;
 use crate::columns::Column;
+use crate::objects::shown_text;
 use crate::places::columns;
-use crate::report::states_text;
 use fs_judge_final_states::{Place, State, states};
 use fs_kinds::{Fault, List, Placement};
 use fs_litmus::{Test, read_fences, read_test};
@@ -22,7 +22,7 @@ use std::alloc::{AllocError, Global};
 use std::sync::Arc;
 
 /// What `states` prints of a test file with the fences that the words name: which final states RVWMO allows, in
-/// herd7's form. The file is its bytes as they were read.
+/// herd7's form, or as a JSON object in a line where that is asked for. The file is its bytes as they were read.
 ///
 /// Shown are the registers and locations of which the condition speaks and those that `locations` lists, each once:
 /// registers by hart and number, and then locations in the order in which they are declared; where `all` is asked for
@@ -62,7 +62,7 @@ fn test_states(
 {
     let columns = columns(alloc, bytes, &test, asked.all)?;
     let placement = read_fences(alloc, &test, None, fences)?;
-    owned_states(alloc, test, &placement, &columns, asked.witnesses)
+    owned_states(alloc, test, &placement, &columns, asked)
 }
 
 /// What is printed of the test with the placement's fences.
@@ -71,16 +71,16 @@ fn owned_states(
     test: Test,
     placement: &Placement,
     columns: &[Column],
-    witnesses: bool,
+    asked: Shown,
 ) -> Result<String, Fault>
     requires test { IsTest test }
     requires placement { slots_of placement.now ≡ slots test }
     requires places { ArePlacesOf test (places_of columns.now) }
-    ensures ok { IfOk result (λ text. IsOfStates test placement.now columns.now witnesses (string_bytes text)) }
+    ensures ok { IfOk result (λ text. IsOfStates test placement.now columns.now asked (string_bytes text)) }
     ensures err { IfErr result (λ f. f ≢ Memory → IsStatesFault test placement.now (places_of columns.now) f) }
 {
     let test = shared(alloc, test)?;
-    placed_states(alloc, &test, placement, columns, witnesses)
+    placed_states(alloc, &test, placement, columns, asked)
 }
 
 /// The test, to be shared.
@@ -124,24 +124,17 @@ fn placed_states(
     test: &Arc<Test>,
     placement: &Placement,
     columns: &[Column],
-    witnesses: bool,
+    asked: Shown,
 ) -> Result<String, Fault>
     requires bounded { IsBounded (arc_value test.now) }
     requires starts { All IsStart (arc_value test.now).starts }
     requires placement { slots_of placement.now ≡ slots (arc_value test.now) }
     requires places { ArePlacesOf (arc_value test.now) (places_of columns.now) }
     ensures ok { IfOk result (λ text.
-        IsOfStates (arc_value test.now) placement.now columns.now witnesses (string_bytes text)) }
+        IsOfStates (arc_value test.now) placement.now columns.now asked (string_bytes text)) }
     ensures err { IfErr result (λ f. f ≢ Memory
         → IsStatesFault (arc_value test.now) placement.now (places_of columns.now) f) }
 {
     let states = states_at(alloc, test, placement, columns)?;
-    states_text(
-        alloc,
-        test,
-        placement,
-        columns,
-        witnesses,
-        states.as_slice(),
-    )
+    shown_text(alloc, test, placement, columns, asked, states.as_slice())
 }

@@ -1,3 +1,4 @@
+pub mod Comments
 pub mod SaidVerdicts
 pub mod Words
 pub mod Status

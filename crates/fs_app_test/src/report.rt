@@ -1,32 +1,37 @@
 //! What is printed of files.
 
-ghost use Rattle.std.specs.Prelude.{◌≡◌, ◌++◌, [], codes, length, max, IfOk, OnOk, IsOkUnless, map, string_bytes};
+ghost use Rattle.std.specs.Prelude.{◌≡◌, ◌++◌, [], codes, count_by, length, max, IfOk, OnOk, IsOkUnless, map};
+ghost use Rattle.std.specs.Prelude.{string_bytes};
 ghost use Rattle.std.specs.List.{flat_map};
 ghost use Rattle.fs_kinds.specs.declared.fault.Fault.TheVariants.{Memory};
 ghost use Rattle.fs_model.specs.Printed.{joined};
-ghost use Rattle.fs_app_test.specs.Status.{report_status};
-ghost use Rattle.fs_app_test.specs.Report.{width, padded, kind_text, label, line_text, count_of, count_text};
-ghost use Rattle.fs_app_test.specs.Report.{count_piece, pieces, summary, report_text};
+ghost use Rattle.fs_app_test.specs.Status.{is_met, report_status};
+ghost use Rattle.fs_app_test.specs.Report.{width, padded, kind_text, label, line_text, count_of, count_text, mark};
+ghost use Rattle.fs_app_test.specs.Report.{count_piece, expected_text, met_text, pieces, summary, report_text};
+ghost use Rattle.fs_app_test.specs.Report.{unmet_text, wanted_text};
 
-use crate::{Kind, Line, counted, status_of};
+use crate::status::is_met;
+use crate::{Expected, Kind, Line, counted, status_of};
 use fs_app_error_messages::shown_name;
 use fs_app_io::Output;
 use fs_kinds::Fault;
 use std::alloc::{AllocError, Global};
 
 /// The lines of the files, a last line that counts them, and the status: 1 where an outcome is possible; else 2 where a
-/// file has a fault; else 4 where an outcome is vacuous; else 0. The error is `Memory`.
-pub fn test_report(alloc: Global, lines: &[Line]) -> Result<Output, Fault>
-    ensures text { IfOk result (λ output. string_bytes output.text ≡ report_text lines.now) }
-    ensures status { IfOk result (λ output. output.status ≡ report_status lines.now) }
+/// file has a fault; else 4 where an outcome is vacuous; else 0. Where something is expected of all, a line that isn't
+/// as expected says what was, the last line counts those that are, and the status is 1 where one isn't, else 0. The
+/// error is `Memory`.
+pub fn test_report(alloc: Global, lines: &[Line], expects: bool) -> Result<Output, Fault>
+    ensures text { IfOk result (λ output. string_bytes output.text ≡ report_text expects lines.now) }
+    ensures status { IfOk result (λ output. output.status ≡ report_status expects lines.now) }
     ensures err { IsOkUnless result Memory }
 {
-    let mut text = lines_text(alloc, lines)?;
-    let summary = summary(alloc, lines)?;
+    let mut text = lines_text(alloc, lines, expects)?;
+    let summary = summary(alloc, lines, expects)?;
     text.push_str(summary.as_str())?;
     Ok(Output {
         text,
-        status: status_of(lines),
+        status: status_of(lines, expects),
     })
 }
 
@@ -43,31 +48,77 @@ fn width(alloc: Global, lines: &[Line]) -> Result<usize, AllocError>
 }
 
 /// All lines but the last one.
-fn lines_text(alloc: Global, lines: &[Line]) -> Result<String, AllocError>
-    ensures { IfOk result (λ text. string_bytes text ≡ flat_map (line_text (width lines.now)) lines.now) }
+fn lines_text(alloc: Global, lines: &[Line], expects: bool) -> Result<String, AllocError>
+    ensures { IfOk result (λ text. string_bytes text ≡ flat_map (line_text expects (width lines.now)) lines.now) }
 {
     let width = width(alloc, lines)?;
     let mut text = String::new(alloc);
     for line in lines {
-        write_line(alloc, width, line, &mut text)?;
+        write_line(alloc, width, line, expects, &mut text)?;
     }
     Ok(text)
 }
 
 /// Appends the line of a file, with its name in so many characters.
-fn write_line(alloc: Global, width: usize, line: &Line, text: &mut String) -> Result<(), AllocError>
-    ensures { OnOk result (string_bytes text.new ≡ string_bytes text.old ++ line_text width line.now) }
+fn write_line(
+    alloc: Global,
+    width: usize,
+    line: &Line,
+    expects: bool,
+    text: &mut String,
+) -> Result<(), AllocError>
+    ensures { OnOk result (string_bytes text.new ≡ string_bytes text.old ++ line_text expects width line.now) }
 {
     let shown = shown_name(alloc, line.name.as_str())?;
     let name = padded(alloc, width, shown.as_str())?;
     let label = label(line.said.kind);
     writeln!(
         text,
-        "{}  {}{}",
+        "{}  {}{}{}",
         name.as_str(),
         label,
-        line.said.why.as_str()
+        line.said.why.as_str(),
+        mark(line, expects)
     )
+}
+
+/// What stands behind why, where something is expected.
+fn mark(line: &Line, expects: bool) -> &'static str
+    ensures { result.now ≡ mark expects line.now }
+{
+    if expects { unmet_text(line) } else { "" }
+}
+
+/// What was expected, where it isn't what is said.
+fn unmet_text(line: &Line) -> &'static str
+    ensures { result.now ≡ unmet_text line.now }
+{
+    if is_met(line) {
+        ""
+    } else {
+        expected_text(line.expected)
+    }
+}
+
+fn expected_text(expected: Option<Expected>) -> &'static str
+    ensures { result.now ≡ expected_text expected }
+{
+    match expected {
+        None => ", nothing expected",
+        Some(Expected::Verdict(kind)) => wanted_text(kind),
+        Some(Expected::Unclear) => ", unclear what is expected",
+    }
+}
+
+fn wanted_text(kind: Kind) -> &'static str
+    ensures { result.now ≡ wanted_text kind }
+{
+    match kind {
+        Kind::Forbidden => ", expected forbidden",
+        Kind::Allowed => ", expected allowed",
+        Kind::Vacuous => ", expected vacuous",
+        Kind::Faulty => ", expected fault",
+    }
 }
 
 /// The kind in a word.
@@ -160,11 +211,29 @@ fn joined_pieces(alloc: Global, lines: &[Line]) -> Result<String, AllocError>
     pieces.join(alloc, ", ")
 }
 
+/// How many lines are as expected, where something is expected.
+fn met_text(alloc: Global, lines: &[Line], expects: bool) -> Result<String, AllocError>
+    ensures { IfOk result (λ text. string_bytes text ≡ met_text expects lines.now) }
+{
+    if !expects {
+        return Ok(String::new(alloc));
+    }
+    let count = count_met(lines);
+    format!(in alloc; "; {} as expected", count)
+}
+
+fn count_met(lines: &[Line]) -> usize
+    ensures { result ≡ count_by is_met lines.now }
+{
+    lines.iter().filter(|line| is_met(line)).count()
+}
+
 /// The last line.
-fn summary(alloc: Global, lines: &[Line]) -> Result<String, AllocError>
-    ensures { IfOk result (λ text. string_bytes text ≡ summary lines.now) }
+fn summary(alloc: Global, lines: &[Line], expects: bool) -> Result<String, AllocError>
+    ensures { IfOk result (λ text. string_bytes text ≡ summary expects lines.now) }
 {
     let tests = counted(alloc, lines.len(), "test")?;
     let pieces = joined_pieces(alloc, lines)?;
-    format!(in alloc; "{}: {}\n", tests.as_str(), pieces.as_str())
+    let met = met_text(alloc, lines, expects)?;
+    format!(in alloc; "{}: {}{}\n", tests.as_str(), pieces.as_str(), met.as_str())
 }

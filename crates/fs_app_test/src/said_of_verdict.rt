@@ -50,6 +50,7 @@ pub fn said_of(alloc: Global, verdict: Verdict, is_settled: bool) -> Result<Said
             kind: Kind::Allowed,
             why: order_words(alloc, overtaking(witness.order.as_slice()))?,
             witness: Some(witness),
+            fault: None,
         }),
     }
 }
@@ -78,5 +79,6 @@ fn said_forbidden(alloc: Global, cycles: &Cycles, is_settled: bool) -> Result<Sa
         kind: Kind::Forbidden,
         why: forbidden_words(alloc, cycles)?,
         witness: None,
+        fault: None,
     })
 }

@@ -1,6 +1,6 @@
 //! From a file to what is said of it.
 
-ghost use Rattle.std.specs.Prelude.{◌≡◌, IfOk, IfErr, IsOkUnless, string_bytes};
+ghost use Rattle.std.specs.Prelude.{◌≡◌, Some, IfOk, IfErr, IsOkUnless, string_bytes};
 ghost use Rattle.fs_kinds.specs.FaultLine.{fault_line};
 ghost use Rattle.fs_kinds.specs.declared.fault.Fault.TheVariants.{Memory};
 ghost use Rattle.fs_model.specs.Test.{IsTest};
@@ -14,7 +14,8 @@ use fs_litmus::read_test;
 use std::alloc::{AllocError, Global};
 
 /// What is said of the file of this name: whether its test, as it is written and with no fence placed, can show its
-/// outcome, and why; or the first fault. The file is its bytes as they were read, or the fault of reading it.
+/// outcome, and why; or the first fault. The file is its bytes as they were read, or the fault of reading it. The line
+/// has no note, and nothing is expected.
 ///
 /// The first fault of a file in this order: those of a test file by number and then line; `TooManyTraces` and `Astray`;
 /// `TooManyCandidates`, as of `judge_test`. The error is `Memory`. The cost is that of `read_test` and of `judge_test`.
@@ -26,7 +27,12 @@ pub fn test_file(alloc: Global, name: &str, file: Result<Vec<u8>, Fault>) -> Res
 {
     let said = said_of(alloc, file)?;
     let name = String::from_str(alloc, name)?;
-    Ok(Line { name, said })
+    Ok(Line {
+        name,
+        said,
+        note: None,
+        expected: None,
+    })
 }
 
 /// The same without its name.
@@ -64,6 +70,7 @@ fn judge_bytes(alloc: Global, bytes: &[u8]) -> Result<Said, Fault>
 /// That it has this fault. Where that is want of memory, so is the error.
 fn faulty(alloc: Global, fault: Fault) -> Result<Said, Fault>
     ensures ok { IfOk result (λ said. NamesFault fault said.kind (string_bytes said.why) (witness_in said.witness)) }
+    ensures fault { IfOk result (λ said. said.fault ≡ Some fault) }
     ensures err { IsOkUnless result Memory }
 {
     match fault {
@@ -72,6 +79,7 @@ fn faulty(alloc: Global, fault: Fault) -> Result<Said, Fault>
             kind: Kind::Faulty,
             why: fault_text(alloc, fault)?,
             witness: None,
+            fault: Some(fault),
         }),
     }
 }

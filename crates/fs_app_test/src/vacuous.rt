@@ -40,6 +40,7 @@ pub(crate) fn vacuous(alloc: Global, test: &Arc<Test>, basis: &Basis) -> Result<
             kind: Kind::Vacuous,
             why: vacuous_text(alloc, basis)?,
             witness: None,
+            fault: None,
         })),
         Some(false) => Ok(Vacuity::Serious),
         None => Ok(Vacuity::Open),

@@ -258,7 +258,7 @@ fn write_bounds(alloc: Global, rows: &[(&str, &str)], text: &mut String) -> Resu
         let size = refuted_by(alloc, test, fences, ANY.most)?;
         let within = refuted_by(alloc, test, fences, size)?;
         let beyond = refuted_by(alloc, test, fences, size.saturating_sub(1))?;
-        let is_long = size > 250;
+        let is_long = size > 100;
         write!(text, "{is_long} {} {beyond}\n", within == size)?;
     }
     Ok(())

@@ -16,7 +16,7 @@ placed_states-requires-clause-places c =
 
 pub returns-clause-ok : goal.returns-clause-ok
 returns-clause-ok c =
-    subst (λ (t : Test). IfOk c.placed_states.result (λ text. IsOfStates t c.args.placement.now c.args.columns.now c.args.witnesses (string_bytes text)))
+    subst (λ (t : Test). IfOk c.placed_states.result (λ text. IsOfStates t c.args.placement.now c.args.columns.now c.args.asked (string_bytes text)))
     c.in_ok-test.ensures c.placed_states.ensures.ok
 
 pub returns-clause-err : goal.returns-clause-err

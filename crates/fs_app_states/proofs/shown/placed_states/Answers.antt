@@ -1,7 +1,7 @@
 use Rattle.std.proofs.Common.{◌≡◌, ◌∙◌, ap, string_bytes}
 use Rattle.std.specs.Arc.{arc_value}
 use Rattle.std.proofs.lemmas.Result.{IfOk-weaker}
-use Rattle.fs_app_states.specs.Report.{states_text}
+use Rattle.fs_app_states.specs.Objects.{shown_text}
 use Rattle.fs_app_states.specs.inner.Parts.{IsOfStates}
 use Rattle.fs_app_states.proofs.shown.placed_states.Goals as goal
 
@@ -10,14 +10,14 @@ returns-clause-ok c =
     let t = arc_value c.args.test.now in
     let p = c.args.placement.now in
     let columns = c.args.columns.now in
-    IfOk-weaker c.states_text.result
-    (λ text. string_bytes text ≡ states_text c.deref.result.now p columns c.args.witnesses c.as_slice.result.now)
-    (λ text. IsOfStates t p columns c.args.witnesses (string_bytes text))
+    IfOk-weaker c.shown_text.result
+    (λ text. string_bytes text ≡ shown_text c.deref.result.now p columns c.args.asked c.as_slice.result.now)
+    (λ text. IsOfStates t p columns c.args.asked (string_bytes text))
     (λ text is. record {
       states = c.in_ok-states.states;
       are_states = c.in_ok-states.ensures.ok;
       shown = c.in_ok-states.ensures.shown;
-      is_text = is ∙ ap (λ u. states_text u p columns c.args.witnesses c.as_slice.result.now) c.deref.ensures
-          ∙ ap (states_text t p columns c.args.witnesses) c.as_slice.ensures;
+      is_text = is ∙ ap (λ u. shown_text u p columns c.args.asked c.as_slice.result.now) c.deref.ensures
+          ∙ ap (shown_text t p columns c.args.asked) c.as_slice.ensures;
     })
-    c.states_text.ensures.ok
+    c.shown_text.ensures.ok
