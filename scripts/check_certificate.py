@@ -138,7 +138,8 @@ BRANCHES = {
     'blt': lambda a, b: signed(a) < signed(b), 'bge': lambda a, b: signed(a) >= signed(b),
     'bltu': lambda a, b: a < b, 'bgeu': lambda a, b: a >= b,
 }
-RANGES = {'i': (-2048, 2047), 'm': (-2048, 2047), 'n': (0, 31), 'u': (0, 2 ** 20 - 1), 'c': (-2 ** 31, WORDS - 1), 'o': (0, 0)}
+RANGES = {'i': (-2048, 2047), 'm': (-2048, 2047), 'n': (0, 31), 'u': (0, 2 ** 20 - 1), 'c': (-2 ** 31, WORDS - 1)}
+RANGES['o'] = 0, 0
 ANNOTATIONS = {'': (False, False), '.aq': (True, False), '.rl': (False, True)}
 ANNOTATIONS.update({'.aqrl': (True, True), '.aq.rl': (True, True)})
 

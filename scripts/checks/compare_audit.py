@@ -16,7 +16,7 @@ from verdicts import is_vacuous
 LABEL = "OUT:"
 EASED = "fence io,io"                                           # orders no memory
 STATUS = {"vacuous": 4, "allowed": 1}
-DEVICES = ["fence i,r", "fence o,w", "fence iorw,iorw", "fence iorw,w", "fence io,io"]
+DEVICES = ["fence i,r", "fence o,w", "fence iorw,iorw", "fence iorw,w", "fence io,io", "fence.i"]
 
 
 class Columns:

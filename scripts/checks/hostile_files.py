@@ -139,7 +139,7 @@ def beginnings():
             yield f"the first {count} bytes of {name}", text, wanted
 
 
-TELLING = b"()[]{};|,:=~-/\\*._#\"'+<@!% \t\n\r\0" + b"09xaPw\x7f\x80\xff"
+TELLING = b"()[]{};|,:=~-/\\*&._#\"'+<>@!% \t\n\r\0" + b"09xaPw\x7f\x80\xff"
 
 
 def is_ascii(text):

@@ -27,7 +27,7 @@ from running import EXAMPLES, TOP, Said, compiled, decoded, program, ran, read, 
 TABLE = f"{TOP}/scripts/transcripts/refused.table"
 CRATE = f"{TOP}/crates/fs_tests_out_of_memory"
 CALLS = f"{CRATE}/out/fs_tests_out_of_memory"
-PARTS = ["readings", "verdicts", "boards", "desks", "rings", "certificates"]
+PARTS = ["verdicts", "boards", "desks", "rings"]
 REFUSED = Said("", "fault F19 Memory\n", 3)
 TRIED_AGAIN, STOPPED = ["F19", "again"], ["stopped by fault F19 Memory"]
 # A message that explains a fault: its first line and those below, which are indented; of a missing file a line.

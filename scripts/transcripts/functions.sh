@@ -8,6 +8,10 @@ rows() {
 
 # How an instruction is printed.
 cell() { rvfence place <(rows 1 "$1 ;") 2>&1 | sed -n 5p; }
+cells() { for it; do cell "$it"; done; }
+
+# The same of branches to the label L, which stands behind each.
+branches() { for it; do cell "$it ; L:"; done; }
 
 # A witness of these choices and this order.
 witness() { echo "{\"choices\":$1,\"order\":$2}"; }

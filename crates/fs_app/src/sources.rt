@@ -1,8 +1,7 @@
 //! The tests that FILE words name: files, those in folders, and those in lists.
 use crate::input::{INPUT_LIMIT, is_standard_input, read_file, read_input};
 use crate::missing::Missing;
-use fs_app_io::{Unread, read_bytes};
-use fs_app_lists::paths_in;
+use fs_app_io::{Unread, paths_in, read_bytes};
 use fs_kinds::Fault;
 use std::alloc::{AllocError, Global};
 use std::fs::{metadata, symlink_metadata};

@@ -9,7 +9,7 @@ use Rattle.std.proofs.Math.Logic.{⊎_elim}
 use Rattle.fs_litmus_tokens.specs.Words.{is_name}
 use Rattle.fs_litmus_tokens.specs.Values.{Target, Register, Location, Value, Number, Address, IsTarget, IsValue, register, location, bracketed, number, minus, address}
 use Rattle.fs_litmus_tokens.specs.Tokens.{Tok, Word, Sign, Strange, Lined, kind_of, view, views}
-use Rattle.fs_litmus_syntax.specs.Grammar.{IsEqual, once, twice, IsUnequal, less_greater, bang_equals}
+use Rattle.fs_litmus_syntax.specs.Grammar.{IsEqual, once, twice, less_greater, bang_equals}
 use Rattle.fs_litmus_tokens.specs.declared.token.Token.{Token}
 use Rattle.fs_litmus_tokens.specs.declared.word.Class.{Class}
 use Rattle.fs_litmus_tokens.specs.declared.word.Class.TheVariants as class

@@ -1,6 +1,6 @@
 -- A condition without a bad atom has no fault of an atom.
-use Rattle.std.proofs.Common.{◌≡◌, ℕ, ◌<◌, List, [], ◌∷◌, ◌++◌, Some, Bool, true, false, ◌||◌, ◌&&◌, cond, refl, ap, ◌∙◌, subst, suc, length, take, nat_lt, arith}
-use Rattle.std.specs.Prelude.{is_some, position, ◌⊎◌, inl, inr}
+use Rattle.std.proofs.Common.{◌≡◌, ℕ, ◌<◌, inl, inr, List, [], ◌∷◌, ◌++◌, Some, Bool, true, false, ◌||◌, ◌&&◌, cond, refl, ap, ◌∙◌, subst, suc, length, take, nat_lt, arith}
+use Rattle.std.specs.Prelude.{is_some, position}
 use Rattle.std.specs.List.{list_any, position_or_len}
 use Rattle.std.specs.Str.{bytes_eq}
 use Rattle.std.proofs.lemmas.List.Folds.{list_any-append}

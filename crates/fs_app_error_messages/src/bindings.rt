@@ -75,12 +75,26 @@ fn is_low(kind: Option<Kind<'_>>) -> bool {
     }
 }
 
+/// The first token of the value behind this target, where there is one: the sign between is `=`, or of two tokens.
+fn value_of<'b, 'a>(target: Spot<'b, 'a>) -> Option<Spot<'b, 'a>> {
+    let sign = target.moved(target_len(target));
+    let is_long = is_mark(sign.ahead(1), Mark::Equals) || is_mark(sign.ahead(1), Mark::Greater);
+    match sign.ahead(0) {
+        Some(Kind::Sign(Mark::Equals | Mark::Less | Mark::Bang)) => Some(sign.moved(if is_long {
+            2
+        } else {
+            1
+        })),
+        _ => None,
+    }
+}
+
 /// What is said of the target and the value that begin with this token.
 fn binding_words(columns: usize, spot: Spot<'_, '_>) -> Option<&'static str> {
     if let Some(words) = register_words(columns, spot) {
         return Some(words);
     }
-    if is_out_of_range(spot.moved(target_len(spot).saturating_add(1))) {
+    if is_out_of_range(value_of(spot)?) {
         return Some("numbers go from -2147483648 to 4294967295");
     }
     None

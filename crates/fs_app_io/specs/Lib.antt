@@ -1,3 +1,5 @@
+pub mod Lines
+pub mod Paths
 pub mod Bytes
 pub mod Status
 pub mod Unread

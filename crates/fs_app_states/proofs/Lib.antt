@@ -1,6 +1,5 @@
 pub mod Tokens
 pub mod Numbered
-pub mod Breaks
 pub mod Showing
 pub mod Meaning
 pub mod Answering

@@ -1,6 +1,6 @@
 -- What the section `locations [..]` of a test file lists, and the names by which the file calls registers. The section
--- is that of the first `locations` with `[` behind it: in a text that reads as a test these two stand in a row nowhere
--- else.
+-- is that of the first `locations` with `[` behind it below the initial values: in a text that reads as a test these two
+-- stand there in a row nowhere else.
 use Rattle.std.specs.Prelude.{◌≡◌, ℕ, Bool, true, false, ◌&&◌, Option, None, Some, is_none, List, [], ◌∷◌, ◌++◌, map, drop, find, codes, if◌then◌else◌}
 use Rattle.std.specs.Option.{option_or}
 use Rattle.std.specs.Fmt.{decimal}
@@ -14,12 +14,21 @@ use Rattle.fs_judge_final_states.specs.declared.place.Place.{Place}
 use Rattle.fs_litmus_tokens.specs.Numbers.{number_of}
 use Rattle.fs_litmus_tokens.specs.Tokens.{Lined, Tok, Word, Sign}
 use Rattle.fs_litmus_tokens.specs.declared.word.Class.TheVariants.{LocationsWord}
-use Rattle.fs_litmus_tokens.specs.declared.token.Mark.TheVariants.{Semicolon, Colon, OpenBracket, CloseBracket}
+use Rattle.fs_litmus_tokens.specs.declared.token.Mark.TheVariants.{CloseBrace, Semicolon, Colon, OpenBracket, CloseBracket}
 use Rattle.fs_app_states.specs.declared.listed.Part.{Part}
 use Rattle.fs_app_states.specs.declared.listed.Part.TheVariants as part
 use Rattle.fs_app_states.specs.Names.{place_of}
 
 -- ---- the items of `locations`
+
+abbrev pub is_brace : Tok → Bool
+is_brace (Sign CloseBrace) = true
+is_brace _ = false
+
+-- the tokens behind the first `}`, which ends the initial values
+abbrev pub below : List Lined → List Lined
+below [] = []
+below (t ∷ ts) = if is_brace t.0 then ts else below ts
 
 abbrev pub is_locations_word : Tok → Bool
 is_locations_word (Word LocationsWord w) = true
@@ -59,7 +68,7 @@ items_from item [] = kept item
 items_from item (t ∷ ts) = by_part (part_of t.0) item t (λ next. items_from next ts)
 
 abbrev pub items_of : List Lined → List (List Lined)
-items_of tokens = items_from [] (behind tokens)
+items_of tokens = items_from [] (behind (below tokens))
 
 -- each item is the name of a place, and these are the places
 abbrev pub AreListed : Test → List Lined → List Place → Type 0

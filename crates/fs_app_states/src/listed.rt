@@ -9,8 +9,8 @@ ghost use Rattle.fs_model.specs.Numbers.{is_same};
 ghost use Rattle.fs_litmus_tokens.specs.Numbers.{number_of};
 ghost use Rattle.fs_litmus_tokens.specs.Tokens.{kind_of, views};
 ghost use Rattle.fs_app_states.specs.Names.{place_of};
-ghost use Rattle.fs_app_states.specs.Listed.{is_locations_word, is_bracket, begins_with_bracket, behind, part_of, kept};
-ghost use Rattle.fs_app_states.specs.Listed.{items_from, items_of, AreListed, IsItemFault, named_so, named_at};
+ghost use Rattle.fs_app_states.specs.Listed.{is_brace, below, is_locations_word, is_bracket, begins_with_bracket, behind};
+ghost use Rattle.fs_app_states.specs.Listed.{part_of, kept, items_from, items_of, AreListed, IsItemFault, named_so, named_at};
 ghost use Rattle.fs_app_states.specs.Listed.{named_first, first_name, register_text};
 
 use crate::columns::place_of;
@@ -32,6 +32,24 @@ enum Part {
 }
 
 // ---- the items of `locations`
+
+fn is_brace(kind: Kind<'_>) -> bool
+    ensures { result ≡ is_brace (kind_of kind.entry) }
+{
+    matches!(kind, Kind::Sign(Mark::CloseBrace))
+}
+
+/// The tokens behind the first `}`, which ends the initial values.
+fn below<'b, 'a>(tokens: &'b [Token<'a>]) -> &'b [Token<'a>]
+    ensures { views result.now ≡ below (views tokens.now) }
+{
+    for (i, token) in tokens.iter().enumerate() {
+        if is_brace(token.kind) {
+            return from(tokens, i + 1);
+        }
+    }
+    &[]
+}
 
 fn is_locations_word(kind: Kind<'_>) -> bool
     ensures { result ≡ is_locations_word (kind_of kind.entry) }
@@ -148,7 +166,7 @@ pub(crate) fn listed(alloc: Global, test: &Test, tokens: &[Token<'_>]) -> Result
     ensures ok { IfOk result (λ places. AreListed test.now (views tokens.now) places.items) }
     ensures err { IfErr result (λ f. f ≢ Fault.Memory → IsItemFault test.now (items_of (views tokens.now)) f) }
 {
-    let items = items(alloc, behind(tokens))?;
+    let items = items(alloc, behind(below(tokens)))?;
     places_of(alloc, test, &items)
 }
 

@@ -1,5 +1,5 @@
 -- The least and the greatest placement as answers, what a finished board's bound says, and which fault is handed on.
-use Rattle.std.proofs.Common.{◌≡◌, ◌≢◌, ℕ, ◌<◌, true, Some, None, Result, Ok, Err, IfErr, List, [], ◌∷◌, map, length, refl, sym, ap, subst, ◌∙◌, inl, inr}
+use Rattle.std.proofs.Common.{◌≡◌, ◌≢◌, ℕ, ◌<◌, true, Some, None, Result, Ok, Err, IfErr, List, [], ◌∷◌, map, refl, sym, ap, subst, ◌∙◌, inl, inr}
 use Rattle.std.specs.Result.{IsErrAnd}
 use Rattle.std.proofs.lemmas.Bool.{and_from, false≢true}
 use Rattle.fs_kinds.specs.declared.fault.Fault.{Fault}
@@ -8,7 +8,7 @@ use Rattle.fs_kinds.specs.declared.kind.Kind.TheVariants.{RwRw}
 use Rattle.fs_kinds.specs.declared.placement.Entry.{Entry}
 use Rattle.fs_kinds.specs.declared.slot.Slot.{Slot}
 use Rattle.fs_kinds.specs.Placement.{slots_of, all_with}
-use Rattle.fs_board_offers.specs.Offers.{Offers, are_offered, cost, IsCheapest, is_better, slots}
+use Rattle.fs_board_offers.specs.Offers.{Offers, are_offered, IsCheapest, is_better, slots}
 use Rattle.fs_kinds.proofs.Entries.{slots_of-all_with}
 use Rattle.fs_model.specs.declared.test.Test.{Test}
 use Rattle.fs_model.specs.Slots as test

@@ -1,7 +1,6 @@
 -- What the board's replies mean to a search.
 use Rattle.std.proofs.Common.{◌≡◌, ℕ, ◌<◌, true, false, Some, None, length, refl, sym, ap, subst, ◌∙◌}
 use Rattle.std.proofs.lemmas.Bool.{false≢true}
-use Rattle.fs_model.specs.Slots.{slots}
 use Rattle.fs_board_offers.specs.Parts.{Part, floor, filled, is_undecided, child_parts}
 use Rattle.fs_cert_evidence.specs.Shown.{IsShownBy}
 use Rattle.fs_board_offers.specs.Board.{Split, Costly, Witnessed, Bounded, Posted, Event, Take, Claim, Adopt, SplitAt, CutCost, CutWitness, CutBound, Post, Reply, Given, Idle, Done, Gone, Children, NotYours, Decided, Full, Closed, Cheaper, NotCovered, Other, is_open, is_held, is_held_by, has_node, part_at, is_finished}

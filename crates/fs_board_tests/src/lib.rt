@@ -1,15 +1,11 @@
-//! Tests of the search: its answers are those of a plain program that tries all placements; of the search by many
-//! workers, and of the rings that they steal from.
+//! Tests of the search: how long it goes on; of the search by many workers, and of the rings that they steal from.
+//! `scripts/check compare-solve` and `compare-audit` compare its answers with those of a plain program.
 #![tactic(auto)]
 
 #[cfg(test)]
 mod gates;
 #[cfg(test)]
 mod long;
-#[cfg(test)]
-mod made;
-#[cfg(test)]
-mod plain;
 #[cfg(test)]
 mod rings;
 #[cfg(test)]

@@ -15,20 +15,22 @@ use crate::problem::Problem;
 use crate::sought::Sought;
 use crate::verdict::Verdict;
 use fs_cert_evidence::Witness;
+use fs_judge_hunt::Kept;
 use fs_kinds::{Fault, Placement, Slot};
 use fs_model::Test;
 use std::alloc::Global;
 use std::marker::Model;
 use std::sync::Arc;
 
-/// A problem, which several judges may share, and the candidates that this judge's hunts have found: one of them may
-/// have no cycle with the next placement either. Which witness a judge finds depends on what it judged before.
-/// Contracts see the test.
+/// A problem, which several judges may share; the candidates that this judge's hunts have found, of which one may have
+/// no cycle with the next placement either; and what its hunts have kept. Which witness or refutation a judge finds
+/// depends on what it judged before. Contracts see the test.
 #[derive(Drop)]
 pub struct Judge {
     problem: Arc<Problem>,
     // The newest last.
     known: Vec<Known>,
+    kept: Kept,
 }
 
 impl Model for Judge {
@@ -70,6 +72,12 @@ fn witness_among(
     Ok(None)
 }
 
+/// The slots at which a witness is widened before the others: these, or where there are none those that it is known to
+/// bear.
+fn widened_first<'a>(first: &'a [Slot], borne: &'a [Slot]) -> &'a [Slot] {
+    if first.is_empty() { borne } else { first }
+}
+
 impl Judge {
     /// A judge of the problem, which has judged nothing yet.
     pub fn new(alloc: Global, problem: Arc<Problem>) -> Judge
@@ -78,7 +86,13 @@ impl Judge {
         Judge {
             problem,
             known: Vec::new(alloc),
+            kept: Kept::widening(),
         }
+    }
+
+    /// How often what a hunt found didn't hold, which no test has met. In constant time.
+    pub fn refusals(&self) -> usize {
+        self.kept.refusals()
     }
 
     /// The problem, whose own verdicts don't depend on what was judged before.
@@ -106,9 +120,10 @@ impl Judge {
     }
 
     /// Whether the placement, one of the test's slots, forbids the outcome: the executions that were found before are
-    /// tried first, and then a hunt finds a refutation or a new execution. Where it gives up, after 1,000,000
-    /// inferences, all candidates are judged in turn, and F15 comes where they are too many; else the error is F19. The
-    /// cost is that of `look`, of the hunt, and of checking what it finds, as of `Problem::verdict`.
+    /// tried first, and then a hunt, which begins with what earlier ones have kept, finds a refutation or a new
+    /// execution. Where it gives up, after 1,000,000 inferences, all candidates are judged in turn, and F15 comes where
+    /// they are too many; else the error is F19. The cost is that of `look`, of the hunt, and of checking what it
+    /// finds, as of `Problem::verdict`.
     pub fn verdict(
         &mut self,
         alloc: Global,
@@ -123,10 +138,11 @@ impl Judge {
         if let Some(witness) = self.look(alloc, placement, first)? {
             return Ok(Verdict::Allowed(witness));
         }
-        match self.problem.sought(alloc, placement)? {
+        match self.problem.sought(alloc, &mut self.kept, placement)? {
             Sought::Refuted(inferences) => self.problem.refuted(placement, inferences),
             Sought::Shown(known) => {
-                let verdict = self.problem.shown(alloc, &known, placement, first)?;
+                let slots = widened_first(first, self.kept.borne());
+                let verdict = self.problem.shown(alloc, &known, placement, slots)?;
                 self.known.push(known)?;
                 Ok(verdict)
             }

@@ -1,6 +1,6 @@
 //! A test that is ready to be judged.
 
-ghost use Rattle.std.specs.Prelude.{◌≡◌, ◌≢◌, All, IfOk, OnOk, IfErr, IsOkUnless};
+ghost use Rattle.std.specs.Prelude.{◌≡◌, ◌≢◌, All, IfOk, OnOk, IfErr, IfSome, IsOkUnless};
 ghost use Rattle.std.specs.Arc.{arc_value};
 ghost use Rattle.fs_kinds.specs.declared.fault.Fault.{Fault};
 ghost use Rattle.fs_kinds.specs.declared.fault.Fault.TheVariants.{Memory};
@@ -20,7 +20,7 @@ use crate::sought::{Sought, checked};
 use crate::verdict::{Verdict, forbidden};
 use fs_cand_listing::check_number;
 use fs_cert_evidence::{Cycles, Inference};
-use fs_judge_hunt::Hunter;
+use fs_judge_hunt::{Found, Hunter, Kept};
 use fs_judge_runs::{hunter_asking, hunter_of};
 use fs_kinds::{Fault, List, Placement, Slot};
 use fs_model::Test;
@@ -144,13 +144,45 @@ impl Problem {
         &self.test
     }
 
-    /// What a hunt finds for the placement, as far as it holds. The error is F19.
-    pub(crate) fn sought(&self, alloc: Global, placement: &Placement) -> Result<Sought, Fault>
+    /// What a hunt finds for the placement, if it doesn't give up; none where that doesn't hold. The error is F19.
+    fn hunted(
+        &self,
+        alloc: Global,
+        kept: &mut Kept,
+        placement: &Placement,
+    ) -> Result<Option<Sought>, Fault>
+        ensures ok { IfOk result (λ found. IfSome found (IsSought self.now placement.now)) }
+        ensures err { IsOkUnless result Memory }
+    {
+        let found = self.hunter.hunt(alloc, kept, placement, MOST_INFERENCES)?;
+        if matches!(&found, Found::GaveUp) {
+            return Ok(Some(Sought::Nothing));
+        }
+        match checked(alloc, &self.basis, placement, found)? {
+            Sought::Nothing => Ok(None),
+            sought => Ok(Some(sought)),
+        }
+    }
+
+    /// What a hunt finds for the placement, as far as it holds. The hunt begins with what earlier ones have kept; where
+    /// what it finds doesn't hold, another one begins with nothing. The error is F19.
+    pub(crate) fn sought(
+        &self,
+        alloc: Global,
+        kept: &mut Kept,
+        placement: &Placement,
+    ) -> Result<Sought, Fault>
         ensures ok { IfOk result (IsSought self.now placement.now) }
         ensures err { IsOkUnless result Memory }
     {
-        let found = self.hunter.hunt(alloc, placement, MOST_INFERENCES)?;
-        checked(alloc, &self.basis, placement, found)
+        if let Some(sought) = self.hunted(alloc, kept, placement)? {
+            return Ok(sought);
+        }
+        kept.refuse();
+        match self.hunted(alloc, kept, placement)? {
+            Some(sought) => Ok(sought),
+            None => Ok(Sought::Nothing),
+        }
     }
 
     /// The verdict where the inferences refute the test.
@@ -212,7 +244,7 @@ impl Problem {
         ensures ok { IfOk result (IsVerdict self.now placement.now) }
         ensures err { IfErr result (λ f. f ≢ Memory → IsCandidateFault self.now f) }
     {
-        match self.sought(alloc, placement)? {
+        match self.sought(alloc, &mut Kept::new(), placement)? {
             Sought::Refuted(inferences) => self.refuted(placement, inferences),
             Sought::Shown(known) => self.shown(alloc, &known, placement, first),
             Sought::Nothing => self.by_list(alloc, placement, first),

@@ -1,11 +1,90 @@
 //! The cases of a condition.
 
-use crate::condition::{Part, Wanted, left_of, right_of};
-use crate::region::Region;
-use crate::splits::Splitter;
+use crate::condition::{Node, Part, Wanted, left_of, right_of, within};
+use crate::region::{Field, Region};
+use crate::splits::{Decision, Splitter};
 use fs_kinds::List;
-use std::alloc::AllocError;
+use std::alloc::{AllocError, Global};
 use std::sync::Arc;
+
+/// Where several wanted conditions have cases, they are taken apart if there are at most so many ways for all together.
+const MOST_WAYS: u64 = 64;
+
+/// In how many ways a condition gets to be true, and to be false, if it is taken apart.
+#[derive(Clone, Copy)]
+struct Ways {
+    yes: u64,
+    no: u64,
+}
+
+const ONE: Ways = Ways { yes: 1, no: 1 };
+
+/// Those of a part, with those of its own parts on the stack.
+fn ways_of(part: Part, stack: &mut Vec<Ways>) -> Ways {
+    match part {
+        Part::Deny => {
+            let denied = stack.pop().unwrap_or(ONE);
+            Ways {
+                yes: denied.no,
+                no: denied.yes,
+            }
+        }
+        Part::Both | Part::Either => {
+            let left = stack.pop().unwrap_or(ONE);
+            let right = stack.pop().unwrap_or(ONE);
+            if is_at_once(part, true) {
+                Ways {
+                    yes: left.yes.saturating_mul(right.yes),
+                    no: left.no.saturating_add(right.no),
+                }
+            } else {
+                Ways {
+                    yes: left.yes.saturating_add(right.yes),
+                    no: left.no.saturating_mul(right.no),
+                }
+            }
+        }
+        _ => ONE,
+    }
+}
+
+/// In how many ways the condition gets its truth value.
+fn ways_in(alloc: Global, nodes: &[Node], truth: bool) -> Result<u64, AllocError> {
+    let mut stack = Vec::new(alloc);
+    for node in nodes.iter().rev() {
+        let ways = ways_of(node.part, &mut stack);
+        stack.push(ways)?;
+    }
+    let ways = stack.pop().unwrap_or(ONE);
+    Ok(if truth { ways.yes } else { ways.no })
+}
+
+/// The first wanted condition that has cases; of several only where few ways are left in all. Left whole, a region ends
+/// too where one of the conditions can't have its truth value any more.
+pub(crate) fn cases(
+    alloc: Global,
+    field: Field<'_>,
+    region: &Region,
+) -> Result<Option<Decision>, AllocError> {
+    let mut found = None;
+    let mut has_several = false;
+    let mut all: u64 = 1;
+    for (number, wanted) in region.wanted.iter().enumerate() {
+        let wanted: &Wanted = wanted;
+        let ways = ways_in(alloc, within(field.nodes, wanted.node), wanted.truth)?;
+        all = all.saturating_mul(ways);
+        if ways > 1 && found.is_some() {
+            has_several = true;
+        } else if ways > 1 {
+            found = Some(Decision::Cases(number));
+        }
+    }
+    Ok(if has_several && all > MOST_WAYS {
+        None
+    } else {
+        found
+    })
+}
 
 /// Must both parts have the truth value?
 pub(crate) fn is_at_once(part: Part, truth: bool) -> bool {

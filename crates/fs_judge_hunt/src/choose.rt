@@ -1,23 +1,33 @@
 //! Which way a region is split.
 
-use crate::access::Takes;
-use crate::cases::is_at_once;
-use crate::condition::{Node, Part, Wanted, within};
+use crate::cases::cases;
+use crate::clash::Step;
 use crate::endings::Outlook;
 use crate::facts::Facts;
-use crate::names::{Origin, Relation, bit, has};
+use crate::learned::Learned;
+use crate::names::{Relation, bit, has};
 use crate::region::{Field, Region};
-use crate::rows::{do_meet, has_several, is_within};
 use crate::saturate::{Looked, saturate};
 use crate::splits::{Decision, Splitter};
+use crate::trail::{Dead, Trail};
 use crate::uses::of_filter;
 use std::alloc::{AllocError, Global};
+use std::sync::Arc;
+
+/// A region that was looked at.
+#[derive(Drop)]
+pub(crate) enum Child {
+    /// It ends so.
+    Ended(Arc<Dead>, Region),
+    /// It is open, and this followed in it.
+    Open(Region, Vec<Step>),
+}
 
 /// A split with what it makes of a region, of which so many are left open.
 #[derive(Drop)]
 pub(crate) struct Split {
     pub(crate) decision: Decision,
-    pub(crate) children: Vec<Looked>,
+    pub(crate) children: Vec<Child>,
     /// The pairs of stores that it rests on.
     pub(crate) used: Relation,
     live: usize,
@@ -30,27 +40,25 @@ pub(crate) struct Chooser<'a> {
     pub(crate) field: Field<'a>,
     pub(crate) region: &'a Region,
     pub(crate) facts: &'a Facts,
+    /// Are the pairs of stores that are known here known with any fences?
+    pub(crate) is_firm: bool,
+    pub(crate) learned: &'a Learned,
 }
 
-/// Has the part, with a truth value, cases? The truth values of parts are on the stack.
-fn has_cases(alloc: Global, nodes: &[Node], truth: bool) -> Result<bool, AllocError> {
-    let mut stack = Vec::new(alloc);
-    stack.push(truth)?;
-    for node in nodes {
-        let truth = stack.pop().unwrap_or(true);
-        match node.part {
-            Part::Deny => stack.push(!truth)?,
-            Part::Both | Part::Either => {
-                if !is_at_once(node.part, truth) {
-                    return Ok(true);
-                }
-                stack.push(truth)?;
-                stack.push(truth)?;
-            }
-            _ => {}
+/// Looks at the region.
+pub(crate) fn look(alloc: Global, field: Field<'_>, region: Region) -> Result<Child, AllocError> {
+    let Looked {
+        region,
+        steps,
+        ending,
+    } = saturate(alloc, field, region)?;
+    match ending {
+        Some(ending) => {
+            let dead = Arc::new(alloc, Dead::new(alloc, steps, ending)?)?;
+            Ok(Child::Ended(dead, region))
         }
+        None => Ok(Child::Open(region, steps)),
     }
-    Ok(false)
 }
 
 impl Chooser<'_> {
@@ -61,8 +69,43 @@ impl Chooser<'_> {
         }
     }
 
-    /// Looks at what the decision makes of the region; nothing where that is the region itself.
-    fn try_split(&self, decision: Decision) -> Result<Option<Split>, AllocError> {
+    /// Puts the region among the split's children, looked at where no look on the way has shown that it ends. Where so
+    /// many are open, it is only counted.
+    fn add_child(
+        &self,
+        trail: &mut Trail,
+        split: &mut Split,
+        region: Region,
+        most: usize,
+    ) -> Result<(), AllocError> {
+        let branch = self.splitter().branch(split.decision, &region);
+        if let Some(dead) = branch.and_then(|branch| trail.dead(branch, &region.before)) {
+            let dead = Arc::try_clone(dead)?;
+            split.children.push(Child::Ended(dead, region))?;
+            return Ok(());
+        }
+        if split.live >= most {
+            split.live = split.live.saturating_add(1);
+            return Ok(());
+        }
+        trail.looks = trail.looks.saturating_add(1);
+        let child = look(self.alloc, self.field, region)?;
+        match (&child, branch) {
+            (Child::Ended(dead, _), Some(branch)) => trail.add(branch, dead)?,
+            (Child::Ended(_, _), None) => {}
+            (Child::Open(_, _), _) => split.live = split.live.saturating_add(1),
+        }
+        split.children.push(child)?;
+        Ok(())
+    }
+
+    /// Looks at what the decision makes of the region; nothing where that is the region itself, or so many are open.
+    fn try_split(
+        &self,
+        trail: &mut Trail,
+        decision: Decision,
+        most: usize,
+    ) -> Result<Option<Split>, AllocError> {
         let mut regions = self.splitter().children(self.region, self.facts, decision)?;
         if is_vain(self.region, decision, &regions) {
             return Ok(None);
@@ -71,126 +114,49 @@ impl Chooser<'_> {
         let mut split = Split {
             decision,
             children: Vec::new(self.alloc),
-            used: self.used_by(decision),
+            used: self.used(decision),
             live: 0,
         };
         for _ in 0..regions.len() {
             let Some(region) = regions.pop() else {
                 break;
             };
-            let looked = saturate(self.alloc, self.field, region)?;
-            if looked.ending.is_none() {
-                split.live = split.live.saturating_add(1);
-            }
-            split.children.push(looked)?;
+            self.add_child(trail, &mut split, region, most)?;
         }
-        Ok(Some(split))
+        trail.set_open(decision, split.live);
+        Ok(if split.live < most { Some(split) } else { None })
     }
 
-    fn used_by(&self, decision: Decision) -> Relation {
+    /// The pairs of stores that the decision rests on.
+    fn used(&self, decision: Decision) -> Relation {
+        let outlook = Outlook {
+            field: self.field,
+            region: self.region,
+            facts: self.facts,
+        };
         match decision {
-            Decision::Filter(_) => {
-                let outlook = Outlook {
-                    field: self.field,
-                    region: self.region,
-                    facts: self.facts,
-                };
-                of_filter(&outlook, &self.region.before)
-            }
+            Decision::Filter(_) => of_filter(&outlook, &self.region.before),
             _ => Relation::new(),
         }
     }
 
-    fn is_undecided(&self) -> bool {
-        self.region
-            .origins
-            .iter()
-            .all(|origin| *origin == Origin::Unknown)
-    }
-
-    /// The first wanted condition that has cases.
-    fn cases(&self) -> Result<Option<Decision>, AllocError> {
-        for (number, wanted) in self.region.wanted.iter().enumerate() {
-            let wanted: &Wanted = wanted;
-            if has_cases(
-                self.alloc,
-                within(self.field.nodes, wanted.node),
-                wanted.truth,
-            )? {
-                return Ok(Some(Decision::Cases(number)));
-            }
-        }
-        Ok(None)
-    }
-
-    /// Do the runs that are left make several choices there?
-    fn has_choices(&self, name: u8) -> bool {
-        let Some(doing) = self.field.hart_of(name).and_then(|hart| hart.doing(name)) else {
-            return false;
-        };
-        let row = self.region.row(self.field.owner(name));
-        doing.choices.iter().any(|group| do_meet(row, &group.row) && !is_within(row, &group.row))
-    }
-
-    /// Is it an sc.w?
-    fn may_fail(&self, name: u8) -> bool {
-        self.field
-            .hart_of(name)
-            .and_then(|hart| hart.doing(name))
-            .is_some_and(|doing| doing.takes == Takes::Success)
-    }
-
-    /// Is the name worth a split by its source?
-    fn may_source(&self, name: u8) -> bool {
-        has(self.facts.may_load, name) && self.region.origin(name) != Origin::Initial
-    }
-
-    /// Adds the filters of harts.
-    fn add_filters(&self, options: &mut Vec<Decision>) -> Result<(), AllocError> {
-        let mut hart: u8 = 0;
-        for left in &self.region.left {
-            if has_several(&left.row) {
-                options.push(Decision::Filter(hart))?;
-            }
-            hart = hart.saturating_add(1);
-        }
-        Ok(())
-    }
-
-    /// What is tried first: filters, as long as no load has a source; then the sources of loads, and whether an sc.w
-    /// succeeds.
-    fn options(&self) -> Result<Vec<Decision>, AllocError> {
-        let mut options = Vec::new(self.alloc);
-        if self.is_undecided() {
-            self.add_filters(&mut options)?;
-        }
-        for name in 0..self.field.count {
-            if self.may_source(name) {
-                options.push(Decision::Source(name))?;
-            } else if self.may_fail(name) && self.has_choices(name) {
-                options.push(Decision::Choice(name))?;
-            }
-        }
-        Ok(options)
-    }
-
-    /// The one of these that leaves the fewest regions open.
-    fn best(&self, options: &[Decision]) -> Result<Option<Split>, AllocError> {
+    /// The one of these that leaves the fewest regions open. One that leaves at most one, and so only narrows the
+    /// region, is taken at once.
+    fn best(&self, trail: &mut Trail) -> Result<Option<Split>, AllocError> {
         let mut best: Option<Split> = None;
-        for decision in options {
-            let Some(split) = self.try_split(*decision)? else {
+        let mut most = usize::MAX;
+        let options = self.options(trail)?;
+        for (number, choice) in options.choices.iter().enumerate() {
+            if best.is_some() && options.is_late(number, choice, most) {
+                break;
+            }
+            let Some(split) = self.try_split(trail, choice.decision, most)? else {
                 continue;
             };
-            let is_better = match &best {
-                Some(known) => split.live < known.live,
-                None => true,
-            };
-            if is_better {
-                let is_enough = split.live == 0 || split.children.len() == 1;
-                best = Some(split);
-                if is_enough {
-                    break;
-                }
+            most = split.live;
+            best = Some(split);
+            if most <= 1 {
+                break;
             }
         }
         Ok(best)
@@ -218,20 +184,20 @@ impl Chooser<'_> {
     }
 
     /// The split to make; nothing where all is decided.
-    pub(crate) fn split(&self) -> Result<Option<Split>, AllocError> {
+    pub(crate) fn split(&self, trail: &mut Trail) -> Result<Option<Split>, AllocError> {
         if self.is_undecided() {
-            if let Some(cases) = self.cases()? {
-                return self.try_split(cases);
+            if let Some(cases) = cases(self.alloc, self.field, self.region)? {
+                return self.try_split(trail, cases, usize::MAX);
             }
         }
-        if let Some(split) = self.best(&self.options()?)? {
+        if let Some(split) = self.best(trail)? {
             return Ok(Some(split));
         }
         if let Some(choice) = self.choice() {
-            return self.try_split(choice);
+            return self.try_split(trail, choice, usize::MAX);
         }
         match self.order() {
-            Some(order) => self.try_split(order),
+            Some(order) => self.try_split(trail, order, usize::MAX),
             None => Ok(None),
         }
     }

@@ -3,6 +3,8 @@
 use crate::access::NOWHERE;
 use crate::names::{MOST_NAMES, Origin, Relation, bit, has};
 use crate::region::{Field, Region};
+use crate::rows::is_within;
+use crate::rules::Rule;
 use crate::sum::Sum;
 use fs_kinds::MOST_LOCATIONS;
 
@@ -17,8 +19,10 @@ pub(crate) struct Facts {
     store_at: [u8; MOST_NAMES],
     /// For each location what must be stored there.
     stored: [u64; MOST_LOCATIONS],
-    /// What rules put in order, and stores before the loads of other harts that return from them.
+    /// What rules but 4 put in order, and stores before the loads of other harts that return from them.
     pub(crate) edges: Relation,
+    /// What rule 4 puts in order.
+    pub(crate) fenced: Relation,
     /// Pairs of an lr.w and an sc.w.
     pub(crate) pairs: Relation,
 }
@@ -41,6 +45,7 @@ fn blank() -> Facts {
         store_at: [NOWHERE; MOST_NAMES],
         stored: [0; MOST_LOCATIONS],
         edges: Relation::new(),
+        fenced: Relation::new(),
         pairs: Relation::new(),
     }
 }
@@ -49,8 +54,11 @@ impl Facts {
     /// Those of the region.
     pub(crate) fn of(field: Field<'_>, region: &Region) -> Facts {
         let mut facts = blank();
+        let mut hart: u8 = 0;
         for left in &region.left {
             facts.add_sum(region, &left.sum, field.count);
+            facts.add_fenced(field.fenced_in(hart), &left.row);
+            hart = hart.saturating_add(1);
         }
         for name in 0..field.count {
             facts.add_stored(name);
@@ -70,6 +78,15 @@ impl Facts {
         self.pairs.join(&sum.pairs);
         self.add_same(region, sum, count);
         self.add_through(region, sum);
+    }
+
+    /// Rule 4, where it holds in each of the hart's runs.
+    fn add_fenced(&mut self, rules: &[Rule], row: &[u64]) {
+        for rule in rules {
+            if rule.is_whole || is_within(row, &rule.row) {
+                self.fenced.add(rule.first, rule.second);
+            }
+        }
     }
 
     /// Rule 2, where the sources are known and differ.
@@ -152,6 +169,13 @@ impl Facts {
 
     /// What must come before what.
     pub(crate) fn all_edges(&self, region: &Region, count: u8) -> Relation {
+        let mut edges = self.plain_edges(region, count);
+        edges.join(&self.fenced);
+        edges
+    }
+
+    /// The same without rule 4.
+    pub(crate) fn plain_edges(&self, region: &Region, count: u8) -> Relation {
         let mut edges = self.edges;
         edges.join(&region.before);
         for load in 0..count {

@@ -2,10 +2,11 @@
 
 use crate::forms::{Form, Outline};
 use crate::hart::Hart;
-use crate::rows::{Row, is_empty, is_within, join, no_run};
+use crate::needs::{Need, SlotPairs};
+use crate::rows::{Row, do_meet, is_empty, is_within, join, no_run};
 use crate::rules::{Numbered, Rule};
 use fs_instr::Instr;
-use fs_kinds::{Classes, Kind, Placement};
+use fs_kinds::{Classes, Entry, Kind, OperationName, Placement};
 use fs_model::Test;
 use std::alloc::{AllocError, Global};
 
@@ -55,6 +56,17 @@ fn bits_in(instr: &Instr) -> u8 {
         Instr::FenceTso => bits_of(Kind::Tso),
         _ => 0,
     }
+}
+
+/// The pairs that are ordered at each of these slots.
+pub(crate) fn pairs_at(entries: &[Entry]) -> SlotPairs {
+    let mut pairs = SlotPairs::new();
+    for (place, entry) in entries.iter().enumerate() {
+        if let Some(kind) = entry.kind {
+            pairs.put(place, bits_of(kind));
+        }
+    }
+    pairs
 }
 
 /// The fences that the hart's code has.
@@ -189,7 +201,44 @@ fn fenced(
     Ok(found)
 }
 
-/// The same for each hart.
+/// The pairs at slots of which one orders the two operations of a hart in runs of this outline.
+fn ordering(
+    outline: &Outline,
+    entries: &[Entry],
+    first: OperationName,
+    second: OperationName,
+) -> SlotPairs {
+    let wanted = wanted(outline, first.at, second.at);
+    let mut pairs = SlotPairs::new();
+    for (place, entry) in entries.iter().enumerate() {
+        let at = entry.slot.at;
+        let is_between = entry.slot.hart == first.hart && first.at < at && at <= second.at;
+        if is_between && outline.executes(at) {
+            pairs.put(place, wanted);
+        }
+    }
+    pairs
+}
+
+/// Adds what rule 4 needs to put the first operation of a hart before the second in each of these runs.
+pub(crate) fn add_fences(
+    need: &mut Need,
+    hart: &Hart,
+    row: &[u64],
+    entries: &[Entry],
+    first: OperationName,
+    second: OperationName,
+) -> Result<(), AllocError> {
+    for form in &hart.forms {
+        let outline = &form.outline;
+        if do_meet(row, &form.row) && !are_fenced(outline, &hart.written, first.at, second.at) {
+            need.add(ordering(outline, entries, first, second))?;
+        }
+    }
+    Ok(())
+}
+
+/// For each hart the pairs of its names between which rule 4 holds with the placement, each with the runs.
 pub(crate) fn all_fenced(
     alloc: Global,
     harts: &[Hart],

@@ -2,7 +2,7 @@
 //! sources of loads, then by the order of stores.
 
 use crate::facts::Facts;
-use crate::frames::{Hunted, hunt};
+use crate::frames::{Hunted, Limits, Search};
 use crate::names::{bit, has};
 use crate::region::{Field, Region};
 use crate::rows::is_within;
@@ -15,7 +15,7 @@ use std::alloc::{AllocError, Global};
 struct Narrowing<'a> {
     alloc: Global,
     field: Field<'a>,
-    most: usize,
+    limits: Limits,
     region: Region,
     found: Region,
 }
@@ -51,14 +51,14 @@ fn is_late(region: &Region, store: u8, stores: u64, count: u8) -> bool {
 impl Narrowing<'_> {
     /// Takes the smaller region, if it shows something.
     fn take(&mut self, smaller: Region) -> Result<Tried, AllocError> {
-        let start = smaller.copy(self.alloc)?;
-        match hunt(self.alloc, self.field, start, self.most)? {
+        let mut search = Search::new(self.alloc, smaller.copy(self.alloc)?)?;
+        match search.hunt(self.alloc, self.field, self.limits)? {
             Hunted::Shown(found) => {
                 self.region = smaller;
                 self.found = found;
                 Ok(Tried::Shown)
             }
-            Hunted::Refuted(_) => Ok(Tried::Refuted),
+            Hunted::Refuted => Ok(Tried::Refuted),
             Hunted::GaveUp => Ok(Tried::GaveUp),
         }
     }
@@ -189,22 +189,23 @@ impl Narrowing<'_> {
     }
 }
 
-/// Refutes the region, or finds the first candidate that it shows, each time with at most so many inferences.
+/// Refutes the region, over which the search is, or finds the first candidate that it shows, each time within the
+/// limits.
 pub(crate) fn hunt_first(
     alloc: Global,
     field: Field<'_>,
+    search: &mut Search,
     region: Region,
-    most: usize,
+    limits: Limits,
 ) -> Result<Hunted, AllocError> {
-    let start = region.copy(alloc)?;
-    let found = match hunt(alloc, field, start, most)? {
+    let found = match search.hunt(alloc, field, limits)? {
         Hunted::Shown(found) => found,
         other => return Ok(other),
     };
     let mut narrowing = Narrowing {
         alloc,
         field,
-        most,
+        limits,
         region,
         found,
     };

@@ -1,209 +1,511 @@
-//! The search: regions are split until each has ended, or one has nothing left to decide.
+//! The search: regions are split until each has ended, or one has nothing left to decide. What earlier searches have
+//! split isn't split anew, and what ended a region isn't looked for where it still holds.
 
-use crate::choose::{Chooser, Split};
+use crate::choose::{Child, Chooser, Split, look};
+use crate::clash::{Clash, Step};
 use crate::facts::Facts;
+use crate::learned::Learned;
 use crate::names::Relation;
+use crate::needs::{Need, SlotPairs};
 use crate::region::{Field, Region};
-use crate::saturate::{Ending, Looked, Step, saturate};
-use crate::splits::Decision;
-use fs_cert_evidence::Inference;
+use crate::splits::{Decision, Splitter};
+use crate::trail::{Dead, Mark, Trail};
+use crate::tree::{Branching, Fresh, Held, Leaf, Node, Tree, are_firm};
 use std::alloc::{AllocError, Global};
+use std::sync::Arc;
+
+/// Where there are more nodes than this, regions aren't kept that have been looked through.
+const MANY_NODES: usize = 25_000;
+
+/// Where there are more than this, the next search begins with a new tree.
+const MOST_NODES: usize = 100_000;
 
 /// What a search comes to.
 #[derive(Drop)]
 pub(crate) enum Hunted {
-    /// All regions ended: the inferences, the first one first.
-    Refuted(Vec<Inference>),
+    /// All regions of the tree have ended.
+    Refuted,
     /// A region with nothing left to decide.
     Shown(Region),
     GaveUp,
 }
 
-/// A region that was split, with those of its children that are still to be looked through.
+/// How far a search may go: so many regions, and so many looks.
+#[derive(Clone, Copy)]
+pub(crate) struct Limits {
+    pub(crate) regions: usize,
+    pub(crate) looks: usize,
+}
+
+impl Limits {
+    /// So many regions, and any looks.
+    pub(crate) fn of(regions: usize) -> Limits {
+        Limits {
+            regions,
+            looks: usize::MAX,
+        }
+    }
+}
+
+/// Over what a search is.
+#[derive(Clone, Copy)]
+pub(crate) struct Ground<'a> {
+    pub(crate) alloc: Global,
+    pub(crate) field: Field<'a>,
+}
+
+/// A node with parts, of which some have been looked through.
 #[derive(Drop)]
 struct Frame {
-    /// What followed in the region.
-    steps: Vec<Step>,
-    decision: Decision,
-    /// The last one is the next.
-    children: Vec<Looked>,
-    /// The pairs of stores on which rests what was written below it.
-    used: Relation,
+    node: usize,
+    /// How many parts have been taken.
+    taken: usize,
+    /// The part that is looked through.
+    part: usize,
+    /// What the trail was above its split.
+    mark: Mark,
 }
 
-/// A search. The inferences stand in reverse, since of a region's children the last is looked through first.
+/// Searches over one tree, one after the other.
 #[derive(Drop)]
-struct Search<'a> {
-    alloc: Global,
-    field: Field<'a>,
-    stack: Vec<Frame>,
-    written: Vec<Inference>,
+pub(crate) struct Search {
+    pub(crate) tree: Tree,
+    learned: Learned,
+    /// The nodes from the root to the one that is looked through.
+    path: Vec<Frame>,
+    trail: Trail,
+    /// The number of the search, how many nodes it has entered, and how many there were before.
+    hunt: usize,
     entered: usize,
+    before: usize,
 }
 
-impl Search<'_> {
-    /// Writes, before what was written of a region, what followed in it and is used.
-    fn write_steps(&mut self, mut steps: Vec<Step>, used: &mut Relation) -> Result<(), AllocError> {
-        for _ in 0..steps.len() {
-            let Some(step) = steps.pop() else {
+impl Search {
+    /// Searches over the region.
+    pub(crate) fn new(alloc: Global, root: Region) -> Result<Search, AllocError> {
+        Ok(Search {
+            tree: Tree::new(alloc, root)?,
+            learned: Learned::new(alloc),
+            path: Vec::new(alloc),
+            trail: Trail::new(alloc),
+            hunt: 0,
+            entered: 0,
+            before: 0,
+        })
+    }
+
+    /// At how many regions the last hunt has looked.
+    pub(crate) fn looks(&self) -> usize {
+        self.trail.looks
+    }
+
+    /// Is the tree so large that a new one is better?
+    pub(crate) fn is_large(&self) -> bool {
+        self.tree.nodes.len() > MOST_NODES
+    }
+
+    /// The pairs of stores that are known below so many nodes of the path with these pairs placed.
+    fn known(&self, depth: usize, placed: &SlotPairs) -> Relation {
+        let mut known = self.tree.start;
+        for frame in self.path.iter().take(depth) {
+            if let Some(branching) = self.tree.branching(frame.node) {
+                branching.add_held(&mut known, placed);
+                branching.add_decided(&mut known, frame.part);
+            }
+        }
+        known
+    }
+
+    /// What the pairs need that followed in the regions of the path.
+    fn add_needs_above(
+        &self,
+        need: &mut Need,
+        used: &mut Relation,
+        placed: &SlotPairs,
+    ) -> Result<(), AllocError> {
+        for frame in self.path.iter().rev() {
+            if used.is_empty() {
                 break;
-            };
-            let Step {
-                first,
-                second,
-                ending,
-            } = step;
-            if !used.has(first, second) {
+            }
+            if let Some(branching) = self.tree.branching(frame.node) {
+                branching.move_needs(need, used, placed)?;
+            }
+        }
+        Ok(())
+    }
+
+    /// What the steps, which follow in the region below the path, need.
+    fn held(
+        &self,
+        ground: Ground<'_>,
+        region: &Region,
+        steps: Vec<Step>,
+    ) -> Result<Vec<Held>, AllocError> {
+        let placed = &ground.field.fences.pairs;
+        let mut all: Vec<Held> = Vec::new(ground.alloc);
+        for step in steps {
+            let mut need = Need::new(ground.alloc);
+            step.ending
+                .clash
+                .add_needs(&mut need, ground.field, region)?;
+            let mut used = step.used();
+            for held in all.iter().rev() {
+                if used.has(held.step.first, held.step.second) {
+                    need.join(&held.need)?;
+                    used.remove(held.step.first, held.step.second);
+                }
+            }
+            self.add_needs_above(&mut need, &mut used, placed)?;
+            all.push(Held { step, need })?;
+        }
+        Ok(all)
+    }
+
+    /// What ends the region below the path needs.
+    fn need_of(
+        &self,
+        ground: Ground<'_>,
+        region: &Region,
+        dead: &Dead,
+    ) -> Result<Need, AllocError> {
+        let placed = &ground.field.fences.pairs;
+        let known = self.known(self.path.len(), placed);
+        let mut need = Need::new(ground.alloc);
+        let mut used = dead.ending.used.relation();
+        dead.ending
+            .clash
+            .add_needs(&mut need, ground.field, region)?;
+        for step in dead.steps.iter().rev() {
+            if used.has(step.first, step.second) && !known.has(step.first, step.second) {
+                used.remove(step.first, step.second);
+                used.join(&step.used());
+                step.ending
+                    .clash
+                    .add_needs(&mut need, ground.field, region)?;
+            }
+        }
+        self.add_needs_above(&mut need, &mut used, placed)?;
+        Ok(need)
+    }
+
+    /// The leaf of a region below the path that ends so.
+    fn leaf(
+        &mut self,
+        ground: Ground<'_>,
+        region: &Region,
+        dead: Arc<Dead>,
+    ) -> Result<Leaf, AllocError> {
+        let need = self.need_of(ground, region, &dead)?;
+        if let Clash::Cycle(edges) = &dead.ending.clash {
+            self.learned.add(ground.alloc, edges)?;
+        }
+        Ok(Leaf { dead, need })
+    }
+
+    /// The part of the region into which the path goes at this frame.
+    fn part_of(
+        &self,
+        ground: Ground<'_>,
+        region: Region,
+        depth: usize,
+        frame: &Frame,
+    ) -> Result<Option<Region>, AllocError> {
+        let Some(branching) = self.tree.branching(frame.node) else {
+            return Ok(None);
+        };
+        let mut bare = region;
+        bare.before = self.known(depth.saturating_add(1), &SlotPairs::new());
+        let facts = Facts::of(ground.field, &bare);
+        let splitter = Splitter {
+            alloc: ground.alloc,
+            field: ground.field,
+        };
+        let mut parts = splitter.children(&bare, &facts, branching.decision)?;
+        if frame.part >= parts.len() {
+            return Ok(None);
+        }
+        parts.truncate(frame.part.saturating_add(1));
+        Ok(parts.pop())
+    }
+
+    /// How many nodes of the path are above the last one whose region is kept.
+    fn kept_above(&self) -> usize {
+        let mut above = 0;
+        for (depth, frame) in self.path.iter().enumerate() {
+            if self.tree.region(frame.node).is_some() {
+                above = depth;
+            }
+        }
+        above
+    }
+
+    /// The region of the node below the path, but for its pairs of stores.
+    fn region_of(&self, ground: Ground<'_>, node: usize) -> Result<Option<Region>, AllocError> {
+        if let Some(region) = self.tree.region(node) {
+            return Ok(Some(region.copy(ground.alloc)?));
+        }
+        let mut made: Option<Region> = None;
+        let start = self.kept_above();
+        for (depth, frame) in self.path.iter().enumerate() {
+            if depth < start {
                 continue;
             }
-            used.remove(first, second);
-            let mut more = ending.used;
-            more.remove(second, first);
-            used.join(&more);
-            self.written.push(ending.inference)?;
-            let opposite = Decision::Order(second, first);
-            self.written.push(opposite.inference(self.field))?;
+            let region = match (made.take(), self.tree.region(frame.node)) {
+                (Some(region), _) => region,
+                (None, Some(region)) => region.copy(ground.alloc)?,
+                (None, None) => return Ok(None),
+            };
+            made = self.part_of(ground, region, depth, frame)?;
         }
-        Ok(())
+        Ok(made)
     }
 
-    /// The region above rests on these too.
-    fn hand_up(&mut self, used: &Relation) {
-        if let Some(frame) = self.stack.last_mut() {
-            frame.used.join(used);
+    /// What the last look at the node has left, if it was in this search.
+    fn take_fresh(&mut self, node: usize) -> Option<(Region, Vec<Step>)> {
+        let hunt = self.hunt;
+        let node = self.tree.nodes.get_mut(node)?;
+        let Fresh { hunt: made, steps } = node.fresh.take()?;
+        if made != hunt {
+            return None;
+        }
+        let region = node.region.take()?;
+        Some((Box::into_inner(region), steps))
+    }
+
+    /// Looks at the region of the node; nothing where it has ended.
+    fn open(
+        &mut self,
+        ground: Ground<'_>,
+        node: usize,
+    ) -> Result<Option<(Region, Vec<Step>)>, AllocError> {
+        if let Some(found) = self.take_fresh(node) {
+            return Ok(Some(found));
+        }
+        let Some(mut region) = self.region_of(ground, node)? else {
+            return Ok(None);
+        };
+        region.before = self.known(self.path.len(), &ground.field.fences.pairs);
+        self.trail.looks = self.trail.looks.saturating_add(1);
+        match look(ground.alloc, ground.field, region)? {
+            Child::Ended(dead, region) => {
+                let leaf = self.leaf(ground, &region, dead)?;
+                if let Some(node) = self.tree.nodes.get_mut(node) {
+                    node.add_leaf(leaf)?;
+                }
+                Ok(None)
+            }
+            Child::Open(region, steps) => Ok(Some((region, steps))),
         }
     }
 
-    fn end(&mut self, steps: Vec<Step>, ending: Ending) -> Result<(), AllocError> {
-        let Ending {
-            inference,
-            mut used,
-        } = ending;
-        self.written.push(inference)?;
-        self.write_steps(steps, &mut used)?;
-        self.hand_up(&used);
-        Ok(())
+    /// Follows with any fences what followed on the path, and this?
+    fn is_firm(&self, held: &[Held]) -> bool {
+        are_firm(held)
+            && self.path.iter().all(|frame| {
+                self.tree
+                    .branching(frame.node)
+                    .is_none_or(|branching| are_firm(&branching.held))
+            })
     }
 
-    /// The split that is made of the region.
-    fn split(&self, region: &Region) -> Result<Option<Split>, AllocError> {
-        let facts = Facts::of(self.field, region);
+    /// The split that is made of the region of the node below the path.
+    fn choose(
+        &mut self,
+        ground: Ground<'_>,
+        region: &Region,
+        held: &[Held],
+    ) -> Result<Option<Split>, AllocError> {
+        let facts = Facts::of(ground.field, region);
         let chooser = Chooser {
-            alloc: self.alloc,
-            field: self.field,
+            alloc: ground.alloc,
+            field: ground.field,
             region,
             facts: &facts,
+            is_firm: self.is_firm(held),
+            learned: &self.learned,
         };
-        chooser.split()
+        chooser.split(&mut self.trail)
     }
 
-    /// Looks through a region. The region itself where nothing is left to decide.
-    fn enter(&mut self, looked: Looked) -> Result<Option<Region>, AllocError> {
-        self.entered = self.entered.saturating_add(1);
-        let Looked {
-            region,
-            steps,
-            ending,
-        } = looked;
-        if let Some(ending) = ending {
-            self.end(steps, ending)?;
-            return Ok(None);
+    /// Puts the parts of the node at the path's end into the tree.
+    fn add_parts(&mut self, ground: Ground<'_>, children: Vec<Child>) -> Result<(), AllocError> {
+        let mut part: usize = 0;
+        for child in children {
+            if let Some(frame) = self.path.last_mut() {
+                frame.part = part;
+            }
+            part = part.saturating_add(1);
+            let mut node = Node::new(ground.alloc);
+            match child {
+                Child::Ended(dead, region) => {
+                    let leaf = self.leaf(ground, &region, dead)?;
+                    node.add_leaf(leaf)?;
+                }
+                Child::Open(region, steps) => {
+                    node.region = Some(Box::new(ground.alloc, region)?);
+                    node.fresh = Some(Fresh {
+                        hunt: self.hunt,
+                        steps,
+                    });
+                }
+            }
+            self.tree.nodes.push(node)?;
         }
-        let Some(split) = self.split(&region)? else {
-            return Ok(Some(region));
-        };
-        self.stack.push(Frame {
-            steps,
-            decision: split.decision,
-            children: split.children,
-            used: split.used,
-        })?;
-        Ok(None)
-    }
-
-    /// Writes a region whose children have been written.
-    fn leave(&mut self, frame: Frame) -> Result<(), AllocError> {
-        let Frame {
-            steps,
-            decision,
-            children: _,
-            mut used,
-        } = frame;
-        if let Decision::Order(first, second) = decision {
-            used.remove(first, second);
-            used.remove(second, first);
-        }
-        self.written.push(decision.inference(self.field))?;
-        self.write_steps(steps, &mut used)?;
-        self.hand_up(&used);
         Ok(())
     }
 
-    /// The next region, if the one that was split last has one left; else that one is done.
-    fn advance(&mut self) -> Result<Option<Looked>, AllocError> {
-        let Some(frame) = self.stack.last_mut() else {
-            return Ok(None);
+    /// Splits the node below the path, in whose region this followed, and puts it on the path. The region itself where
+    /// nothing is left to decide.
+    fn split(
+        &mut self,
+        ground: Ground<'_>,
+        node: usize,
+        region: Region,
+        steps: Vec<Step>,
+    ) -> Result<Option<Region>, AllocError> {
+        let mark = self.trail.mark();
+        let held = self.held(ground, &region, steps)?;
+        let Some(split) = self.choose(ground, &region, &held)? else {
+            return Ok(Some(region));
         };
-        if let Some(child) = frame.children.pop() {
-            return Ok(Some(child));
+        let branching = Branching {
+            decision: split.decision,
+            held,
+            used: split.used,
+            first: self.tree.nodes.len(),
+            count: split.children.len(),
+            shown: 0,
+        };
+        if let Some(node) = self.tree.nodes.get_mut(node) {
+            node.region = Some(Box::new(ground.alloc, region)?);
+            node.branching = Some(Box::new(ground.alloc, branching)?);
         }
-        if let Some(frame) = self.stack.pop() {
-            self.leave(frame)?;
-        }
+        self.path.push(Frame {
+            node,
+            taken: 0,
+            part: 0,
+            mark,
+        })?;
+        self.add_parts(ground, split.children)?;
         Ok(None)
     }
 
-    /// How many inferences there will be at least.
-    fn size(&self) -> usize {
-        self.written
-            .len()
-            .saturating_add(self.stack.len())
-            .max(self.entered)
+    /// Looks through the node below the path. Its region where nothing is left to decide.
+    fn enter(&mut self, ground: Ground<'_>, node: usize) -> Result<Option<Region>, AllocError> {
+        self.entered = self.entered.saturating_add(1);
+        let Some(known) = self.tree.node(node) else {
+            return Ok(None);
+        };
+        if known.leaf(&ground.field.fences.pairs).is_some() {
+            return Ok(None);
+        }
+        if known.branching.is_some() {
+            let mark = self.trail.mark();
+            self.path.push(Frame {
+                node,
+                taken: 0,
+                part: 0,
+                mark,
+            })?;
+            return Ok(None);
+        }
+        match self.open(ground, node)? {
+            Some((region, steps)) => self.split(ground, node, region, steps),
+            None => Ok(None),
+        }
     }
 
-    /// All of them, the first one first.
-    fn refutation(self) -> Vec<Inference> {
-        let mut written = self.written;
-        written.reverse();
-        written
+    /// Is the part into which the path goes at its end against an order that follows above with these pairs placed?
+    fn is_contrary(&self, placed: &SlotPairs) -> bool {
+        let Some(frame) = self.path.last() else {
+            return false;
+        };
+        let Some(branching) = self.tree.branching(frame.node) else {
+            return false;
+        };
+        if !matches!(branching.decision, Decision::Order(_, _)) {
+            return false;
+        }
+        let mut known = self.known(self.path.len().saturating_sub(1), placed);
+        branching.add_held(&mut known, placed);
+        branching
+            .known_part(&known)
+            .is_some_and(|part| part != frame.part)
     }
 
-    fn run(mut self, looked: Looked, most: usize) -> Result<Hunted, AllocError> {
-        let mut next = Some(looked);
-        for _ in 0..most.saturating_mul(4).saturating_add(8) {
-            if self.size() > most {
+    /// The next node, if the one at the path's end has a part left; else that one is done.
+    fn advance(&mut self, placed: &SlotPairs) -> Option<usize> {
+        let frame = self.path.last_mut()?;
+        let branching = self.tree.branching(frame.node)?;
+        if frame.taken < branching.count {
+            frame.part = branching.part(frame.taken);
+            frame.taken = frame.taken.saturating_add(1);
+            let next = branching.first.saturating_add(frame.part);
+            return if self.is_contrary(placed) {
+                None
+            } else {
+                Some(next)
+            };
+        }
+        let has_many = self.tree.nodes.len() > MANY_NODES;
+        let frame = self.path.pop()?;
+        self.trail.go_back(&frame.mark);
+        if has_many && frame.node != 0 {
+            if let Some(node) = self.tree.nodes.get_mut(frame.node) {
+                node.region = None;
+            }
+        }
+        None
+    }
+
+    /// Each node of the path keeps in which of its parts something was shown.
+    fn remember(&mut self) {
+        for frame in &self.path {
+            if let Some(node) = self.tree.nodes.get_mut(frame.node) {
+                if let Some(branching) = &mut node.branching {
+                    branching.shown = frame.part;
+                }
+            }
+        }
+    }
+
+    /// Has it passed the limits? Each node that it has made would take an inference at least.
+    fn has_passed(&self, limits: Limits) -> bool {
+        let made = self.tree.nodes.len().saturating_sub(self.before);
+        self.entered.max(made) > limits.regions || self.trail.looks > limits.looks
+    }
+
+    /// Looks through the tree, within the limits.
+    pub(crate) fn hunt(
+        &mut self,
+        alloc: Global,
+        field: Field<'_>,
+        limits: Limits,
+    ) -> Result<Hunted, AllocError> {
+        let ground = Ground { alloc, field };
+        self.path = Vec::new(alloc);
+        self.trail = Trail::new(alloc);
+        self.hunt = self.hunt.wrapping_add(1);
+        self.entered = 0;
+        self.before = self.tree.nodes.len();
+        let mut next = Some(0);
+        for _ in 0..limits.regions.saturating_mul(4).saturating_add(8) {
+            if self.has_passed(limits) {
                 return Ok(Hunted::GaveUp);
             }
             match next.take() {
-                Some(looked) => {
-                    if let Some(region) = self.enter(looked)? {
+                Some(node) => {
+                    if let Some(region) = self.enter(ground, node)? {
+                        self.remember();
                         return Ok(Hunted::Shown(region));
                     }
                 }
-                None => next = self.advance()?,
+                None => next = self.advance(&field.fences.pairs),
             }
-            if next.is_none() && self.stack.is_empty() {
-                return Ok(Hunted::Refuted(self.refutation()));
+            if next.is_none() && self.path.is_empty() {
+                return Ok(Hunted::Refuted);
             }
         }
         Ok(Hunted::GaveUp)
     }
-}
-
-/// Refutes the region, or finds what it shows, with at most so many inferences.
-pub(crate) fn hunt(
-    alloc: Global,
-    field: Field<'_>,
-    region: Region,
-    most: usize,
-) -> Result<Hunted, AllocError> {
-    let looked = saturate(alloc, field, region)?;
-    let search = Search {
-        alloc,
-        field,
-        stack: Vec::new(alloc),
-        written: Vec::new(alloc),
-        entered: 0,
-    };
-    search.run(looked, most)
 }

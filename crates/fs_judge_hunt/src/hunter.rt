@@ -5,18 +5,23 @@ ghost use Rattle.fs_kinds.specs.declared.fault.Fault.TheVariants.{Memory};
 
 use crate::access::initial_word;
 use crate::condition::Condition;
-use crate::fences::all_fenced;
+use crate::fences::{all_fenced, pairs_at};
 use crate::first::hunt_first;
-use crate::frames::{Hunted, hunt};
+use crate::frames::{Hunted, Limits, Search};
 use crate::hart::{Hart, may_store_often};
+use crate::inferences::refutation;
+use crate::needs::Fences;
 use crate::region::Field;
 use crate::rules::Rule;
 use crate::witness::{Execution, execution_of};
 use fs_cert_evidence::Inference;
-use fs_kinds::{Fault, List, MOST_LOCATIONS, OperationName, Placement};
+use fs_kinds::{Fault, Kind, List, MOST_LOCATIONS, OperationName, Placement, Slot};
 use fs_model::Test;
 use std::alloc::{AllocError, Global};
 use std::sync::Arc;
+
+/// At how many regions a short hunt looks.
+const FEW_LOOKS: usize = 200;
 
 /// So many stores to one location are many.
 const MANY_STORES: usize = 11;
@@ -36,6 +41,69 @@ struct Runs {
 pub struct Hunter {
     runs: Arc<Runs>,
     condition: Condition,
+}
+
+/// What the hunts of one hunter keep, for the next one: which regions were split, and what ended them, under whatever
+/// fences.
+#[derive(Drop)]
+pub struct Kept {
+    search: Option<Search>,
+    widens: bool,
+    borne: Option<Vec<Slot>>,
+    looks: usize,
+    refusals: usize,
+}
+
+impl Kept {
+    /// Nothing yet.
+    pub fn new() -> Kept {
+        Kept {
+            search: None,
+            widens: false,
+            borne: None,
+            looks: 0,
+            refusals: 0,
+        }
+    }
+
+    /// Nothing yet; where a hunt finds an execution it is to look for one that bears more fences.
+    pub fn widening() -> Kept {
+        let mut kept = Kept::new();
+        kept.widens = true;
+        kept
+    }
+
+    /// The slots at which the last execution bears `rw,rw`, as far as hunts have looked for that. In constant time.
+    pub fn borne(&self) -> &[Slot] {
+        match &self.borne {
+            Some(slots) => slots.as_slice(),
+            None => &[],
+        }
+    }
+
+    /// At how many regions the last hunt has looked. In constant time.
+    pub fn looks(&self) -> usize {
+        self.looks
+    }
+
+    /// How often what was found didn't hold. In constant time.
+    pub fn refusals(&self) -> usize {
+        self.refusals
+    }
+
+    /// Keeps what the search has, unless a new tree is better.
+    fn put(&mut self, search: Search) {
+        self.looks = search.looks();
+        if !search.is_large() {
+            self.search = Some(search);
+        }
+    }
+
+    /// Forgets all, since what was found didn't hold.
+    pub fn refuse(&mut self) {
+        self.search = None;
+        self.refusals = self.refusals.saturating_add(1);
+    }
 }
 
 /// What a hunt comes to.
@@ -102,10 +170,15 @@ impl Hunter {
         self.runs.has_many_stores
     }
 
-    fn field<'a>(&'a self, fenced: &'a [Vec<Rule>]) -> Field<'a> {
+    fn field<'a>(&'a self, fenced: &'a [Vec<Rule>], placement: &'a Placement) -> Field<'a> {
+        let entries = placement.as_slice();
         Field {
             harts: &self.runs.harts,
             fenced,
+            fences: Fences {
+                entries,
+                pairs: pairs_at(entries),
+            },
             nodes: &self.condition.nodes,
             atoms: &self.condition.atoms,
             words: &self.runs.words,
@@ -114,46 +187,158 @@ impl Hunter {
         }
     }
 
-    fn hunt_for(
+    /// What the search has come to.
+    fn found(
+        &self,
+        alloc: Global,
+        field: Field<'_>,
+        search: &Search,
+        hunted: Hunted,
+        most: usize,
+    ) -> Result<Found, AllocError> {
+        let _ = &self.condition;
+        match hunted {
+            Hunted::Refuted => Ok(match refutation(alloc, field, &search.tree, most)? {
+                Some(inferences) => Found::Refuted(List::new(inferences)),
+                None => Found::GaveUp,
+            }),
+            Hunted::Shown(region) => Ok(Found::Shown(execution_of(alloc, field, &region)?)),
+            Hunted::GaveUp => Ok(Found::GaveUp),
+        }
+    }
+
+    /// A search over all candidates that show the outcome, if there can be one: that which is kept, or a new one.
+    fn search(
+        &self,
+        alloc: Global,
+        field: Field<'_>,
+        kept: &mut Kept,
+    ) -> Result<Option<Search>, AllocError> {
+        if let Some(search) = kept.search.take() {
+            return Ok(Some(search));
+        }
+        match field.root(alloc, self.condition.truth)? {
+            Some(root) => Ok(Some(Search::new(alloc, root)?)),
+            None => Ok(None),
+        }
+    }
+
+    /// A refutation of the test under the placement, or an execution that shows the outcome with the placed fences; or
+    /// it gives up where the refutation would have more than so many inferences. It begins with what earlier hunts of
+    /// this hunter have kept. Nothing is promised of what it finds: the one is checked by `reason_against`, the other
+    /// by `shown_by` of fs_check. The cost is exponential in the memory instructions; the memory is that of the tree.
+    /// The error is F19.
+    pub fn hunt(
+        &self,
+        alloc: Global,
+        kept: &mut Kept,
+        placement: &Placement,
+        most: usize,
+    ) -> Result<Found, Fault>
+        ensures err { IsOkUnless result Memory }
+    {
+        match self.hunt_on(alloc, kept, placement, most)? {
+            Found::Shown(execution) if kept.widens => Ok(Found::Shown(self.widened(
+                alloc, kept, placement, execution,
+            )?)),
+            found => Ok(found),
+        }
+    }
+
+    fn hunt_on(
+        &self,
+        alloc: Global,
+        kept: &mut Kept,
+        placement: &Placement,
+        most: usize,
+    ) -> Result<Found, AllocError> {
+        let fenced = all_fenced(alloc, &self.runs.harts, placement)?;
+        let field = self.field(&fenced, placement);
+        let Some(mut search) = self.search(alloc, field, kept)? else {
+            return Ok(Found::Refuted(List::new(Vec::new(alloc))));
+        };
+        let hunted = search.hunt(alloc, field, Limits::of(most))?;
+        let found = self.found(alloc, field, &search, hunted, most)?;
+        kept.put(search);
+        Ok(found)
+    }
+
+    /// The execution, or one that bears `rw,rw` in more and more slots, from the last one on, as far as short hunts
+    /// find one.
+    fn widened(
+        &self,
+        alloc: Global,
+        kept: &mut Kept,
+        placement: &Placement,
+        execution: Execution,
+    ) -> Result<Execution, Fault>
+        ensures err { IsOkUnless result Memory }
+    {
+        let looks = kept.looks;
+        let mut widest = execution;
+        let mut borne = placement.copy()?;
+        let mut slots = Vec::new(alloc);
+        for entry in placement.as_slice().iter().rev() {
+            let mut more = borne.copy()?;
+            if more.with(entry.slot, Some(Kind::RwRw)).is_err() {
+                continue;
+            }
+            if let Some(wider) = self.glimpse(alloc, kept, &more)? {
+                widest = wider;
+                borne = more;
+                slots.push(entry.slot)?;
+            }
+        }
+        kept.borne = Some(slots);
+        kept.looks = looks;
+        Ok(widest)
+    }
+
+    /// An execution that shows the outcome with the placed fences, if a hunt soon finds one.
+    fn glimpse(
+        &self,
+        alloc: Global,
+        kept: &mut Kept,
+        placement: &Placement,
+    ) -> Result<Option<Execution>, AllocError> {
+        let fenced = all_fenced(alloc, &self.runs.harts, placement)?;
+        let field = self.field(&fenced, placement);
+        let Some(mut search) = self.search(alloc, field, kept)? else {
+            return Ok(None);
+        };
+        let limits = Limits {
+            regions: usize::MAX,
+            looks: FEW_LOOKS,
+        };
+        let shown = match search.hunt(alloc, field, limits)? {
+            Hunted::Shown(region) => Some(execution_of(alloc, field, &region)?),
+            _ => None,
+        };
+        kept.put(search);
+        Ok(shown)
+    }
+
+    fn hunt_first(
         &self,
         alloc: Global,
         placement: &Placement,
         most: usize,
-        first: bool,
     ) -> Result<Found, AllocError> {
         let fenced = all_fenced(alloc, &self.runs.harts, placement)?;
-        let field = self.field(&fenced);
+        let field = self.field(&fenced, placement);
         let Some(root) = field.root(alloc, self.condition.truth)? else {
             return Ok(Found::Refuted(List::new(Vec::new(alloc))));
         };
-        let hunted = if first {
-            hunt_first(alloc, field, root, most)?
-        } else {
-            hunt(alloc, field, root, most)?
-        };
-        Ok(match hunted {
-            Hunted::Refuted(inferences) => Found::Refuted(List::new(inferences)),
-            Hunted::Shown(region) => Found::Shown(execution_of(alloc, field, &region)?),
-            Hunted::GaveUp => Found::GaveUp,
-        })
+        let mut search = Search::new(alloc, root.copy(alloc)?)?;
+        let hunted = hunt_first(alloc, field, &mut search, root, Limits::of(most))?;
+        self.found(alloc, field, &search, hunted, most)
     }
 
-    /// A refutation of the test under the placement, or an execution that shows the outcome with the placed fences; or
-    /// it gives up where the refutation would have more than so many inferences. Nothing is promised of either: the
-    /// one is checked by `reason_against`, the other by `shown_by` of fs_check. The cost is exponential in the
-    /// memory instructions; the memory is that of the refutation, and of the regions that are open at once. The error
-    /// is F19.
-    pub fn hunt(&self, alloc: Global, placement: &Placement, most: usize) -> Result<Found, Fault>
-        ensures err { IsOkUnless result Memory }
-    {
-        Ok(self.hunt_for(alloc, placement, most, false)?)
-    }
-
-    /// The same, but of the executions the one whose candidate comes first in the order of candidates. Each hunt that
-    /// it takes may have so many inferences. The error is F19.
+    /// The same from nothing, but of the executions the one whose candidate comes first in the order of candidates.
+    /// Each hunt that it takes may have so many inferences. The error is F19.
     pub fn first(&self, alloc: Global, placement: &Placement, most: usize) -> Result<Found, Fault>
         ensures err { IsOkUnless result Memory }
     {
-        Ok(self.hunt_for(alloc, placement, most, true)?)
+        Ok(self.hunt_first(alloc, placement, most)?)
     }
 }

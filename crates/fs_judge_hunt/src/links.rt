@@ -1,8 +1,10 @@
 //! Links of cycles, and why each operation comes before the next.
 
 use crate::facts::Facts;
+use crate::fences::add_fences;
 use crate::hart::Hart;
-use crate::names::{Origin, Relation, has};
+use crate::names::{Origin, Pairs, has};
+use crate::needs::Need;
 use crate::region::{Field, Region};
 use crate::rows::is_within;
 use crate::rules::Rule;
@@ -12,7 +14,7 @@ use fs_kinds::List;
 use std::alloc::{AllocError, Global};
 
 /// A name, and why it comes before the next one.
-#[derive(Clone, Copy)]
+#[derive(Clone, Copy, PartialEq, Eq)]
 pub(crate) struct Edge {
     pub(crate) name: u8,
     pub(crate) cause: Cause,
@@ -67,22 +69,21 @@ fn is_forwarded(hart: &Hart, region: &Region, row: &[u64], first: u8, second: u8
     })
 }
 
-/// Why a rule puts the one before the other.
+/// Why a rule but 4 puts the one before the other.
 fn preserved(field: Field<'_>, region: &Region, first: u8, second: u8) -> Option<Cause> {
-    let owner = field.owner(first);
     let hart = field.hart_of(first)?;
-    let row = region.row(owner);
+    let row = region.row(field.owner(first));
     let found = rule_in(&hart.rules, region, row, first, second);
-    let found = found.or(rule_in(field.fenced_in(owner), region, row, first, second));
     if found.is_none() && is_forwarded(hart, region, row, first, second) {
         return Some(Cause::Rule12);
     }
     found
 }
 
-/// Why the one comes before the other.
+/// Why the one comes before the other: not by a fence, if there is another cause.
 fn cause(field: Field<'_>, region: &Region, facts: &Facts, first: u8, second: u8) -> Cause {
-    if field.owner(first) == field.owner(second) {
+    let is_own = field.owner(first) == field.owner(second);
+    if is_own {
         if let Some(cause) = preserved(field, region, first, second) {
             return cause;
         }
@@ -91,9 +92,32 @@ fn cause(field: Field<'_>, region: &Region, facts: &Facts, first: u8, second: u8
     }
     if first != second && has(facts.overwriting(region, first), second) {
         Cause::FromReads
+    } else if is_own && !region.before.has(first, second) {
+        Cause::Rule4
     } else {
         Cause::Coherence
     }
+}
+
+/// Adds what the links of the cycle that rule 4 gives need in the region.
+pub(crate) fn add_needs(
+    need: &mut Need,
+    field: Field<'_>,
+    region: &Region,
+    edges: &[Edge],
+) -> Result<(), AllocError> {
+    for (place, edge) in edges.iter().enumerate() {
+        let next = edges.get(place.saturating_add(1)).or(edges.first());
+        let (Some(hart), Some(next)) = (field.hart_of(edge.name), next) else {
+            continue;
+        };
+        if edge.cause == Cause::Rule4 {
+            let row = region.row(field.owner(edge.name));
+            let (first, second) = (field.name(edge.name), field.name(next.name));
+            add_fences(need, hart, row, field.fences.entries, first, second)?;
+        }
+    }
+    Ok(())
 }
 
 impl Edge {
@@ -102,13 +126,13 @@ impl Edge {
         field: Field<'_>,
         region: &Region,
         facts: &Facts,
-        used: &mut Relation,
+        used: &mut Pairs,
         name: u8,
         next: u8,
-    ) -> Edge {
+    ) -> Result<Edge, AllocError> {
         let cause = cause(field, region, facts, name, next);
-        add_link(used, region, cause, name, next);
-        Edge { name, cause }
+        add_link(used, region, cause, name, next)?;
+        Ok(Edge { name, cause })
     }
 }
 

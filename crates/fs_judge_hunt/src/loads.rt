@@ -1,9 +1,11 @@
 //! What follows from what loads return from: an earlier store isn't later in coherence order.
 
-use crate::names::{Origin, Relation, bit, has};
+use crate::clash::{Clash, Ending};
+use crate::names::{Origin, Pairs, bit, has};
 use crate::region::Region;
-use crate::saturate::{Ending, Looked, Round};
-use fs_cert_evidence::{Cause, Inference};
+use crate::saturate::{Looked, Round};
+use crate::uses::add_overwriting;
+use fs_cert_evidence::Cause;
 use std::alloc::AllocError;
 
 /// A load, and a store at its location.
@@ -37,7 +39,7 @@ impl Round<'_> {
             Origin::Unknown => {}
             Origin::Initial => {
                 if is_own {
-                    let ending = self.stale(&looked.region, meeting);
+                    let ending = self.stale(&looked.region, meeting)?;
                     looked.end(ending);
                 }
             }
@@ -59,19 +61,14 @@ impl Round<'_> {
     }
 
     /// The load would return from a store that the own one overwrites.
-    fn stale(self, region: &Region, meeting: Meeting) -> Ending {
+    fn stale(self, region: &Region, meeting: Meeting) -> Result<Ending, AllocError> {
         let Meeting { load, store } = meeting;
-        let mut used = Relation::new();
-        if let Origin::From(source) = region.origin(load) {
-            used.add(source, store);
-        }
-        Ending {
-            inference: Inference::Stale {
-                load: self.field.name(load),
-                store: self.field.name(store),
-            },
+        let mut used = Pairs::new(self.alloc);
+        add_overwriting(&mut used, region, load, store)?;
+        Ok(Ending {
+            clash: Clash::Stale { load, store },
             used,
-        }
+        })
     }
 
     /// An own store comes before what the load returns from.
@@ -81,7 +78,7 @@ impl Round<'_> {
         meeting: Meeting,
         source: u8,
     ) -> Result<(), AllocError> {
-        let ending = self.stale(&looked.region, meeting);
+        let ending = self.stale(&looked.region, meeting)?;
         if looked.is_before(source, meeting.store) {
             looked.end(ending);
         } else {

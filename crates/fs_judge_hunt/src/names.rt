@@ -1,5 +1,7 @@
 //! Names of memory instructions as numbers, hart by hart in the order of the code; sets of them as bits, and relations.
 
+use std::alloc::{AllocError, Global};
+
 /// As many names as a test may have.
 pub(crate) const MOST_NAMES: usize = 48;
 
@@ -37,6 +39,11 @@ impl Relation {
         has(self.row(first), second)
     }
 
+    /// Has it no pair?
+    pub(crate) fn is_empty(&self) -> bool {
+        self.rows.iter().all(|row| *row == 0)
+    }
+
     /// Puts the name before each of these.
     pub(crate) fn add_all(&mut self, first: u8, names: u64) {
         if let Some(row) = self.rows.get_mut(usize::from(first)) {
@@ -63,6 +70,13 @@ impl Relation {
         }
     }
 
+    /// Takes the other's pairs out.
+    pub(crate) fn leave_out(&mut self, other: &Relation) {
+        for (row, less) in self.rows.iter_mut().zip(other.rows.iter()) {
+            *row &= !*less;
+        }
+    }
+
     /// Its transitive closure, where it is of so many names.
     pub(crate) fn closure(&self, count: u8) -> Relation {
         let mut closed = *self;
@@ -75,6 +89,52 @@ impl Relation {
             }
         }
         closed
+    }
+}
+
+/// Pairs of names in a list, since mostly there are few.
+#[derive(Drop)]
+pub(crate) struct Pairs {
+    items: Vec<(u8, u8)>,
+}
+
+impl Pairs {
+    /// None.
+    pub(crate) fn new(alloc: Global) -> Pairs {
+        Pairs {
+            items: Vec::new(alloc),
+        }
+    }
+
+    /// Adds a pair.
+    pub(crate) fn add(&mut self, first: u8, second: u8) -> Result<(), AllocError> {
+        self.items.push((first, second))?;
+        Ok(())
+    }
+
+    /// Adds the relation's pairs.
+    pub(crate) fn add_all(&mut self, relation: &Relation) -> Result<(), AllocError> {
+        for first in 0..MOST_NAMES as u8 {
+            let row = relation.row(first);
+            if row == 0 {
+                continue;
+            }
+            for second in 0..MOST_NAMES as u8 {
+                if has(row, second) {
+                    self.add(first, second)?;
+                }
+            }
+        }
+        Ok(())
+    }
+
+    /// The relation that has these.
+    pub(crate) fn relation(&self) -> Relation {
+        let mut relation = Relation::new();
+        for (first, second) in &self.items {
+            relation.add(*first, *second);
+        }
+        relation
     }
 }
 

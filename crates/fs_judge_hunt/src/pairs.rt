@@ -1,10 +1,11 @@
 //! What follows from pairs of an lr.w and an sc.w: no store of another hart is between the two.
 
 use crate::access::NOWHERE;
-use crate::names::{Origin, Relation, has};
+use crate::clash::{Clash, Ending};
+use crate::names::{Origin, Pairs, has};
 use crate::region::Region;
-use crate::saturate::{Ending, Looked, Round};
-use fs_cert_evidence::Inference;
+use crate::saturate::{Looked, Round};
+use crate::uses::add_overwriting;
 use std::alloc::AllocError;
 
 /// An lr.w and its sc.w.
@@ -63,13 +64,10 @@ impl Round<'_> {
         {
             return Ok(());
         }
-        let mut used = Relation::new();
-        used.add(store, source);
+        let mut used = Pairs::new(self.alloc);
+        used.add(store, source)?;
         let ending = Ending {
-            inference: Inference::Reversed {
-                load: self.field.name(load),
-                store: self.field.name(store),
-            },
+            clash: Clash::Reversed { load, store },
             used,
         };
         if looked.is_before(store, source) {
@@ -81,21 +79,15 @@ impl Round<'_> {
     }
 
     /// The other store would be between the two.
-    fn parted(self, region: &Region, pair: Pair, other: u8) -> Ending {
+    fn parted(self, region: &Region, pair: Pair, other: u8) -> Result<Ending, AllocError> {
         let Pair { load, store } = pair;
-        let mut used = Relation::new();
-        used.add(other, store);
-        if let Origin::From(source) = region.origin(load) {
-            used.add(source, other);
-        }
-        Ending {
-            inference: Inference::Parted {
-                load: self.field.name(load),
-                store: self.field.name(store),
-                other: self.field.name(other),
-            },
+        let mut used = Pairs::new(self.alloc);
+        used.add(other, store)?;
+        add_overwriting(&mut used, region, load, other)?;
+        Ok(Ending {
+            clash: Clash::Parted { load, store, other },
             used,
-        }
+        })
     }
 
     /// No store of another hart is between the two.
@@ -104,19 +96,19 @@ impl Round<'_> {
         let is_after = has(self.view.facts.overwriting(&looked.region, load), other);
         let is_ahead = looked.is_before(other, store);
         if is_after && is_ahead {
-            let ending = self.parted(&looked.region, pair, other);
+            let ending = self.parted(&looked.region, pair, other)?;
             looked.end(ending);
             return Ok(());
         }
         if is_after && !looked.is_before(store, other) {
-            let ending = self.parted(&looked.region, pair, other);
+            let ending = self.parted(&looked.region, pair, other)?;
             looked.order(store, other, ending)?;
         }
         if let Origin::From(source) = looked.region.origin(load) {
             let is_open = !looked.is_before(other, source)
                 && self.view.facts.do_meet(other, source);
             if is_ahead && is_open {
-                let ending = self.parted(&looked.region, pair, other);
+                let ending = self.parted(&looked.region, pair, other)?;
                 looked.order(other, source, ending)?;
             }
         }

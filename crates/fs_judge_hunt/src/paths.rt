@@ -83,22 +83,34 @@ pub(crate) fn way(
     Ok(Vec::new(alloc))
 }
 
-/// A shortest cycle, from its least name on; none where the closure has none.
+/// How many steps of the cycle the relation has.
+fn count_in(relation: &Relation, cycle: &[u8]) -> usize {
+    let mut count: usize = 0;
+    for (place, name) in cycle.iter().enumerate() {
+        let next = cycle.get(place.saturating_add(1)).or(cycle.first());
+        if next.is_some_and(|next| relation.has(*name, *next)) {
+            count = count.saturating_add(1);
+        }
+    }
+    count
+}
+
+/// A shortest cycle, with few steps that the dear relation has; none where the closure has none.
 pub(crate) fn cycle(
     alloc: Global,
     relation: &Relation,
     closure: &Relation,
+    dear: &Relation,
     count: u8,
 ) -> Result<Option<Vec<u8>>, AllocError> {
     let mut best: Option<Vec<u8>> = None;
+    let mut least = (usize::MAX, usize::MAX);
     for name in 0..count {
         if closure.has(name, name) {
             let found = way(alloc, relation, name, name, count)?;
-            let is_better = match &best {
-                Some(known) => found.len() < known.len(),
-                None => true,
-            };
-            if is_better && !found.is_empty() {
+            let cost = (found.len(), count_in(dear, &found));
+            if !found.is_empty() && cost < least {
+                least = cost;
                 best = Some(found);
             }
         }

@@ -3,6 +3,7 @@
 use crate::condition::{Node, Wanted};
 use crate::hart::Hart;
 use crate::names::{MOST_NAMES, Origin, Relation};
+use crate::needs::Fences;
 use crate::rows::{Row, are_same, both, is_empty};
 use crate::rules::Rule;
 use crate::sum::{Left, left_with};
@@ -16,6 +17,8 @@ pub(crate) struct Field<'a> {
     pub(crate) harts: &'a [Hart],
     /// Rule 4 in each hart, with the placement.
     pub(crate) fenced: &'a [Vec<Rule>],
+    /// What is placed.
+    pub(crate) fences: Fences<'a>,
     pub(crate) nodes: &'a [Node],
     /// For each of the nodes that is an atom on a register, the runs of its hart with which it is true.
     pub(crate) atoms: &'a [Row],
@@ -73,7 +76,7 @@ impl<'a> Field<'a> {
         let Some(found) = self.harts.get(usize::from(hart)) else {
             return Ok(None);
         };
-        let left = left_with(alloc, found, self.fenced_in(hart), row)?;
+        let left = left_with(alloc, found, row)?;
         Ok(Some(Arc::new(alloc, left)?))
     }
 

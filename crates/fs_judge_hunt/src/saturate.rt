@@ -1,32 +1,18 @@
 //! What follows in a region by itself: which stores come before others, until it ends or nothing more follows.
 
+use crate::clash::{Clash, Ending, Step};
 use crate::endings::Outlook;
 use crate::facts::Facts;
-use crate::links::{Edge, inference_of};
-use crate::names::{MOST_NAMES, Relation, bit, has};
+use crate::links::Edge;
+use crate::names::{MOST_NAMES, Pairs, Relation, bit, has};
 use crate::paths::{cycle, way};
 use crate::region::{Field, Region};
 use crate::uses::of_filter;
-use fs_cert_evidence::{Cause, Inference};
+use fs_cert_evidence::Cause;
 use std::alloc::{AllocError, Global};
 
 /// More rounds than there are pairs of names.
 const MOST_ROUNDS: usize = MOST_NAMES * MOST_NAMES + 1;
-
-/// An inference that ends a region, and the pairs of stores that it rests on.
-#[derive(Drop)]
-pub(crate) struct Ending {
-    pub(crate) inference: Inference,
-    pub(crate) used: Relation,
-}
-
-/// The first store must come before the second: in the other order the inference would end the region.
-#[derive(Drop)]
-pub(crate) struct Step {
-    pub(crate) first: u8,
-    pub(crate) second: u8,
-    pub(crate) ending: Ending,
-}
 
 /// A region in which everything was drawn that follows; at the end what ends it, if something does.
 #[derive(Drop)]
@@ -41,6 +27,8 @@ pub(crate) struct Looked {
 pub(crate) struct View {
     pub(crate) facts: Facts,
     edges: Relation,
+    /// Those of the edges for which a fence is needed.
+    fenced: Relation,
     pub(crate) closure: Relation,
 }
 
@@ -60,10 +48,14 @@ pub(crate) fn saturate(
     let mut view = View {
         facts,
         edges: Relation::new(),
+        fenced: Relation::new(),
         closure: Relation::new(),
     };
     for _ in 0..MOST_ROUNDS {
-        view.edges = view.facts.all_edges(&looked.region, field.count);
+        view.edges = view.facts.plain_edges(&looked.region, field.count);
+        view.fenced = view.facts.fenced;
+        view.fenced.leave_out(&view.edges);
+        view.edges.join(&view.fenced);
         view.closure = view.edges.closure(field.count);
         let round = Round {
             alloc,
@@ -80,7 +72,7 @@ pub(crate) fn saturate(
 /// One round.
 #[derive(Clone, Copy)]
 pub(crate) struct Round<'a> {
-    alloc: Global,
+    pub(crate) alloc: Global,
     pub(crate) field: Field<'a>,
     pub(crate) view: &'a View,
 }
@@ -138,6 +130,7 @@ impl Round<'_> {
             self.alloc,
             &self.view.edges,
             &self.view.closure,
+            &self.view.fenced,
             self.field.count,
         )?;
         if let Some(names) = found {
@@ -155,19 +148,19 @@ impl Round<'_> {
         closing: Option<Cause>,
     ) -> Result<Ending, AllocError> {
         let mut edges = Vec::new(self.alloc);
-        let mut used = Relation::new();
+        let mut used = Pairs::new(self.alloc);
         for (place, name) in names.iter().enumerate() {
             let is_last = place.saturating_add(1) == names.len();
             let next = names.get(place.saturating_add(1)).or(names.first());
             let next = next.copied().unwrap_or(0);
             let edge = match closing {
                 Some(cause) if is_last => Edge { name: *name, cause },
-                _ => Edge::found(self.field, region, &self.view.facts, &mut used, *name, next),
+                _ => Edge::found(self.field, region, &self.view.facts, &mut used, *name, next)?,
             };
             edges.push(edge)?;
         }
         Ok(Ending {
-            inference: inference_of(self.alloc, self.field, &edges)?,
+            clash: Clash::Cycle(edges),
             used,
         })
     }
@@ -180,9 +173,10 @@ impl Round<'_> {
             facts: &self.view.facts,
         };
         if !outlook.may_show(self.alloc)? {
-            let used = of_filter(&outlook, known);
+            let mut used = Pairs::new(self.alloc);
+            used.add_all(&of_filter(&outlook, known))?;
             looked.end(Ending {
-                inference: Inference::Filter(0),
+                clash: Clash::Outcome,
                 used,
             });
         }

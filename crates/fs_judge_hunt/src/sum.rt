@@ -27,7 +27,7 @@ pub(crate) struct Sum {
     /// The location that each run loads from at the name.
     pub(crate) load_at: [u8; MOST_NAMES],
     pub(crate) store_at: [u8; MOST_NAMES],
-    /// What one rule orders in each run, whatever loads return from.
+    /// What one rule but 4 orders in each run, whatever loads return from.
     pub(crate) ordered: Relation,
     /// What rule 2 orders, where the two return from different stores.
     pub(crate) same: Relation,
@@ -138,13 +138,8 @@ impl Sum {
     }
 }
 
-/// These runs of the hart, with what they have in common; of rule 4 there are the rows.
-pub(crate) fn left_with(
-    alloc: Global,
-    hart: &Hart,
-    fenced: &[Rule],
-    row: Row,
-) -> Result<Left, AllocError> {
+/// These runs of the hart, with what they have in common but for rule 4.
+pub(crate) fn left_with(alloc: Global, hart: &Hart, row: Row) -> Result<Left, AllocError> {
     let mut sum = blank(alloc);
     let mut name = hart.first();
     for doing in &hart.doings {
@@ -153,7 +148,6 @@ pub(crate) fn left_with(
         name = name.saturating_add(1);
     }
     sum.add_rules(&hart.rules, &row);
-    sum.add_rules(fenced, &row);
     sum.add_through(hart, &row)?;
     Ok(Left { row, sum })
 }

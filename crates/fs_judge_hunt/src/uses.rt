@@ -3,23 +3,36 @@
 use crate::condition::{Part, Wanted, within};
 use crate::endings::Outlook;
 use crate::facts::Facts;
-use crate::names::{Origin, Relation, bit, has};
+use crate::names::{Origin, Pairs, Relation, bit, has};
 use crate::region::Region;
 use fs_cert_evidence::Cause;
+use std::alloc::AllocError;
 
 /// Adds that the store is later than what the load returns from.
-pub(crate) fn add_overwriting(used: &mut Relation, region: &Region, load: u8, store: u8) {
-    if let Origin::From(source) = region.origin(load) {
-        used.add(source, store);
+pub(crate) fn add_overwriting(
+    used: &mut Pairs,
+    region: &Region,
+    load: u8,
+    store: u8,
+) -> Result<(), AllocError> {
+    match region.origin(load) {
+        Origin::From(source) => used.add(source, store),
+        _ => Ok(()),
     }
 }
 
 /// Adds what a link of a cycle rests on.
-pub(crate) fn add_link(used: &mut Relation, region: &Region, cause: Cause, first: u8, second: u8) {
+pub(crate) fn add_link(
+    used: &mut Pairs,
+    region: &Region,
+    cause: Cause,
+    first: u8,
+    second: u8,
+) -> Result<(), AllocError> {
     match cause {
         Cause::Coherence => used.add(first, second),
         Cause::FromReads => add_overwriting(used, region, first, second),
-        _ => {}
+        _ => Ok(()),
     }
 }
 

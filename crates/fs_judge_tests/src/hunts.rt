@@ -6,7 +6,7 @@ ghost use Rattle.fs_model.specs.Test.{IsBounded, IsStart};
 use crate::texts::{ADDERS, ALWAYS, CASES, LAST, LOCK, LOCK3, PAIRS, SEEN, SOURCES, THREE, UNTOLD};
 use fs_cert_evidence::{Names, WitnessFile};
 use fs_check::shown_by;
-use fs_judge_hunt::{Execution, Found};
+use fs_judge_hunt::{Execution, Found, Kept};
 use fs_judge_runs::hunter_of;
 use fs_kinds::{Fault, Placement};
 use fs_litmus::{Test, read_test};
@@ -110,7 +110,7 @@ fn hunted(alloc: Global, text: &str, fences: &str, way: Way) -> Result<String, F
     let found = if way.is_first {
         hunter.first(alloc, &placement, way.most)?
     } else {
-        hunter.hunt(alloc, &placement, way.most)?
+        hunter.hunt(alloc, &mut Kept::new(), &placement, way.most)?
     };
     told(alloc, &basis, &test, &placement, found, way)
 }
@@ -245,7 +245,7 @@ fn refuted_by(alloc: Global, text: &str, fences: &str, most: usize) -> Result<us
     let placement = placement_of(alloc, &test, fences)?;
     let basis = Basis::new(alloc, &test)?;
     let hunter = hunter_of(alloc, &test, basis.names(), basis.runs())?;
-    match hunter.hunt(alloc, &placement, most)? {
+    match hunter.hunt(alloc, &mut Kept::new(), &placement, most)? {
         Found::Refuted(tree) => Ok(tree.len()),
         _ => Ok(0),
     }

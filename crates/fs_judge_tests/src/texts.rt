@@ -157,3 +157,20 @@ pub(crate) const ADDERS: &str = "RISCV ADDERS
  sc.w x9,x5,(x6) | sc.w x9,x5,(x6) | sc.w x9,x5,(x6) | sc.w x9,x5,(x6) | sc.w x9,x5,(x6) ;
 exists (x=4 /\\ 0:x9=0 /\\ 1:x9=0 /\\ 2:x9=0 /\\ 3:x9=0 /\\ 4:x9=0)
 ";
+
+/// Four harts count themselves and then look at a word, which a fifth one clears before it reads the count. The outcome
+/// is that the four find the word as it was, and the fifth one misses one of them.
+pub(crate) const WAITERS: &str = "RISCV WAITERS
+{
+0:x5=1; 0:x6=count; 0:x8=word;
+1:x5=1; 1:x6=count; 1:x8=word;
+2:x5=1; 2:x6=count; 2:x8=word;
+3:x5=1; 3:x6=count; 3:x8=word;
+4:x6=word; 4:x8=count;
+word=1;
+}
+ P0                  | P1                  | P2                  | P3                  | P4          ;
+ amoadd.w x9,x5,(x6) | amoadd.w x9,x5,(x6) | amoadd.w x9,x5,(x6) | amoadd.w x9,x5,(x6) | sw x0,0(x6) ;
+ lw x7,0(x8)         | lw x7,0(x8)         | lw x7,0(x8)         | lw x7,0(x8)         | lw x7,0(x8) ;
+exists (0:x7=1 /\\ 1:x7=1 /\\ 2:x7=1 /\\ 3:x7=1 /\\ ~(4:x7=4))
+";

@@ -1,5 +1,6 @@
-//! A program that makes the calls which may want memory, and makes each again where memory was refused. What it prints
-//! is the same whichever request for memory is refused, but for two lines that say so.
+//! A program that makes calls which may want memory, of values that change by them, and makes each again where memory
+//! was refused. What it prints is the same whichever request for memory is refused, but for two lines that say so.
+//! Other calls are made by the commands, each of whose requests `scripts/check refused-memory` refuses too.
 #![tactic(auto)]
 
 /// The answer of the call; where that is want of memory, this is said, and the call is made again.
@@ -16,11 +17,9 @@ macro_rules! twice {
 }
 
 mod boards;
-mod certificates;
 mod desks;
 mod printing;
 mod questions;
-mod readings;
 mod rings;
 mod verdicts;
 
@@ -31,24 +30,15 @@ use std::sync::Wait;
 use std::{env, io};
 
 /// The parts, each by its name.
-const PARTS: [&str; 6] = [
-    "readings",
-    "verdicts",
-    "boards",
-    "desks",
-    "rings",
-    "certificates",
-];
+const PARTS: [&str; 4] = ["verdicts", "boards", "desks", "rings"];
 
 /// Makes the calls of this part. `ReadFault` where there is no such part.
 fn make_part<R: Print + Wait + AllocGlobal>(rt: &R, name: &str) -> Result<(), Fault> {
     match name {
-        "readings" => readings::make(rt),
         "verdicts" => verdicts::make(rt),
         "boards" => boards::make(rt),
         "desks" => desks::make(rt),
         "rings" => rings::make(rt),
-        "certificates" => certificates::make(rt),
         _ => Err(Fault::ReadFault),
     }
 }

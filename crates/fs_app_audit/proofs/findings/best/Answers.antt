@@ -1,6 +1,6 @@
 use Rattle.std.proofs.Common.{◌∙◌, ap, inl, sym, subst}
 use Rattle.std.specs.Prelude.{All}
-use Rattle.std.specs.Arc.{arc_value}
+use Rattle.fs_kinds.specs.PriceTable.{IsPriceTable}
 use Rattle.fs_model.specs.declared.test.Test.{Test}
 use Rattle.fs_model.specs.Test.{IsBounded, IsStart}
 use Rattle.fs_cert_evidence.specs.CandidateFaults.{IsCandidateFault}
@@ -14,6 +14,9 @@ use Rattle.fs_app_audit.proofs.findings.best.Goals as goal
 
 pub offered_question-requires-clause-bounded : goal.offered_question-requires-clause-bounded
 offered_question-requires-clause-bounded c = subst (λ (q : Priced). IsBounded q.test) (sym c.deref.ensures) c.requires.bounded
+
+pub offered_question-requires-clause-table : goal.offered_question-requires-clause-table
+offered_question-requires-clause-table c = subst (λ (q : Question). IsPriceTable q.prices) (sym c.deref.ensures) c.requires.prices
 
 pub returns-in_err-asked-clause-err : goal.returns-in_err-asked-clause-err
 returns-in_err-asked-clause-err c =

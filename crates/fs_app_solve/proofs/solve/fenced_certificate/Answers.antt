@@ -1,5 +1,4 @@
 use Rattle.std.proofs.Common.{subst, sym, ◌∙◌}
-use Rattle.fs_model.specs.Test.{IsBounded}
 use Rattle.fs_cert_evidence.specs.Evidence.{ShowsForbidden}
 use Rattle.fs_app_solve.proofs.Founding.{board-there, least-there}
 use Rattle.fs_app_solve.proofs.solve.fenced_certificate.Goals as goal

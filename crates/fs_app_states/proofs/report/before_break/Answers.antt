@@ -1,5 +1,5 @@
 use Rattle.std.proofs.Common.{arith, rules}
-use Rattle.fs_app_states.proofs.Breaks.{rsplit_once_char}
+use Rattle.fs_app_io.proofs.Breaks.{rsplit_once_char}
 use Rattle.fs_app_states.proofs.report.before_break.Goals as goal
 
 pub returns-in-Some : goal.returns-in-Some

@@ -1,5 +1,4 @@
 use Rattle.std.proofs.Common.{◌≡◌, map, length, sym, ap, subst, ◌∙◌}
-use Rattle.fs_board_offers.specs.Offers.{are_offered}
 use Rattle.fs_cert_evidence.specs.Evidence.{witness_in}
 use Rattle.fs_board_offers.specs.Questions.{Question}
 use Rattle.fs_board_offers.proofs.Closed.{history-right}

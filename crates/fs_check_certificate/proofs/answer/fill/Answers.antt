@@ -1,7 +1,6 @@
-use Rattle.std.proofs.Common.{◌≡◌, true, false, Some, map, string_bytes, sym, ◌∙◌, subst, arith}
+use Rattle.std.proofs.Common.{◌≡◌, true, false, map, string_bytes, sym, ◌∙◌, subst, arith}
 use Rattle.std.proofs.lemmas.Bool.{false≢true}
 use Rattle.std.proofs.lemmas.List.{drop_more, length-map}
-use Rattle.fs_board_offers.specs.Offers.{is_offered, offer_at}
 use Rattle.fs_check_certificate.proofs.Filled.{Going, begin, put, refuse, skip, has_it, whole, left}
 use Rattle.fs_check_certificate.proofs.answer.fill.Goals.{in-Some+else-not-is_offered+in-Ok, in_default}
 use Rattle.fs_check_certificate.proofs.answer.fill.Goals as goal
@@ -17,9 +16,8 @@ returns-then-not-is_offered c =
     let all = c.args.slots.now in
     let words = map string_bytes c.args.words.now in
     let refused : c.is_offered.result ≡ false = grind (arith, c.if-not-is_offered.true) in
-    let missing : is_offered (offer_at offers _) (Some c.in-Some.kind) ≡ false = sym c.is_offered.ensures ∙ refused in
     refuse offers all words c.requires.rising c.requires.small c.loop-slot.slot-index c.loop-slot.used _ c.loop-slot.placement c.loop-slot.invariant
-    (drop_more all c.loop-slot.slot-index _ c.loop-slot-test.true) c.in-Some.kind c.in-Some.ensures.named missing
+    (drop_more all c.loop-slot.slot-index _ c.loop-slot-test.true) c.in-Some.kind c.in-Some.ensures.named (sym c.is_offered.ensures ∙ refused)
 
 pub returns-then-used-words : goal.returns-then-used-words
 returns-then-used-words c =
@@ -50,9 +48,8 @@ loop-slot-preserved c =
     elim c.match-kind_at.branch [
       | in-Some+else-not-is_offered+in-Ok w ↦
           let is : w.is_offered.result ≡ true = grind (arith, w.if-not-is_offered.false) in
-          let offered : is_offered (offer_at offers _) (Some w.in-Some.kind) ≡ true = sym w.is_offered.ensures ∙ is in
           rw (w.placement-is, w.used-is, w.in-Ok.ensures.changed)
-          (put offers all words c.requires.rising c.requires.small i c.loop-slot.used _ c.loop-slot.placement c.loop-slot.invariant at w.in-Some.kind w.in-Some.ensures.named offered)
+          (put offers all words c.requires.rising c.requires.small i c.loop-slot.used _ c.loop-slot.placement c.loop-slot.invariant at w.in-Some.kind w.in-Some.ensures.named (sym w.is_offered.ensures ∙ is))
       | in_default w ↦ rw (w.placement-is, w.used-is)
           (skip offers all words c.requires.rising c.requires.small i c.loop-slot.used _ c.loop-slot.placement c.loop-slot.invariant at w.in_default.ensures.none)
     ]

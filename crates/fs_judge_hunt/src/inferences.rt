@@ -1,0 +1,196 @@
+//! The inferences of a tree.
+
+use crate::clash::Step;
+use crate::names::Relation;
+use crate::needs::SlotPairs;
+use crate::region::Field;
+use crate::splits::Decision;
+use crate::tree::{Branching, Leaf, Tree};
+use fs_cert_evidence::Inference;
+use std::alloc::{AllocError, Global};
+
+/// A node whose parts are written.
+#[derive(Drop)]
+struct Frame {
+    node: usize,
+    /// How many of its parts are still to be written, the last one first.
+    left: usize,
+    /// How many inferences were written before.
+    start: usize,
+    /// The pairs of stores that are known above it, and in it.
+    above: Relation,
+    known: Relation,
+    /// The pairs on which rests what was written below it.
+    used: Relation,
+}
+
+/// What writes a tree. The inferences stand in reverse, since what a region rests on is known when its parts are
+/// written.
+#[derive(Drop)]
+struct Writer<'a> {
+    alloc: Global,
+    field: Field<'a>,
+    tree: &'a Tree,
+    placed: SlotPairs,
+    stack: Vec<Frame>,
+    written: Vec<Inference>,
+}
+
+impl Writer<'_> {
+    /// Writes the step of a region, if it is used and wasn't known before. Where the other order was known, what ends
+    /// that ends the region, in the place of all that was written of it: this rests on that order.
+    fn write_step(
+        &mut self,
+        step: &Step,
+        start: usize,
+        before: &Relation,
+        used: &mut Relation,
+    ) -> Result<(), AllocError> {
+        let (first, second) = (step.first, step.second);
+        if !used.has(first, second) || before.has(first, second) {
+            return Ok(());
+        }
+        let inference = step.ending.clash.inference(self.alloc, self.field)?;
+        if before.has(second, first) {
+            *used = step.ending.used.relation();
+            used.add(second, first);
+            self.written.truncate(start);
+            self.written.push(inference)?;
+            return Ok(());
+        }
+        used.remove(first, second);
+        used.join(&step.used());
+        self.written.push(inference)?;
+        let opposite = Decision::Order(second, first);
+        self.written.push(opposite.inference(self.field))?;
+        Ok(())
+    }
+
+    /// The region above rests on these too.
+    fn hand_up(&mut self, used: &Relation) {
+        if let Some(frame) = self.stack.last_mut() {
+            frame.used.join(used);
+        }
+    }
+
+    /// Writes a region that has ended.
+    fn write_leaf(&mut self, leaf: &Leaf, before: &Relation) -> Result<(), AllocError> {
+        let start = self.written.len();
+        let inference = leaf.dead.ending.clash.inference(self.alloc, self.field)?;
+        self.written.push(inference)?;
+        let mut used = leaf.dead.ending.used.relation();
+        for step in leaf.dead.steps.iter().rev() {
+            self.write_step(step, start, before, &mut used)?;
+        }
+        self.hand_up(&used);
+        Ok(())
+    }
+
+    /// Begins with the node, above which these pairs are known.
+    fn enter(&mut self, number: usize, above: Relation) -> Result<(), AllocError> {
+        let tree = self.tree;
+        let Some(node) = tree.node(number) else {
+            return Ok(());
+        };
+        if let Some(leaf) = node.leaf(&self.placed) {
+            return self.write_leaf(leaf, &above);
+        }
+        if let Some(branching) = tree.branching(number) {
+            let mut known = above;
+            branching.add_held(&mut known, &self.placed);
+            self.stack.push(Frame {
+                node: number,
+                left: branching.count,
+                start: self.written.len(),
+                above,
+                known,
+                used: branching.used,
+            })?;
+        }
+        Ok(())
+    }
+
+    /// Writes how the region is split, unless its order was known, and what followed in it, as far as it holds.
+    fn write_split(
+        &mut self,
+        branching: &Branching,
+        frame: &Frame,
+        used: &mut Relation,
+    ) -> Result<(), AllocError> {
+        if branching.known_part(&frame.known).is_none() {
+            branching.drop_decided(used);
+            self.written.push(branching.decision.inference(self.field))?;
+        }
+        for held in branching.held.iter().rev() {
+            if held.need.is_met(&self.placed) {
+                self.write_step(&held.step, frame.start, &frame.above, used)?;
+            }
+        }
+        Ok(())
+    }
+
+    /// Writes a region whose parts have been written.
+    fn leave(&mut self, frame: Frame) -> Result<(), AllocError> {
+        let mut used = frame.used;
+        let tree = self.tree;
+        if let Some(branching) = tree.branching(frame.node) {
+            self.write_split(branching, &frame, &mut used)?;
+        }
+        self.hand_up(&used);
+        Ok(())
+    }
+
+    /// Goes on with the next part of the last node, or ends that node.
+    fn advance(&mut self) -> Result<(), AllocError> {
+        let tree = self.tree;
+        let Some(frame) = self.stack.last_mut() else {
+            return Ok(());
+        };
+        if frame.left > 0 {
+            frame.left = frame.left.saturating_sub(1);
+            let part = frame.left;
+            let mut known = frame.known;
+            if let Some(branching) = tree.branching(frame.node) {
+                if branching.known_part(&known).is_some_and(|one| one != part) {
+                    return Ok(());
+                }
+                branching.add_decided(&mut known, part);
+                let number = branching.first.saturating_add(part);
+                return self.enter(number, known);
+            }
+        }
+        if let Some(frame) = self.stack.pop() {
+            self.leave(frame)?;
+        }
+        Ok(())
+    }
+}
+
+/// The inferences by which the tree refutes its root with the fences of the field, the first one first; nothing where
+/// there are more than so many.
+pub(crate) fn refutation(
+    alloc: Global,
+    field: Field<'_>,
+    tree: &Tree,
+    most: usize,
+) -> Result<Option<Vec<Inference>>, AllocError> {
+    let mut writer = Writer {
+        alloc,
+        field,
+        tree,
+        placed: field.fences.pairs,
+        stack: Vec::new(alloc),
+        written: Vec::new(alloc),
+    };
+    writer.enter(0, tree.start)?;
+    for _ in 0..most.saturating_mul(4).saturating_add(8) {
+        if writer.stack.is_empty() || writer.written.len() > most {
+            break;
+        }
+        writer.advance()?;
+    }
+    let is_whole = writer.stack.is_empty() && writer.written.len() <= most;
+    let mut written = writer.written;
+    written.reverse();
+    Ok(if is_whole { Some(written) } else { None })
+}

@@ -1,0 +1,102 @@
+//! Cycles that have ended regions, under whatever fences. Where one lacks only a load's source, a split by that source
+//! is likely to end a region.
+
+use crate::facts::Facts;
+use crate::links::Edge;
+use crate::names::{MOST_NAMES, Origin, has};
+use crate::region::Region;
+use fs_cert_evidence::Cause;
+use std::alloc::{AllocError, Global};
+
+/// As many cycles are kept.
+const MOST_CYCLES: usize = 256;
+
+/// The cycles, each once.
+#[derive(Drop)]
+pub(crate) struct Learned {
+    cycles: Vec<Vec<Edge>>,
+}
+
+/// What a link lacks in a region.
+#[derive(Clone, Copy, PartialEq, Eq)]
+enum Lack {
+    Nothing,
+    /// What the load returns from.
+    Source(u8),
+    /// Something else.
+    Other,
+}
+
+/// What the edge to the next name lacks.
+fn lack_of(region: &Region, facts: &Facts, edge: &Edge, next: u8) -> Lack {
+    let (holds, load) = match edge.cause {
+        Cause::Coherence => (region.before.has(edge.name, next), None),
+        Cause::FromReads => (
+            has(facts.overwriting(region, edge.name), next),
+            Some(edge.name),
+        ),
+        Cause::ReadsFrom => (facts.edges.has(edge.name, next), Some(next)),
+        _ => (
+            facts.edges.has(edge.name, next) || facts.fenced.has(edge.name, next),
+            None,
+        ),
+    };
+    match load {
+        _ if holds => Lack::Nothing,
+        Some(load) if region.origin(load) == Origin::Unknown => Lack::Source(load),
+        _ => Lack::Other,
+    }
+}
+
+/// The load whose source is all that the cycle lacks.
+fn lacking(region: &Region, facts: &Facts, edges: &[Edge]) -> Option<u8> {
+    let mut found = None;
+    for (place, edge) in edges.iter().enumerate() {
+        let next = edges.get(place.saturating_add(1)).or(edges.first());
+        let next = next.map_or(edge.name, |next| next.name);
+        match lack_of(region, facts, edge, next) {
+            Lack::Nothing => {}
+            Lack::Source(load) if found.is_none() || found == Some(load) => found = Some(load),
+            _ => return None,
+        }
+    }
+    found
+}
+
+impl Learned {
+    /// None.
+    pub(crate) fn new(alloc: Global) -> Learned {
+        Learned {
+            cycles: Vec::new(alloc),
+        }
+    }
+
+    /// Keeps the cycle, if it is new and there is room.
+    pub(crate) fn add(&mut self, alloc: Global, edges: &[Edge]) -> Result<(), AllocError> {
+        let is_known = self.cycles.iter().any(|known| are_same(known, edges));
+        if !is_known && self.cycles.len() < MOST_CYCLES {
+            let mut cycle = Vec::new(alloc);
+            cycle.extend_from_slice(edges)?;
+            self.cycles.push(cycle)?;
+        }
+        Ok(())
+    }
+
+    /// For each name how many cycles lack only its source.
+    pub(crate) fn votes(&self, region: &Region, facts: &Facts) -> [usize; MOST_NAMES] {
+        let mut votes = [0usize; MOST_NAMES];
+        for cycle in &self.cycles {
+            if let Some(load) = lacking(region, facts, cycle) {
+                if let Some(count) = votes.get_mut(usize::from(load)) {
+                    *count = count.saturating_add(1);
+                }
+            }
+        }
+        votes
+    }
+}
+
+/// Are the two one cycle, from the same name on?
+fn are_same(known: &[Edge], edges: &[Edge]) -> bool {
+    known.len() == edges.len() && known.iter().zip(edges).all(|(one, other)| *one == *other)
+}

@@ -1,0 +1,178 @@
+//! What looks at splits have shown on the way to a region: which of their regions end, and how many are open. Each
+//! region below is part of these, and what ends a region ends each part of it.
+
+use crate::clash::{Ending, Step};
+use crate::names::{MOST_NAMES, Origin, Relation};
+use crate::region::Region;
+use crate::rows::is_within;
+use crate::splits::{Decision, Splitter};
+use std::alloc::{AllocError, Global};
+use std::sync::Arc;
+
+/// What followed in a region that has ended, and what ends it.
+#[derive(Drop)]
+pub(crate) struct Dead {
+    pub(crate) steps: Vec<Step>,
+    pub(crate) ending: Ending,
+}
+
+/// One of the regions of a split, the same in each region that is split so.
+#[derive(Clone, Copy, PartialEq, Eq)]
+pub(crate) enum Branch {
+    /// The load returns from this; if nothing is known, it isn't executed.
+    Source(u8, Origin),
+    /// The runs with the choice of this place at the name.
+    Choice(u8, usize),
+}
+
+/// A region of a split that has ended.
+#[derive(Drop)]
+struct Ended {
+    branch: Branch,
+    dead: Arc<Dead>,
+}
+
+/// What looks at splits have shown.
+#[derive(Drop)]
+pub(crate) struct Trail {
+    /// How many looks were made in all.
+    pub(crate) looks: usize,
+    ended: Vec<Ended>,
+    /// For each name how many regions the split by it left open, when it was last tried.
+    open: [usize; MOST_NAMES],
+}
+
+/// What a trail was.
+#[derive(Clone, Copy)]
+pub(crate) struct Mark {
+    ended: usize,
+    open: [usize; MOST_NAMES],
+}
+
+/// The steps on which the pairs rest, in their order.
+fn used_among(
+    alloc: Global,
+    mut steps: Vec<Step>,
+    mut used: Relation,
+) -> Result<Vec<Step>, AllocError> {
+    let mut kept = Vec::new(alloc);
+    for _ in 0..steps.len() {
+        let Some(step) = steps.pop() else {
+            break;
+        };
+        if used.has(step.first, step.second) {
+            used.join(&step.used());
+            kept.push(step)?;
+        }
+    }
+    kept.reverse();
+    Ok(kept)
+}
+
+impl Dead {
+    /// What ends a region in which this followed: of the steps those that it rests on.
+    pub(crate) fn new(alloc: Global, steps: Vec<Step>, ending: Ending) -> Result<Dead, AllocError> {
+        let steps = used_among(alloc, steps, ending.used.relation())?;
+        Ok(Dead { steps, ending })
+    }
+
+    /// Can it be written in a region with these pairs? What followed in the one that ended isn't the other way round.
+    fn fits(&self, before: &Relation) -> bool {
+        self.steps
+            .iter()
+            .all(|step| !before.has(step.second, step.first))
+    }
+}
+
+impl Decision {
+    /// The name by which loads and sc.w are split.
+    fn name(self) -> Option<u8> {
+        match self {
+            Decision::Source(load) => Some(load),
+            Decision::Choice(name) => Some(name),
+            _ => None,
+        }
+    }
+}
+
+impl Splitter<'_> {
+    /// Which one of the decision's regions this is, where the decision may be tried again below.
+    pub(crate) fn branch(self, decision: Decision, region: &Region) -> Option<Branch> {
+        match decision {
+            Decision::Source(load) => Some(Branch::Source(load, region.origin(load))),
+            Decision::Choice(name) => {
+                let doing = self.field.hart_of(name)?.doing(name)?;
+                let row = region.row(self.field.owner(name));
+                let place = doing
+                    .choices
+                    .iter()
+                    .position(|group| is_within(row, &group.row))?;
+                Some(Branch::Choice(name, place))
+            }
+            _ => None,
+        }
+    }
+}
+
+impl Trail {
+    /// That at the root.
+    pub(crate) fn new(alloc: Global) -> Trail {
+        Trail {
+            looks: 0,
+            ended: Vec::new(alloc),
+            open: [usize::MAX; MOST_NAMES],
+        }
+    }
+
+    /// How the region of the branch, with these pairs, ends, if a look has shown it.
+    pub(crate) fn dead(&self, branch: Branch, before: &Relation) -> Option<&Arc<Dead>> {
+        let found = self
+            .ended
+            .iter()
+            .find(|ended| ended.branch == branch && ended.dead.fits(before))?;
+        Some(&found.dead)
+    }
+
+    /// The region of the branch ends.
+    pub(crate) fn add(&mut self, branch: Branch, dead: &Arc<Dead>) -> Result<(), AllocError> {
+        self.ended.push(Ended {
+            branch,
+            dead: Arc::try_clone(dead)?,
+        })?;
+        Ok(())
+    }
+
+    /// How many regions the decision left open, when it was last tried; the most, if it wasn't. Filters come first.
+    pub(crate) fn open(&self, decision: Decision) -> usize {
+        match decision.name() {
+            Some(name) => self
+                .open
+                .get(usize::from(name))
+                .copied()
+                .unwrap_or(usize::MAX),
+            None => 0,
+        }
+    }
+
+    /// The decision leaves so many open.
+    pub(crate) fn set_open(&mut self, decision: Decision, open: usize) {
+        if let Some(name) = decision.name() {
+            if let Some(known) = self.open.get_mut(usize::from(name)) {
+                *known = open;
+            }
+        }
+    }
+
+    pub(crate) fn mark(&self) -> Mark {
+        Mark {
+            ended: self.ended.len(),
+            open: self.open,
+        }
+    }
+
+    /// Forgets what was shown since then.
+    pub(crate) fn go_back(&mut self, mark: &Mark) {
+        self.ended.truncate(mark.ended);
+        self.open = mark.open;
+    }
+}

@@ -1,0 +1,205 @@
+//! Regions that were split, kept from one placement of fences to the next. What ended a region ends it under each
+//! placement that has what this needs; a region that was split is split so under each.
+
+use crate::clash::Step;
+use crate::names::Relation;
+use crate::needs::{Need, SlotPairs};
+use crate::region::Region;
+use crate::splits::Decision;
+use crate::trail::Dead;
+use std::alloc::{AllocError, Global};
+use std::sync::Arc;
+
+/// As many endings are kept of a region, each for other placements.
+const MOST_LEAVES: usize = 4;
+
+/// What ends a region, and what that needs of a placement.
+#[derive(Drop)]
+pub(crate) struct Leaf {
+    pub(crate) dead: Arc<Dead>,
+    pub(crate) need: Need,
+}
+
+/// What followed in a region, and what that needs, with all on which it rests.
+#[derive(Drop)]
+pub(crate) struct Held {
+    pub(crate) step: Step,
+    pub(crate) need: Need,
+}
+
+/// Needs none of these a fence?
+pub(crate) fn are_firm(held: &[Held]) -> bool {
+    held.iter().all(|one| one.need.is_nothing())
+}
+
+/// How a region is split.
+#[derive(Drop)]
+pub(crate) struct Branching {
+    pub(crate) decision: Decision,
+    /// What followed in the region when it was split.
+    pub(crate) held: Vec<Held>,
+    /// The pairs of stores that the decision rests on.
+    pub(crate) used: Relation,
+    /// The node of the first of its parts, behind which are those of the others.
+    pub(crate) first: usize,
+    pub(crate) count: usize,
+    /// The part in which something was shown last.
+    pub(crate) shown: usize,
+}
+
+/// What followed in a region in the hunt of this number.
+#[derive(Drop)]
+pub(crate) struct Fresh {
+    pub(crate) hunt: usize,
+    pub(crate) steps: Vec<Step>,
+}
+
+/// A region of the tree.
+#[derive(Drop)]
+pub(crate) struct Node {
+    /// Its runs, sources and conditions; nothing where they are to be made again from the region above. Its pairs of
+    /// stores are those of the hunt that made it.
+    pub(crate) region: Option<Box<Region>>,
+    pub(crate) fresh: Option<Fresh>,
+    /// The newest last.
+    pub(crate) leaves: Vec<Leaf>,
+    pub(crate) branching: Option<Box<Branching>>,
+}
+
+impl Node {
+    /// A region that nothing is known of.
+    pub(crate) fn new(alloc: Global) -> Node {
+        Node {
+            region: None,
+            fresh: None,
+            leaves: Vec::new(alloc),
+            branching: None,
+        }
+    }
+
+    /// What ends it with these pairs placed.
+    pub(crate) fn leaf(&self, placed: &SlotPairs) -> Option<&Leaf> {
+        self.leaves
+            .iter()
+            .rev()
+            .find(|leaf| leaf.need.is_met(placed))
+    }
+
+    /// Keeps what ends it.
+    pub(crate) fn add_leaf(&mut self, leaf: Leaf) -> Result<(), AllocError> {
+        if self.leaves.len() >= MOST_LEAVES {
+            self.leaves.reverse();
+            self.leaves.pop();
+            self.leaves.reverse();
+        }
+        self.leaves.push(leaf)?;
+        Ok(())
+    }
+}
+
+impl Branching {
+    /// Adds the pairs that followed, as far as they hold with these pairs placed.
+    pub(crate) fn add_held(&self, known: &mut Relation, placed: &SlotPairs) {
+        for held in &self.held {
+            if held.need.is_met(placed) {
+                known.add(held.step.first, held.step.second);
+            }
+        }
+    }
+
+    /// Adds the pair that is decided in the part of this number.
+    pub(crate) fn add_decided(&self, known: &mut Relation, part: usize) {
+        if let Decision::Order(first, second) = self.decision {
+            if part == 0 {
+                known.add(first, second);
+            } else {
+                known.add(second, first);
+            }
+        }
+    }
+
+    /// Takes out the pairs that are decided in the parts.
+    pub(crate) fn drop_decided(&self, used: &mut Relation) {
+        if let Decision::Order(first, second) = self.decision {
+            used.remove(first, second);
+            used.remove(second, first);
+        }
+    }
+
+    /// The part that agrees with the known pairs, where they have an order that is decided here: with other fences it
+    /// may follow above.
+    pub(crate) fn known_part(&self, known: &Relation) -> Option<usize> {
+        match self.decision {
+            Decision::Order(first, second) if known.has(first, second) => Some(0),
+            Decision::Order(first, second) if known.has(second, first) => Some(1),
+            _ => None,
+        }
+    }
+
+    /// Adds what those of the pairs need that followed here, and takes them out.
+    pub(crate) fn move_needs(
+        &self,
+        need: &mut Need,
+        used: &mut Relation,
+        placed: &SlotPairs,
+    ) -> Result<(), AllocError> {
+        for held in self.held.iter().rev() {
+            let (first, second) = (held.step.first, held.step.second);
+            if used.has(first, second) && held.need.is_met(placed) {
+                need.join(&held.need)?;
+                used.remove(first, second);
+            }
+        }
+        Ok(())
+    }
+
+    /// The part that is looked through after so many others: the one in which something was shown last comes first.
+    pub(crate) fn part(&self, number: usize) -> usize {
+        if number == 0 {
+            self.shown
+        } else if number <= self.shown {
+            number.saturating_sub(1)
+        } else {
+            number
+        }
+    }
+}
+
+/// The nodes: that of the root is the first.
+#[derive(Drop)]
+pub(crate) struct Tree {
+    pub(crate) nodes: Vec<Node>,
+    /// The pairs of stores that are decided at the root.
+    pub(crate) start: Relation,
+}
+
+impl Tree {
+    /// That of a region.
+    pub(crate) fn new(alloc: Global, root: Region) -> Result<Tree, AllocError> {
+        let start = root.before;
+        let mut nodes = Vec::new(alloc);
+        let mut node = Node::new(alloc);
+        node.region = Some(Box::new(alloc, root)?);
+        nodes.push(node)?;
+        Ok(Tree { nodes, start })
+    }
+
+    pub(crate) fn node(&self, number: usize) -> Option<&Node> {
+        self.nodes.get(number)
+    }
+
+    pub(crate) fn branching(&self, number: usize) -> Option<&Branching> {
+        match &self.nodes.get(number)?.branching {
+            Some(branching) => Some(&**branching),
+            None => None,
+        }
+    }
+
+    /// The region of the node, if it is kept.
+    pub(crate) fn region(&self, number: usize) -> Option<&Region> {
+        match &self.nodes.get(number)?.region {
+            Some(region) => Some(&**region),
+            None => None,
+        }
+    }
+}
