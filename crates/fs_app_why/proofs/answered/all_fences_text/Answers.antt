@@ -1,0 +1,23 @@
+use Rattle.std.proofs.lemmas.Result.{IfOk-weaker}
+use Rattle.fs_app_why.proofs.Certified.{fences_weaker, no_witness_shows, say_witnesses}
+use Rattle.fs_app_why.proofs.answered.all_fences_text.Goals as goal
+
+pub fences_text-requires-clause-says : goal.fences_text-requires-clause-says
+fences_text-requires-clause-says c = say_witnesses c.args.witnesses.now c.requires.0 c.requires.1
+
+pub returns : goal.returns
+returns c ws kept =
+    let t = c.in_ok-read.read in
+    IfOk-weaker c.fences_text.result _ _
+    (λ text told. record {
+      the_test = t;
+      lines = c.in_ok-lines.lines.items;
+      placement = c.in_ok-placement.placement;
+      reads = c.in_ok-read.ensures.ok;
+      stand = c.in_ok-lines.ensures.ok;
+      placed = c.in_ok-placement.ensures.ok;
+      told = fences_weaker t c.in_ok-lines.lines.items c.in_ok-placement.placement _ _
+          (λ q none. no_witness_shows t q c.args.witnesses.now ws kept none)
+          c.in_ok-placement.placement _ told;
+    })
+    c.fences_text.ensures
