@@ -1,0 +1,212 @@
+//! An end of a refutation as a chain.
+
+ghost use Rattle.std.specs.Prelude.{◌≡◌, ◌++◌, ◌∷◌, [], drop, map, IfOk, OnOk};
+ghost use Rattle.std.specs.List.{zip};
+ghost use Rattle.fs_region_refutation.specs.Views.{region_of};
+ghost use Rattle.fs_region_ends.specs.Chains.{around, chain_by, chain_of, code_cause, cycle_link, due, link_of};
+ghost use Rattle.fs_region_ends.specs.Chains.{reversed_steps, sole_of};
+ghost use Rattle.fs_region_ends.specs.declared.chain.Arrow.TheVariants.{Because};
+ghost use Rattle.fs_region_ends.specs.declared.chain.Shape.TheVariants as kind;
+
+use crate::chain::{Arrow, Chain, ChainLink, Shape};
+use crate::fences::{Between, Fence, ordering};
+use crate::known::Known;
+use fs_cert_evidence::{Cause, Inference, Link};
+use fs_kinds::{List, OperationName, Placement};
+use fs_region_refutation::{Basis, Region};
+use fs_region_runs::Source;
+use std::alloc::{AllocError, Global};
+
+/// The only one of them.
+fn sole_of(fences: &[Fence]) -> Option<Fence>
+    ensures { result ≡ sole_of fences.now }
+{
+    match fences {
+        [fence] => Some(*fence),
+        _ => None,
+    }
+}
+
+/// The fences to which the arrow is due.
+fn due(
+    alloc: Global,
+    basis: &Basis,
+    placement: &Placement,
+    region: &Region<'_>,
+    arrow: Arrow,
+    names: (OperationName, OperationName),
+) -> Result<Vec<Fence>, AllocError>
+    ensures { IfOk result (λ fences. fences.items
+        ≡ due basis.now placement.now (region_of region.now) arrow names.0 names.1) }
+{
+    let (first, second) = names;
+    match arrow {
+        Arrow::Because(Cause::Rule4) => {
+            let runs = region.runs(first.hart);
+            ordering(alloc, basis.test(), placement, Between { first, second, runs })
+        }
+        _ => Ok(Vec::new(alloc)),
+    }
+}
+
+/// The link from an operation to the next one.
+fn link(
+    alloc: Global,
+    basis: &Basis,
+    placement: &Placement,
+    region: &Region<'_>,
+    arrow: Arrow,
+    names: (OperationName, OperationName),
+) -> Result<ChainLink, AllocError>
+    ensures { IfOk result (λ link.
+        link ≡ link_of basis.now placement.now (region_of region.now) names.0 arrow names.1) }
+{
+    let fences = due(alloc, basis, placement, region, arrow, names)?;
+    Ok(ChainLink {
+        name: names.0,
+        known: Known::of(region, names.0),
+        arrow,
+        fence: fences.first().copied(),
+        sole: sole_of(&fences),
+    })
+}
+
+/// The arrow of the link's cause.
+fn arrow_of(link: &Link) -> Arrow
+    ensures { result ≡ Because (code_cause link.now.cause) }
+{
+    Arrow::Because(link.cause)
+}
+
+/// Appends the link of a cycle to the next one.
+fn push_link(
+    alloc: Global,
+    basis: &Basis,
+    placement: &Placement,
+    region: &Region<'_>,
+    links: (&Link, &Link),
+    made: &mut Vec<ChainLink>,
+) -> Result<(), AllocError>
+    ensures { OnOk result (made.new.items ≡ made.old.items
+        ++ cycle_link basis.now placement.now (region_of region.now) (links.0.now, links.1.now) ∷ []) }
+{
+    let (from, next) = links;
+    let names = (from.operation, next.operation);
+    made.push(link(alloc, basis, placement, region, arrow_of(from), names)?)
+}
+
+/// The links of a cycle, of which this is the first.
+fn cycle_links(
+    alloc: Global,
+    basis: &Basis,
+    placement: &Placement,
+    region: &Region<'_>,
+    links: &[Link],
+    first: &Link,
+) -> Result<List<ChainLink>, AllocError>
+    ensures { IfOk result (λ made. made ≡ map (cycle_link basis.now placement.now (region_of region.now))
+        (zip links.now (drop 1 links.now ++ first.now ∷ []))) }
+{
+    let mut made = Vec::new(alloc);
+    for (number, link) in links.iter().enumerate() {
+        let next = links.get(number + 1).unwrap_or(first);
+        push_link(alloc, basis, placement, region, (link, next), &mut made)?;
+    }
+    Ok(List::new(made))
+}
+
+/// The chain of a cycle.
+fn cycle(
+    alloc: Global,
+    basis: &Basis,
+    placement: &Placement,
+    region: &Region<'_>,
+    links: &[Link],
+) -> Result<Chain, AllocError>
+    ensures { IfOk result (λ chain. chain ≡ record { shape = kind.Cycle;
+        links = map (cycle_link basis.now placement.now (region_of region.now)) (around links.now) }) }
+{
+    let links = match links.first() {
+        Some(first) => cycle_links(alloc, basis, placement, region, links, first)?,
+        None => List::new(Vec::new(alloc)),
+    };
+    Ok(Chain {
+        shape: Shape::Cycle,
+        links,
+    })
+}
+
+/// A chain of these operations, each with what leads to the next one.
+fn chain(
+    alloc: Global,
+    basis: &Basis,
+    placement: &Placement,
+    region: &Region<'_>,
+    shape: Shape,
+    steps: &[(OperationName, Arrow)],
+) -> Result<Chain, AllocError>
+    ensures { IfOk result (λ chain. chain ≡ chain_by basis.now placement.now (region_of region.now) shape steps.now) }
+{
+    let mut made = Vec::new(alloc);
+    for (name, arrow) in steps {
+        made.push(link(alloc, basis, placement, region, *arrow, (*name, *name))?)?;
+    }
+    Ok(Chain {
+        shape,
+        links: List::new(made),
+    })
+}
+
+/// That the store of a pair comes before what the pair's load returns.
+fn reversed_steps(
+    alloc: Global,
+    region: &Region<'_>,
+    load: OperationName,
+    store: OperationName,
+) -> Result<Vec<(OperationName, Arrow)>, AllocError>
+    ensures { IfOk result (λ steps. steps.items ≡ reversed_steps (region_of region.now) load store) }
+{
+    let mut steps = Vec::new(alloc);
+    steps.push((store, Arrow::Because(Cause::Coherence)))?;
+    if let Some(Source::From(source)) = region.source(load) {
+        steps.push((source, Arrow::Because(Cause::ReadsFrom)))?;
+    }
+    steps.push((load, Arrow::Because(Cause::Rule8)))?;
+    Ok(steps)
+}
+
+/// Appends the chain of the inference, if it is an end.
+pub(crate) fn push_end(
+    alloc: Global,
+    basis: &Basis,
+    placement: &Placement,
+    region: &Region<'_>,
+    inference: &Inference,
+    made: &mut Vec<Chain>,
+) -> Result<(), AllocError>
+    ensures { OnOk result (made.new.items ≡ made.old.items
+        ++ chain_of basis.now placement.now (region_of region.now) inference.now) }
+{
+    match inference {
+        Inference::Cycle(links) => {
+            made.push(cycle(alloc, basis, placement, region, links.as_slice())?)
+        }
+        Inference::Stale { load, store } => {
+            let steps = [(*store, Arrow::Forgotten), (*load, Arrow::End)];
+            made.push(chain(alloc, basis, placement, region, Shape::Stale, &steps)?)
+        }
+        Inference::Reversed { load, store } => {
+            let steps = reversed_steps(alloc, region, *load, *store)?;
+            made.push(chain(alloc, basis, placement, region, Shape::Cycle, &steps)?)
+        }
+        Inference::Parted { load, store, other } => {
+            let steps = [
+                (*load, Arrow::Because(Cause::FromReads)),
+                (*other, Arrow::Because(Cause::Coherence)),
+                (*store, Arrow::Pair(*load)),
+            ];
+            made.push(chain(alloc, basis, placement, region, Shape::NotAtomic, &steps)?)
+        }
+        _ => Ok(()),
+    }
+}
