@@ -1,6 +1,7 @@
 -- The witnesses of a certificate, and what is kept of them.
 use Rattle.std.proofs.Common.{◌≡◌, ℕ, zero, suc, List, [], ◌∷◌, ◌++◌, Option, None, Some, Contains, append_assoc, arith, refl, sym, ap, subst, unwrap_or, ◌∙◌, inl, inr}
 use Rattle.std.specs.List.{AllZip}
+use Rattle.std.proofs.lemmas.List.{append-nil}
 use Rattle.std.specs.Prelude.{slice_get}
 use Rattle.fs_kinds.specs.declared.kind.Kind.{Kind}
 use Rattle.fs_kinds.specs.declared.placement.Entry.{Entry}
@@ -17,7 +18,7 @@ use Rattle.fs_app_why.specs.Why.{NoWitnessShows, TellsEntry, TellsFences, TellsS
 pub first_witness : (files : List File) (ws : List Witness) (file : File) → AllZip KeepsWitness files ws → slice_get files 0 ≡ Some file
     → (w : Witness) × (rest : List Witness) × KeepsWitness file w × (ws ≡ w ∷ rest)
 first_witness [] (w ∷ ws) file kept e = absurd kept
-first_witness [] [] file kept e = absurd (search)
+first_witness [] [] file kept e = cc
 first_witness (f ∷ files) [] file kept e = absurd kept
 first_witness (f ∷ files) (w ∷ ws) file kept e =
     (w, ws, subst (λ g. KeepsWitness g w) (ap (λ o. unwrap_or o f) e) kept.0, refl)
@@ -26,11 +27,11 @@ pub no_witness : (files : List File) (ws : List Witness) → AllZip KeepsWitness
 no_witness [] [] kept e = refl
 no_witness [] (w ∷ ws) kept e = absurd kept
 no_witness (f ∷ files) [] kept e = refl
-no_witness (f ∷ files) (w ∷ ws) kept e = absurd (search)
+no_witness (f ∷ files) (w ∷ ws) kept e = cc
 
 -- what is kept of witnesses says them
 pub say_witnesses : (files : List File) (ws : List Witness) → AllZip KeepsWitness files ws → SayWitnesses files
-say_witnesses [] [] kept k file e = absurd (search)
+say_witnesses [] [] kept k file e = cc
 say_witnesses [] (w ∷ ws) kept k file e = absurd kept
 say_witnesses (f ∷ files) [] kept k file e = absurd kept
 say_witnesses (f ∷ files) (w ∷ ws) kept zero file e = (w, subst (λ g. KeepsWitness g w) (ap (λ o. unwrap_or o f) e) kept.0)
@@ -64,6 +65,6 @@ module _ (t : Test) (lines : List (List ℕ)) (p : List Entry) where
   pub fences_more : (N : List Entry → Type 0) (entries : List Entry) (entry : Entry) (text told whole : List ℕ)
       → TellsFences t lines N p entries text → TellsEntry t lines N p entry told → whole ≡ text ++ told
       → TellsFences t lines N p (entries ++ entry ∷ []) whole
-  fences_more N [] entry text told whole none is e = (told, [], is, refl, e ∙ ap (λ before. before ++ told) none ∙ simp)
+  fences_more N [] entry text told whole none is e = (told, [], is, refl, e ∙ ap (λ before. before ++ told) none ∙ sym (append-nil told))
   fences_more N (x ∷ entries) entry text told whole (first, others, is_first, are, is_text) is e =
       (first, others ++ told, is_first, fences_more N entries entry others told (others ++ told) are is refl, rw (e, is_text) (append_assoc first others told))

@@ -1,4 +1,5 @@
-use Rattle.std.proofs.Common.{◌≡◌, ◌∙◌, [], false, rules, refl, string_bytes}
+use Rattle.std.proofs.Common.{◌≡◌, [], false, rules, refl, string_bytes, sym}
+use Rattle.std.proofs.lemmas.List.{append-nil}
 use Rattle.fs_app_solve.specs.Found.{lines_of}
 use Rattle.fs_app.proofs.Told.{retold, untold}
 use Rattle.fs_app.proofs.program.solved.Goals as goal
@@ -12,7 +13,7 @@ returns-then g c =
       below = [];
       answer = c.in_ok-output.ensures.answer _ _ c.requires.0 c.requires.1;
       told = untold c.args.solve.now.why _ no;
-      text = simp;
+      text = sym (append-nil (string_bytes c.in_ok-output.output.text));
     }
 
 pub returns : goal.returns

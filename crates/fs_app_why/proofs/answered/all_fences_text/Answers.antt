@@ -1,4 +1,6 @@
 use Rattle.std.proofs.lemmas.Result.{IfOk-weaker}
+use Rattle.fs_app_why.specs.inner.Told.{NoneShows}
+use Rattle.fs_app_why.specs.Why.{NoWitnessShows}
 use Rattle.fs_app_why.proofs.Certified.{fences_weaker, no_witness_shows, say_witnesses}
 use Rattle.fs_app_why.proofs.answered.all_fences_text.Goals as goal
 
@@ -16,7 +18,7 @@ returns c ws kept =
       reads = c.in_ok-read.ensures.ok;
       stand = c.in_ok-lines.ensures.ok;
       placed = c.in_ok-placement.ensures.ok;
-      told = fences_weaker t c.in_ok-lines.lines.items c.in_ok-placement.placement _ _
+      told = fences_weaker t c.in_ok-lines.lines.items c.in_ok-placement.placement (NoneShows t c.args.witnesses.now) (NoWitnessShows t ws)
           (λ q none. no_witness_shows t q c.args.witnesses.now ws kept none)
           c.in_ok-placement.placement _ told;
     })

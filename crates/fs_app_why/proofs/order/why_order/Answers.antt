@@ -13,7 +13,7 @@ returns c =
       reads = c.in_ok-read.ensures.ok;
       stand = c.in_ok-lines.ensures.ok;
       placed = c.in_ok-placement.ensures.ok;
-      says = file.1.0;
+      says = file.1;
       told = told;
     })
-    (c.given_text.ensures file.0 file.1.1)
+    (c.given_text.ensures file.0 file.2)
