@@ -1,4 +1,6 @@
+use Rattle.std.proofs.Common.{subst, sym}
 use Rattle.std.proofs.lemmas.Result.{IfOk-weaker}
+use Rattle.fs_litmus.specs.Lines.{StandIn}
 use Rattle.fs_app_why.specs.inner.Told.{NoneShows}
 use Rattle.fs_app_why.specs.Why.{NoWitnessShows}
 use Rattle.fs_app_why.proofs.Certified.{fences_weaker, no_witness_shows, say_witnesses}
@@ -13,12 +15,12 @@ returns c ws kept =
     IfOk-weaker c.fences_text.result _ _
     (λ text told. record {
       the_test = t;
-      lines = c.in_ok-lines.lines.items;
+      lines = c.deref.result.now;
       placement = c.in_ok-placement.placement;
       reads = c.in_ok-read.ensures.ok;
-      stand = c.in_ok-lines.ensures.ok;
+      stand = subst (StandIn c.args.test.now) (sym c.deref.ensures.value) c.in_ok-lines.ensures.ok;
       placed = c.in_ok-placement.ensures.ok;
-      told = fences_weaker t c.in_ok-lines.lines.items c.in_ok-placement.placement (NoneShows t c.args.witnesses.now) (NoWitnessShows t ws)
+      told = fences_weaker t c.deref.result.now c.in_ok-placement.placement (NoneShows t c.args.witnesses.now) (NoWitnessShows t ws)
           (λ q none. no_witness_shows t q c.args.witnesses.now ws kept none)
           c.in_ok-placement.placement _ told;
     })
