@@ -1,6 +1,5 @@
-use Rattle.std.proofs.Common.{[], ◌∷◌, ap, subst, sym, take, string_bytes, ◌++◌, ◌∙◌}
+use Rattle.std.proofs.Common.{ap, get_or, subst, sym, take, string_bytes, ◌++◌, ◌∙◌}
 use Rattle.std.proofs.lemmas.List.{take_more}
-use Rattle.fs_kinds.specs.declared.placement.Entry.{Entry}
 use Rattle.fs_app_why.specs.inner.Told.{NoneShows}
 use Rattle.fs_app_why.specs.Why.{TellsFences}
 use Rattle.fs_app_why.proofs.Certified.{fences_more}
@@ -11,10 +10,11 @@ loop-entry-preserved c =
     let t = c.args.test.now in
     let N = NoneShows t c.args.files.now in
     let items = c.as_slice-entry-items.result.now in
-    let entry = c.index-entry-items-entry-index.result in
-    subst (λ entries. TellsFences t c.args.lines.now N c.args.placement.now entries (string_bytes c.push_str.new.self))
-    (sym (take_more items c.loop-entry.entry-index entry c.loop-entry-test.true
-    ∙ ap (λ (x : Entry). take c.loop-entry.entry-index items ++ x ∷ []) (sym c.index-entry-items-entry-index.is)))
-    (fences_more t c.args.lines.now c.args.placement.now N (take c.loop-entry.entry-index items) entry (string_bytes c.loop-entry.text)
-    (string_bytes c.in_ok-told.told) (string_bytes c.push_str.new.self) c.loop-entry.invariant c.in_ok-told.ensures
-    (c.in_ok-push_str.ensures.bytes ∙ ap (λ more. string_bytes c.loop-entry.text ++ more) c.as_str.ensures.value))
+    let k = c.loop-entry.entry-index in
+    let before = string_bytes c.loop-entry.text in
+    let told = string_bytes c.in_ok-told.told in
+    let whole = string_bytes c.push_str.new.self in
+    subst (λ entries. TellsFences t c.args.lines.now N c.args.placement.now entries whole)
+    (sym (take_more items k _ c.loop-entry-test.true))
+    (fences_more t c.args.lines.now c.args.placement.now N (take k items) (get_or items k _) before told whole c.loop-entry.invariant
+    c.in_ok-told.ensures (c.in_ok-push_str.ensures.bytes ∙ ap (λ more. before ++ more) c.as_str.ensures.value))
