@@ -11,6 +11,7 @@ use crate::message::message;
 use crate::point::{Point, point_of};
 use crate::slices::from;
 use crate::title::body_start;
+use crate::walk::begins;
 use fs_kinds::{Fault, Limit};
 use fs_litmus::read_test;
 use fs_litmus_tokens::tokens;
@@ -87,6 +88,17 @@ fn token_words(
     }
 }
 
+/// What is said of a file whose first line is that of no test.
+fn title_words(bytes: &[u8]) -> &'static str {
+    if begins(b'C', bytes) && begins(b' ', from(bytes, 1)) {
+        return "a test in C: write the instructions that a compiler makes of it, below a line `RISCV` and a name";
+    }
+    if begins(b'(', bytes) || begins(b'\n', bytes) {
+        return "the first line must be `RISCV`, a blank and a name: comments and blank lines stand below it";
+    }
+    "the first line must be `RISCV`, a blank and a name"
+}
+
 /// What is said of a fault of a test file.
 fn hint_of(
     alloc: Global,
@@ -96,7 +108,7 @@ fn hint_of(
 ) -> Result<&'static str, AllocError> {
     match fault {
         Fault::BadUtf8 => Ok("this byte isn't UTF-8"),
-        Fault::NotRiscv => Ok("the first line must be `RISCV`, a blank and a name"),
+        Fault::NotRiscv => Ok(title_words(bytes)),
         Fault::Syntax { .. }
         | Fault::UnknownInstr { .. }
         | Fault::BadAnnotation { .. }

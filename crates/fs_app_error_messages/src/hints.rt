@@ -86,7 +86,8 @@ fn init_words(spot: Spot<'_, '_>) -> &'static str {
         Kind::Sign(Mark::OpenBracket) => ARRAY_WORDS,
         Kind::Sign(Mark::Comma) => "expected `;`: entries end with it",
         Kind::Sign(Mark::Colon) => HART_WORDS,
-        Kind::Strange => "this character is no token: sums, as `x+4`, and strings are left out",
+        Kind::Strange =>
+            "this character is no token: comments are `(* .. *)`; sums, as `x+4`, and strings are left out",
         Kind::Word(_, _) => second_word(spot),
         _ => "expected an entry and `;`, as `x=1;` or `0:x6=x;`",
     }
