@@ -195,6 +195,13 @@ fn rules_are_those_of_the_manual(rt: HostRuntime) -> Result<(), Fail> {
             "",
         ),
         (
+            loads,
+            "",
+            sourced(1, 0, from(0, 1)),
+            sourced(1, 1, None),
+            "2 ",
+        ),
+        (
             atomic,
             "",
             sourced(0, 0, INITIAL),
