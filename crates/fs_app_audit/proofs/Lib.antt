@@ -4,3 +4,4 @@ pub mod Chosen
 pub mod Taken
 pub mod FirstFaults
 pub mod Rows
+pub mod Searched

@@ -13,6 +13,7 @@ ghost use Rattle.fs_model.specs.Test.{IsBounded, IsSame, IsStart, IsTest};
 ghost use Rattle.fs_model.specs.Witness.{Witness as Shown};
 ghost use Rattle.fs_cert_evidence.specs.CandidateFaults.{IsCandidateFault};
 ghost use Rattle.fs_cert_evidence.specs.Sizes.{IsUnanswered};
+ghost use Rattle.fs_board_search.specs.Priced.{question_of};
 ghost use Rattle.fs_litmus.specs.Faults.{IsTestFault};
 ghost use Rattle.fs_litmus.specs.Lines.{StandIn};
 ghost use Rattle.fs_litmus.specs.Reads.{Reads};
@@ -28,6 +29,7 @@ use crate::asked::{Purpose, asked, bare};
 use crate::standing::access_after;
 use crate::{is_fence, memory_kind};
 use fs_app_test::{Kind, forbids, judge_test};
+use fs_board_offers::Question as Offered;
 use fs_board_search::{Answer, Problem, Unwatched, problem_of, solve_problem};
 use fs_cert_evidence::{Forbidden, Question};
 use fs_instr::Instr;
@@ -274,6 +276,18 @@ fn kept_or_first(
     }
 }
 
+/// The question at whose slots the prices make the offers.
+fn offered_question(alloc: Global, question: &Question) -> Result<Arc<Offered>, Fault>
+    requires bounded { IsBounded question.now.test }
+    requires table { IsPriceTable question.now.prices }
+    ensures ok { IfOk result (λ made. arc_value made ≡ question_of question.now.test question.now.prices) }
+    ensures err { IsOkUnless result Fault.Memory }
+{
+    let test = Arc::try_clone(&question.test)?;
+    let made = Offered::priced(alloc, test, &question.prices)?;
+    Ok(Arc::new(alloc, made)?)
+}
+
 /// The fences that are advised; nothing where none rule the outcome out. The fault is that of a search by one worker.
 fn best(
     alloc: Global,
@@ -292,8 +306,8 @@ fn best(
     ensures err { IfErr result (λ f. f ≢ Fault.Memory
         → IsUnanswered (arc_value question.now).test (arc_value question.now).prices limit f) }
 {
-    let problem = problem_of(alloc, question)?;
-    let asked = Arc::try_clone(question)?;
+    let asked = offered_question(alloc, question)?;
+    let problem = problem_of(alloc, &asked)?;
     let shared = Arc::try_clone(&problem)?;
     let solved = solve_problem(alloc, asked, shared, limit, &mut Unwatched)?;
     match &solved.answer {

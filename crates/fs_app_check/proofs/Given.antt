@@ -12,10 +12,13 @@ use Rattle.fs_model.specs.Execution.{Execution, pre_execution}
 use Rattle.fs_model.specs.Operations.{PreExecution}
 use Rattle.fs_model.specs.Reasons.{AreRuns}
 use Rattle.fs_model.specs.Witness.{Witness, IsOfWitness, name_of}
-use Rattle.fs_cert_evidence.specs.Certificate.{Certificate, IsAnswered}
+use Rattle.fs_cert_evidence.specs.Certificate.{Certificate}
 use Rattle.fs_cert_evidence.specs.CertificateFile.{cost_in}
 use Rattle.fs_cert_evidence.specs.Texts.{fenced_lines, none_lines}
 use Rattle.fs_cert_evidence.specs.Valid.{IsValidForNone}
+use Rattle.fs_board_offers.specs.Offers.{offers_of}
+use Rattle.fs_board_offers.specs.Valid.{IsAnswered}
+use Rattle.fs_board_offers.proofs.Priced.{same-slots, same-cost}
 use Rattle.fs_cert_evidence.specs.WitnessFile.{in_range, KeepsWitness}
 use Rattle.fs_cert_evidence.specs.declared.witness.WitnessFile.{WitnessFile}
 use Rattle.fs_cert_json.specs.declared.certificate.Certificate.{Certificate as Kept}
@@ -36,8 +39,10 @@ use Rattle.fs_app_check.specs.inner.Yes.{IsYesTo}
 -- ---- the cost
 
 pub cost_said : (t : Test) (prices : PriceTable) (kept : Kept) (c : Certificate) (p : List Entry) → KeepsCertificate kept c
-    → IsAnswered t prices c.answer p → cost_in (answer_of kept.answer) ≡ cost prices p
-cost_said t prices kept c p keeps answered = ap cost_in (sym keeps.answer) ∙ ap cost_in answered.answered
+    → IsAnswered (offers_of t prices) c.answer p → cost_in (answer_of kept.answer) ≡ cost prices p
+cost_said t prices kept c p keeps answered =
+    let over = answered.placement.slots ∙ same-slots t prices in
+    ap cost_in (sym keeps.answer) ∙ (ap cost_in answered.answered ∙ same-cost t prices p over)
 
 -- ---- the witness
 

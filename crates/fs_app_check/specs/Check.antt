@@ -13,9 +13,9 @@ use Rattle.fs_litmus.specs.Faults.{IsTestFault}
 use Rattle.fs_cert_evidence.specs.CandidateFaults.{HasNoCyclesFault}
 use Rattle.fs_cert_evidence.specs.Certificate.{Certificate, IsBest}
 use Rattle.fs_cert_evidence.specs.CertificateFile.{IsCertificateFile}
-use Rattle.fs_cert_evidence.specs.Refusals.{IsRefusal}
 use Rattle.fs_cert_evidence.specs.Texts.{fenced_lines, members_of, none_lines}
-use Rattle.fs_cert_evidence.specs.Valid.{IsValidFor, IsValidForNone}
+use Rattle.fs_cert_evidence.specs.Valid.{IsValidForNone}
+use Rattle.fs_board_offers.specs.Priced.{IsValidFor, IsRefusal}
 use Rattle.fs_check_certificate.specs.Checks.{IsCheckFault}
 use Rattle.fs_app_io.specs.declared.status.Status.{Status}
 use Rattle.fs_app_io.specs.declared.status.Status.TheVariants.{Success, Denied}

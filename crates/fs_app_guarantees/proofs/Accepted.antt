@@ -8,7 +8,8 @@ use Rattle.fs_litmus.proofs.ReadsOnce.{reads_once}
 use Rattle.fs_app_guarantees.proofs.KeptCertificates.{valid_same}
 use Rattle.fs_cert_evidence.specs.Certificate.{Certificate}
 use Rattle.fs_cert_evidence.specs.Texts.{fenced_lines, none_lines}
-use Rattle.fs_cert_evidence.specs.Valid.{IsValid}
+use Rattle.fs_board_offers.specs.Priced.{IsValid}
+use Rattle.fs_board_offers.proofs.Priced.{same-slots}
 use Rattle.fs_check_certificate.proofs.OneFile.{file_once}
 use Rattle.fs_app_guarantees.proofs.Verdicts.{one_answer, not_refused}
 use Rattle.fs_app_io.specs.declared.status.Status.{Status}
@@ -36,7 +37,8 @@ accepted test prices text certificate verdict status end s k =
           let p = a.placement in
           let found : s.placed ≡ Some p = one_answer u k.table c s.placed (Some p) bounded valid a.valid in
           let printed : PrintsPlaced t s.table (Some p) text status = subst (λ (o : Option (List Entry)). PrintsPlaced t s.table o text status) found s.answer in
-          let costs : cost s.table p ≡ cost k.table p = same_costs u s.table k.table prices_are bounded p a.valid.answered.placement.slots in
+          let over = a.valid.answered.placement.slots ∙ same-slots u k.table in
+          let costs : cost s.table p ≡ cost k.table p = same_costs u s.table k.table prices_are bounded p over in
           let below : fenced_lines (cost k.table p) p ≡ text = sym (printed.1 ∙ ap (λ n. fenced_lines n p) costs) in
           (a.ends, a.shown ∙ ap (λ (lines : List ℕ). yes_line ++ lines) below)
       | inr other ↦ elim other [

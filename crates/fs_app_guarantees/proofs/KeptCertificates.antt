@@ -17,19 +17,19 @@ use Rattle.fs_model.specs.Test.{IsSame}
 use Rattle.fs_model.specs.Execution.{Execution}
 use Rattle.fs_model.specs.Witness.{Witness}
 use Rattle.fs_cert_evidence.specs.Candidates.{Candidate}
-use Rattle.fs_cert_evidence.specs.Certificate.{Certificate, Version, Answer, Fenced, NoneForbids, Cycles, Listed, Inferred, Inference, Item, SplitAt, Costly, Refuted, Bounded, Link, IsAnswered}
-use Rattle.fs_cert_evidence.specs.Parts.{Part, undecided, floor, filled, child_parts}
-use Rattle.fs_cert_evidence.specs.Refusals.{IsBadAnswer, IsFirstBad, IsFirstUnshown, first_wrong, IsListRefusal, IsCyclesRefusal, Fails, IsPlacedRefusal, IsRefusal}
+use Rattle.fs_cert_evidence.specs.Certificate.{Certificate, Version, Answer, Fenced, NoneForbids, Cycles, Listed, Inferred, Inference, Item, SplitAt, Costly, Refuted, Bounded, Link}
+use Rattle.fs_cert_evidence.specs.Refusals.{IsFirstBad, IsFirstUnshown, first_wrong, IsListRefusal, IsCyclesRefusal}
+use Rattle.fs_board_offers.specs.Offers.{Offers, offers_of}
+use Rattle.fs_board_offers.specs.Parts.{Part, undecided, floor, filled, child_parts}
+use Rattle.fs_board_offers.specs.Priced as priced
+use Rattle.fs_board_offers.specs.Refusals.{Fails, IsPlacedRefusal, IsRefusal}
 use Rattle.fs_cert_evidence.specs.Cycles.{IsCycle, HasCycles}
 use Rattle.fs_cert_evidence.specs.Trees as trees
 use Rattle.fs_cert_evidence.specs.Trees.{is_open, roots, root, AreItsRuns, IsRefuted}
-use Rattle.fs_cert_evidence.specs.Valid.{Forbid, RefutesBy, Refutes, Bounds, Covers, IsValid}
+use Rattle.fs_board_offers.specs.Valid.{Forbid, RefutesBy, Refutes, Bounds, Covers, IsValid}
 use Rattle.fs_app_guarantees.proofs.Kept.{with_condition_of, Keeps, back, carried, each, pairwise}
 use Rattle.fs_app_guarantees.proofs.KeptCandidates.{listing}
-use Rattle.fs_app_guarantees.proofs.KeptPlacements.{placement, refutes_all, of_witness, shows_as}
-
-answered : (prices : PriceTable) (answer : Answer) (p : List Entry) → Keeps (λ t. IsAnswered t prices answer p)
-answered prices answer p u v e h = record { placement = placement prices p u v e h.placement; answered = h.answered }
+use Rattle.fs_app_guarantees.proofs.KeptPlacements.{refutes_all, of_witness, shows_as}
 
 -- ---- cycles
 
@@ -89,34 +89,34 @@ module _ (ws : List Witness) (p : List Entry) where
   first_unshown js j u v e h =
       (h.0, h.1, h.2, all_refute h.0 u v e h.3, λ x. h.4 (back (λ t. Refutes t ws p j) (refutes j) u v e x))
 
-bounds : (prices : PriceTable) (ws : List Witness) (p : List Entry) (part : Part) (js : List ℕ) → Keeps (λ t. Bounds t prices ws p part js)
-bounds prices ws p part js u v e h = (
+bounds : (offers : Offers) (ws : List Witness) (p : List Entry) (part : Part) (js : List ℕ) → Keeps (λ t. Bounds t offers ws p part js)
+bounds offers ws p part js u v e h = (
   h.0,
   pairwise (RefutesBy u ws (floor part)) (RefutesBy (with_condition_of v u) ws (floor part))
       (λ j x. refutes_by ws (floor part) j x u v e) js h.0 h.1,
   h.2,
 )
 
-module _ (prices : PriceTable) (c : Certificate) (p : List Entry) where
-  covers : (items : List Item) (parts : List Part) → Keeps (λ t. Covers t prices c p parts items)
+module _ (offers : Offers) (c : Certificate) (p : List Entry) where
+  covers : (items : List Item) (parts : List Part) → Keeps (λ t. Covers t offers c p parts items)
   covers [] [] u v e h = h
   covers (item ∷ items) [] u v e h = h
   covers [] (part ∷ parts) u v e h = h
   covers (SplitAt k ∷ items) (part ∷ parts) u v e h =
-      (h.0, h.1, h.2, covers items (child_parts prices h.0 part ++ parts) u v e h.3)
+      (h.0, h.1, h.2, covers items (child_parts offers h.0 part ++ parts) u v e h.3)
   covers (Costly ∷ items) (part ∷ parts) u v e h = (h.0, covers items parts u v e h.1)
   covers (Refuted j ∷ items) (part ∷ parts) u v e h =
       (refutes c.witnesses (filled part) j u v e h.0, covers items parts u v e h.1)
   covers (Bounded js ∷ items) (part ∷ parts) u v e h =
-      (bounds prices c.witnesses p part js u v e h.0, covers items parts u v e h.1)
+      (bounds offers c.witnesses p part js u v e h.0, covers items parts u v e h.1)
 
-  fails : (items : List Item) (parts : List Part) (k : ℕ) (r : Reason) → Keeps (λ t. Fails t prices c p parts items k r)
+  fails : (items : List Item) (parts : List Part) (k : ℕ) (r : Reason) → Keeps (λ t. Fails t offers c p parts items k r)
   fails [] [] k r u v e h = h
   fails (item ∷ items) [] k r u v e h = h
   fails [] (part ∷ parts) k r u v e h = h
   fails (SplitAt j ∷ items) (part ∷ parts) k r u v e (inl h) = inl h
   fails (SplitAt j ∷ items) (part ∷ parts) k r u v e (inr h) =
-      inr (h.0, h.1, h.2, fails items (child_parts prices h.0 part ++ parts) (k + 1) r u v e h.3)
+      inr (h.0, h.1, h.2, fails items (child_parts offers h.0 part ++ parts) (k + 1) r u v e h.3)
   fails (Costly ∷ items) (part ∷ parts) k r u v e (inl h) = inl h
   fails (Costly ∷ items) (part ∷ parts) k r u v e (inr h) = inr (h.0, fails items parts (k + 1) r u v e h.1)
   fails (Refuted j ∷ items) (part ∷ parts) k r u v e (inl h) =
@@ -131,22 +131,22 @@ module _ (prices : PriceTable) (c : Certificate) (p : List Entry) where
   fails (Bounded js ∷ items) (part ∷ parts) k r u v e (inr (inl h)) =
       inr (inl (
         all_refute c.witnesses (floor part) js u v e h.0,
-        λ x. h.1 (back (λ t. Bounds t prices c.witnesses p part js) (bounds prices c.witnesses p part js) u v e x),
+        λ x. h.1 (back (λ t. Bounds t offers c.witnesses p part js) (bounds offers c.witnesses p part js) u v e x),
         h.2,
       ))
   fails (Bounded js ∷ items) (part ∷ parts) k r u v e (inr (inr h)) =
-      inr (inr (bounds prices c.witnesses p part js u v e h.0, fails items parts (k + 1) r u v e h.1))
+      inr (inr (bounds offers c.witnesses p part js u v e h.0, fails items parts (k + 1) r u v e h.1))
 
 -- ---- the whole
 
-valid : (prices : PriceTable) (c : Certificate) (answer : Option (List Entry)) → Keeps (λ t. IsValid t prices c answer)
-valid prices c (Some p) u v e h =
+valid : (offers : Offers) (c : Certificate) (answer : Option (List Entry)) → Keeps (λ t. IsValid t offers c answer)
+valid offers c (Some p) u v e h =
     record {
-      answered = answered prices c.answer p u v e h.answered;
+      answered = h.answered;
       cycles = forbid p c.cycles u v e h.cycles;
-      tree = covers prices c p c.tree (undecided u ∷ []) u v e h.tree;
+      tree = covers offers c p c.tree (undecided offers ∷ []) u v e h.tree;
     }
-valid prices c None u v e h =
+valid offers c None u v e h =
     record {
       answered = h.answered;
       cycles = h.cycles;
@@ -184,44 +184,47 @@ cycles_refusal p (Inferred inferences) why u v e h =
     (h.0, its_runs h.0 u v e h.1, ap (λ regions. first_wrong u p regions inferences 0) (its_roots h.0 u v e) ∙ h.2)
 
 placed :
-    (prices : PriceTable) (c : Certificate) (p : List Entry) (why : Reason)
-    → Keeps (λ t. IsPlacedRefusal t prices c p why)
-placed prices c p reason.Cycles u v e h = cycles_refusal p c.cycles reason.Cycles u v e h
-placed prices c p (reason.Cycle index) u v e h = cycles_refusal p c.cycles (reason.Cycle index) u v e h
-placed prices c p other u v e h =
-    (forbid p c.cycles u v e h.0, fails prices c p c.tree (undecided u ∷ []) 0 other u v e h.1)
+    (offers : Offers) (c : Certificate) (p : List Entry) (why : Reason)
+    → Keeps (λ t. IsPlacedRefusal t offers c p why)
+placed offers c p reason.Cycles u v e h = cycles_refusal p c.cycles reason.Cycles u v e h
+placed offers c p (reason.Cycle index) u v e h = cycles_refusal p c.cycles (reason.Cycle index) u v e h
+placed offers c p other u v e h =
+    (forbid p c.cycles u v e h.0, fails offers c p c.tree (undecided offers ∷ []) 0 other u v e h.1)
 
-module _ (prices : PriceTable) (version : Version) (cycles : Cycles) (tree : List Item) (ws : List Witness) where
+module _ (offers : Offers) (version : Version) (cycles : Cycles) (tree : List Item) (ws : List Witness) where
   abbrev certificate : Answer → Certificate
   certificate answer = record { version = version; answer = answer; cycles = cycles; tree = tree; witnesses = ws }
 
-  bad_answer : (answer : Answer) → Keeps (λ t. IsBadAnswer t prices (certificate answer))
-  bad_answer (Fenced cost fences) u v e h =
-      λ p x. h p (back (λ t. IsAnswered t prices (Fenced cost fences) p) (answered prices (Fenced cost fences) p) u v e x)
-  bad_answer NoneForbids u v e h = h
-
-  refusal_of : (why : Reason) (answer : Answer) → Keeps (λ t. IsRefusal t prices (certificate answer) why)
-  refusal_of reason.Answer answer u v e h = bad_answer answer u v e h
+  refusal_of : (why : Reason) (answer : Answer) → Keeps (λ t. IsRefusal t offers (certificate answer) why)
+  refusal_of reason.Answer answer u v e h = h
   refusal_of other (Fenced cost fences) u v e h = (
     h.0,
-    answered prices (Fenced cost fences) h.0 u v e h.1,
-    placed prices (certificate (Fenced cost fences)) h.0 other u v e h.2,
+    h.1,
+    placed offers (certificate (Fenced cost fences)) h.0 other u v e h.2,
   )
   refusal_of other NoneForbids u v e h = (
-    λ x. h.0 (back (λ t. IsBadAnswer t prices (certificate NoneForbids)) (bad_answer NoneForbids) u v e x),
+    h.0,
     λ x. h.1 (back (λ t. Refutes t ws (all_with (Some RwRw) (slots u)) 0) (refutes ws (all_with (Some RwRw) (slots u)) 0) u v e x),
     h.2,
   )
 
-refusal : (prices : PriceTable) (c : Certificate) (why : Reason) → Keeps (λ t. IsRefusal t prices c why)
-refusal prices c why = refusal_of prices c.version c.cycles c.tree c.witnesses why c.answer
+refusal : (offers : Offers) (c : Certificate) (why : Reason) → Keeps (λ t. IsRefusal t offers c why)
+refusal offers c why = refusal_of offers c.version c.cycles c.tree c.witnesses why c.answer
+
+-- ---- of prices
+
+valid_priced : (prices : PriceTable) (c : Certificate) (answer : Option (List Entry)) → Keeps (λ t. priced.IsValid t prices c answer)
+valid_priced prices c answer u v e h = valid (offers_of u prices) c answer u v e h
+
+refusal_priced : (prices : PriceTable) (c : Certificate) (why : Reason) → Keeps (λ t. priced.IsRefusal t prices c why)
+refusal_priced prices c why u v e h = refusal (offers_of u prices) c why u v e h
 
 pub valid_same :
     (t u : Test) → IsSame t u → (prices : PriceTable) (c : Certificate) (answer : Option (List Entry))
-    → IsValid t prices c answer ↔ IsValid u prices c answer
-valid_same t u s prices c answer = carried (λ x. IsValid x prices c answer) (valid prices c answer) t u s
+    → priced.IsValid t prices c answer ↔ priced.IsValid u prices c answer
+valid_same t u s prices c answer = carried (λ x. priced.IsValid x prices c answer) (valid_priced prices c answer) t u s
 
 pub refusal_same :
     (t u : Test) → IsSame t u → (prices : PriceTable) (c : Certificate) (why : Reason)
-    → IsRefusal t prices c why ↔ IsRefusal u prices c why
-refusal_same t u s prices c why = carried (λ x. IsRefusal x prices c why) (refusal prices c why) t u s
+    → priced.IsRefusal t prices c why ↔ priced.IsRefusal u prices c why
+refusal_same t u s prices c why = carried (λ x. priced.IsRefusal x prices c why) (refusal_priced prices c why) t u s

@@ -1,23 +1,30 @@
 -- A certificate has one verdict.
 use Rattle.std.proofs.Common.{◌≡◌, ◌⊎◌, ℕ, ◌+◌, true, Option, None, Some, List, [], ◌∷◌, ◌++◌, length, refl, sym, ap, subst, ◌∙◌, inl, inr}
 use Rattle.std.specs.Prelude.{slice_get, if◌then◌else◌}
-use Rattle.std.specs.List.{AllZip}
+use Rattle.std.specs.List.{AllZip, AllByRecursion}
 use Rattle.std.proofs.lemmas.Bool.{false≢true, and_parts}
 use Rattle.std.proofs.lemmas.Slice.Zip.{AllZip-long}
 use Rattle.fs_kinds.specs.declared.placement.Entry.{Entry}
 use Rattle.fs_kinds.specs.declared.reason.Reason.{Reason}
 use Rattle.fs_kinds.specs.declared.reason.Reason.TheVariants as reason
-use Rattle.fs_kinds.specs.PriceTable.{PriceTable, cost}
+use Rattle.fs_kinds.specs.PriceTable.{PriceTable}
+use Rattle.fs_kinds.specs.Slot.{IsSlot, is_rising}
 use Rattle.fs_model.specs.declared.test.Test.{Test}
 use Rattle.fs_model.specs.Test.{IsBounded}
+use Rattle.fs_model.proofs.Rising.{rising-slots_from}
 use Rattle.fs_cert_evidence.specs.Candidates.{Candidate}
-use Rattle.fs_cert_evidence.specs.Certificate.{Certificate, Answer, Fenced, NoneForbids, Cycles, Listed, Inferred, Link, Inference, IsAnswered, fence_words}
-use Rattle.fs_cert_evidence.specs.Parts.{undecided}
-use Rattle.fs_cert_evidence.specs.Refusals.{IsBad, IsBadAnswer, IsFirstBad, first_wrong, IsListRefusal, IsCyclesRefusal, Fails, IsPlacedRefusal, IsRefusedAfter, IsRefusal}
+use Rattle.fs_cert_evidence.specs.Certificate.{Certificate, Answer, Fenced, NoneForbids, Cycles, Listed, Inferred, Link, Inference, fence_words}
+use Rattle.fs_cert_evidence.specs.Refusals.{IsFirstBad, first_wrong, IsListRefusal, IsCyclesRefusal}
+use Rattle.fs_board_offers.specs.Offers.{Offers, slots, cost, offers_of}
+use Rattle.fs_board_offers.specs.Parts.{undecided}
+use Rattle.fs_board_offers.specs.Priced as priced
+use Rattle.fs_board_offers.specs.Refusals.{IsBad, IsBadAnswer, Fails, IsPlacedRefusal, IsRefusedAfter, IsRefusal}
+use Rattle.fs_board_offers.proofs.Priced.{same-slots}
+use Rattle.fs_check_certificate.proofs.Words.{small_slots}
 use Rattle.fs_cert_evidence.specs.Cycles.{IsCycle}
 use Rattle.fs_cert_evidence.specs.Regions.{Region}
 use Rattle.fs_cert_evidence.specs.Trees.{follows, left_after, refutes, roots}
-use Rattle.fs_cert_evidence.specs.Valid.{Forbid, Covers, IsValidFor, IsValidForNone, IsValid}
+use Rattle.fs_board_offers.specs.Valid.{Forbid, Covers, IsAnswered, IsValidFor, IsValidForNone, IsValid}
 use Rattle.fs_app_guarantees.proofs.Families.{one_family}
 use Rattle.fs_app_guarantees.proofs.Firsts.{same_Some, zip_at, place_once}
 use Rattle.fs_app_guarantees.proofs.Listed.{one_listing}
@@ -82,14 +89,14 @@ module _ (t : Test) (p : List Entry) where
 
 -- ---- the reasons against a certificate of a placement
 
-module _ (t : Test) (prices : PriceTable) (c : Certificate) (p : List Entry) where
+module _ (t : Test) (offers : Offers) (c : Certificate) (p : List Entry) where
   abbrev FailsFor : Reason → Type 0
-  FailsFor why = Forbid t p c.cycles × Fails t prices c p (undecided t ∷ []) c.tree 0 why
+  FailsFor why = Forbid t p c.cycles × Fails t offers c p (undecided offers ∷ []) c.tree 0 why
 
   abbrev IsFor : Reason → Type 0
   IsFor why = IsCyclesRefusal t p c.cycles why ⊎ FailsFor why
 
-  is_for : (why : Reason) → IsPlacedRefusal t prices c p why → IsFor why
+  is_for : (why : Reason) → IsPlacedRefusal t offers c p why → IsFor why
   is_for (reason.Choices hart) h = inr h
   is_for (reason.Astray hart at) h = inr h
   is_for reason.Order h = inr h
@@ -104,14 +111,14 @@ module _ (t : Test) (prices : PriceTable) (c : Certificate) (p : List Entry) whe
   is_for (reason.Node index) h = inr h
   is_for (reason.Witness index) h = inr h
 
-  placed_apart : (why : Reason) → Forbid t p c.cycles → Covers t prices c p (undecided t ∷ []) c.tree
-      → IsPlacedRefusal t prices c p why → ⊥
+  placed_apart : (why : Reason) → Forbid t p c.cycles → Covers t offers c p (undecided offers ∷ []) c.tree
+      → IsPlacedRefusal t offers c p why → ⊥
   placed_apart why forbid tree h = elim (is_for why h) [
     | inl against ↦ cycles_apart t p c.cycles why forbid against
-    | inr fails ↦ covers_or_fails t prices c p (undecided t ∷ []) c.tree 0 why tree fails.1
+    | inr fails ↦ covers_or_fails t offers c p (undecided offers ∷ []) c.tree 0 why tree fails.1
   ]
 
-  placed_once : (why other : Reason) → IsPlacedRefusal t prices c p why → IsPlacedRefusal t prices c p other
+  placed_once : (why other : Reason) → IsPlacedRefusal t offers c p why → IsPlacedRefusal t offers c p other
       → why ≡ other
   placed_once why other h k = elim (is_for why h) [
     | inl against ↦ elim (is_for other k) [
@@ -120,20 +127,20 @@ module _ (t : Test) (prices : PriceTable) (c : Certificate) (p : List Entry) whe
     ]
     | inr fails ↦ elim (is_for other k) [
       | inl against ↦ absurd (cycles_apart t p c.cycles other fails.0 against)
-      | inr too ↦ fails_once t prices c p (undecided t ∷ []) c.tree 0 why other fails.1 too.1
+      | inr too ↦ fails_once t offers c p (undecided offers ∷ []) c.tree 0 why other fails.1 too.1
     ]
   ]
 
 -- ---- the reasons against a certificate
 
-module _ (t : Test) (prices : PriceTable) (c : Certificate) (bounded : IsBounded t) where
+module _ (t : Test) (offers : Offers) (c : Certificate) (small : AllByRecursion IsSlot (slots offers)) (rising : is_rising (slots offers) ≡ true) where
   abbrev IsAfter : Reason → Answer → Type 0
-  IsAfter = IsRefusedAfter t prices c
+  IsAfter = IsRefusedAfter t offers c
 
   abbrev IsOf : Reason → Type 0
-  IsOf why = ((why ≡ reason.Answer) × IsBadAnswer t prices c) ⊎ IsAfter why c.answer
+  IsOf why = ((why ≡ reason.Answer) × IsBadAnswer offers c) ⊎ IsAfter why c.answer
 
-  is_of : (why : Reason) → IsRefusal t prices c why → IsOf why
+  is_of : (why : Reason) → IsRefusal t offers c why → IsOf why
   is_of (reason.Choices hart) h = inr h
   is_of (reason.Astray hart at) h = inr h
   is_of reason.Order h = inr h
@@ -149,22 +156,22 @@ module _ (t : Test) (prices : PriceTable) (c : Certificate) (bounded : IsBounded
   is_of (reason.Witness index) h = inr h
 
   -- what is refused after its answer has an answer
-  bad_or_after : (answer : Answer) (why : Reason) → answer ≡ c.answer → IsBad t prices c answer → IsAfter why answer → ⊥
+  bad_or_after : (answer : Answer) (why : Reason) → answer ≡ c.answer → IsBad offers c answer → IsAfter why answer → ⊥
   bad_or_after (Fenced n fences) why e bad h = bad h.0 h.1
-  bad_or_after NoneForbids why e bad h = h.0 (subst (IsBad t prices c) e bad)
+  bad_or_after NoneForbids why e bad h = h.0 (subst (IsBad offers c) e bad)
 
   -- the same refusal of the one placement
-  moved : (why : Reason) (p q : List Entry) → q ≡ p → IsPlacedRefusal t prices c q why
-      → IsPlacedRefusal t prices c p why
-  moved why p q same h = subst (λ r. IsPlacedRefusal t prices c r why) same h
+  moved : (why : Reason) (p q : List Entry) → q ≡ p → IsPlacedRefusal t offers c q why
+      → IsPlacedRefusal t offers c p why
+  moved why p q same h = subst (λ r. IsPlacedRefusal t offers c r why) same h
 
   after_once : (answer : Answer) (why other : Reason) → IsAfter why answer → IsAfter other answer → why ≡ other
   after_once (Fenced n fences) why other h k =
-      let same : k.0 ≡ h.0 = one_answered t prices (Fenced n fences) k.0 h.0 bounded k.1 h.1 in
-      placed_once t prices c h.0 why other h.2 (moved other h.0 k.0 same k.2)
+      let same : k.0 ≡ h.0 = one_answered offers (Fenced n fences) k.0 h.0 small rising k.1 h.1 in
+      placed_once t offers c h.0 why other h.2 (moved other h.0 k.0 same k.2)
   after_once NoneForbids why other h k = h.2 ∙ sym k.2
 
-  one_reason_of : (why other : Reason) → IsRefusal t prices c why → IsRefusal t prices c other → why ≡ other
+  one_reason_of : (why other : Reason) → IsRefusal t offers c why → IsRefusal t offers c other → why ≡ other
   one_reason_of why other h k = elim (is_of why h) [
     | inl bad ↦ elim (is_of other k) [
       | inl too ↦ bad.0 ∙ sym too.0
@@ -178,27 +185,27 @@ module _ (t : Test) (prices : PriceTable) (c : Certificate) (bounded : IsBounded
 
   -- ---- valid certificates
 
-  valid_apart : (p : List Entry) (why : Reason) → IsValidFor t prices c p → IsOf why → ⊥
+  valid_apart : (p : List Entry) (why : Reason) → IsValidFor t offers c p → IsOf why → ⊥
   valid_apart p why v h = elim h [
-    | inl bad ↦ subst (IsBad t prices c) v.answered.answered bad.1 p answered
+    | inl bad ↦ subst (IsBad offers c) v.answered.answered bad.1 p answered
     | inr after ↦ against (subst (IsAfter why) v.answered.answered after)
   ]
     where
-      answered : IsAnswered t prices (Fenced (cost prices p) (fence_words p)) p
+      answered : IsAnswered offers (Fenced (cost offers p) (fence_words p)) p
       answered = record { placement = v.answered.placement; answered = refl }
 
-      against : IsAfter why (Fenced (cost prices p) (fence_words p)) → ⊥
+      against : IsAfter why (Fenced (cost offers p) (fence_words p)) → ⊥
       against k =
-          let same : k.0 ≡ p = one_answered t prices (Fenced (cost prices p) (fence_words p)) k.0 p bounded k.1 answered in
-          placed_apart t prices c p why v.cycles v.tree (moved why p k.0 same k.2)
+          let same : k.0 ≡ p = one_answered offers (Fenced (cost offers p) (fence_words p)) k.0 p small rising k.1 answered in
+          placed_apart t offers c p why v.cycles v.tree (moved why p k.0 same k.2)
 
   none_apart : (why : Reason) → IsValidForNone t c → IsOf why → ⊥
   none_apart why v h = elim h [
-    | inl bad ↦ wrong (subst (IsBad t prices c) v.answered bad.1)
+    | inl bad ↦ wrong (subst (IsBad offers c) v.answered bad.1)
     | inr after ↦ against (subst (IsAfter why) v.answered after)
   ]
     where
-      wrong : IsBad t prices c NoneForbids → ⊥
+      wrong : IsBad offers c NoneForbids → ⊥
       wrong k = elim k [
         | inl cycles ↦ cycles v.cycles
         | inr rest ↦ elim rest [
@@ -210,21 +217,36 @@ module _ (t : Test) (prices : PriceTable) (c : Certificate) (bounded : IsBounded
       against : IsAfter why NoneForbids → ⊥
       against k = k.1 (v.execution, (v.witness, ap (λ ws. slice_get ws 0) v.only, (v.given, v.refutes)))
 
-  apart_of : (a : Option (List Entry)) (why : Reason) → IsValid t prices c a → IsRefusal t prices c why → ⊥
+  apart_of : (a : Option (List Entry)) (why : Reason) → IsValid t offers c a → IsRefusal t offers c why → ⊥
   apart_of (Some p) why v h = valid_apart p why v (is_of why h)
   apart_of None why v h = none_apart why v (is_of why h)
 
-  answer_of : (a b : Option (List Entry)) → IsValid t prices c a → IsValid t prices c b → a ≡ b
+  answer_of : (a b : Option (List Entry)) → IsValid t offers c a → IsValid t offers c b → a ≡ b
   answer_of None None v w = refl
-  answer_of None (Some q) v w = absurd (let e : NoneForbids ≡ Fenced (cost prices q) (fence_words q) = sym v.answered ∙ w.answered.answered in cc)
-  answer_of (Some p) None v w = absurd (let e : NoneForbids ≡ Fenced (cost prices p) (fence_words p) = sym w.answered ∙ v.answered.answered in cc)
-  answer_of (Some p) (Some q) v w = ap (λ r. Some r) (one_answered t prices c.answer p q bounded v.answered w.answered)
+  answer_of None (Some q) v w = absurd (let e : NoneForbids ≡ Fenced (cost offers q) (fence_words q) = sym v.answered ∙ w.answered.answered in cc)
+  answer_of (Some p) None v w = absurd (let e : NoneForbids ≡ Fenced (cost offers p) (fence_words p) = sym w.answered ∙ v.answered.answered in cc)
+  answer_of (Some p) (Some q) v w = ap (λ r. Some r) (one_answered offers c.answer p q small rising v.answered w.answered)
 
-pub one_answer : (t : Test) (prices : PriceTable) (c : Certificate) (a b : Option (List Entry)) → IsBounded t → IsValid t prices c a → IsValid t prices c b → a ≡ b
-one_answer t prices c a b bounded = answer_of t prices c bounded a b
+-- ---- of prices
 
-pub not_refused : (t : Test) (prices : PriceTable) (c : Certificate) (a : Option (List Entry)) (why : Reason) → IsBounded t → IsValid t prices c a → IsRefusal t prices c why → ⊥
-not_refused t prices c a why bounded = apart_of t prices c bounded a why
+module _ (t : Test) (prices : PriceTable) (bounded : IsBounded t) where
+  small_there : AllByRecursion IsSlot (slots (offers_of t prices))
+  small_there = subst (AllByRecursion IsSlot) (sym (same-slots t prices)) (small_slots t bounded)
 
-pub one_reason : (t : Test) (prices : PriceTable) (c : Certificate) (why other : Reason) → IsBounded t → IsRefusal t prices c why → IsRefusal t prices c other → why ≡ other
-one_reason t prices c why other bounded = one_reason_of t prices c bounded why other
+  rising_there : is_rising (slots (offers_of t prices)) ≡ true
+  rising_there = ap is_rising (same-slots t prices) ∙ rising-slots_from 0 t.codes
+
+pub one_answer : (t : Test) (prices : PriceTable) (c : Certificate) (a b : Option (List Entry)) → IsBounded t → priced.IsValid t prices c a
+    → priced.IsValid t prices c b → a ≡ b
+one_answer t prices c a b bounded =
+    answer_of t (offers_of t prices) c (small_there t prices bounded) (rising_there t prices bounded) a b
+
+pub not_refused : (t : Test) (prices : PriceTable) (c : Certificate) (a : Option (List Entry)) (why : Reason) → IsBounded t
+    → priced.IsValid t prices c a → priced.IsRefusal t prices c why → ⊥
+not_refused t prices c a why bounded =
+    apart_of t (offers_of t prices) c (small_there t prices bounded) (rising_there t prices bounded) a why
+
+pub one_reason : (t : Test) (prices : PriceTable) (c : Certificate) (why other : Reason) → IsBounded t → priced.IsRefusal t prices c why
+    → priced.IsRefusal t prices c other → why ≡ other
+one_reason t prices c why other bounded =
+    one_reason_of t (offers_of t prices) c (small_there t prices bounded) (rising_there t prices bounded) why other

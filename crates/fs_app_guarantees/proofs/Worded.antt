@@ -6,14 +6,11 @@ use Rattle.fs_kinds.specs.declared.kind.Kind.{Kind}
 use Rattle.fs_kinds.specs.declared.placement.Entry.{Entry}
 use Rattle.fs_kinds.specs.declared.slot.Slot.{Slot}
 use Rattle.fs_kinds.specs.Placement.{slots_of}
-use Rattle.fs_kinds.specs.PriceTable.{PriceTable}
 use Rattle.fs_kinds.specs.Slot.{IsSlot, is_before, is_rising}
-use Rattle.fs_model.specs.declared.test.Test.{Test}
-use Rattle.fs_model.specs.Slots.{slots}
-use Rattle.fs_model.specs.Test.{IsBounded}
-use Rattle.fs_model.proofs.Rising.{rising-slots_from}
-use Rattle.fs_cert_evidence.specs.Certificate.{Answer, Fenced, IsAnswered, fence_words, words_at}
-use Rattle.fs_check_certificate.proofs.Words.{small_slots, same_fence}
+use Rattle.fs_cert_evidence.specs.Certificate.{Answer, Fenced, fence_words, words_at}
+use Rattle.fs_board_offers.specs.Offers.{Offers, slots}
+use Rattle.fs_board_offers.specs.Valid.{IsAnswered}
+use Rattle.fs_check_certificate.proofs.Words.{same_fence}
 use Rattle.fs_check_certificate.proofs.Filled.{heads, no_later}
 
 -- ---- placements over the same slots
@@ -56,8 +53,9 @@ same_placement (d ∷ p) (f ∷ q) small rising over e =
 words_of : (m n : ℕ) (ws us : List (List ℕ)) → Fenced m ws ≡ Fenced n us → ws ≡ us
 words_of m n ws us e = cc
 
-pub one_answered : (t : Test) (prices : PriceTable) (answer : Answer) (p q : List Entry) → IsBounded t → IsAnswered t prices answer p → IsAnswered t prices answer q → p ≡ q
-one_answered t prices answer p q bounded left right =
-    let over : slots_of p ≡ slots t = left.placement.slots in
-    same_placement p q (subst (AllByRecursion IsSlot) (sym over) (small_slots t bounded)) (ap is_rising over ∙ rising-slots_from 0 t.codes)
+pub one_answered : (offers : Offers) (answer : Answer) (p q : List Entry) → AllByRecursion IsSlot (slots offers) → is_rising (slots offers) ≡ true
+    → IsAnswered offers answer p → IsAnswered offers answer q → p ≡ q
+one_answered offers answer p q small rising left right =
+    let over : slots_of p ≡ slots offers = left.placement.slots in
+    same_placement p q (subst (AllByRecursion IsSlot) (sym over) small) (ap is_rising over ∙ rising)
     (over ∙ sym right.placement.slots) (words_of _ _ (fence_words p) (fence_words q) (sym left.answered ∙ right.answered))

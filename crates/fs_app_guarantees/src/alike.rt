@@ -17,13 +17,13 @@ ghost use Rattle.fs_cert_evidence.specs.Candidates.{Candidate, IsShowing};
 ghost use Rattle.fs_cert_evidence.specs.CandidateFaults.{HasTooMany, IsCandidateFault};
 ghost use Rattle.fs_cert_evidence.specs.Certificate.{Certificate, IsLeastCost};
 ghost use Rattle.fs_cert_evidence.specs.Listings.{IsListing};
-ghost use Rattle.fs_cert_evidence.specs.Refusals.{IsRefusal};
 ghost use Rattle.fs_cert_evidence.specs.Shown.{IsShownBy};
-ghost use Rattle.fs_cert_evidence.specs.Valid.{IsValid};
 ghost use Rattle.fs_cert_evidence.specs.Widths.{width};
-ghost use Rattle.fs_cert_evidence.specs.Board.{Board, Event, Reply};
-ghost use Rattle.fs_cert_evidence.specs.Histories.{LogEntry, Steps, IsHistory};
 ghost use Rattle.fs_cert_evidence.specs.Sizes.{IsNodeLimit};
+ghost use Rattle.fs_board_offers.specs.Offers.{Offers};
+ghost use Rattle.fs_board_offers.specs.Board.{Board, Event, Reply};
+ghost use Rattle.fs_board_offers.specs.Histories.{LogEntry, Steps, IsHistory};
+ghost use Rattle.fs_board_offers.specs.Priced.{IsValid, IsRefusal};
 
 /// A law: the same tests have the same slots, and are refused for the same faults: those of their runs, and too many
 /// candidates.
@@ -61,11 +61,11 @@ pub fn same_tests_allow_alike()
 /// of nodes where a search of the other may.
 pub fn same_tests_search_alike()
     ensures steps { (t u : Test) → IsSame t u
-        → (prices : PriceTable) (old : Board) (worker : ℕ) (event : Event) (reply : Reply) (new : Board)
-        → Steps t prices old worker event reply new ↔ Steps u prices old worker event reply new }
+        → (offers : Offers) (old : Board) (worker : ℕ) (event : Event) (reply : Reply) (new : Board)
+        → Steps t offers old worker event reply new ↔ Steps u offers old worker event reply new }
     ensures histories { (t u : Test) → IsSame t u
-        → (prices : PriceTable) (limit : ℕ) (log : List LogEntry) (board : Board)
-        → IsHistory t prices limit log board ↔ IsHistory u prices limit log board }
+        → (offers : Offers) (limit : ℕ) (log : List LogEntry) (board : Board)
+        → IsHistory t offers limit log board ↔ IsHistory u offers limit log board }
     ensures limits { (t u : Test) → IsSame t u → (prices : PriceTable) (limit : ℕ)
         → IsNodeLimit t prices limit ↔ IsNodeLimit u prices limit }
 {}

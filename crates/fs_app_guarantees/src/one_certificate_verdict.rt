@@ -7,8 +7,7 @@ ghost use Rattle.fs_kinds.specs.PriceTable.{PriceTable};
 ghost use Rattle.fs_model.specs.declared.test.Test.{Test};
 ghost use Rattle.fs_model.specs.Test.{IsBounded};
 ghost use Rattle.fs_cert_evidence.specs.Certificate.{Certificate};
-ghost use Rattle.fs_cert_evidence.specs.Refusals.{IsRefusal};
-ghost use Rattle.fs_cert_evidence.specs.Valid.{IsValid};
+ghost use Rattle.fs_board_offers.specs.Priced.{IsValid, IsRefusal};
 
 /// A law: for a test within the limits, and whatever the prices, a certificate that is valid has one answer, a
 /// placement or none; one that is valid isn't refused; and one that is refused has one reason against it. So of all

@@ -1,12 +1,13 @@
 -- Which fault `solve` answers first.
-use Rattle.std.proofs.Common.{◌≡◌, ◌≢◌, inl, inr, ℕ, List, Some, Result, Ok, Err, IfOk, sym, subst}
+use Rattle.std.proofs.Common.{◌≡◌, ◌≢◌, ◌∙◌, inl, inr, ℕ, List, Some, Result, Ok, Err, IfOk, sym, subst}
 use Rattle.fs_kinds.specs.declared.fault.Fault.{Fault}
 use Rattle.fs_kinds.specs.declared.fault.Fault.TheVariants.{Memory}
 use Rattle.fs_kinds.specs.PriceTable.{PriceTable}
 use Rattle.fs_litmus.specs.Faults.{IsTestFault}
 use Rattle.fs_app_place_order.specs.Place.{ArePricesOf, IsPricesFault}
 use Rattle.fs_app_place_order.proofs.Faults.{is_memory}
-use Rattle.fs_cert_evidence.specs.Evidence.{Question}
+use Rattle.fs_board_offers.specs.Questions.{Question}
+use Rattle.fs_board_search.proofs.PricedAnswers.{priced-fault}
 use Rattle.fs_pool_workers.specs.Answers.{IsSolveFault}
 use Rattle.fs_app_solve.specs.Solve.{IsFirstSolveFault, of_prices, of_test, of_search, of_memory}
 use Rattle.fs_app_solve.specs.Found.{IsAskedBy}
@@ -27,7 +28,8 @@ module _ (test prices : List ℕ) (limit : ℕ) where
   solve-search asked given f by copied h =
       elim (is_memory f) [
         | inl e ↦ solve-memory f e
-        | inr n ↦ of_search asked.prices asked.test by.priced by.reads (subst (λ q. IsSolveFault q limit f) copied (h n))
+        | inr n ↦ of_search by.table asked.test by.priced by.reads
+            (priced-fault asked.test by.table given limit f (copied ∙ by.asked_is) (h n))
       ]
 
 -- what follows from what holds of an answer holds of it

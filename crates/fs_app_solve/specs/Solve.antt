@@ -14,7 +14,7 @@ use Rattle.fs_cert_evidence.specs.CandidateFaults.{HasNoCyclesFault}
 use Rattle.fs_cert_evidence.specs.Certificate as said
 use Rattle.fs_cert_evidence.specs.CertificateFile.{IsCertificateFile}
 use Rattle.fs_cert_evidence.specs.Texts.{certificate_text, fenced_lines, none_lines, witness_text}
-use Rattle.fs_cert_evidence.specs.Valid.{IsValid}
+use Rattle.fs_board_offers.specs.Priced.{IsValid}
 use Rattle.fs_cert_evidence.specs.WitnessFile.{IsWitnessFile}
 use Rattle.fs_cert_evidence.specs.Sizes.{HasNoRunFault, IsUnanswered}
 use Rattle.fs_cert.specs.Cycles.{BeginsAtLeast, version_for}

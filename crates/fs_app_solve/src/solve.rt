@@ -2,23 +2,27 @@
 
 ghost use Rattle.std.specs.Prelude.{◌≡◌, ◌≤◌, ℕ, List, Some, IfOk, IfErr, IsOkUnless, string_bytes};
 ghost use Rattle.std.specs.Arc.{arc_value};
-ghost use Rattle.fs_kinds.specs.PriceTable.{IsPriceTable};
-ghost use Rattle.fs_model.specs.Test.{IsTest};
+ghost use Rattle.fs_kinds.specs.PriceTable.{PriceTable, IsPriceTable};
+ghost use Rattle.fs_model.specs.Test.{IsBounded, IsTest};
 ghost use Rattle.fs_litmus.specs.Reads.{Reads};
 ghost use Rattle.serde_json.specs.View.{view};
-ghost use Rattle.fs_cert_evidence.specs.Evidence.{Question as Asked, ShowsForbidden};
+ghost use Rattle.fs_cert_evidence.specs.Evidence.{ShowsForbidden};
+ghost use Rattle.fs_board_offers.specs.Questions.{Question as Asked};
+ghost use Rattle.fs_board_offers.specs.Offers.{offers_of};
 ghost use Rattle.fs_pool_workers.specs.Answers.{placement_of};
 ghost use Rattle.fs_cert.specs.Certified.{Certifies};
 ghost use Rattle.fs_app_place_order.specs.Place.{ArePricesOf};
 ghost use Rattle.fs_report.specs.Objects.{AreOneAnswer};
 ghost use Rattle.fs_app_solve.specs.Found.{IsAskedBy, IsFound, IsFoundFor, Prints, lines_of, value_of, is_free};
+ghost use Rattle.fs_board_search.specs.Priced.{question_of};
 ghost use Rattle.fs_app_io.specs.declared.status.Status.{Status as Ends};
 ghost use Rattle.fs_app_solve.specs.Solve.{IsSolved, IsCertified, IsFirstSolveFault};
 ghost use Rattle.fs_app_solve.specs.inner.Made.{CertifiesAnswer, SaysAnswer};
 
 use fs_app_io::{Output, Status};
+use fs_board_offers::Question;
 use fs_cert::{from_board, from_least, from_witness};
-use fs_cert_evidence::{Forbidden, Question};
+use fs_cert_evidence::Forbidden;
 use fs_cert_json::Certificate;
 use fs_kinds::{Fault, Prices, read_prices};
 use fs_litmus::{Test, read_test};
@@ -169,12 +173,16 @@ fn read_priced(alloc: Global, test: &[u8], prices: Prices) -> Result<Arc<Questio
     Ok(question)
 }
 
-/// The question of this test and these prices.
-fn question_of(alloc: Global, test: Test, prices: Prices) -> Result<Arc<Question>, AllocError>
-    ensures { IfOk result (λ question. arc_value question ≡ record { test = test; prices = prices }) }
+/// The question of this test, at whose slots these prices make the offers.
+fn question_of(alloc: Global, test: Test, prices: Prices) -> Result<Arc<Question>, Fault>
+    requires bounded { IsBounded test }
+    requires table { IsPriceTable prices }
+    ensures ok { IfOk result (λ question. arc_value question ≡ question_of test prices) }
+    ensures err { IsOkUnless result Fault.Memory }
 {
     let test = shared(alloc, test)?;
-    Ok(Arc::new(alloc, Question { test, prices })?)
+    let question = Question::priced(alloc, test, &prices)?;
+    Ok(Arc::new(alloc, question)?)
 }
 
 /// The test, to be shared.
@@ -222,8 +230,8 @@ fn answer_output(alloc: Global, answer: &Answer) -> Result<Output, AllocError>
 /// The text of a certificate of the answer.
 fn certificate_text(alloc: Global, question: &Question, solved: &Solved) -> Result<String, Fault>
     requires { (q : Asked) × (limit : ℕ) × IsFoundFor q limit question.now solved.now }
-    ensures ok { IfOk result (λ text.
-        SaysAnswer question.now.test question.now.prices solved.now.answer (string_bytes text)) }
+    ensures ok { IfOk result (λ text. (prices : PriceTable) → question.now.offers ≡ offers_of question.now.test prices
+        → SaysAnswer question.now.test prices solved.now.answer (string_bytes text)) }
     ensures err { IsOkUnless result Fault.Memory }
 {
     let made = certificate_of(alloc, question, solved)?;
@@ -234,7 +242,7 @@ fn certificate_text(alloc: Global, question: &Question, solved: &Solved) -> Resu
 /// The certificate of the answer.
 fn certificate_of(alloc: Global, question: &Question, solved: &Solved) -> Result<Certificate, Fault>
     requires { (q : Asked) × (limit : ℕ) × IsFoundFor q limit question.now solved.now }
-    ensures ok { IfOk result (CertifiesAnswer question.now.test question.now.prices solved.now.answer) }
+    ensures ok { IfOk result (CertifiesAnswer question.now.test question.now.offers solved.now.answer) }
     ensures err { IsOkUnless result Fault.Memory }
 {
     match &solved.answer {
@@ -254,7 +262,7 @@ fn fenced_certificate(
     requires placed { placement_of solved.now.answer ≡ Some forbidden.now.placement }
     requires cycles { ShowsForbidden question.now.test forbidden.now }
     requires found { (q : Asked) × (limit : ℕ) × IsFoundFor q limit question.now solved.now }
-    ensures ok { IfOk result (Certifies question.now.test question.now.prices (Some forbidden.now.placement)) }
+    ensures ok { IfOk result (Certifies question.now.test question.now.offers (Some forbidden.now.placement)) }
     ensures err { IsOkUnless result Fault.Memory }
 {
     match solved.board() {

@@ -3,8 +3,8 @@ use Rattle.std.proofs.Common.{◌≡◌, ℕ, zero, suc, ◌+◌, ◌^◌, ◌<�
 use Rattle.std.specs.Prelude.{IfSome, slice_get, drop, All, if◌then◌else◌, option_and_then, nat_lt}
 use Rattle.std.proofs.lemmas.Bool.Decides.{nat_tests}
 use Rattle.std.proofs.lemmas.List.Elements.{All-nil, All-cons}
-use Rattle.fs_cert_evidence.specs.Parts.{Part}
-use Rattle.fs_cert_evidence.specs.Board.{Board, Node, Status, Open, part_at}
+use Rattle.fs_board_offers.specs.Parts.{Part}
+use Rattle.fs_board_offers.specs.Board.{Board, Node, Status, Open, part_at}
 use Rattle.fs_board.specs.Growth.{open_node}
 
 pub map_drop : {A B : Type 0} (f : A → B) (n : ℕ) (xs : List A) → map f (drop n xs) ≡ drop n (map f xs)

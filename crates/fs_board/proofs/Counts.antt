@@ -4,7 +4,7 @@ use Rattle.std.specs.Prelude.{slice_get, slice_set, All, if◌then◌else◌, no
 use Rattle.std.specs.List.{list_any}
 use Rattle.std.proofs.lemmas.Bool.Decides.{nat_tests}
 use Rattle.std.proofs.lemmas.List.Elements.{All-head, All-tail}
-use Rattle.fs_cert_evidence.specs.Board.{Node, Status, Open, is_open, is_held}
+use Rattle.fs_board_offers.specs.Board.{Node, Status, Open, is_open, is_held}
 use Rattle.fs_board.specs.Counts.{IsCounted, count_of}
 
 abbrev pub one : Bool → ℕ

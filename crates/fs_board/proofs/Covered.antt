@@ -10,24 +10,25 @@ use Rattle.fs_kinds.specs.declared.kind.Kind.{Kind}
 use Rattle.fs_kinds.specs.declared.placement.Entry.{Entry}
 use Rattle.fs_kinds.specs.Kind.{is_subset}
 use Rattle.fs_kinds.specs.Placement.{pairs_kept}
-use Rattle.fs_kinds.specs.PriceTable.{PriceTable}
+use Rattle.fs_board_offers.specs.Offers.{Offers}
 use Rattle.fs_model.specs.declared.test.Test.{Test}
 use Rattle.fs_model.specs.Slots.{slots}
 use Rattle.fs_model.specs.Execution.{Execution, IsExecution}
 use Rattle.fs_model.specs.Allows.{Shows}
-use Rattle.fs_cert_evidence.specs.Parts.{Part, floor, filled_with}
-use Rattle.fs_cert_evidence.specs.Pruning.{is_pruned}
+use Rattle.fs_board_offers.specs.Parts.{Part, floor, filled_with, slots_in_part}
+use Rattle.fs_board_offers.specs.Pruning.{is_pruned}
 use Rattle.fs_cert_evidence.specs.Shown.{ShowsAs, IsShownBy}
 use Rattle.fs_cert_evidence.specs.Widths.{Width, width, is_within_width}
-use Rattle.fs_model_laws.specs.Bounds.{slots_in_part}
-use Rattle.fs_model_laws.proofs.Bounded.{rising-filled}
+use Rattle.fs_board_offers.proofs.Bounded.{rising-filled}
 use Rattle.fs_model_laws.proofs.ExactWidths.{exact}
 use Rattle.fs_model_laws.proofs.Weakening.{shows-weaker}
 use Rattle.fs_cert_evidence.specs.Evidence.{Shown, IsWitnessFor, witness_in, widths_of}
 use Rattle.fs_board.specs.Growth.{AreWitnesses}
-use Rattle.fs_cert_evidence.specs.Breaks.{is_kept}
+use Rattle.fs_board_offers.specs.Breaks.{is_kept}
 use Rattle.fs_board.specs.inner.Breaks.{widths_in, is_bounded}
 use Rattle.fs_board.proofs.Pruned.{same_pruned}
+use Rattle.fs_model.proofs.Rising.{rising-slots_from}
+use Rattle.fs_kinds.specs.Slot.{is_rising}
 
 kept_within : (w : Width) (kind : Option Kind) (part : Part)
     → is_kept kind part (widths_of w (slots_in_part part)) ≡ list_all (λ entry. is_subset (pairs_kept entry.kind) (w entry.slot)) (filled_with kind part)
@@ -35,6 +36,9 @@ kept_within w kind [] = refl
 kept_within w kind (d ∷ part) = ap (λ b. is_subset (pairs_kept (unwrap_or d.decided kind)) (w d.slot) && b) (kept_within w kind part)
 
 module _ (t : Test) (part : Part) (same : slots_in_part part ≡ slots t) where
+  rises : is_rising (slots_in_part part) ≡ true
+  rises = ap is_rising same ∙ rising-slots_from 0 t.codes
+
   its_widths : (w : Shown) (e : Execution) → IsWitnessFor t w e → w.widths ≡ widths_of (width t e) (slots_in_part part)
   its_widths w e is = is.widths ∙ ap (widths_of (width t e)) (sym same)
 
@@ -47,7 +51,7 @@ module _ (t : Test) (part : Part) (same : slots_in_part part ≡ slots t) where
   shows_kept kind w e is kept = (
     is.shows.0,
     record {
-      execution = (exact t e is.shows.1.execution (filled_with kind part) (rising-filled t kind part same)).0 (sym (within kind w e is) ∙ kept);
+      execution = (exact t e is.shows.1.execution (filled_with kind part) (rising-filled kind part rises)).0 (sym (within kind w e is) ∙ kept);
       outcome = is.shows.1.outcome;
     },
   )
@@ -60,7 +64,7 @@ module _ (t : Test) (part : Part) (same : slots_in_part part ≡ slots t) where
       let bare : Shows t [] other = shows-weaker t [] p other (λ s pair kept. absurd (false≢true kept)) shown.1 in
       let one : other ≡ e = is.only other (shown.0, bare) in
       let full : IsExecution t p e = subst (λ x. IsExecution t p x) one shown.1.execution in
-      within kind w e is ∙ (exact t e is.shows.1.execution p (rising-filled t kind part same)).1 full
+      within kind w e is ∙ (exact t e is.shows.1.execution p (rising-filled kind part rises)).1 full
 
   -- ---- lists of witnesses
 
@@ -94,9 +98,9 @@ module _ (t : Test) (part : Part) (same : slots_in_part part ≡ slots t) where
       }
 
   -- and whether they bound the part
-  pub bounds : {A : Type 0} (prices : PriceTable) (bound : Option (List Entry)) (b : Bool) (ws : List (Arc Shown A)) → AreWitnesses t (map arc_value ws) → each_kept ws ≡ true
-      → is_bounded prices bound part (map widths_in ws) ≡ b
-      → (es : List Execution) × AllZip (ShowsAs t (floor part)) (map witness_in ws) es × (is_pruned prices bound part (map (width t) es) ≡ b)
-  bounds prices bound b ws are kept is =
+  pub bounds : {A : Type 0} (offers : Offers) (bound : Option (List Entry)) (b : Bool) (ws : List (Arc Shown A)) → AreWitnesses t (map arc_value ws) → each_kept ws ≡ true
+      → is_bounded offers bound part (map widths_in ws) ≡ b
+      → (es : List Execution) × AllZip (ShowsAs t (floor part)) (map witness_in ws) es × (is_pruned offers bound part (map (width t) es) ≡ b)
+  bounds offers bound b ws are kept is =
       let all = all_shown ws are kept in
-      (all.executions, all.shown, sym (same_pruned prices bound part (map (width t) all.executions)) ∙ (ap (is_bounded prices bound part) (sym all.widths) ∙ is))
+      (all.executions, all.shown, sym (same_pruned offers bound part (map (width t) all.executions)) ∙ (ap (is_bounded offers bound part) (sym all.widths) ∙ is))

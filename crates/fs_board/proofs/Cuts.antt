@@ -8,15 +8,14 @@ use Rattle.fs_kinds.specs.declared.kind.Kind.TheVariants.{RwRw}
 use Rattle.fs_model.specs.Slots.{slots}
 use Rattle.fs_model.specs.Execution.{Execution}
 use Rattle.fs_model.specs.Witness.{Witness}
-use Rattle.fs_cert_evidence.specs.Parts.{Part}
-use Rattle.fs_model_laws.specs.Bounds.{slots_in_part}
-use Rattle.fs_cert_evidence.specs.Board.{Node, Status, Witnessed, Bounded, Event, CutWitness, CutBound, Closed, NotCovered, Cheaper, is_held_by, part_at}
-use Rattle.fs_cert_evidence.specs.Histories.{with_witnesses}
+use Rattle.fs_board_offers.specs.Parts.{Part, slots_in_part}
+use Rattle.fs_board_offers.specs.Board.{Node, Status, Witnessed, Bounded, Event, CutWitness, CutBound, Closed, NotCovered, Cheaper, is_held_by, part_at}
+use Rattle.fs_board_offers.specs.Histories.{with_witnesses}
 use Rattle.fs_cert_evidence.specs.Evidence.{Shown, IsWitnessFor, witness_in}
-use Rattle.fs_model_laws.proofs.Leaves.{history-parts}
+use Rattle.fs_board_offers.proofs.Leaves.{history-parts}
 use Rattle.fs_board.specs.Growth.{AreWitnesses}
 use Rattle.fs_board.specs.View.{Search, IsReplay}
-use Rattle.fs_cert_evidence.specs.Breaks.{is_kept}
+use Rattle.fs_board_offers.specs.Breaks.{is_kept}
 use Rattle.fs_board.specs.inner.Breaks.{widths_in, is_bounded}
 use Rattle.fs_board.proofs.Children.{node_with, length_map}
 use Rattle.fs_board.proofs.Covered.{shows_kept, kept_shown, each_kept, all_kept, bounds}
@@ -35,7 +34,8 @@ module _ (s : Search) (w k : ℕ) (part : Part) (was : IsReplay s) (held : Holds
 
   pub its_slots : slots_in_part part ≡ slots s.question.test
   its_slots = subst (λ p. slots_in_part p ≡ slots s.question.test) node.2
-      (history-parts s.question.test s.question.prices s.board.limit s.log s.board was.history k node.0 node.1).slots
+      ((history-parts s.question.test s.question.offers s.board.limit s.log s.board was.history k node.0 node.1).slots
+      ∙ was.asked.slots)
 
   may_close : (e : Event) (z : Status) (ws : List Witness) → StepsFrom s w e Closed (with_witnesses z k part ws s.board) → MayClose s w k e z ws
   may_close e z ws step = (node.0, node.1, subst (λ p. StepsFrom s w e Closed (with_witnesses z k p ws s.board)) (sym node.2) step)
@@ -61,11 +61,11 @@ module _ (s : Search) (w k : ℕ) (part : Part) (was : IsReplay s) (held : Holds
     pub all_uncovered : each_kept s.question.test part its_slots ws ≡ false → StepsFrom s w (CutBound k (map witness_in ws)) NotCovered s.board
     all_uncovered kept = (part, held, (λ shown. absurd (false≢true (sym kept ∙ all_kept s.question.test part its_slots ws are shown))), refl)
 
-    pub all_cheaper : each_kept s.question.test part its_slots ws ≡ true → is_bounded s.question.prices s.board.bound part (map widths_in ws) ≡ false
+    pub all_cheaper : each_kept s.question.test part its_slots ws ≡ true → is_bounded s.question.offers s.board.bound part (map widths_in ws) ≡ false
         → StepsFrom s w (CutBound k (map witness_in ws)) Cheaper s.board
-    all_cheaper kept cheap = (part, held, bounds s.question.test part its_slots s.question.prices s.board.bound false ws are kept cheap, refl)
+    all_cheaper kept cheap = (part, held, bounds s.question.test part its_slots s.question.offers s.board.bound false ws are kept cheap, refl)
 
-    pub may_bound : each_kept s.question.test part its_slots ws ≡ true → is_bounded s.question.prices s.board.bound part (map widths_in ws) ≡ true
+    pub may_bound : each_kept s.question.test part its_slots ws ≡ true → is_bounded s.question.offers s.board.bound part (map widths_in ws) ≡ true
         → (z : Status) (vs : List Witness) → z ≡ Bounded (length s.board.witnesses) (length ws) → vs ≡ map witness_in ws
         → MayClose s w k (CutBound k (map witness_in ws)) z vs
     may_bound kept dear z vs status same =
@@ -74,4 +74,4 @@ module _ (s : Search) (w k : ℕ) (part : Part) (was : IsReplay s) (held : Holds
         subst (λ y. MayClose s w k (CutBound k (map witness_in ws)) y vs) (sym count)
         (subst (λ us. MayClose s w k (CutBound k (map witness_in ws)) z' us) (sym same)
         (may_close (CutBound k (map witness_in ws)) z' (map witness_in ws)
-        (part, held, bounds s.question.test part its_slots s.question.prices s.board.bound true ws are kept dear, refl)))
+        (part, held, bounds s.question.test part its_slots s.question.offers s.board.bound true ws are kept dear, refl)))

@@ -9,11 +9,10 @@ use Rattle.fs_kinds.specs.declared.placement.Entry.{Entry}
 use Rattle.fs_kinds.specs.declared.slot.Slot.{Slot}
 use Rattle.fs_kinds.specs.Placement.{all_with, has_slot, with_kind}
 use Rattle.fs_kinds.specs.Slot.{is_same_slot, is_before, is_rising}
-use Rattle.fs_cert_evidence.specs.Parts.{Part, Decision, decide, filled_with}
-use Rattle.fs_model_laws.specs.Bounds.{slots_in_part}
+use Rattle.fs_board_offers.specs.Parts.{Part, Decision, decide, filled_with, slots_in_part}
 use Rattle.std.proofs.lemmas.List.{take_all}
 use Rattle.fs_model_laws.proofs.PlacedPairs.{itself}
-use Rattle.fs_model_laws.proofs.PartsOfTests.{slots-decide}
+use Rattle.fs_board_offers.proofs.PartsOfTests.{slots-decide}
 use Rattle.fs_board.specs.inner.Fills.{put_kind, put_at, put_all}
 
 -- ---- a slot that isn't there

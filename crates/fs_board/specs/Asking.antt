@@ -3,8 +3,9 @@ use Rattle.std.specs.Prelude.{option_map, map}
 use Rattle.std.specs.Arc.{arc_value}
 use Rattle.fs_model.specs.Allows.{Allows}
 use Rattle.fs_model.specs.Execution.{Execution}
-use Rattle.fs_model_laws.specs.Trees.{IsPart}
-use Rattle.fs_cert_evidence.specs.Evidence.{Question, IsWitnessFor, ShowsForbidden, placement_in}
+use Rattle.fs_board_offers.specs.Trees.{IsPart}
+use Rattle.fs_cert_evidence.specs.Evidence.{IsWitnessFor, ShowsForbidden, placement_in}
+use Rattle.fs_board_offers.specs.Questions.{Question}
 use Rattle.fs_board.specs.declared.event.Event.{Event}
 use Rattle.fs_board.specs.declared.event.Event.TheVariants as event
 use Rattle.fs_board.specs.declared.event.Reply.{Reply}
@@ -22,6 +23,6 @@ IsMade q event = Unit {0}
 -- The part of a node that is handed out is one of the question. What a peek shows is witnesses with their widths, and a
 -- placement with its cycles.
 abbrev pub Tells : Question → Reply → Type 0
-Tells q (reply.Node k part) = IsPart q.test q.prices (arc_value part)
+Tells q (reply.Node k part) = IsPart q.offers (arc_value part)
 Tells q (reply.Seen bound upto witnesses) = IsBacked q.test (option_map arc_value bound) (map arc_value witnesses)
 Tells q reply = Unit {0}

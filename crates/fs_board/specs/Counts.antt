@@ -1,6 +1,6 @@
 -- How the board keeps count of its open and its held nodes.
 use Rattle.std.specs.Prelude.{◌≡◌, ℕ, ◌+◌, ◌<◌, ◌≤◌, Bool, false, if◌then◌else◌, Some, List, [], ◌∷◌, length, slice_get}
-use Rattle.fs_cert_evidence.specs.Board.{Node, Status, is_open, is_held}
+use Rattle.fs_board_offers.specs.Board.{Node, Status, is_open, is_held}
 
 -- how many nodes have such a status
 abbrev pub count_of : (Status → Bool) → List Node → ℕ

@@ -2,8 +2,8 @@
 use Rattle.std.specs.Prelude.{◌≡◌, ℕ, Option, Some, option_map, IfSome, List, ◌++◌, map, slice_get, slice_set}
 use Rattle.fs_model.specs.declared.test.Test.{Test}
 use Rattle.fs_model.specs.Execution.{Execution}
-use Rattle.fs_cert_evidence.specs.Parts.{Part}
-use Rattle.fs_cert_evidence.specs.Board.{Board, Node, Status, Open}
+use Rattle.fs_board_offers.specs.Parts.{Part}
+use Rattle.fs_board_offers.specs.Board.{Board, Node, Status, Open}
 use Rattle.fs_cert_evidence.specs.Evidence.{Shown, Refuted, IsWitnessFor, ShowsForbidden}
 
 -- the nodes, the bound with its cycles, the witnesses with their widths, and the greatest number that a node may have

@@ -1,14 +1,15 @@
 -- Events, replies and the board as contracts see them: what is behind an `Arc` is its value.
 use Rattle.std.specs.Prelude.{◌≡◌, ℕ, ◌+◌, ◌≤◌, option_map, List, [], ◌∷◌, ◌++◌, map, length}
-use Rattle.fs_cert_evidence.specs.Board.{Board, Status, Open, Held, Split, Costly, Witnessed, Bounded, Posted, Event, Take, Claim, Adopt, SplitAt, CutCost, CutWitness, CutBound, Post, Peek, Reply, Given, Idle, Done, Gone, Children, NotYours, Decided, Full, Closed, Cheaper, NotCovered, Other, Seen}
-use Rattle.fs_cert_evidence.specs.Histories.{LogEntry, Steps, IsHistory}
+use Rattle.fs_board_offers.specs.Board.{Board, Status, Open, Held, Split, Costly, Witnessed, Bounded, Posted, Event, Take, Claim, Adopt, SplitAt, CutCost, CutWitness, CutBound, Post, Peek, Reply, Given, Idle, Done, Gone, Children, NotYours, Decided, Full, Closed, Cheaper, NotCovered, Other, Seen}
+use Rattle.fs_board_offers.specs.Histories.{LogEntry, Steps, IsHistory}
 use Rattle.fs_board.specs.declared.node.Status.{Status as CodeStatus}
 use Rattle.fs_board.specs.declared.node.Status.TheVariants as status
 use Rattle.fs_board.specs.declared.event.Event.{Event as CodeEvent}
 use Rattle.fs_board.specs.declared.event.Event.TheVariants as event
 use Rattle.fs_board.specs.declared.event.Reply.{Reply as CodeReply}
 use Rattle.fs_board.specs.declared.event.Reply.TheVariants as reply
-use Rattle.fs_cert_evidence.specs.Evidence.{Question, placement_in, witness_in}
+use Rattle.fs_cert_evidence.specs.Evidence.{placement_in, witness_in}
+use Rattle.fs_board_offers.specs.Questions.{Question, IsQuestion}
 use Rattle.fs_board.specs.Growth.{Tree, board_of, IsBacked}
 
 abbrev pub status_of : CodeStatus → Status
@@ -60,12 +61,13 @@ logged old board entry = record { question = old.question; board = board; log = 
 
 -- the event was a step of the board, and is the log's last entry
 pub record Answers (old new : Search) (worker : ℕ) (event : Event) (reply : Reply) : Type 0 where
-  pub step : Steps old.question.test old.question.prices old.board worker event reply new.board
+  pub step : Steps old.question.test old.question.offers old.board worker event reply new.board
   pub rest : new ≡ logged old new.board (entry_of worker event reply)
 
 -- the log is a legal history that leads to the board, and no node's number passes the limit
 pub record IsReplay (s : Search) : Type 0 where
-  pub history : IsHistory s.question.test s.question.prices s.board.limit s.log s.board
+  pub asked : IsQuestion s.question
+  pub history : IsHistory s.question.test s.question.offers s.board.limit s.log s.board
   pub room : length s.board.nodes ≤ s.board.limit + 1
   pub limit : s.board.limit ≤ 1000000
 

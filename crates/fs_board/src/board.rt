@@ -4,19 +4,19 @@ ghost use Rattle.std.specs.Prelude.{◌≡◌, ℕ, ◌+◌, ◌<◌, ◌≤◌,
 ghost use Rattle.std.specs.Prelude.{OnErr, IsOkUnless, option_map, vec_len, slice_get, true, false, map, drop};
 ghost use Rattle.std.specs.Vec.{vec_capacity};
 ghost use Rattle.std.specs.Arc.{arc_value};
-ghost use Rattle.fs_model.specs.Test.{IsBounded};
 ghost use Rattle.fs_model.specs.Allows.{Allows};
 ghost use Rattle.fs_model.specs.Execution.{Execution};
-ghost use Rattle.fs_cert_evidence.specs.Parts.{Part as PartValue, floor};
-ghost use Rattle.fs_cert_evidence.specs.Pruning.{is_no_better};
-ghost use Rattle.fs_cert_evidence.specs.Board.{Node as NodeValue, Event as EventValue, Reply as ReplyValue, Take};
-ghost use Rattle.fs_cert_evidence.specs.Board.{Claim, Adopt, SplitAt, CutCost, CutWitness, CutBound, Post, Peek, Given};
-ghost use Rattle.fs_cert_evidence.specs.Board.{Seen, Closed, Held, is_open, is_held, has_node, part_at, opening};
-ghost use Rattle.fs_cert_evidence.specs.Board.{with_status};
-ghost use Rattle.fs_cert_evidence.specs.Histories.{Steps, IsHistory, with_witnesses};
+ghost use Rattle.fs_board_offers.specs.Parts.{Part as PartValue, floor};
+ghost use Rattle.fs_board_offers.specs.Pruning.{is_no_better};
+ghost use Rattle.fs_board_offers.specs.Board.{Node as NodeValue, Event as EventValue, Reply as ReplyValue, Take};
+ghost use Rattle.fs_board_offers.specs.Board.{Claim, Adopt, SplitAt, CutCost, CutWitness, CutBound, Post, Peek, Given};
+ghost use Rattle.fs_board_offers.specs.Board.{Seen, Closed, Held, is_open, is_held, has_node, part_at, opening};
+ghost use Rattle.fs_board_offers.specs.Board.{with_status};
+ghost use Rattle.fs_board_offers.specs.Histories.{Steps, IsHistory, with_witnesses};
 ghost use Rattle.fs_board.specs.Counts.{count_of};
 ghost use Rattle.fs_cert_evidence.specs.Evidence.{Shown, IsWitnessFor, ShowsForbidden, witness_in, placement_in};
-ghost use Rattle.fs_cert_evidence.specs.Bests.{is_best};
+ghost use Rattle.fs_board_offers.specs.Bests.{is_best};
+ghost use Rattle.fs_board_offers.specs.Questions.{IsQuestion};
 ghost use Rattle.fs_board.specs.Growth.{AreWitnesses};
 ghost use Rattle.fs_board.specs.View.{Answers, status_of, event_of, reply_of};
 ghost use Rattle.fs_board.specs.Asking.{IsMade, Tells};
@@ -27,11 +27,9 @@ use crate::event::{Event, LogEntry, Reply};
 use crate::node::{Status, children_of};
 use crate::part::Part;
 use crate::tree::Tree;
-use fs_cert_evidence::{
-    Decision, Forbidden, OPTIONS, Question, Witness, cost, is_best, is_kept, is_same, precedes,
-};
-use fs_kinds::{Entry, Fault, Kind, List, Prices, Slot};
-use fs_model::slots;
+use fs_board_offers::{OPTIONS, Offers, Question, is_best, is_kept, is_no_better, is_same};
+use fs_cert_evidence::{Decision, Forbidden, Witness};
+use fs_kinds::{Entry, Fault, Kind, List, Slot};
 use std::alloc::{AllocError, Global};
 use std::marker::Model;
 use std::sync::Arc;
@@ -77,13 +75,12 @@ impl Board {
     /// The board with one open node, which is wholly undecided, and an empty log. No node's number may pass the limit.
     /// The error is F19. It takes time of slots.
     pub fn new(alloc: Global, question: Arc<Question>, limit: usize) -> Result<Board, Fault>
-        requires bounded { IsBounded (arc_value question).test }
         requires limit { limit ≤ 1000000 }
         ensures ok { IfOk result (λ b. b
-            ≡ record { question = arc_value question; board = opening (arc_value question).test limit; log = [] }) }
+            ≡ record { question = arc_value question; board = opening (arc_value question).offers limit; log = [] }) }
         ensures err { IsOkUnless result Fault.Memory }
     {
-        let places = slots(alloc, &question.test)?;
+        let places = question.offers().slots(alloc)?;
         let root = Part::undecided(alloc, &places)?;
         let tree = Tree::new(alloc, root, limit)?;
         Ok(Board {
@@ -93,14 +90,14 @@ impl Board {
         })
     }
 
-    /// The prices.
-    fn prices(&self) -> &Prices
-        ensures { result.now ≡ self.now.question.prices }
+    /// What may stand at the slots.
+    fn offers(&self) -> &Offers
+        ensures { result.now ≡ self.now.question.offers }
     {
-        &self.question.prices
+        self.question.offers()
     }
 
-    /// The test and the prices.
+    /// What is asked.
     pub fn question(&self) -> &Arc<Question>
         ensures { arc_value result.now ≡ self.now.question }
     {
@@ -162,7 +159,8 @@ impl Board {
     /// All events with their replies, in order: a legal history that leads to the board.
     pub fn log(&self) -> &[LogEntry]
         ensures value { result.now ≡ self.now.log }
-        ensures legal { IsHistory self.now.question.test self.now.question.prices self.now.board.limit self.now.log
+        ensures asked { IsQuestion self.now.question }
+        ensures legal { IsHistory self.now.question.test self.now.question.offers self.now.board.limit self.now.log
             self.now.board }
     {
         self.log.as_slice()
@@ -176,7 +174,7 @@ impl Board {
         reply: Reply,
         copy: Reply,
     ) -> Result<Reply, AllocError>
-        requires step { Steps self.old.question.test self.old.question.prices self.old.board worker (event_of event)
+        requires step { Steps self.old.question.test self.old.question.offers self.old.board worker (event_of event)
             (reply_of reply) self.old.board }
         requires copy { reply_of copy ≡ reply_of reply }
         ensures given { IfOk result (λ r. r ≡ reply) }
@@ -196,7 +194,7 @@ impl Board {
         part: Arc<Part>,
     ) -> Result<Reply, AllocError>
         requires there { (n : NodeValue) × (slice_get self.old.board.nodes node ≡ Some n) × (n.part ≡ arc_value part) }
-        requires may { Steps self.old.question.test self.old.question.prices self.old.board worker (event_of event)
+        requires may { Steps self.old.question.test self.old.question.offers self.old.board worker (event_of event)
             (Given node (arc_value part)) (with_status (Held worker) node (arc_value part) self.old.board) }
         ensures step { IfOk result (λ r. Answers self.old self.new worker (event_of event) (reply_of r)) }
         ensures err { OnErr result (self.new ≡ self.old) }
@@ -219,7 +217,7 @@ impl Board {
     ) -> Result<Reply, AllocError>
         requires closed { is_open (status_of status) ≡ false }
         requires may { (n : NodeValue) × (slice_get self.old.board.nodes node ≡ Some n)
-            × Steps self.old.question.test self.old.question.prices self.old.board worker (event_of
+            × Steps self.old.question.test self.old.question.offers self.old.board worker (event_of
             event) Closed (with_status (status_of status) node n.part self.old.board) }
         ensures step { IfOk result (λ r. Answers self.old self.new worker (event_of event) (reply_of r)) }
         ensures err { OnErr result (self.new ≡ self.old) }
@@ -242,7 +240,7 @@ impl Board {
         requires closed { is_open (status_of status) ≡ false }
         requires widths { AreWitnesses self.old.question.test (map arc_value witnesses.items) }
         requires may { (n : NodeValue) × (slice_get self.old.board.nodes node ≡ Some n)
-            × Steps self.old.question.test self.old.question.prices self.old.board worker (event_of
+            × Steps self.old.question.test self.old.question.offers self.old.board worker (event_of
             event) Closed (with_witnesses (status_of status) node n.part (map witness_in
             witnesses.items) self.old.board) }
         ensures step { IfOk result (λ r. Answers self.old self.new worker (event_of event) (reply_of r)) }
@@ -294,7 +292,7 @@ impl Board {
         self.hand_out(worker, Event::Adopt(node), node, part)
     }
 
-    /// Splits a node at an undecided slot: one open child for none, and one for each offered kind, in table order.
+    /// Splits a node at an undecided slot: one open child for none, and one for each kind that is offered there, in table order.
     /// `NotYours`; `Decided` where the slot is decided or none of the node's; `Full` where the last child's number
     /// would pass the limit. It takes time of slots times kinds.
     pub fn split(
@@ -315,7 +313,7 @@ impl Board {
             let event = Event::Split(node, slot);
             return self.refuse(worker, event, Reply::Decided, Reply::Decided);
         }
-        let children = children_of(alloc, self.prices(), part, slot, &OPTIONS)?;
+        let children = children_of(alloc, self.offers(), part, slot, &OPTIONS)?;
         let first = self.tree.len();
         let count = children.len();
         if self.tree.limit() + 1 < first + count {
@@ -419,8 +417,7 @@ impl Board {
             let event = Event::CutBound(node, witnesses);
             return self.refuse(worker, event, Reply::NotCovered, Reply::NotCovered);
         }
-        let floor = part.least(alloc)?;
-        if !self.is_bounded(part.as_slice(), &floor, witnesses.as_slice()) {
+        if !self.is_bounded(part.as_slice(), witnesses.as_slice()) {
             let event = Event::CutBound(node, witnesses);
             return self.refuse(worker, event, Reply::Cheaper, Reply::Cheaper);
         }
@@ -432,33 +429,24 @@ impl Board {
 
     /// Do the witnesses break at slots of their own, and is the floor with what breaking them costs no better than the
     /// bound?
-    fn is_bounded(&self, part: &[Decision], entries: &[Entry], witnesses: &[Arc<Witness>]) -> bool
-        requires { entries.now ≡ floor part.now }
+    fn is_bounded(&self, part: &[Decision], witnesses: &[Arc<Witness>]) -> bool
         ensures { result
-            ≡ is_bounded self.now.question.prices self.now.board.bound part.now (map widths_in witnesses.now) }
+            ≡ is_bounded self.now.question.offers self.now.board.bound part.now (map widths_in witnesses.now) }
     {
-        let prices = &self.question.prices;
-        if !break_apart(prices, part, witnesses) {
-            return false;
-        }
-        self.is_no_better(entries, bound_of(prices, part, entries, witnesses))
+        let offers = self.offers();
+        break_apart(offers, part, witnesses)
+            && self.is_no_better(part, bound_of(offers, part, witnesses))
     }
 
-    /// Is what costs at least so much, and isn't before these entries of a floor, no better than the bound? So it is
-    /// where nothing forbids the outcome, and then there is no cost.
-    fn is_no_better(&self, entries: &[Entry], least: Option<u128>) -> bool
-        ensures { (part : PartValue) → entries.now ≡ floor part → result
-            ≡ is_no_better self.now.question.prices self.now.board.bound part least }
+    /// Is what is under the part no better than the bound, where it costs at least so much? So it is where nothing
+    /// forbids the outcome, and then there is no cost.
+    fn is_no_better(&self, part: &[Decision], least: Option<u128>) -> bool
+        ensures { result ≡ is_no_better self.now.question.offers self.now.board.bound part.now least }
     {
-        let Some(least) = least else {
-            return true;
-        };
-        let Some(bound) = self.tree.bound() else {
-            return false;
-        };
-        let placement = bound.placement.as_slice();
-        let cost = cost(&self.question.prices, placement);
-        cost < least || cost == least && !precedes(entries, placement)
+        match self.bound() {
+            None => least.is_none(),
+            Some(bound) => is_no_better(self.offers(), bound.placement.as_slice(), part, least),
+        }
     }
 
     /// Closes a node whose least placement this is, and makes it the bound where it is better. `NotYours`; `Other`
@@ -497,9 +485,9 @@ impl Board {
 
     /// Is the placement better than the bound, or is there no bound?
     fn is_best(&self, placement: &[Entry]) -> bool
-        ensures { result ≡ is_best self.now.question.prices self.now.board.bound placement.now }
+        ensures { result ≡ is_best self.now.question.offers self.now.board.bound placement.now }
     {
-        is_best(&self.question.prices, self.bound(), placement)
+        is_best(self.offers(), self.bound(), placement)
     }
 
     /// Shows the bound with its cycles, how many witnesses there are, and those from this number on with their widths.

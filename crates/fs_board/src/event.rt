@@ -72,7 +72,7 @@ pub struct LogEntry {
 }
 
 impl Model for LogEntry {
-    ghost use Rattle.fs_cert_evidence.specs.Histories.{LogEntry as EntryValue};
+    ghost use Rattle.fs_board_offers.specs.Histories.{LogEntry as EntryValue};
     ghost use Rattle.fs_board.specs.View.{event_of, reply_of, entry_of};
 
     ghost Value = { EntryValue };

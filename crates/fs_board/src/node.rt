@@ -2,15 +2,15 @@
 
 ghost use Rattle.std.specs.Prelude.{◌≡◌, ◌≤◌, if◌then◌else◌, IfOk, map, filter};
 ghost use Rattle.std.specs.Arc.{arc_value};
-ghost use Rattle.fs_kinds.specs.PriceTable.{is_offered};
-ghost use Rattle.fs_cert_evidence.specs.Parts.{decide};
+ghost use Rattle.fs_board_offers.specs.Offers.{is_offered, offer_at};
+ghost use Rattle.fs_board_offers.specs.Parts.{decide};
 ghost use Rattle.fs_board.specs.Growth.{open_node};
-ghost use Rattle.fs_cert_evidence.specs.Board.{is_open, is_held, is_held_by};
+ghost use Rattle.fs_board_offers.specs.Board.{is_open, is_held, is_held_by};
 ghost use Rattle.fs_board.specs.View.{status_of};
 
 use crate::part::Part;
-use fs_cert_evidence::is_offered;
-use fs_kinds::{Kind, Prices, Slot};
+use fs_board_offers::Offers;
+use fs_kinds::{Kind, Slot};
 use std::alloc::{AllocError, Global};
 use std::marker::Model;
 use std::sync::Arc;
@@ -65,7 +65,7 @@ pub struct Node {
 
 impl Model for Node {
     ghost use Rattle.std.specs.Arc.{arc_value};
-    ghost use Rattle.fs_cert_evidence.specs.Board.{Node as NodeValue};
+    ghost use Rattle.fs_board_offers.specs.Board.{Node as NodeValue};
     ghost use Rattle.fs_board.specs.View.{status_of};
 
     ghost Value = { NodeValue };
@@ -114,17 +114,17 @@ pub(crate) fn bit(value: bool) -> usize
 /// Open nodes for the part with the slot decided in each of these ways that is offered.
 pub(crate) fn children_of(
     alloc: Global,
-    prices: &Prices,
+    offers: &Offers,
     part: &Part,
     slot: Slot,
     kinds: &[Option<Kind>],
 ) -> Result<Vec<Node>, AllocError>
     ensures { IfOk result (λ nodes. nodes.items
-        ≡ map open_node (map (decide slot part.now) (filter (is_offered prices.now) kinds.now))) }
+        ≡ map open_node (map (decide slot part.now) (filter (is_offered (offer_at offers.now slot)) kinds.now))) }
 {
     let mut nodes = Vec::new(alloc);
     for kind in kinds {
-        if is_offered(prices, *kind) {
+        if offers.is_offered(slot, *kind) {
             let child = part.decide(alloc, slot, *kind)?;
             nodes.push(Node::new(Arc::new(alloc, child)?, Status::Open))?;
         }

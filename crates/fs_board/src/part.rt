@@ -6,8 +6,8 @@ ghost use Rattle.std.specs.List.{find, list_any};
 ghost use Rattle.fs_kinds.specs.declared.slot.Slot.{Slot};
 ghost use Rattle.fs_kinds.specs.Placement.{all_with};
 ghost use Rattle.fs_kinds.specs.Slot.{is_same_slot, is_rising};
-ghost use Rattle.fs_cert_evidence.specs.Parts.{is_undecided, decide, filled_with, floor, filled};
-ghost use Rattle.fs_model_laws.specs.Bounds.{slots_in_part};
+ghost use Rattle.fs_board_offers.specs.Parts.{is_undecided, decide, filled_with, floor, filled};
+ghost use Rattle.fs_board_offers.specs.Parts.{slots_in_part};
 ghost use Rattle.fs_board.specs.inner.Fills.{put_at};
 
 use fs_cert_evidence::Decision;
@@ -22,10 +22,10 @@ pub struct Part {
 }
 
 impl Model for Part {
-    ghost use Rattle.fs_cert_evidence.specs.Parts.{Part as PartValue};
+    ghost use Rattle.fs_board_offers.specs.Parts.{Part as PartValue};
     ghost use Rattle.std.specs.Prelude.{IsTrue};
     ghost use Rattle.fs_kinds.specs.Slot.{is_rising};
-    ghost use Rattle.fs_model_laws.specs.Bounds.{slots_in_part};
+    ghost use Rattle.fs_board_offers.specs.Parts.{slots_in_part};
 
     ghost Value = { PartValue };
 

@@ -3,8 +3,8 @@
 ghost use Rattle.std.specs.Prelude.{◌≡◌, ◌<◌, ◌≤◌, ◌^◌, ◌+◌, ◌==◌, ◌++◌, ◌∷◌, [], length, map, true, false, not, Some};
 ghost use Rattle.std.specs.Prelude.{None, IfSome, IfNone, IfOk, OnOk, OnErr, All, option_map, slice_get, if◌then◌else◌};
 ghost use Rattle.std.specs.Arc.{arc_value};
-ghost use Rattle.fs_cert_evidence.specs.Board.{Node as NodeValue, Open, Split, Witnessed, Bounded, Posted, is_open};
-ghost use Rattle.fs_cert_evidence.specs.Board.{is_held, is_held_by, has_node, part_at};
+ghost use Rattle.fs_board_offers.specs.Board.{Node as NodeValue, Open, Split, Witnessed, Bounded, Posted, is_open};
+ghost use Rattle.fs_board_offers.specs.Board.{is_held, is_held_by, has_node, part_at};
 ghost use Rattle.fs_board.specs.Counts.{count_of};
 ghost use Rattle.fs_board.specs.Growth.{board_of, marked, grown, with_bound, with_more};
 ghost use Rattle.fs_board.specs.View.{status_of};

@@ -8,8 +8,7 @@ use Rattle.fs_kinds.specs.Placement.{slots_of, with_kind}
 use Rattle.fs_kinds.proofs.Entries.{slots_of-with_kind}
 use Rattle.fs_model.specs.declared.test.Test.{Test}
 use Rattle.fs_model.specs.Execution.{Execution}
-use Rattle.fs_cert_evidence.specs.Parts.{Part, filled_with, floor}
-use Rattle.fs_model_laws.specs.Bounds.{slots_in_part}
+use Rattle.fs_board_offers.specs.Parts.{Part, filled_with, floor, slots_in_part}
 use Rattle.fs_model_laws.proofs.Places.{at-append}
 use Rattle.fs_cert_evidence.specs.Evidence.{Shown, IsWitnessFor}
 use Rattle.fs_board.specs.Growth.{AreWitnesses}

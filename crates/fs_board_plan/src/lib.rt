@@ -8,4 +8,4 @@ mod store;
 
 pub use codes::Codes;
 pub use plan::{MOST_STEPS, cheapest_breaking};
-pub use store::{Limit, Offer, Store, Sum, cost};
+pub use store::{Limit, Store, Sum, Unbroken, cost};

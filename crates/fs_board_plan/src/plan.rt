@@ -4,13 +4,13 @@
 
 ghost use Rattle.std.specs.Prelude.{◌≡◌, IfOk, IfSome};
 ghost use Rattle.fs_kinds.specs.Placement.{slots_of};
-ghost use Rattle.fs_model_laws.specs.Bounds.{slots_in_part};
+ghost use Rattle.fs_board_offers.specs.Parts.{slots_in_part};
 
 use crate::codes::{Codes, bits_of_kind};
 use crate::store::{Limit, Store, Sum, cost};
 use fs_board::{Decision, Part};
-use fs_cert_evidence::{OPTIONS, is_offered};
-use fs_kinds::{Entry, Kind, Placement, Prices};
+use fs_board_offers::{OPTIONS, Offers};
+use fs_kinds::{Entry, Kind, List, Placement, Slot};
 use std::alloc::{AllocError, Global};
 
 /// So many steps are made before a plan is given up.
@@ -39,9 +39,9 @@ enum Outlook {
 struct Planner<'a> {
     alloc: Global,
     store: &'a Store,
-    prices: &'a Prices,
-    /// None, and the offered kinds, the cheapest first.
-    options: &'a [Option<Kind>],
+    offers: &'a Offers,
+    /// For each slot none, and the kinds that are offered there, the cheapest first.
+    options: &'a [List<Option<Kind>>],
 }
 
 /// What is decided, the least placement that has it, the slots that the walk decided, in this order, and what a
@@ -90,41 +90,41 @@ impl Walk {
     /// What is known of the placements that have what is decided. At a witness that is breakable at the fewest slots it
     /// goes on, with the last of them.
     fn outlook(&self, planner: Planner<'_>) -> Result<Outlook, AllocError> {
-        let mut sum = Sum::of(cost(planner.prices, &self.floor));
+        let mut sum = Sum::of(cost(planner.offers, &self.floor));
         if sum.passes(&self.limit) {
             return Ok(Outlook::Closed);
         }
         let codes = Codes::of_placement(&self.floor);
-        let offers = planner
+        let unbroken = planner
             .store
-            .offers(planner.alloc, &codes, &self.decisions)?;
-        for offer in &offers {
-            if sum.is_apart(offer) {
-                sum.add(offer);
+            .unbroken(planner.alloc, &codes, &self.decisions)?;
+        for found in &unbroken {
+            if sum.is_apart(found) {
+                sum.add(found);
                 if sum.passes(&self.limit) {
                     return Ok(Outlook::Closed);
                 }
             }
         }
-        let Some(offer) = offers.first() else {
+        let Some(found) = unbroken.first() else {
             return Ok(Outlook::Breaks);
         };
-        let Some(slot) = offer.last_place() else {
+        let Some(slot) = found.last_place() else {
             return Ok(Outlook::Closed);
         };
-        let left = planner.worth_trying(planner.store.lacks(&offers, slot));
+        let left = planner.worth_trying(slot, planner.store.lacks(&unbroken, slot));
         Ok(Outlook::Open(Level { slot, left }))
     }
 
     /// Decides the newest slot that has an option left in the next way. False where there is none: all placements were
     /// gone through.
-    fn go_on(&mut self, options: &[Option<Kind>]) -> bool {
+    fn go_on(&mut self, options: &[List<Option<Kind>>]) -> bool {
         for _ in 0..self.levels.len() {
             let Some(level) = self.levels.last_mut() else {
                 return false;
             };
             let slot = level.slot;
-            let option = options.get(level.left.trailing_zeros() as usize).copied();
+            let option = option_at(options, slot, level.left.trailing_zeros() as usize);
             level.left &= level.left.wrapping_sub(1);
             self.put(slot, option);
             if option.is_some() {
@@ -155,7 +155,7 @@ impl Walk {
                     if first_will_do {
                         return Ok(Walked::Ended(best));
                     }
-                    self.limit = Limit::below(cost(planner.prices, &self.floor));
+                    self.limit = Limit::below(cost(planner.offers, &self.floor));
                 }
                 Outlook::Open(level) => self.levels.push(level)?,
             }
@@ -167,12 +167,16 @@ impl Walk {
     }
 }
 
-/// What may stand in a slot: none, and the offered kinds, the cheapest first.
-fn options_of(alloc: Global, prices: &Prices) -> Result<Vec<Option<Kind>>, AllocError> {
+/// What may stand at a slot: none, and the kinds that are offered there, the cheapest first.
+fn options_at(
+    alloc: Global,
+    offers: &Offers,
+    slot: Slot,
+) -> Result<List<Option<Kind>>, AllocError> {
     let mut priced = Vec::new(alloc);
     for kind in OPTIONS {
-        if is_offered(prices, kind) {
-            priced.push((kind.and_then(|kind| prices.of(kind)), kind))?;
+        if offers.is_offered(slot, kind) {
+            priced.push((offers.cost_at(slot, kind), kind))?;
         }
     }
     priced.sort_unstable();
@@ -180,7 +184,26 @@ fn options_of(alloc: Global, prices: &Prices) -> Result<Vec<Option<Kind>>, Alloc
     for (_, kind) in &priced {
         options.push(*kind)?;
     }
+    Ok(List::new(options))
+}
+
+/// What may stand at each of these slots.
+fn all_options(
+    alloc: Global,
+    offers: &Offers,
+    slots: &[Decision],
+) -> Result<Vec<List<Option<Kind>>>, AllocError> {
+    let mut options = Vec::new(alloc);
+    for decision in slots {
+        options.push(options_at(alloc, offers, decision.slot)?)?;
+    }
     Ok(options)
+}
+
+/// The option of this number at the slot of this number.
+fn option_at(options: &[List<Option<Kind>>], slot: usize, number: usize) -> Option<Option<Kind>> {
+    let here = options.get(slot)?;
+    here.as_slice().get(number).copied()
 }
 
 /// Which of these sets of pairs, a bit for each, have a pair that the option orders.
@@ -205,16 +228,18 @@ fn all_open(alloc: Global, slots: &[Decision]) -> Result<Vec<Decision>, AllocErr
 }
 
 impl Planner<'_> {
-    /// The options that are worth a try at a slot, a bit for each, where these are the sets of pairs that unbroken
-    /// witnesses don't keep there: none, and each but those of which one option before, no dearer, breaks all that they
-    /// break.
-    fn worth_trying(self, sets: u16) -> u32 {
+    /// The options that are worth a try at the slot of this number, a bit for each, where these are the sets of pairs
+    /// that unbroken witnesses don't keep there: none, and each but those of which one option before, no dearer, breaks
+    /// all that they break.
+    fn worth_trying(self, slot: usize, sets: u16) -> u32 {
+        let Some(options) = self.options.get(slot) else {
+            return 0;
+        };
         let mut worth: u32 = 0;
         let mut bit: u32 = 1;
-        for (number, option) in self.options.iter().enumerate() {
+        for (number, option) in options.iter().enumerate() {
             let broken = broken_by(*option, sets);
-            let is_spared = self
-                .options
+            let is_spared = options
                 .iter()
                 .take(number)
                 .any(|before| broken & !broken_by(*before, sets) == 0);
@@ -254,12 +279,12 @@ impl Planner<'_> {
         number: usize,
         steps: &mut usize,
     ) -> Result<Walked, AllocError> {
-        let limit = Limit::up_to(cost(self.prices, placement));
-        let known = placement.get(number).and_then(|entry| entry.kind);
-        for kind in OPTIONS.iter().take_while(|kind| **kind < known) {
-            if !is_offered(self.prices, *kind) {
-                continue;
-            }
+        let limit = Limit::up_to(cost(self.offers, placement));
+        let Some(known) = placement.get(number) else {
+            return Ok(Walked::Ended(None));
+        };
+        let before = kinds_before(self.alloc, self.offers, *known)?;
+        for (_, kind) in &before {
             let decisions = self.decided(placement, number, *kind)?;
             let walked = Walk::new(self.alloc, decisions, limit)?.run(self, true, steps)?;
             if !matches!(walked, Walked::Ended(None)) {
@@ -288,6 +313,25 @@ impl Planner<'_> {
     }
 }
 
+/// What may stand at the entry's slot and comes before its kind there of what costs the same, the first first, each
+/// with its place in this order.
+fn kinds_before(
+    alloc: Global,
+    offers: &Offers,
+    known: Entry,
+) -> Result<Vec<(usize, Option<Kind>)>, AllocError> {
+    let slot = known.slot;
+    let mut before = Vec::new(alloc);
+    for kind in OPTIONS {
+        let rank = offers.rank(Entry { slot, kind });
+        if rank < offers.rank(known) && offers.is_offered(slot, kind) {
+            before.push((rank, kind))?;
+        }
+    }
+    before.sort_unstable();
+    Ok(before)
+}
+
 /// Puts the kind, or none, at the slot in place of what is there.
 #[tactic(auto, using(crate::proofs::Parts::slots_with))]
 fn put_at(placement: &mut Placement, entry: &Entry)
@@ -312,17 +356,17 @@ fn put_all(placement: &mut Placement, entries: &[Entry])
 pub fn cheapest_breaking(
     alloc: Global,
     store: &Store,
-    prices: &Prices,
+    offers: &Offers,
     part: &Part,
     steps: &mut usize,
 ) -> Result<Option<Placement>, AllocError>
     ensures { IfOk result (λ found. IfSome found (λ p. slots_of p ≡ slots_in_part part.now)) }
 {
-    let options = options_of(alloc, prices)?;
+    let options = all_options(alloc, offers, part.as_slice())?;
     let planner = Planner {
         alloc,
         store,
-        prices,
+        offers,
         options: &options,
     };
     let Some(entries) = planner.best(part.as_slice(), steps)? else {

@@ -7,8 +7,9 @@ ghost use Rattle.fs_board.specs.Growth.{AreWitnesses};
 
 use crate::codes::Codes;
 use fs_board::{Decision, Part};
-use fs_cert_evidence::{Forbidden, OPTIONS, Pairs, Witness, floor_precedes, least_of};
-use fs_kinds::{Entry, Prices, Slot};
+use fs_board_offers::{Offers, break_at, earliest_precedes};
+use fs_cert_evidence::{Forbidden, Pairs, Witness};
+use fs_kinds::{Entry, Slot};
 use std::alloc::{AllocError, Global};
 use std::marker::Model;
 use std::sync::Arc;
@@ -52,14 +53,14 @@ impl Model for Store {
 /// it, what its least break lacks to the greatest number, its number, and the breakable slots as bits. The least one is
 /// tried first.
 #[derive(Clone, Copy, PartialEq, Eq, PartialOrd, Ord)]
-pub struct Offer {
+pub struct Unbroken {
     slots: u32,
     lack: u64,
     number: usize,
     places: u64,
 }
 
-impl Offer {
+impl Unbroken {
     /// The number of the last slot that is breakable. None where there is none.
     pub fn last_place(&self) -> Option<usize> {
         last_of(self.places)
@@ -91,24 +92,23 @@ fn fenced_places(placement: &[Entry]) -> u64 {
 }
 
 /// What the cheapest offered kind costs that orders a pair at the slot which isn't among these.
-fn least_break(prices: &Prices, slot: Slot, kept: Pairs) -> u64 {
-    least_of(prices, kept, prices.weight(slot), &OPTIONS).map_or(NEVER, u64::from)
+fn least_break(offers: &Offers, slot: Slot, kept: Pairs) -> u64 {
+    break_at(offers, slot, kept).map_or(NEVER, u64::from)
 }
 
-/// What the placement costs. At the highest prices and weights that is far below what never is.
-pub fn cost(prices: &Prices, placement: &[Entry]) -> u64 {
-    u64::try_from(fs_cert_evidence::cost(prices, placement)).unwrap_or(NEVER)
+/// What the placement costs. At the highest costs that is far below what never is.
+pub fn cost(offers: &Offers, placement: &[Entry]) -> u64 {
+    u64::try_from(fs_board_offers::cost(offers, placement)).unwrap_or(NEVER)
 }
 
 /// What the least placement of these decisions costs.
-fn floor_cost(prices: &Prices, decisions: &[Decision]) -> u64 {
-    u64::try_from(fs_cert_evidence::floor_cost(prices, decisions)).unwrap_or(NEVER)
+fn floor_cost(offers: &Offers, decisions: &[Decision]) -> u64 {
+    u64::try_from(fs_board_offers::floor_cost(offers, decisions)).unwrap_or(NEVER)
 }
 
 impl Known {
-    /// Whether it is worth an offer at a node: where it shows the outcome under the node's least placement, what
-    /// breaking it takes.
-    fn offer(&self, number: usize, floor: &Codes, decisions: &[Decision]) -> Option<Offer> {
+    /// What breaking it takes at a node, where it shows the outcome under the node's least placement.
+    fn unbroken(&self, number: usize, floor: &Codes, decisions: &[Decision]) -> Option<Unbroken> {
         if !floor.is_within(&self.kept) {
             return None;
         }
@@ -125,7 +125,7 @@ impl Known {
             place = place.wrapping_shl(1);
         }
         let lack = NEVER.saturating_sub(least);
-        Some(Offer {
+        Some(Unbroken {
             slots,
             lack,
             number,
@@ -154,7 +154,7 @@ impl Store {
     pub fn keep(
         &mut self,
         alloc: Global,
-        prices: &Prices,
+        offers: &Offers,
         decisions: &[Decision],
         witness: Arc<Witness>,
     ) -> Result<(), AllocError>
@@ -162,7 +162,7 @@ impl Store {
         ensures err { OnErr result (self.new ≡ self.old) }
     {
         let kept = Codes::of_widths(witness.widths.as_slice());
-        let breaks = breaks_of(alloc, prices, decisions, witness.widths.as_slice())?;
+        let breaks = breaks_of(alloc, offers, decisions, witness.widths.as_slice())?;
         self.known.push(Known {
             witness,
             kept,
@@ -175,7 +175,7 @@ impl Store {
     pub fn add(
         &mut self,
         alloc: Global,
-        prices: &Prices,
+        offers: &Offers,
         decisions: &[Decision],
         witness: Witness,
     ) -> Result<Arc<Witness>, AllocError>
@@ -185,7 +185,7 @@ impl Store {
     {
         let witness = Arc::new(alloc, witness)?;
         let shared = Arc::try_clone(&witness)?;
-        self.keep(alloc, prices, decisions, witness)?;
+        self.keep(alloc, offers, decisions, witness)?;
         Ok(shared)
     }
 
@@ -210,44 +210,44 @@ impl Store {
         Some(&known.witness)
     }
 
-    /// Adds the offered witness, unless it shares a breakable slot with those that were added before.
+    /// Adds the witness, unless it shares a breakable slot with those that were added before.
     fn take(
         &self,
         picked: &mut Vec<Arc<Witness>>,
         sum: &mut Sum,
-        offer: &Offer,
+        found: &Unbroken,
     ) -> Result<(), AllocError>
         ensures { (t : Test) → AreWitnesses t self.now → AreWitnesses t (map arc_value picked.old.items)
             → AreWitnesses t (map arc_value picked.new.items) }
     {
-        if !sum.is_apart(offer) {
+        if !sum.is_apart(found) {
             return Ok(());
         }
-        let Some(witness) = self.get(offer.number) else {
+        let Some(witness) = self.get(found.number) else {
             return Ok(());
         };
         let shared = Arc::try_clone(witness)?;
         picked.push(shared)?;
-        sum.add(offer);
+        sum.add(found);
         Ok(())
     }
 
-    /// What the witnesses offer that show the outcome under a node's least placement: those first that are breakable at
-    /// the fewest slots, and of these those whose least break is the highest.
-    pub fn offers(
+    /// The witnesses that show the outcome under a node's least placement: those first that are breakable at the fewest
+    /// slots, and of these those whose least break is the highest.
+    pub fn unbroken(
         &self,
         alloc: Global,
         floor: &Codes,
         decisions: &[Decision],
-    ) -> Result<Vec<Offer>, AllocError> {
-        let mut offers = Vec::new(alloc);
+    ) -> Result<Vec<Unbroken>, AllocError> {
+        let mut unbroken = Vec::new(alloc);
         for (number, known) in self.known.iter().enumerate() {
-            if let Some(offer) = known.offer(number, floor, decisions) {
-                offers.push(offer)?;
+            if let Some(found) = known.unbroken(number, floor, decisions) {
+                unbroken.push(found)?;
             }
         }
-        offers.sort_unstable();
-        Ok(offers)
+        unbroken.sort_unstable();
+        Ok(unbroken)
     }
 
     /// Witnesses that bound the node of this part and cost too much to break together, taken greedily: each that shares
@@ -255,7 +255,7 @@ impl Store {
     pub fn pick(
         &self,
         alloc: Global,
-        prices: &Prices,
+        offers: &Offers,
         bound: Option<&Arc<Forbidden>>,
         part: &Part,
     ) -> Result<Vec<Arc<Witness>>, AllocError>
@@ -263,13 +263,13 @@ impl Store {
             → AreWitnesses t (map arc_value picked.items)) }
     {
         let decisions = part.as_slice();
-        let offers = self.offers(alloc, &Codes::of_floor(decisions), decisions)?;
+        let unbroken = self.unbroken(alloc, &Codes::of_floor(decisions), decisions)?;
         let best = bound.map(|bound| bound.placement.as_slice());
-        let limit = Limit::of(prices, best, decisions);
-        let mut sum = Sum::of(floor_cost(prices, decisions));
+        let limit = Limit::of(offers, best, decisions);
+        let mut sum = Sum::of(floor_cost(offers, decisions));
         let mut picked = Vec::new(alloc);
-        for offer in &offers {
-            self.take(&mut picked, &mut sum, offer)?;
+        for found in &unbroken {
+            self.take(&mut picked, &mut sum, found)?;
             if sum.passes(&limit) {
                 return Ok(picked);
             }
@@ -290,24 +290,24 @@ impl Store {
         part: &Part,
     ) -> Result<Option<Slot>, AllocError> {
         let decisions = part.as_slice();
-        let offers = self.offers(alloc, &Codes::of_floor(decisions), decisions)?;
-        let fewest = offers.first().map_or(0, |offer| offer.slots);
+        let unbroken = self.unbroken(alloc, &Codes::of_floor(decisions), decisions)?;
+        let fewest = unbroken.first().map_or(0, |found| found.slots);
         let fenced = best.map_or(0, |best| fenced_places(best.placement.as_slice()));
-        let place = offers
+        let place = unbroken
             .iter()
-            .take_while(|offer| offer.slots == fewest)
-            .filter_map(|offer| offer.last_place_among(fenced))
+            .take_while(|found| found.slots == fewest)
+            .filter_map(|found| found.last_place_among(fenced))
             .min();
         let decision = place.and_then(|place| decisions.get(place));
         Ok(decision.map(|decision| decision.slot))
     }
 
-    /// What the offered witnesses don't keep at the slot of this number: a bit for each set of pairs, by the bits of
-    /// the pairs.
-    pub fn lacks(&self, offers: &[Offer], place: usize) -> u16 {
+    /// What these witnesses don't keep at the slot of this number: a bit for each set of pairs, by the bits of the
+    /// pairs.
+    pub fn lacks(&self, unbroken: &[Unbroken], place: usize) -> u16 {
         let mut lacks: u16 = 0;
-        for offer in offers {
-            if let Some(known) = self.known.get(offer.number) {
+        for found in unbroken {
+            if let Some(known) = self.known.get(found.number) {
                 lacks |= 1u16.wrapping_shl(known.kept.lacking_at(place));
             }
         }
@@ -329,13 +329,13 @@ impl Store {
 /// What breaking an execution of these widths costs at each slot.
 fn breaks_of(
     alloc: Global,
-    prices: &Prices,
+    offers: &Offers,
     decisions: &[Decision],
     widths: &[Pairs],
 ) -> Result<Vec<u64>, AllocError> {
     let mut breaks = Vec::new(alloc);
     for (decision, kept) in decisions.iter().zip(widths) {
-        breaks.push(least_break(prices, decision.slot, *kept))?;
+        breaks.push(least_break(offers, decision.slot, *kept))?;
     }
     Ok(breaks)
 }
@@ -357,14 +357,14 @@ impl Sum {
     }
 
     /// Does the witness share no breakable slot with those that were taken?
-    pub fn is_apart(&self, offer: &Offer) -> bool {
-        offer.places & self.places == 0
+    pub fn is_apart(&self, found: &Unbroken) -> bool {
+        found.places & self.places == 0
     }
 
     /// Takes one more.
-    pub fn add(&mut self, offer: &Offer) {
-        self.total = self.total.saturating_add(NEVER.saturating_sub(offer.lack));
-        self.places |= offer.places;
+    pub fn add(&mut self, found: &Unbroken) {
+        self.total = self.total.saturating_add(NEVER.saturating_sub(found.lack));
+        self.places |= found.places;
     }
 
     /// Does so much close the node?
@@ -402,14 +402,14 @@ impl Limit {
         }
     }
 
-    /// The limit at a node of these decisions: at equal cost the best placement so far wins where the node's least
+    /// The limit at a node of these decisions: at equal cost the best placement so far wins where the node's earliest
     /// placement isn't before it. Where there is none it is what can't be had at all.
-    fn of(prices: &Prices, best: Option<&[Entry]>, decisions: &[Decision]) -> Limit {
+    fn of(offers: &Offers, best: Option<&[Entry]>, decisions: &[Decision]) -> Limit {
         match best {
             None => Limit::never(),
             Some(best) => Limit {
-                cost: cost(prices, best),
-                is_enough: !floor_precedes(decisions, best),
+                cost: cost(offers, best),
+                is_enough: !earliest_precedes(offers, decisions, best),
             },
         }
     }

@@ -1,5 +1,5 @@
 -- The least and the greatest placement as answers, what a finished board's bound says, and which fault is handed on.
-use Rattle.std.proofs.Common.{◌≡◌, ◌≢◌, ℕ, ◌<◌, true, Some, None, Result, Ok, Err, IfErr, List, [], ◌∷◌, map, length, refl, sym, ap, subst, ◌∙◌, inl, inr}
+use Rattle.std.proofs.Common.{◌≡◌, ◌≢◌, ℕ, ◌<◌, true, Some, None, Result, Ok, Err, IfErr, List, [], ◌∷◌, map, refl, sym, ap, subst, ◌∙◌, inl, inr}
 use Rattle.std.specs.Result.{IsErrAnd}
 use Rattle.std.proofs.lemmas.Bool.{and_from, false≢true}
 use Rattle.fs_kinds.specs.declared.fault.Fault.{Fault}
@@ -8,73 +8,80 @@ use Rattle.fs_kinds.specs.declared.kind.Kind.TheVariants.{RwRw}
 use Rattle.fs_kinds.specs.declared.placement.Entry.{Entry}
 use Rattle.fs_kinds.specs.declared.slot.Slot.{Slot}
 use Rattle.fs_kinds.specs.Placement.{slots_of, all_with}
-use Rattle.fs_kinds.specs.PriceTable.{PriceTable, IsPriceTable, are_offered, cost}
+use Rattle.fs_board_offers.specs.Offers.{Offers, are_offered, IsCheapest, is_better, slots}
 use Rattle.fs_kinds.proofs.Entries.{slots_of-all_with}
 use Rattle.fs_model.specs.declared.test.Test.{Test}
-use Rattle.fs_model.specs.Slots.{slots}
-use Rattle.fs_model.specs.Allows.{Allows, IsCheapest, is_better}
+use Rattle.fs_model.specs.Slots as test
+use Rattle.fs_model.proofs.Rising.{rising-slots_from}
+use Rattle.fs_model.specs.Allows.{Allows}
 use Rattle.fs_cert_evidence.specs.CandidateFaults.{IsCandidateFault}
-use Rattle.fs_cert_evidence.specs.Parts.{floor, undecided}
-use Rattle.fs_cert_evidence.specs.Board.{is_finished}
-use Rattle.fs_cert_evidence.specs.Histories.{IsHistory}
-use Rattle.fs_cert_evidence.specs.Sizes.{HasNoRunFault, tree_size}
-use Rattle.fs_model_laws.specs.Closing.{IsFinalAnswer}
-use Rattle.fs_model_laws.proofs.PartsOfTests.{under-root}
-use Rattle.fs_model_laws.proofs.Final.{final}
-use Rattle.fs_model_laws.proofs.Floors.{floor-best}
-use Rattle.fs_cert_evidence.specs.Evidence.{Question}
+use Rattle.fs_board_offers.specs.Parts.{floor, undecided}
+use Rattle.fs_board_offers.specs.Board.{is_finished}
+use Rattle.fs_board_offers.specs.Histories.{IsHistory}
+use Rattle.fs_board_offers.specs.Sizes.{HasNoRunFault, whole_tree}
+use Rattle.fs_board_offers.proofs.PartsOfTests.{under-root}
+use Rattle.fs_board_offers.proofs.Floors.{floor-best}
+use Rattle.fs_board_offers.specs.Questions.{Question, IsQuestion, HasTop}
 use Rattle.fs_board.specs.View.{Search}
 pub use Rattle.fs_board_search.proofs.Handed.{handed}
 use Rattle.fs_board_search.specs.Answers.{IsEndFault, IsSearchFault, IsSolveFault}
 use Rattle.fs_board_search.specs.Histories.{GoesOn}
+use Rattle.fs_board_offers.proofs.Final.{cheapest, none-forbid}
+use Rattle.fs_kinds.specs.Slot.{is_rising}
 
 -- ---- no fence at all
 
-offered-none : (prices : PriceTable) (ss : List Slot) → are_offered prices (all_with None ss) ≡ true
-offered-none prices [] = refl
-offered-none prices (s ∷ ss) = and_from _ _ refl (offered-none prices ss)
+offered-none : (offers : Offers) (ss : List Slot) → are_offered offers (all_with None ss) ≡ true
+offered-none offers [] = refl
+offered-none offers (s ∷ ss) = and_from _ _ refl (offered-none offers ss)
 
 floor-undecided : (ss : List Slot) → floor (map (λ slot. record { slot = slot; decided = None }) ss) ≡ all_with None ss
 floor-undecided [] = refl
 floor-undecided (s ∷ ss) = ap (λ (p : List Entry). record { slot = s; kind = None } ∷ p) (floor-undecided ss)
 
-pub none-offered : (t : Test) (prices : PriceTable) (p : List Entry) → p ≡ all_with None (slots t) → are_offered prices p ≡ true
-none-offered t prices p is = ap (are_offered prices) is ∙ offered-none prices (slots t)
-
 -- where it forbids the outcome it is the answer
-pub none-cheapest : (t : Test) (prices : PriceTable) (p : List Entry) → p ≡ all_with None (slots t) → (Allows t p → ⊥) → IsCheapest t prices p
-none-cheapest t prices p is forbids = record {
-  placement = record { slots = ap slots_of is ∙ slots_of-all_with None (slots t); offered = none-offered t prices p is };
-  forbids = forbids;
-  better = λ q placement better.
-      let worse = floor-best prices (undecided t) q (under-root t prices q placement) in
-      let same : is_better prices q (floor (undecided t)) ≡ is_better prices q p = ap (is_better prices q) (floor-undecided (slots t) ∙ sym is) in
-      absurd (false≢true (sym worse ∙ (same ∙ better)));
-}
+pub none-cheapest : (t : Test) (offers : Offers) (p : List Entry) → slots offers ≡ test.slots t → p ≡ all_with None (test.slots t)
+    → (Allows t p → ⊥) → IsCheapest t offers p
+none-cheapest t offers p over is forbids =
+    let none : p ≡ all_with None (slots offers) = is ∙ ap (all_with None) (sym over) in
+    record {
+      placement = record {
+        slots = ap slots_of none ∙ slots_of-all_with None (slots offers);
+        offered = ap (are_offered offers) none ∙ offered-none offers (slots offers);
+      };
+      forbids = forbids;
+      better = λ q placement better.
+          let worse = floor-best offers (undecided offers) q (under-root offers q placement) in
+          let same : is_better offers q (floor (undecided offers)) ≡ is_better offers q p =
+          ap (is_better offers q) (floor-undecided (slots offers) ∙ sym none) in
+          absurd (false≢true (sym worse ∙ (same ∙ better)));
+    }
 
 -- ---- a finished board
 
+-- the slots that something is offered at rise
+pub rising-offers : (q : Question) → IsQuestion q → is_rising (slots q.offers) ≡ true
+rising-offers q asked = ap is_rising asked.slots ∙ rising-slots_from 0 q.test.codes
+
 -- the bound is the answer
-pub bound-cheapest : (s : Search) (q : Question) (p : List Entry) → s.question ≡ q → IsPriceTable q.prices
-    → IsHistory s.question.test s.question.prices s.board.limit s.log s.board → is_finished s.board ≡ true → Some p ≡ s.board.bound
-    → IsCheapest q.test q.prices p
-bound-cheapest s q p same table history finished is =
-    let table_there = subst (λ (x : Question). IsPriceTable x.prices) (sym same) table in
-    let answer = final s.question.test s.question.prices s.board.limit s.log s.board table_there history finished in
-    let cheapest : IsCheapest s.question.test s.question.prices p =
-    subst (IsFinalAnswer s.question.test s.question.prices s.board.witnesses) (sym is) answer in
-    subst (λ (x : Question). IsCheapest x.test x.prices p) same cheapest
+pub bound-cheapest : (s : Search) (p : List Entry) → IsQuestion s.question
+    → IsHistory s.question.test s.question.offers s.board.limit s.log s.board → is_finished s.board ≡ true → Some p ≡ s.board.bound
+    → IsCheapest s.question.test s.question.offers p
+bound-cheapest s p asked history finished is =
+    cheapest s.question.test s.question.offers s.board.limit s.log s.board (rising-offers s.question asked) history finished p (sym is)
 
 -- with no bound rw,rw in every slot allows the outcome
-pub all-allowed : (s : Search) (t : Test) → s.question.test ≡ t → IsPriceTable s.question.prices
-    → IsHistory s.question.test s.question.prices s.board.limit s.log s.board → is_finished s.board ≡ true → None ≡ s.board.bound
-    → Allows t (all_with (Some RwRw) (slots t))
-all-allowed s t same table history finished is =
-    let answer = final s.question.test s.question.prices s.board.limit s.log s.board table history finished in
-    let refuted = subst (IsFinalAnswer s.question.test s.question.prices s.board.witnesses) (sym is) answer in
-    let shown : Allows s.question.test (all_with (Some RwRw) (slots s.question.test)) =
-    (refuted.1.0, refuted.1.1.2.1) in
-    subst (λ (u : Test). Allows u (all_with (Some RwRw) (slots u))) same shown
+pub all-allowed : (s : Search) (t : Test) → s.question.test ≡ t → IsQuestion s.question → HasTop s.question.offers
+    → IsHistory s.question.test s.question.offers s.board.limit s.log s.board → is_finished s.board ≡ true → None ≡ s.board.bound
+    → Allows t (all_with (Some RwRw) (test.slots t))
+all-allowed s t same asked top history finished is =
+    let full : Allows s.question.test (all_with (Some RwRw) (slots s.question.offers)) =
+    none-forbid s.question.test s.question.offers s.board.limit s.log s.board (rising-offers s.question asked) history finished (sym is)
+    (all_with (Some RwRw) (slots s.question.offers))
+    (record { slots = slots_of-all_with (Some RwRw) (slots s.question.offers); offered = top }) in
+    let shown : Allows s.question.test (all_with (Some RwRw) (test.slots s.question.test)) =
+    subst (λ ss. Allows s.question.test (all_with (Some RwRw) ss)) asked.slots full in
+    subst (λ (u : Test). Allows u (all_with (Some RwRw) (test.slots u))) same shown
 
 -- ---- faults
 
@@ -107,15 +114,15 @@ pub later-fault : (a b : Search) (f : Fault) → GoesOn a b → IsSearchFault b 
 later-fault a b f goes fault = elim fault [
   | inl large ↦ inl (
     large.0,
-    subst (λ (n : ℕ). n < tree_size a.question.prices (length (slots a.question.test))) goes.limit
-        (subst (λ (x : Question). b.board.limit < tree_size x.prices (length (slots x.test))) goes.question large.1),
+    subst (λ (n : ℕ). n < whole_tree a.question.offers) goes.limit
+        (subst (λ (x : Question). b.board.limit < whole_tree x.offers) goes.question large.1),
   )
   | inr other ↦ inr (subst (λ (x : Question). IsCandidateFault x.test f) goes.question other)
 ]
 
 -- where the runs can be listed the limit is none of the candidates' faults
 pub limit-met : (s : Search) (f : Fault) → f ≡ NodeLimit → HasNoRunFault s.question.test → IsSearchFault s f
-    → s.board.limit < tree_size s.question.prices (length (slots s.question.test))
+    → s.board.limit < whole_tree s.question.offers
 limit-met s f is clean fault = elim fault [
   | inl large ↦ large.1
   | inr other ↦ absurd (clean NodeLimit (subst (λ (g : Fault). IsCandidateFault s.question.test g) is other))
@@ -131,21 +138,21 @@ not_limit s f another why other = elim (why other) [
 
 -- the limit is due where the runs can be listed, and the least and the greatest placement don't have the answer
 pub limit-fault : (q : Question) (t : Test) (limit : ℕ) (f : Fault) → t ≡ q.test → HasNoRunFault q.test
-    → limit < tree_size q.prices (length (slots q.test)) → IsEndFault t f → IsSolveFault q limit f
+    → limit < whole_tree q.offers → IsEndFault t f → IsSolveFault q limit f
 limit-fault q t limit f same clean large fault = elim fault [
   | inl ends ↦
-      let needed = subst (λ (u : Test). Allows u (all_with None (slots u))) same ends.1 in
-      let enough = subst (λ (u : Test). Allows u (all_with (Some RwRw) (slots u)) → ⊥) same ends.2 in
+      let needed = subst (λ (u : Test). Allows u (all_with None (test.slots u))) same ends.1 in
+      let enough = subst (λ (u : Test). Allows u (all_with (Some RwRw) (test.slots u)) → ⊥) same ends.2 in
       inr (ends.0, record { needed = needed; enough = enough; large = large }, clean)
   | inr other ↦ inl (subst (λ (u : Test). IsCandidateFault u f) same other)
 ]
 
 -- no fence at all, which forbids the outcome, with its cost
-pub none-answer : (t : Test) (p : List Entry) (table prices : PriceTable) → table ≡ prices → p ≡ all_with None (slots t)
-    → (Allows t (all_with None (slots t)) → ⊥) → IsCheapest t prices p × (cost table p ≡ cost prices p)
-none-answer t p table prices priced is forbids =
+pub none-answer : (t : Test) (p : List Entry) (q : Question) → q.test ≡ t → IsQuestion q → p ≡ all_with None (test.slots t)
+    → (Allows t (all_with None (test.slots t)) → ⊥) → IsCheapest t q.offers p
+none-answer t p q same asked is forbids =
     let denied : Allows t p → ⊥ = λ shown. forbids (subst (Allows t) is shown) in
-    (none-cheapest t prices p is denied, ap (λ (x : PriceTable). cost x p) priced)
+    none-cheapest t q.offers p (asked.slots ∙ ap (λ (u : Test). test.slots u) same) is denied
 
 pub limit-not-memory : (f : Fault) → f ≡ NodeLimit → f ≢ Memory
 limit-not-memory f is other = let e : NodeLimit ≡ Memory = sym is ∙ other in absurd (cc)

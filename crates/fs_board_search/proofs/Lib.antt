@@ -6,3 +6,4 @@ pub mod Goes
 pub mod Problems
 pub mod Replied
 pub mod Stopping
+pub mod PricedAnswers

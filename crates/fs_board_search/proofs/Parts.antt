@@ -13,8 +13,7 @@ use Rattle.fs_model.specs.declared.test.Test.{Test}
 use Rattle.fs_model.specs.Execution.{Execution}
 use Rattle.fs_model.specs.Allows.{Shows}
 use Rattle.fs_cert_evidence.specs.Shown.{IsShownBy}
-use Rattle.fs_cert_evidence.specs.Parts.{Part, Decision, filled_with, floor, filled}
-use Rattle.fs_model_laws.specs.Bounds.{slots_in_part}
+use Rattle.fs_board_offers.specs.Parts.{Part, Decision, filled_with, floor, filled, slots_in_part}
 use Rattle.fs_model_laws.proofs.Places.{at-append}
 use Rattle.fs_cert_evidence.specs.Evidence.{Shown, IsWitnessFor}
 use Rattle.fs_board.specs.Growth.{AreWitnesses}

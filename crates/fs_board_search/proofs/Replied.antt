@@ -1,14 +1,13 @@
 -- What the board's replies mean to a search.
 use Rattle.std.proofs.Common.{◌≡◌, ℕ, ◌<◌, true, false, Some, None, length, refl, sym, ap, subst, ◌∙◌}
 use Rattle.std.proofs.lemmas.Bool.{false≢true}
-use Rattle.fs_model.specs.Slots.{slots}
-use Rattle.fs_cert_evidence.specs.Parts.{Part, floor, filled, is_undecided, child_parts}
+use Rattle.fs_board_offers.specs.Parts.{Part, floor, filled, is_undecided, child_parts}
 use Rattle.fs_cert_evidence.specs.Shown.{IsShownBy}
-use Rattle.fs_cert_evidence.specs.Board.{Split, Costly, Witnessed, Bounded, Posted, Event, Take, Claim, Adopt, SplitAt, CutCost, CutWitness, CutBound, Post, Reply, Given, Idle, Done, Gone, Children, NotYours, Decided, Full, Closed, Cheaper, NotCovered, Other, is_open, is_held, is_held_by, has_node, part_at, is_finished}
-use Rattle.fs_cert_evidence.specs.Histories.{IsHistory, HoldsNode}
-use Rattle.fs_cert_evidence.specs.Sizes.{tree_size}
-use Rattle.fs_model_laws.proofs.Leaves.{opened}
-use Rattle.fs_model_laws.proofs.Growing.{full-large}
+use Rattle.fs_board_offers.specs.Board.{Split, Costly, Witnessed, Bounded, Posted, Event, Take, Claim, Adopt, SplitAt, CutCost, CutWitness, CutBound, Post, Reply, Given, Idle, Done, Gone, Children, NotYours, Decided, Full, Closed, Cheaper, NotCovered, Other, is_open, is_held, is_held_by, has_node, part_at, is_finished}
+use Rattle.fs_board_offers.specs.Histories.{IsHistory, HoldsNode}
+use Rattle.fs_board_offers.specs.Sizes.{whole_tree}
+use Rattle.fs_board_offers.proofs.Leaves.{opened}
+use Rattle.fs_board_offers.proofs.Growing.{full-large}
 use Rattle.fs_cert_evidence.specs.Evidence.{witness_in}
 use Rattle.fs_board.specs.declared.event.Event.{Event as CodeEvent}
 use Rattle.fs_board.specs.declared.event.Event.TheVariants as event
@@ -16,6 +15,8 @@ use Rattle.fs_board.specs.View.{Search, Answers, event_of}
 use Rattle.fs_board_search.specs.Tries.{is_try, IsLast}
 use Rattle.fs_board_search.specs.inner.Steps.{Stays, IsTried, is_end, is_given}
 use Rattle.fs_board_search.proofs.Goes.{goes-on, done-now, done-more, IsHandedOut, handed-open, handed-held}
+use Rattle.fs_board_offers.specs.Questions.{IsQuestion}
+use Rattle.fs_board_search.proofs.Ends.{rising-offers}
 
 module _ (old new : Search) where
   -- ---- closing and splitting
@@ -26,7 +27,7 @@ module _ (old new : Search) where
   -- a try ends the node, or changes nothing
   pub tried : (e : Event) (r : Reply) → is_try e ≡ true → Answers old new 0 e r → IsTried old new (is_end r)
   tried (SplitAt k slot) (Children first count) is a =
-      done-more old new 0 k a.step.0 (Split slot (length old.board.nodes)) (opened (child_parts old.question.prices slot a.step.0))
+      done-more old new 0 k a.step.0 (Split slot (length old.board.nodes)) (opened (child_parts old.question.offers slot a.step.0))
       (goes-on old new 0 (SplitAt k slot) (Children first count) a) a.step.1 refl (ap (λ b. b.nodes) a.step.6)
   tried (SplitAt k slot) NotYours is a = stays (SplitAt k slot) NotYours a a.step.1
   tried (SplitAt k slot) Decided is a = stays (SplitAt k slot) Decided a a.step.3
@@ -65,33 +66,33 @@ module _ (old new : Search) where
 
   -- the last try ends it, but for a split where the tree is too large
   pub last-large : (k : ℕ) (part : Part) (e : CodeEvent) (r : Reply) → HoldsNode old.board 0 k part → IsLast old.question.test k part e
-      → IsHistory old.question.test old.question.prices old.board.limit old.log old.board
+      → IsHistory old.question.test old.question.offers old.board.limit old.log old.board → IsQuestion old.question
       → Answers old new 0 (event_of e) r → is_end r ≡ false
-      → old.board.limit < tree_size old.question.prices (length (slots old.question.test))
-  last-large k part (event.Split j slot) NotYours held last history a is =
+      → old.board.limit < whole_tree old.question.offers
+  last-large k part (event.Split j slot) NotYours held last history asked a is =
       let e : Some part ≡ None = sym held ∙ (ap (part_at (is_held_by 0) old.board) (sym last.0) ∙ a.step.0) in absurd (cc)
-  last-large k part (event.Split j slot) Decided held last history a is =
+  last-large k part (event.Split j slot) Decided held last history asked a is =
       let same = same-part k part a.step.0 held (at-node j k a.step.0 last.0 a.step.1) in
       absurd (false≢true (sym a.step.2 ∙ (ap (is_undecided slot) same ∙ last.1)))
-  last-large k part (event.Split j slot) Full held last history a is =
-      full-large old.question.prices old.question.test old.board.limit old.log old.board 0 j slot new.board history a.step
-  last-large k part (event.CutWitness j w) NotYours held last history a is =
+  last-large k part (event.Split j slot) Full held last history asked a is =
+      full-large old.question.offers old.question.test old.board.limit old.log old.board 0 j slot new.board (rising-offers old.question asked) history a.step
+  last-large k part (event.CutWitness j w) NotYours held last history asked a is =
       let e : Some part ≡ None = sym held ∙ (ap (part_at (is_held_by 0) old.board) (sym last.0) ∙ a.step.0) in absurd (cc)
-  last-large k part (event.CutWitness j w) NotCovered held last history a is =
+  last-large k part (event.CutWitness j w) NotCovered held last history asked a is =
       let same = same-part k part a.step.0 held (at-node j k a.step.0 last.0 a.step.1) in
       absurd (a.step.2 (subst (λ (x : Part). IsShownBy old.question.test (filled x) (witness_in w)) (sym same) last.1))
-  last-large k part (event.Post j f) NotYours held last history a is =
+  last-large k part (event.Post j f) NotYours held last history asked a is =
       let e : Some part ≡ None = sym held ∙ (ap (part_at (is_held_by 0) old.board) (sym last.0) ∙ a.step.0) in absurd (cc)
-  last-large k part (event.Post j f) Other held last history a is =
+  last-large k part (event.Post j f) Other held last history asked a is =
       let same = same-part k part a.step.0 held (at-node j k a.step.0 last.0 a.step.1) in
       absurd (a.step.2 (last.1 ∙ ap floor (sym same)))
-  last-large k part (event.Split j slot) (Children first count) held last history a is = absurd (false≢true (sym is))
-  last-large k part (event.CutWitness j w) Closed held last history a is = absurd (false≢true (sym is))
-  last-large k part (event.Post j f) Closed held last history a is = absurd (false≢true (sym is))
-  last-large k part (event.Split j slot) r held last history a is = absurd a.step
-  last-large k part (event.CutWitness j w) r held last history a is = absurd a.step
-  last-large k part (event.Post j f) r held last history a is = absurd a.step
-  last-large k part e r held last history a is = absurd last
+  last-large k part (event.Split j slot) (Children first count) held last history asked a is = absurd (false≢true (sym is))
+  last-large k part (event.CutWitness j w) Closed held last history asked a is = absurd (false≢true (sym is))
+  last-large k part (event.Post j f) Closed held last history asked a is = absurd (false≢true (sym is))
+  last-large k part (event.Split j slot) r held last history asked a is = absurd a.step
+  last-large k part (event.CutWitness j w) r held last history asked a is = absurd a.step
+  last-large k part (event.Post j f) r held last history asked a is = absurd a.step
+  last-large k part e r held last history asked a is = absurd last
 
   -- ---- taking
 

@@ -3,7 +3,8 @@ use Rattle.std.proofs.Common.{◌≡◌, ◌∙◌, ℕ, List, Option, map, IfSo
 use Rattle.std.specs.Arc.{arc_value}
 use Rattle.std.specs.declared.sync.Arc.{Arc}
 use Rattle.fs_model.specs.declared.test.Test.{Test}
-use Rattle.fs_cert_evidence.specs.Evidence.{Question, Refuted, Shown}
+use Rattle.fs_cert_evidence.specs.Evidence.{Refuted, Shown}
+use Rattle.fs_board_offers.specs.Questions.{Question}
 use Rattle.fs_board.specs.declared.event.Reply.{Reply}
 use Rattle.fs_board.specs.declared.event.Reply.TheVariants as reply
 use Rattle.fs_board.specs.Growth.{AreWitnesses}

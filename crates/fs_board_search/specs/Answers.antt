@@ -1,18 +1,18 @@
 -- The answer to a question, and why there may be none.
-use Rattle.std.specs.Prelude.{◌≡◌, ◌<◌, ◌⊎◌, ℕ, true, List, Option, None, Some, MatchOption, length}
+use Rattle.std.specs.Prelude.{◌≡◌, ◌<◌, ◌⊎◌, ℕ, true, List, Option, None, Some, MatchOption}
 use Rattle.std.specs.Arc.{arc_value}
 use Rattle.fs_kinds.specs.declared.fault.Fault.{Fault}
 use Rattle.fs_kinds.specs.declared.fault.Fault.TheVariants.{NodeLimit}
 use Rattle.fs_kinds.specs.declared.placement.Entry.{Entry}
-use Rattle.fs_kinds.specs.PriceTable.{PriceTable, cost}
+use Rattle.fs_board_offers.specs.Offers.{Offers, cost, IsCheapest}
 use Rattle.fs_model.specs.declared.test.Test.{Test}
 use Rattle.fs_model.specs.Execution.{Execution}
-use Rattle.fs_model.specs.Slots.{slots}
-use Rattle.fs_model.specs.Allows.{Allows, IsCheapest, RefutesAll, no_fences, full_fences}
+use Rattle.fs_model.specs.Allows.{Allows, RefutesAll, no_fences, full_fences}
 use Rattle.fs_cert_evidence.specs.CandidateFaults.{IsCandidateFault}
-use Rattle.fs_cert_evidence.specs.Board.{is_finished}
-use Rattle.fs_cert_evidence.specs.Sizes.{IsUnanswered, tree_size}
-use Rattle.fs_cert_evidence.specs.Evidence.{Question, IsWitnessFor, ShowsForbidden, placement_in}
+use Rattle.fs_board_offers.specs.Board.{is_finished}
+use Rattle.fs_board_offers.specs.Sizes.{IsUnanswered, whole_tree}
+use Rattle.fs_cert_evidence.specs.Evidence.{IsWitnessFor, ShowsForbidden, placement_in}
+use Rattle.fs_board_offers.specs.Questions.{Question}
 use Rattle.fs_board.specs.View.{Search}
 use Rattle.fs_board_search.specs.declared.answer.Answer.{Answer}
 use Rattle.fs_board_search.specs.declared.answer.Answer.TheVariants as answer
@@ -20,10 +20,10 @@ use Rattle.fs_board_search.specs.declared.answer.Solved.{Solved}
 
 -- The cheapest placement that forbids the outcome, and of those the first, with its cost, and with what shows that it
 -- does; or a witness, with its widths, of an execution that shows the outcome even with rw,rw in every slot.
-abbrev pub IsAnswer : Test → PriceTable → Answer → Type 0
-IsAnswer t prices (answer.Fenced f n) =
-    IsCheapest t prices (placement_in f) × (n ≡ cost prices (placement_in f)) × ShowsForbidden t (arc_value f)
-IsAnswer t prices (answer.None w) = (e : Execution) × IsWitnessFor t w e × RefutesAll t e
+abbrev pub IsAnswer : Test → Offers → Answer → Type 0
+IsAnswer t offers (answer.Fenced f n) =
+    IsCheapest t offers (placement_in f) × (n ≡ cost offers (placement_in f)) × ShowsForbidden t (arc_value f)
+IsAnswer t offers (answer.None w) = (e : Execution) × IsWitnessFor t w e × RefutesAll t e
 
 -- the placement of an answer, where it has one
 abbrev pub placement_of : Answer → Option (List Entry)
@@ -42,9 +42,10 @@ pub record IsBoardOf (q : Question) (most : ℕ) (a : Answer) (search : Search) 
   pub finished : is_finished search.board ≡ true
   pub bound : search.board.bound ≡ placement_of a
 
--- An answer that was found without a board. The tree of all placements has more nodes below its root than the limit.
+-- An answer that was found without a board. The tree of all placements may have more nodes below its root than
+-- the limit.
 pub record IsAtLimit (q : Question) (limit : ℕ) (a : Answer) : Type 0 where
-  pub large : limit < tree_size q.prices (length (slots q.test))
+  pub large : limit < whole_tree q.offers
   pub ends : IsAtAnEnd q.test a
 
 -- What an answer rests on beside what it has with it: a finished board, or else that it is at an end.
@@ -53,12 +54,12 @@ Rests q limit s = MatchOption s.board (IsAtLimit q limit s.answer) (IsBoardOf q 
 
 -- the fault of a question that the search can't answer
 abbrev pub IsSolveFault : Question → (limit : ℕ) → Fault → Type 0
-IsSolveFault q limit f = IsUnanswered q.test q.prices limit f
+IsSolveFault q limit f = IsUnanswered q.test q.offers limit f
 
--- the fault of the search of a board: its limit, where the tree of all placements has more nodes below its root, or
+-- the fault of the search of a board: its limit, where the tree of all placements may have more nodes below its root, or
 -- that of the candidates
 abbrev pub IsSearchFault : Search → Fault → Type 0
-IsSearchFault s f = ((f ≡ NodeLimit) × (s.board.limit < tree_size s.question.prices (length (slots s.question.test))))
+IsSearchFault s f = ((f ≡ NodeLimit) × (s.board.limit < whole_tree s.question.offers))
     ⊎ IsCandidateFault s.question.test f
 
 -- the fault where the answer is looked for at an end: it is at none, or the candidates can't be listed

@@ -1,6 +1,6 @@
 -- How a search goes on.
 use Rattle.std.specs.Prelude.{◌≡◌, List, ◌++◌}
-use Rattle.fs_cert_evidence.specs.Histories.{LogEntry}
+use Rattle.fs_board_offers.specs.Histories.{LogEntry}
 use Rattle.fs_board.specs.View.{Search}
 
 -- the same question and limit, and a log that begins with what was logged before

@@ -1,4 +1,5 @@
 pub mod Tries
 pub mod Answers
+pub mod Priced
 pub mod Histories
 pub mod inner

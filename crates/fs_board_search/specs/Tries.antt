@@ -2,10 +2,11 @@
 use Rattle.std.specs.Prelude.{◌≡◌, ℕ, Bool, true, false}
 use Rattle.fs_model.specs.declared.test.Test.{Test}
 use Rattle.fs_model.specs.Allows.{Allows}
-use Rattle.fs_cert_evidence.specs.Parts.{Part, floor, filled, is_undecided}
+use Rattle.fs_board_offers.specs.Parts.{Part, floor, filled, is_undecided}
 use Rattle.fs_cert_evidence.specs.Shown.{IsShownBy}
-use Rattle.fs_cert_evidence.specs.Board.{Event, SplitAt, CutCost, CutWitness, CutBound, Post}
-use Rattle.fs_cert_evidence.specs.Evidence.{Question, Refuted, ShowsForbidden, witness_in, placement_in}
+use Rattle.fs_board_offers.specs.Board.{Event, SplitAt, CutCost, CutWitness, CutBound, Post}
+use Rattle.fs_cert_evidence.specs.Evidence.{Refuted, ShowsForbidden, witness_in, placement_in}
+use Rattle.fs_board_offers.specs.Questions.{Question}
 use Rattle.fs_board.specs.declared.event.Event.{Event as CodeEvent}
 use Rattle.fs_board.specs.declared.event.Event.TheVariants as event
 use Rattle.fs_board.specs.Asking.{IsMade}

@@ -4,7 +4,7 @@ ghost use Rattle.std.specs.Prelude.{◌≡◌, ◌≢◌, IfOk, IfErr, OnOk};
 ghost use Rattle.std.specs.Arc.{arc_value};
 ghost use Rattle.fs_model.specs.Slots.{slots};
 ghost use Rattle.fs_cert_evidence.specs.CandidateFaults.{IsCandidateFault};
-ghost use Rattle.fs_model_laws.specs.Bounds.{slots_in_part};
+ghost use Rattle.fs_board_offers.specs.Parts.{slots_in_part};
 ghost use Rattle.fs_board.specs.View.{reply_of};
 ghost use Rattle.fs_board_search.specs.Answers.{IsSearchFault};
 ghost use Rattle.fs_board_search.specs.Histories.{GoesOn};

@@ -8,17 +8,18 @@ ghost use Rattle.fs_model.specs.declared.test.Test.{Test};
 ghost use Rattle.fs_model.specs.Slots.{slots};
 ghost use Rattle.fs_model.specs.Execution.{Execution};
 ghost use Rattle.fs_cert_evidence.specs.CandidateFaults.{IsCandidateFault};
-ghost use Rattle.fs_model_laws.specs.Bounds.{slots_in_part};
+ghost use Rattle.fs_board_offers.specs.Parts.{slots_in_part};
 ghost use Rattle.fs_board.specs.Growth.{AreWitnesses};
 ghost use Rattle.fs_cert_evidence.specs.Evidence.{IsWitnessFor};
 ghost use Rattle.fs_judge.specs.Verdicts.{IsVerdict};
 ghost use Rattle.fs_board_search.specs.Tries.{IsPostable};
 
 use fs_board::Part;
+use fs_board_offers::Offers;
 use fs_board_plan::Store;
 use fs_cert_evidence::{Forbidden, Witness};
 use fs_judge::{Judge, Verdict};
-use fs_kinds::{Fault, Kind, Prices, Slot};
+use fs_kinds::{Fault, Kind, Slot};
 use std::alloc::{AllocError, Global};
 use std::sync::Arc;
 
@@ -64,7 +65,7 @@ pub(crate) fn stored_over_filled(
 pub(crate) fn look_at_filled(
     alloc: Global,
     judge: &mut Judge,
-    prices: &Prices,
+    offers: &Offers,
     store: &mut Store,
     part: &Part,
 ) -> Result<Option<Arc<Witness>>, Fault>
@@ -80,7 +81,7 @@ pub(crate) fn look_at_filled(
     let Some(found) = looked else {
         return Ok(None);
     };
-    let witness = store.add(alloc, prices, part.as_slice(), found)?;
+    let witness = store.add(alloc, offers, part.as_slice(), found)?;
     Ok(Some(witness))
 }
 
@@ -88,7 +89,7 @@ pub(crate) fn look_at_filled(
 /// are those of any node.
 pub(crate) fn forbidden_or_stored(
     alloc: Global,
-    prices: &Prices,
+    offers: &Offers,
     store: &mut Store,
     part: &Part,
     verdict: Verdict,
@@ -100,7 +101,7 @@ pub(crate) fn forbidden_or_stored(
 {
     match verdict {
         Verdict::Allowed(found) => {
-            store.add(alloc, prices, part.as_slice(), found)?;
+            store.add(alloc, offers, part.as_slice(), found)?;
             Ok(None)
         }
         Verdict::Forbids(forbidden) => Ok(Some(forbidden)),
@@ -122,7 +123,7 @@ pub(crate) fn is_floor_allowed(
 pub(crate) fn judge_floor(
     alloc: Global,
     judge: &mut Judge,
-    prices: &Prices,
+    offers: &Offers,
     store: &mut Store,
     part: &Part,
 ) -> Result<Option<Forbidden>, Fault>
@@ -136,5 +137,5 @@ pub(crate) fn judge_floor(
     let floor = part.floor(alloc)?;
     let open = part.undecided_slots(alloc)?;
     let verdict = judge.verdict(alloc, &floor, &open)?;
-    Ok(forbidden_or_stored(alloc, prices, store, part, verdict)?)
+    Ok(forbidden_or_stored(alloc, offers, store, part, verdict)?)
 }

@@ -2,9 +2,9 @@
 
 ghost use Rattle.std.specs.Prelude.{◌≡◌, ◌≤◌, IfOk, IfErr, OnErr, MatchOption, true, false};
 ghost use Rattle.std.specs.Arc.{arc_value};
-ghost use Rattle.fs_cert_evidence.specs.Parts.{Part as PartValue};
-ghost use Rattle.fs_cert_evidence.specs.Board.{Given, is_held, part_at, is_finished};
-ghost use Rattle.fs_cert_evidence.specs.Histories.{HoldsNode};
+ghost use Rattle.fs_board_offers.specs.Parts.{Part as PartValue};
+ghost use Rattle.fs_board_offers.specs.Board.{Given, is_held, part_at, is_finished};
+ghost use Rattle.fs_board_offers.specs.Histories.{HoldsNode};
 ghost use Rattle.fs_board.specs.View.{reply_of};
 ghost use Rattle.fs_board_search.specs.Histories.{GoesOn};
 ghost use Rattle.fs_board_search.specs.inner.Steps.{IsTaken, done, is_given};

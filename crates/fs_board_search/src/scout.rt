@@ -6,8 +6,8 @@ ghost use Rattle.std.specs.Arc.{arc_value};
 ghost use Rattle.fs_model.specs.Slots.{slots};
 ghost use Rattle.fs_model.specs.declared.test.Test.{Test};
 ghost use Rattle.fs_cert_evidence.specs.CandidateFaults.{IsCandidateFault};
-ghost use Rattle.fs_cert_evidence.specs.Parts.{floor, is_undecided};
-ghost use Rattle.fs_model_laws.specs.Bounds.{slots_in_part};
+ghost use Rattle.fs_board_offers.specs.Parts.{floor, is_undecided};
+ghost use Rattle.fs_board_offers.specs.Parts.{slots_in_part};
 ghost use Rattle.fs_model.specs.Execution.{Execution};
 ghost use Rattle.fs_cert_evidence.specs.Evidence.{IsWitnessFor, placement_in};
 ghost use Rattle.fs_board.specs.Growth.{AreWitnesses};
@@ -21,10 +21,11 @@ use crate::floor_and_filled::{
 use crate::taken::{Child, Taken, push_children};
 use crate::watch::Watch;
 use fs_board::{Decision, Event, Part, Reply};
+use fs_board_offers::{Offers, Question, is_same};
 use fs_board_plan::{MOST_STEPS, Store, cheapest_breaking};
-use fs_cert_evidence::{Forbidden, Question, Witness, is_same};
+use fs_cert_evidence::{Forbidden, Witness};
 use fs_judge::{Judge, Problem, Verdict};
-use fs_kinds::{Fault, Kind, List, Placement, Prices, Slot};
+use fs_kinds::{Fault, Kind, List, Placement, Slot};
 use std::alloc::{AllocError, Global};
 use std::marker::Model;
 use std::sync::Arc;
@@ -91,7 +92,7 @@ pub struct Scout {
 impl Model for Scout {
     ghost use Rattle.std.specs.Coded.{codes};
     ghost use Rattle.fs_model.specs.contracts.outcome.Outcome as outcome;
-    ghost use Rattle.fs_cert_evidence.specs.Evidence.{Question as Asked};
+    ghost use Rattle.fs_board_offers.specs.Questions.{Question as Asked};
     ghost use Rattle.std.specs.Prelude.{◌≡◌, IfSome};
     ghost use Rattle.std.specs.Arc.{arc_value};
     ghost use Rattle.fs_board.specs.Growth.{AreWitnesses};
@@ -111,7 +112,7 @@ impl Model for Scout {
 fn keep_new(
     alloc: Global,
     store: &mut Store,
-    prices: &Prices,
+    offers: &Offers,
     decisions: &[Decision],
     witness: &Arc<Witness>,
 ) -> Result<(), AllocError>
@@ -122,7 +123,7 @@ fn keep_new(
         return Ok(());
     }
     let shared = Arc::try_clone(witness)?;
-    store.keep(alloc, prices, decisions, shared)?;
+    store.keep(alloc, offers, decisions, shared)?;
     Ok(())
 }
 
@@ -130,7 +131,7 @@ fn keep_new(
 fn keep_all(
     alloc: Global,
     store: &mut Store,
-    prices: &Prices,
+    offers: &Offers,
     decisions: &[Decision],
     witnesses: &[Arc<Witness>],
 ) -> Result<(), AllocError>
@@ -138,19 +139,19 @@ fn keep_all(
         → AreWitnesses t store.new }
 {
     for witness in witnesses {
-        keep_new(alloc, store, prices, decisions, witness)?;
+        keep_new(alloc, store, offers, decisions, witness)?;
     }
     Ok(())
 }
 
-/// The number of the kind, or none, among the ways to decide a slot: none first, then the offered kinds in their order.
-fn number_of(prices: &Prices, kind: Option<Kind>) -> usize {
+/// The number of the kind, or none, among the ways to decide the slot: none first, then the kinds offered there.
+fn number_of(offers: &Offers, slot: Slot, kind: Option<Kind>) -> usize {
     let Some(kind) = kind else {
         return 0;
     };
     let mut number: usize = 1;
     for other in Kind::ALL {
-        if other < kind && prices.of(other).is_some() {
+        if other < kind && offers.is_offered(slot, Some(other)) {
             number = number.saturating_add(1);
         }
     }
@@ -251,15 +252,15 @@ impl Scout {
         ensures value { self.new ≡ self.old }
         ensures err { IfErr result (λ f. f ≢ Fault.Memory → IsCandidateFault self.old.test f) }
     {
-        let prices = &self.question.prices;
+        let offers = self.question.offers();
         let mut steps = self.steps;
-        let cheapest = cheapest_breaking(alloc, &self.store, prices, part, &mut steps)?;
+        let cheapest = cheapest_breaking(alloc, &self.store, offers, part, &mut steps)?;
         self.steps = steps;
         let Some(placement) = cheapest else {
             return Ok(true);
         };
         let verdict = self.judge.verdict(alloc, &placement, &[])?;
-        let found = forbidden_or_stored(alloc, prices, &mut self.store, part, verdict)?;
+        let found = forbidden_or_stored(alloc, offers, &mut self.store, part, verdict)?;
         let Some(forbidden) = found else {
             return Ok(false);
         };
@@ -293,8 +294,8 @@ impl Scout {
         if !is_under(&taken.part, &planned.placement) {
             return None;
         }
-        let prices = &self.question.prices;
-        Some(number_of(prices, planned.placement.get(slot)))
+        let offers = self.question.offers();
+        Some(number_of(offers, slot, planned.placement.get(slot)))
     }
 
     /// Puts the children on the stack that the event made of the node, by what was replied to it: the first one last,
@@ -336,8 +337,8 @@ impl Scout {
         requires { AreWitnesses self.old.test (map arc_value witnesses.now) }
         ensures { self.new ≡ self.old }
     {
-        let prices = &self.question.prices;
-        keep_all(alloc, &mut self.store, prices, decisions, witnesses)
+        let offers = self.question.offers();
+        keep_all(alloc, &mut self.store, offers, decisions, witnesses)
     }
 
     /// Was the board looked at?
@@ -367,10 +368,10 @@ impl Scout {
     fn bounding(&self, alloc: Global, taken: &Taken) -> Result<Option<Event>, AllocError>
         ensures { IfOk result (λ found. IfSome found (IsTry self.now)) }
     {
-        let prices = &self.question.prices;
+        let offers = self.question.offers();
         let picked = self
             .store
-            .pick(alloc, prices, self.bound.as_ref(), &taken.part)?;
+            .pick(alloc, offers, self.bound.as_ref(), &taken.part)?;
         if picked.is_empty() {
             return Ok(None);
         }
@@ -396,7 +397,7 @@ impl Scout {
         let found = look_at_filled(
             alloc,
             &mut self.judge,
-            &self.question.prices,
+            self.question.offers(),
             &mut self.store,
             &taken.part,
         )?;
@@ -423,7 +424,7 @@ impl Scout {
         let found = judge_floor(
             alloc,
             &mut self.judge,
-            &self.question.prices,
+            self.question.offers(),
             &mut self.store,
             &taken.part,
         )?;
@@ -524,11 +525,11 @@ impl Scout {
             return Ok(());
         };
         let shared = share(bound.as_ref())?;
-        let prices = &self.question.prices;
+        let offers = self.question.offers();
         keep_all(
             alloc,
             &mut self.store,
-            prices,
+            offers,
             decisions,
             witnesses.as_slice(),
         )?;

@@ -1,16 +1,17 @@
 //! The answer to a question.
 
-ghost use Rattle.std.specs.Prelude.{◌≡◌, ◌≢◌, ◌≤◌, IfOk, IfErr, IfSome, MatchOption, OnOk, IsOkUnless, IsTrue, All};
+ghost use Rattle.std.specs.Prelude.{◌≡◌, ◌≢◌, ◌≤◌, IfOk, IfErr, IfSome, MatchOption, OnOk, IsOkUnless, All};
 ghost use Rattle.std.specs.Prelude.{Some, None, true};
 ghost use Rattle.std.specs.Arc.{arc_value};
 ghost use Rattle.fs_kinds.specs.Placement.{all_with};
-ghost use Rattle.fs_kinds.specs.PriceTable.{IsPriceTable, are_offered, cost};
+ghost use Rattle.fs_board_offers.specs.Offers.{cost};
+ghost use Rattle.fs_board_offers.specs.Questions.{HasTop};
 ghost use Rattle.fs_model.specs.Test.{IsBounded, IsStart};
 ghost use Rattle.fs_model.specs.Slots.{slots};
 ghost use Rattle.fs_model.specs.Allows.{Allows};
 ghost use Rattle.fs_cert_evidence.specs.CandidateFaults.{IsCandidateFault};
-ghost use Rattle.fs_cert_evidence.specs.Board.{is_finished};
-ghost use Rattle.fs_cert_evidence.specs.Sizes.{HasNoRunFault};
+ghost use Rattle.fs_board_offers.specs.Board.{is_finished};
+ghost use Rattle.fs_board_offers.specs.Sizes.{HasNoRunFault};
 ghost use Rattle.fs_cert_evidence.specs.Evidence.{placement_in};
 ghost use Rattle.fs_judge.specs.Verdicts.{IsVerdict};
 ghost use Rattle.fs_board_search.specs.Answers.{IsAnswer, IsAtAnEnd, IsEndFault, IsSolveFault, Rests, placement_of};
@@ -20,19 +21,19 @@ use crate::Watch;
 use crate::answer::{Answer, Solved};
 use crate::sweep::search;
 use fs_board::Board;
-use fs_cert_evidence::{Forbidden, Question};
+use fs_board_offers::{Offers, Question};
+use fs_cert_evidence::Forbidden;
 use fs_judge::{Problem, Verdict};
-use fs_kinds::{Fault, Kind, Placement, Prices};
+use fs_kinds::{Fault, Kind, Placement};
 use fs_model::slots;
 use std::alloc::Global;
 use std::sync::Arc;
 
 /// The placement as an answer, with its cost.
-fn fenced(prices: &Prices, forbidden: Arc<Forbidden>) -> Answer
-    requires { IsTrue (are_offered prices.now (placement_in forbidden)) }
-    ensures { result ≡ Answer.Fenced forbidden (cost prices.now (placement_in forbidden)) }
+fn fenced(offers: &Offers, forbidden: Arc<Forbidden>) -> Answer
+    ensures { result ≡ Answer.Fenced forbidden (cost offers.now (placement_in forbidden)) }
 {
-    let cost = prices.cost(&forbidden.placement);
+    let cost = offers.cost(&forbidden.placement);
     Answer::Fenced { forbidden, cost }
 }
 
@@ -60,10 +61,9 @@ fn verdict_on_all(alloc: Global, problem: &Problem) -> Result<Verdict, Fault>
 
 /// The bound of a finished board as an answer. None where it has no bound.
 fn posted_answer(board: &Board) -> Result<Option<Answer>, Fault>
-    requires prices { IsPriceTable board.now.question.prices }
     requires finished { is_finished board.now.board ≡ true }
     ensures ok { IfOk result (λ found. MatchOption found (board.now.board.bound ≡ None)
-        (λ a. IsAnswer board.now.question.test board.now.question.prices a × (board.now.board.bound ≡ placement_of a))) }
+        (λ a. IsAnswer board.now.question.test board.now.question.offers a × (board.now.board.bound ≡ placement_of a))) }
     ensures err { IsOkUnless result Fault.Memory }
 {
     let _legal = board.log();
@@ -71,7 +71,7 @@ fn posted_answer(board: &Board) -> Result<Option<Answer>, Fault>
         return Ok(None);
     };
     let forbidden = Arc::try_clone(best)?;
-    let answer = fenced(&board.question().prices, forbidden);
+    let answer = fenced(board.question().offers(), forbidden);
     Ok(Some(answer))
 }
 
@@ -79,10 +79,10 @@ fn posted_answer(board: &Board) -> Result<Option<Answer>, Fault>
 /// problem's own, and not that of a judge, so that it is the same whatever was searched before.
 fn answer_of(alloc: Global, problem: &Problem, board: &Board) -> Result<Answer, Fault>
     requires bounded { IsBounded problem.now }
-    requires prices { IsPriceTable board.now.question.prices }
+    requires top { HasTop board.now.question.offers }
     requires same { board.now.question.test ≡ problem.now }
     requires finished { is_finished board.now.board ≡ true }
-    ensures ok { IfOk result (IsAnswer board.now.question.test board.now.question.prices) }
+    ensures ok { IfOk result (IsAnswer board.now.question.test board.now.question.offers) }
     ensures bound { IfOk result (λ a. board.now.board.bound ≡ placement_of a) }
     ensures err { IfErr result (λ f. f ≢ Fault.Memory → IsCandidateFault problem.now f) }
 {
@@ -101,12 +101,13 @@ fn answer_of(alloc: Global, problem: &Problem, board: &Board) -> Result<Answer, 
 /// needed. Else F16, or the fault of a verdict. As in `answer_of` the witness of none is the problem's own.
 fn answer_by_ends(alloc: Global, problem: &Problem, board: &Board) -> Result<Solved, Fault>
     requires bounded { IsBounded problem.now }
-    requires prices { IsPriceTable board.now.question.prices }
-    ensures ok { IfOk result (λ s. IsAnswer problem.now board.now.question.prices s.answer) }
+    requires same { board.now.question.test ≡ problem.now }
+    ensures ok { IfOk result (λ s. IsAnswer problem.now board.now.question.offers s.answer) }
     ensures board { IfOk result (λ s. s.board ≡ None) }
     ensures ends { IfOk result (λ s. IsAtAnEnd problem.now s.answer) }
     ensures err { IfErr result (λ f. f ≢ Fault.Memory → IsEndFault problem.now f) }
 {
+    let _legal = board.log();
     let on_all = verdict_on_all(alloc, problem)?;
     if let Verdict::Allowed(witness) = on_all {
         return Ok(Solved {
@@ -119,7 +120,7 @@ fn answer_by_ends(alloc: Global, problem: &Problem, board: &Board) -> Result<Sol
         Verdict::Forbids(forbidden) => {
             let least = Arc::new(alloc, forbidden)?;
             Ok(Solved {
-                answer: fenced(&board.question().prices, least),
+                answer: fenced(board.question().offers(), least),
                 board: None,
             })
         }
@@ -141,10 +142,10 @@ pub fn conclude<W: Watch>(
     watch: &mut W,
 ) -> Result<Solved, Fault>
     requires bounded { IsBounded (arc_value problem) }
-    requires prices { IsPriceTable board.question.prices }
+    requires top { HasTop board.question.offers }
     requires same { board.question.test ≡ arc_value problem }
     requires clean { HasNoRunFault (arc_value problem) }
-    ensures ok { IfOk result (λ s. IsAnswer board.question.test board.question.prices s.answer) }
+    ensures ok { IfOk result (λ s. IsAnswer board.question.test board.question.offers s.answer) }
     ensures rests { IfOk result (Rests board.question board.board.limit) }
     ensures goes { IfOk result (λ s. IfSome s.board (GoesOn board)) }
     ensures err { IfErr result (λ f. f ≢ Fault.Memory → IsSolveFault board.question board.board.limit f) }
@@ -175,7 +176,7 @@ pub fn problem_of(alloc: Global, question: &Arc<Question>) -> Result<Arc<Problem
     ensures clean { OnOk result (HasNoRunFault (arc_value question.now).test) }
     ensures err { IfErr result (λ f. f ≢ Fault.Memory → IsCandidateFault (arc_value question.now).test f) }
 {
-    let test = Arc::try_clone(&question.test)?;
+    let test = Arc::try_clone(question.test())?;
     let problem = Problem::shared(alloc, test)?;
     Ok(problem)
 }
@@ -199,10 +200,10 @@ pub fn solve<W: Watch>(
 ) -> Result<Solved, Fault>
     requires test { IsBounded (arc_value question).test }
     requires starts { All IsStart (arc_value question).test.starts }
-    requires prices { IsPriceTable (arc_value question).prices }
+    requires top { HasTop (arc_value question).offers }
     requires some { 1 ≤ limit }
     requires limit { limit ≤ 1000000 }
-    ensures ok { IfOk result (λ s. IsAnswer (arc_value question).test (arc_value question).prices s.answer) }
+    ensures ok { IfOk result (λ s. IsAnswer (arc_value question).test (arc_value question).offers s.answer) }
     ensures clean { OnOk result (HasNoRunFault (arc_value question).test) }
     ensures rests { IfOk result (Rests (arc_value question) limit) }
     ensures err { IfErr result (λ f. f ≢ Fault.Memory → IsSolveFault (arc_value question) limit f) }
@@ -223,9 +224,9 @@ pub fn solve_problem<W: Watch>(
     requires bounded { IsBounded (arc_value problem) }
     requires same { (arc_value question).test ≡ arc_value problem }
     requires clean { HasNoRunFault (arc_value problem) }
-    requires prices { IsPriceTable (arc_value question).prices }
+    requires top { HasTop (arc_value question).offers }
     requires limit { limit ≤ 1000000 }
-    ensures ok { IfOk result (λ s. IsAnswer (arc_value question).test (arc_value question).prices s.answer) }
+    ensures ok { IfOk result (λ s. IsAnswer (arc_value question).test (arc_value question).offers s.answer) }
     ensures rests { IfOk result (Rests (arc_value question) limit) }
     ensures err { IfErr result (λ f. f ≢ Fault.Memory → IsSolveFault (arc_value question) limit f) }
 {

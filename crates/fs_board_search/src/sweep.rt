@@ -3,7 +3,7 @@
 ghost use Rattle.std.specs.Prelude.{◌≡◌, ◌≢◌, IfOk, IfErr, IfSome, IfNone, IsTrue, OnOk, map, true, false};
 ghost use Rattle.std.specs.Arc.{arc_value};
 ghost use Rattle.fs_board.specs.Growth.{AreWitnesses};
-ghost use Rattle.fs_cert_evidence.specs.Board.{is_finished};
+ghost use Rattle.fs_board_offers.specs.Board.{is_finished};
 ghost use Rattle.fs_board_search.specs.Answers.{IsSearchFault};
 ghost use Rattle.fs_board_search.specs.Histories.{GoesOn};
 ghost use Rattle.fs_board_search.specs.inner.Steps.{MovesOn, IsTaken};
@@ -12,7 +12,8 @@ use crate::closing::{close_or_split, try_way};
 use crate::next_node::next_node;
 use crate::{Child, Scout, TRIES, Taken, Watch};
 use fs_board::Board;
-use fs_cert_evidence::{Witness, cost};
+use fs_board_offers::cost;
+use fs_cert_evidence::Witness;
 use fs_judge::Problem;
 use fs_kinds::Fault;
 use std::alloc::Global;
@@ -21,7 +22,7 @@ use std::sync::Arc;
 /// What the cheapest fences posted so far cost.
 fn best_cost(board: &Board) -> Option<u64> {
     let best = board.bound()?;
-    let costs = cost(&board.question().prices, best.placement.as_slice());
+    let costs = cost(board.question().offers(), best.placement.as_slice());
     u64::try_from(costs).ok()
 }
 

@@ -2,7 +2,7 @@
 ghost use Rattle.std.specs.Prelude.{◌≡◌, IfOk, IfSome};
 ghost use Rattle.std.specs.Arc.{arc_value};
 ghost use Rattle.fs_model.specs.Slots.{slots};
-ghost use Rattle.fs_model_laws.specs.Bounds.{slots_in_part};
+ghost use Rattle.fs_board_offers.specs.Parts.{slots_in_part};
 
 use fs_board::{Board, Event, Reply};
 use fs_board_search::{Problem, Scout, Taken, Way};
@@ -32,7 +32,7 @@ fn root(alloc: Global, board: &mut Board) -> Result<Option<Taken>, AllocError>
 fn scout_after(alloc: Global, verdicts: usize) -> Result<Scout, Fault> {
     let question = question_of(alloc, CO_RR, PRICES)?;
     let mut board = Board::new(alloc, Arc::try_clone(&question)?, 1)?;
-    let problem = Problem::shared(alloc, Arc::try_clone(&question.test)?)?;
+    let problem = Problem::shared(alloc, Arc::try_clone(question.test())?)?;
     let mut scout = Scout::new(alloc, question, problem);
     let Some(taken) = root(alloc, &mut board)? else {
         return Ok(scout);

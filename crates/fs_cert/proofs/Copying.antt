@@ -14,8 +14,7 @@ use Rattle.fs_model.specs.contracts.step.ChoicePartialEq.TheImpl as choice_test
 use Rattle.fs_model.specs.Witness.{Witness}
 use Rattle.fs_cert_evidence.specs.declared.witness.WitnessFile.{WitnessFile}
 use Rattle.fs_cert_evidence.specs.CertificateFile.{IsChoiceOfWord, most_number}
-use Rattle.fs_cert_evidence.specs.WitnessFile.{in_range, KeepsWitness}
-use Rattle.fs_cert_evidence.specs.WitnessFile.{IsInRange}
+use Rattle.fs_cert_evidence.specs.WitnessFile.{in_range, KeepsWitness, IsInRange}
 use Rattle.fs_cert_json.specs.Kept.{AreInRangeNames}
 use Rattle.fs_model_laws.proofs.Ranked.{order}
 use Rattle.fs_model_laws.proofs.Places.{at-more}

@@ -7,29 +7,30 @@ use Rattle.std.proofs.lemmas.List.Elements.{All-nil, All-cons}
 use Rattle.fs_kinds.specs.declared.placement.Entry.{Entry}
 use Rattle.fs_kinds.specs.declared.slot.Slot.{Slot}
 use Rattle.fs_kinds.specs.Placement.{slots_of, all_with}
-use Rattle.fs_kinds.specs.PriceTable.{PriceTable, cost, are_offered}
+use Rattle.fs_board_offers.specs.Offers.{Offers, cost, are_offered, IsPlacement, is_better, slots}
 use Rattle.fs_kinds.proofs.Entries.{slots_of-all_with}
 use Rattle.fs_model.specs.declared.test.Test.{Test}
-use Rattle.fs_model.specs.Slots.{slots}
-use Rattle.fs_model.specs.Allows.{IsPlacement, RefutesAll, is_better}
+use Rattle.fs_model.specs.Slots as test
+use Rattle.fs_model.specs.Allows.{RefutesAll}
 use Rattle.fs_model.specs.Execution.{Execution}
 use Rattle.fs_model.specs.Witness.{Witness, IsOfWitness}
 use Rattle.fs_cert_evidence.specs.declared.witness.WitnessFile.{WitnessFile}
-use Rattle.fs_cert_evidence.specs.Parts.{undecided, floor}
-use Rattle.fs_cert_evidence.specs.Pruning.{is_pruned}
+use Rattle.fs_board_offers.specs.Parts.{undecided, floor}
+use Rattle.fs_board_offers.specs.Pruning.{is_pruned}
 use Rattle.fs_cert_evidence.specs.Certificate as said
 use Rattle.fs_cert_evidence.specs.Certificate.{Certificate, First, Second, Fourth, NoneForbids, Cycles, Listed, Inferred, Item, fence_words}
 use Rattle.fs_cert_evidence.specs.CertificateFile.{is_sayable, numbers_in, most_number}
-use Rattle.fs_cert_evidence.specs.Valid.{Covers}
+use Rattle.fs_board_offers.specs.Valid.{Covers}
 use Rattle.fs_cert_json.specs.declared.certificate.Certificate.{Certificate as Kept}
 use Rattle.fs_cert_json.specs.declared.certificate.Item.{Item as CodeItem}
 use Rattle.fs_cert_json.specs.declared.certificate.CertifiedCycles.TheVariants.{Inferred as KeptInferences}
 use Rattle.fs_cert_json.specs.Kept.{KeepsCycles, answer_of, version_of, item_of}
 use Rattle.fs_cert_evidence.specs.WitnessFile.{KeepsWitness}
-use Rattle.fs_model_laws.proofs.Floors.{cost-alone}
-use Rattle.fs_model_laws.proofs.Ranked.{better-irreflexive}
-use Rattle.fs_cert_evidence.specs.Evidence.{Question, Refuted, ShowsForbidden}
-use Rattle.fs_cert_evidence.specs.Sizes.{HasNoRunFault}
+use Rattle.fs_board_offers.proofs.Floors.{cost-alone}
+use Rattle.fs_board_offers.proofs.Ranked.{better-irreflexive}
+use Rattle.fs_cert_evidence.specs.Evidence.{Refuted, ShowsForbidden}
+use Rattle.fs_board_offers.specs.Questions.{Question, IsQuestion}
+use Rattle.fs_board_offers.specs.Sizes.{HasNoRunFault}
 use Rattle.fs_cert.specs.Certified.{Certifies, CertifiesNone}
 use Rattle.fs_cert.specs.Cycles.{version_for}
 use Rattle.fs_cert.specs.inner.Copies.{AreCopiedWitnesses}
@@ -66,7 +67,7 @@ numbers_said (item ∷ items) each =
 abbrev certificate_of : Question → Refuted → Cycles → List CodeItem → List Witness → Certificate
 certificate_of q f cycles tree ws = record {
   version = version_for cycles;
-  answer = said.Fenced (cost q.prices f.placement) (fence_words f.placement);
+  answer = said.Fenced (cost q.offers f.placement) (fence_words f.placement);
   cycles = cycles;
   tree = map item_of tree;
   witnesses = ws;
@@ -77,10 +78,10 @@ not_first (Listed cycles) is = cc
 not_first (Inferred inferences) is = cc
 
 pub fenced_certifies : (q : Question) (f : Refuted) (tree : List CodeItem) (files : List WitnessFile) (made : Kept) (ws : List Witness)
-    → IsFenced q f tree files made → AreCopiedWitnesses files ws → ShowsForbidden q.test f → IsPlacement q.test q.prices f.placement
+    → IsFenced q f tree files made → AreCopiedWitnesses files ws → ShowsForbidden q.test f → IsPlacement q.offers f.placement
     → AreSayable (map item_of tree)
-    → ((c : Certificate) → c.version ≢ First → c.witnesses ≡ ws → Covers q.test q.prices c f.placement (undecided q.test ∷ []) (map item_of tree))
-    → Certifies q.test q.prices (Some f.placement) made
+    → ((c : Certificate) → c.version ≢ First → c.witnesses ≡ ws → Covers q.test q.offers c f.placement (undecided q.offers ∷ []) (map item_of tree))
+    → Certifies q.test q.offers (Some f.placement) made
 fenced_certifies q f tree files made ws is copied shows placement sayable covers = let said = are_certified made.cycles f.cycles is.cycles in record {
   certificate = certificate_of q f said.said tree ws;
   keeps = record {
@@ -113,38 +114,41 @@ fenced_certifies q f tree files made ws is copied shows placement sayable covers
 
 -- ---- no fence at all
 
-offered-none : (prices : PriceTable) (ss : List Slot) → are_offered prices (all_with None ss) ≡ true
-offered-none prices [] = refl
-offered-none prices (s ∷ ss) = and_from _ _ refl (offered-none prices ss)
+offered-none : (offers : Offers) (ss : List Slot) → are_offered offers (all_with None ss) ≡ true
+offered-none offers [] = refl
+offered-none offers (s ∷ ss) = and_from _ _ refl (offered-none offers ss)
 
 floor-undecided : (ss : List Slot) → floor (map (λ slot. record { slot = slot; decided = None }) ss) ≡ all_with None ss
 floor-undecided [] = refl
 floor-undecided (s ∷ ss) = ap (λ (p : List Entry). record { slot = s; kind = None } ∷ p) (floor-undecided ss)
 
-pub least-placement : (t : Test) (prices : PriceTable) (p : List Entry) → p ≡ all_with None (slots t) → IsPlacement t prices p
-least-placement t prices p is = record {
-  slots = ap slots_of is ∙ slots_of-all_with None (slots t);
-  offered = ap (are_offered prices) is ∙ offered-none prices (slots t);
+pub least-placement : (q : Question) (p : List Entry) → IsQuestion q → p ≡ all_with None (test.slots q.test) → p ≡ all_with None (slots q.offers)
+least-placement q p asked is = is ∙ ap (all_with None) (sym asked.slots)
+
+pub least-offered : (offers : Offers) (p : List Entry) → p ≡ all_with None (slots offers) → IsPlacement offers p
+least-offered offers p is = record {
+  slots = ap slots_of is ∙ slots_of-all_with None (slots offers);
+  offered = ap (are_offered offers) is ∙ offered-none offers (slots offers);
 }
 
 -- the root alone is a tree for it
-pub least-covers : (t : Test) (prices : PriceTable) (c : Certificate) (p : List Entry) → p ≡ all_with None (slots t) → c.version ≢ First
-    → Covers t prices c p (undecided t ∷ []) (said.Costly ∷ [])
-least-covers t prices c p is later =
-    let same : floor (undecided t) ≡ p = floor-undecided (slots t) ∙ sym is in
-    let no_better : is_better prices (floor (undecided t)) p ≡ false = ap (λ q. is_better prices q p) same ∙ better-irreflexive prices p in
-    let pruned : is_pruned prices (Some p) (undecided t) [] ≡ true = cost-alone prices p (undecided t) ∙ ap not no_better in
-    (pruned_in c.version prices p (undecided t) later ∙ pruned, tt)
+pub least-covers : (t : Test) (offers : Offers) (c : Certificate) (p : List Entry) → p ≡ all_with None (slots offers) → c.version ≢ First
+    → Covers t offers c p (undecided offers ∷ []) (said.Costly ∷ [])
+least-covers t offers c p is later =
+    let same : floor (undecided offers) ≡ p = floor-undecided (slots offers) ∙ sym is in
+    let no_better : is_better offers (floor (undecided offers)) p ≡ false = ap (λ q. is_better offers q p) same ∙ better-irreflexive offers p in
+    let pruned : is_pruned offers (Some p) (undecided offers) [] ≡ true = cost-alone offers p (undecided offers) ∙ ap not no_better in
+    (pruned_in c.version offers p (undecided offers) later ∙ pruned, tt)
 
 -- ---- certificates of none
 
 abbrev certificate_by : Witness → Certificate
 certificate_by w = record { version = Fourth; answer = NoneForbids; cycles = Inferred []; tree = []; witnesses = w ∷ [] }
 
-pub none_certifies : (t : Test) (prices : PriceTable) (made : Kept) (w : Witness) (e : Execution) → version_of made.version ≡ Fourth
+pub none_certifies : (t : Test) (offers : Offers) (made : Kept) (w : Witness) (e : Execution) → version_of made.version ≡ Fourth
     → answer_of made.answer ≡ NoneForbids → made.cycles ≡ KeptInferences [] → made.tree ≡ [] → AreCopiedWitnesses made.witnesses (w ∷ []) → IsOfWitness t w e
-    → HasNoRunFault t → RefutesAll t e → CertifiesNone t prices w made
-none_certifies t prices made w e version answer cycles tree copied given listed refutes = record {
+    → HasNoRunFault t → RefutesAll t e → CertifiesNone t offers w made
+none_certifies t offers made w e version answer cycles tree copied given listed refutes = record {
   certifies = record {
     certificate = certificate_by w;
     keeps = record {

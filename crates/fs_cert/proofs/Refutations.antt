@@ -12,7 +12,7 @@ use Rattle.fs_cert_evidence.specs.CertificateFile.{AreSayable, IsSayableCycle, I
 use Rattle.fs_cert_evidence.specs.Cycles.{IsCycle, most_links}
 use Rattle.fs_cert_evidence.specs.Regions.{Region}
 use Rattle.fs_cert_evidence.specs.Trees.{must_be_cycle, follows, left_after, refutes, roots, cycle_in}
-use Rattle.fs_cert_evidence.specs.Valid.{Forbid}
+use Rattle.fs_board_offers.specs.Valid.{Forbid}
 use Rattle.fs_cert_evidence.specs.WitnessFile.{IsInRange}
 use Rattle.fs_cert_json.specs.declared.certificate.CertifiedCycles.{CertifiedCycles}
 use Rattle.fs_cert_json.specs.declared.certificate.CertifiedCycles.TheVariants.{Listed as KeptList, Inferred as KeptInferences}

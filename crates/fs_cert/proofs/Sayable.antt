@@ -3,13 +3,12 @@ use Rattle.std.proofs.Common.{◌≡◌, ℕ, zero, suc, ◌+◌, ◌<◌, ◌�
 use Rattle.std.specs.Prelude.{filter, count_by}
 use Rattle.fs_kinds.specs.declared.kind.Kind.{Kind}
 use Rattle.fs_kinds.specs.Kind.{all_kinds}
-use Rattle.fs_kinds.specs.PriceTable.{PriceTable, is_offered}
-use Rattle.fs_cert_evidence.specs.Parts.{options}
+use Rattle.fs_board_offers.specs.Offers.{is_offered, Offer, options}
 use Rattle.fs_cert_evidence.specs.Certificate.{Bounded}
 use Rattle.fs_cert_evidence.specs.CertificateFile.{most_number}
 use Rattle.fs_cert_json.specs.Kept.{item_of}
 use Rattle.fs_cert_json.specs.declared.certificate.Item.{Item as CodeItem}
-use Rattle.fs_cert_evidence.specs.Board as board
+use Rattle.fs_board_offers.specs.Board as board
 use Rattle.fs_model_laws.proofs.Places.{count_one, count-cons}
 use Rattle.fs_cert.specs.inner.Items.{AreSmall, AreBelow, AreSayable, HasNumbers, IsSayable}
 
@@ -57,7 +56,7 @@ counted f g (x ∷ xs) =
     let all = count-cons (λ y. f (g y)) x xs in
     omega (arith, first, rest, all)
 
-pub ways_are : (prices : PriceTable) (n : ℕ) → n ≡ count_by (λ kind. is_offered prices (Some kind)) all_kinds → 1 + n ≡ length (options prices)
-ways_are prices n is =
-    let all = counted (is_offered prices) (λ (kind : Kind). Some kind) all_kinds in
+pub ways_are : (offer : Offer) (n : ℕ) → n ≡ count_by (λ kind. is_offered offer (Some kind)) all_kinds → 1 + n ≡ length (options offer)
+ways_are offer n is =
+    let all = counted (is_offered offer) (λ (kind : Kind). Some kind) all_kinds in
     omega (arith, all, is)

@@ -3,6 +3,7 @@
 use Rattle.std.proofs.Common.{◌≡◌, ℕ, zero, suc, ◌+◌, ◌-◌, ◌*◌, ◌^◌, ◌<◌, ◌≤◌, List, [], ◌∷◌, ◌++◌, ap, ◌∙◌, arith}
 use Rattle.std.specs.List.{range_with_len}
 use Rattle.std.proofs.Math.Nat.{one-le-pow, pow-le-pow_right, pow-suc}
+use Rattle.std.proofs.lemmas.Nat.{mul-le}
 
 abbrev pub weight : (base most : ℕ) → List ℕ → ℕ
 weight base most [] = 0
@@ -43,17 +44,20 @@ leaf-lighter base most k ks some = lighter (base ^ (most - k)) (weight base most
     lighter a b one = omega arith
 
 -- and after a node whose children come after it
-pub split-lighter : (ways most k first : ℕ) (ks : List ℕ) → k < first → k < most
-    → weight (ways + 1) most (range_with_len first ways ++ ks) < weight (ways + 1) most (k ∷ ks)
-split-lighter ways most k first ks later low =
+pub split-lighter : (ways count most k first : ℕ) (ks : List ℕ) → count ≤ ways → k < first → k < most
+    → weight (ways + 1) most (range_with_len first count ++ ks) < weight (ways + 1) most (k ∷ ks)
+split-lighter ways count most k first ks few later low =
     let base = ways + 1 in
     let some : 0 < base = positive ways in
-    let children = run-weight base most k first ways some later in
+    let children = fewer count ways (base ^ (most - k - 1)) few (run-weight base most k first count some later) in
     let one = one-le-pow (most - k - 1) base some in
-    let joined = weight-append base most (range_with_len first ways) ks in
+    let joined = weight-append base most (range_with_len first count) ks in
     let own : base ^ (most - k) ≡ base ^ (most - k - 1) * base = ap (λ n. base ^ n) (place most k low) ∙ pow-suc base (most - k - 1) in
     less _ _ (weight base most ks) (base ^ (most - k - 1)) ways (base ^ (most - k)) joined children one own
   where
+    fewer : (m n p : ℕ) → m ≤ n → {x : ℕ} → x ≤ m * p → x ≤ n * p
+    fewer m n p few {x} low = let more = mul-le m p n p few (omega arith) in omega (arith, low, more)
+
     positive : (n : ℕ) → 0 < n + 1
     positive n = omega arith
 

@@ -1,14 +1,15 @@
 //! The answer of a certificate of fences.
 
-ghost use Rattle.std.specs.Prelude.{◌≡◌, ◌≤◌, ◌++◌, IfOk, OnOk, IsTrue, map, string_bytes};
-ghost use Rattle.fs_kinds.specs.PriceTable.{are_offered, cost};
+ghost use Rattle.std.specs.Prelude.{◌≡◌, ◌≤◌, ◌++◌, IfOk, OnOk, map, string_bytes};
+ghost use Rattle.fs_board_offers.specs.Offers.{cost};
 ghost use Rattle.fs_kinds.specs.Slot.{fence_word};
 ghost use Rattle.fs_cert_evidence.specs.Certificate.{Fenced, fence_words, words_at};
 ghost use Rattle.fs_cert_evidence.specs.CertificateFile.{most_number};
 ghost use Rattle.fs_cert_json.specs.Kept.{answer_of};
 
+use fs_board_offers::Offers;
 use fs_cert_json::CertifiedAnswer;
-use fs_kinds::{Entry, Kind, List, Placement, Prices, Slot};
+use fs_kinds::{Entry, Kind, List, Placement, Slot};
 use std::alloc::{AllocError, Global};
 
 /// The word of a fence, as `P0:3=w,w`.
@@ -45,15 +46,14 @@ fn words_of(alloc: Global, entries: &[Entry]) -> Result<List<String>, AllocError
 /// The placement as an answer, with its cost.
 pub(crate) fn answer_of(
     alloc: Global,
-    prices: &Prices,
+    offers: &Offers,
     placement: &Placement,
 ) -> Result<CertifiedAnswer, AllocError>
-    requires { IsTrue (are_offered prices.now placement.now) }
     ensures value { IfOk result (λ answer. answer_of answer
-        ≡ Fenced (cost prices.now placement.now) (fence_words placement.now)) }
-    ensures most { cost prices.now placement.now ≤ most_number }
+        ≡ Fenced (cost offers.now placement.now) (fence_words placement.now)) }
+    ensures most { cost offers.now placement.now ≤ most_number }
 {
-    let cost = prices.cost(placement);
+    let cost = offers.cost(placement);
     let fences = words_of(alloc, placement.as_slice())?;
     Ok(CertifiedAnswer::Fenced { cost, fences })
 }

@@ -1,16 +1,15 @@
 //! Certificates of answers.
 
-ghost use Rattle.std.specs.Prelude.{◌≡◌, IfOk, IsOkUnless, IsTrue, None, Some, List, true};
+ghost use Rattle.std.specs.Prelude.{◌≡◌, IfOk, IsOkUnless, None, Some, List, true};
 ghost use Rattle.fs_kinds.specs.Placement.{all_with};
-ghost use Rattle.fs_kinds.specs.PriceTable.{PriceTable, are_offered};
+ghost use Rattle.fs_board_offers.specs.Offers.{Offers};
 ghost use Rattle.fs_model.specs.declared.test.Test.{Test};
-ghost use Rattle.fs_model.specs.Test.{IsBounded};
 ghost use Rattle.fs_model.specs.Slots.{slots};
 ghost use Rattle.fs_model.specs.Allows.{RefutesAll};
 ghost use Rattle.fs_model.specs.Execution.{Execution};
 ghost use Rattle.fs_cert_evidence.specs.Evidence.{IsWitnessFor, ShowsForbidden};
-ghost use Rattle.fs_cert_evidence.specs.Board.{is_finished};
-ghost use Rattle.fs_cert_evidence.specs.Sizes.{HasNoRunFault};
+ghost use Rattle.fs_board_offers.specs.Board.{is_finished};
+ghost use Rattle.fs_board_offers.specs.Sizes.{HasNoRunFault};
 ghost use Rattle.fs_cert.specs.Certified.{Certifies, CertifiesNone, HasEachOnce};
 ghost use Rattle.fs_cert.specs.inner.Fenced.{IsFenced};
 
@@ -20,10 +19,10 @@ use crate::cycles::{cycles_of, version_of};
 use crate::numbered::number_all;
 use crate::preorder::tree_of;
 use fs_board::Board;
-use fs_cert_evidence::{Forbidden, Question, Witness, WitnessFile};
+use fs_board_offers::Question;
+use fs_cert_evidence::{Forbidden, Witness, WitnessFile};
 use fs_cert_json::{Certificate, CertifiedAnswer, CertifiedCycles, Item, Version};
 use fs_kinds::{Fault, List};
-use fs_model::slots;
 use std::alloc::{AllocError, Global};
 
 /// The certificate of a placement, with this tree and these witnesses.
@@ -34,12 +33,11 @@ fn fenced(
     tree: List<Item>,
     witnesses: List<WitnessFile>,
 ) -> Result<Certificate, AllocError>
-    requires { IsTrue (are_offered question.now.prices forbidden.now.placement) }
     ensures { IfOk result (IsFenced question.now forbidden.now tree witnesses) }
 {
     Ok(Certificate {
         version: version_of(&forbidden.cycles),
-        answer: answer_of(alloc, &question.prices, &forbidden.placement)?,
+        answer: answer_of(alloc, question.offers(), &forbidden.placement)?,
         cycles: cycles_of(alloc, &forbidden.cycles)?,
         tree,
         witnesses,
@@ -50,17 +48,16 @@ fn fenced(
 /// forbids the outcome, and each of the board's witnesses stands in it once. The error is want of memory. It takes time
 /// of nodes times slots, and of witnesses times the different ones among them.
 pub fn from_board(alloc: Global, board: &Board, bound: &Forbidden) -> Result<Certificate, Fault>
-    requires bounded { IsBounded board.now.question.test }
     requires finished { is_finished board.now.board ≡ true }
     requires posted { board.now.board.bound ≡ Some bound.now.placement }
     requires cycles { ShowsForbidden board.now.question.test bound.now }
-    ensures ok { IfOk result (Certifies board.now.question.test board.now.question.prices board.now.board.bound) }
+    ensures ok { IfOk result (Certifies board.now.question.test board.now.question.offers board.now.board.bound) }
     ensures once { IfOk result HasEachOnce }
     ensures err { IsOkUnless result Fault.Memory }
 {
     let _legal = board.log();
     let question = board.question();
-    let slots = slots(alloc, &question.test)?;
+    let slots = question.offers().slots(alloc)?;
     let numbering = number_all(alloc, board.witnesses())?;
     let tree = tree_of(alloc, board, &slots, &numbering.numbers)?;
     let witnesses = List::new(numbering.files);
@@ -68,7 +65,7 @@ pub fn from_board(alloc: Global, board: &Board, bound: &Forbidden) -> Result<Cer
 }
 
 /// The certificate of no fence at all, where that is shown to forbid the outcome: nothing is better, whatever the
-/// prices. The error is want of memory.
+/// offers. The error is want of memory.
 pub fn from_least(
     alloc: Global,
     question: &Question,
@@ -76,8 +73,9 @@ pub fn from_least(
 ) -> Result<Certificate, AllocError>
     requires least { forbidden.now.placement ≡ all_with None (slots question.now.test) }
     requires cycles { ShowsForbidden question.now.test forbidden.now }
-    ensures { IfOk result (Certifies question.now.test question.now.prices (Some forbidden.now.placement)) }
+    ensures { IfOk result (Certifies question.now.test question.now.offers (Some forbidden.now.placement)) }
 {
+    let _asked = question.offers();
     let mut tree = Vec::new(alloc);
     tree.push(Item::Costly)?;
     fenced(
@@ -92,8 +90,8 @@ pub fn from_least(
 /// The certificate of the answer none, by this witness, of a test that shows the outcome even with `rw,rw` in every
 /// slot. It is of the fourth version, as nothing is listed. The error is want of memory.
 pub fn from_witness(alloc: Global, witness: &Witness) -> Result<Certificate, AllocError>
-    ensures { IfOk result (λ made. (t : Test) (prices : PriceTable) (e : Execution)
-        → HasNoRunFault t → IsWitnessFor t witness.now e → RefutesAll t e → CertifiesNone t prices witness.now.witness made) }
+    ensures { IfOk result (λ made. (t : Test) (offers : Offers) (e : Execution)
+        → HasNoRunFault t → IsWitnessFor t witness.now e → RefutesAll t e → CertifiesNone t offers witness.now.witness made) }
 {
     let mut witnesses = Vec::new(alloc);
     witnesses.push(witness_of(alloc, witness)?)?;

@@ -5,7 +5,7 @@ ghost use Rattle.fs_kinds.specs.Slot.{is_same_slot};
 ghost use Rattle.fs_kinds.specs.declared.slot.Slot.{Slot as SlotValue};
 ghost use Rattle.fs_cert_evidence.specs.CertificateFile.{most_number};
 ghost use Rattle.fs_cert_json.specs.Kept.{item_of};
-ghost use Rattle.fs_cert_evidence.specs.Board.{is_open, is_held};
+ghost use Rattle.fs_board_offers.specs.Board.{is_open, is_held};
 ghost use Rattle.fs_board.specs.View.{status_of};
 ghost use Rattle.fs_cert.specs.inner.Items.{number_in, item_at, AreSmall, HasNumbers, IsSayable};
 

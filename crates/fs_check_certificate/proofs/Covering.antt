@@ -5,25 +5,30 @@ use Rattle.std.proofs.lemmas.Bool.{leb-true, false≢true}
 use Rattle.std.proofs.lemmas.List.Elements.{All-nil}
 use Rattle.fs_kinds.specs.declared.placement.Entry.{Entry}
 use Rattle.fs_kinds.specs.declared.slot.Slot.{Slot}
-use Rattle.fs_kinds.specs.Placement.{precedes}
-use Rattle.fs_kinds.specs.PriceTable.{PriceTable, cost}
+use Rattle.fs_kinds.specs.PriceTable.{PriceTable}
+use Rattle.fs_kinds.specs.Slot.{is_rising}
 use Rattle.fs_model.specs.declared.test.Test.{Test}
-use Rattle.fs_model.specs.Allows.{Shows, Allows, IsPlacement, IsCheapest, is_better}
-use Rattle.fs_cert_evidence.specs.Parts.{Part, undecided, floor, is_under, is_undecided, child_parts}
-use Rattle.fs_cert_evidence.specs.Certificate.{Certificate, Version, First, Second, Fourth, Cycles, Listed, Inferred, Item, SplitAt, Costly, Refuted, Bounded, IsBest, IsRight}
-use Rattle.fs_cert_evidence.specs.Valid.{Forbid, Covers, IsValid, IsValidFor, is_costly}
-use Rattle.fs_model_laws.specs.Bounds.{IsNoBetter}
+use Rattle.fs_model.specs.Allows.{Shows, Allows}
+use Rattle.fs_model.proofs.Rising.{rising-slots_from}
+use Rattle.fs_board_offers.specs.Offers.{Offers, slots, cost, precedes, is_better, IsPlacement, IsCheapest, offers_of}
+use Rattle.fs_board_offers.specs.Parts.{Part, undecided, floor, is_under, is_undecided, child_parts}
+use Rattle.fs_cert_evidence.specs.Certificate.{Certificate, Version, First, Second, Fourth, Cycles, Listed, Inferred, Item, SplitAt, Costly, Refuted, Bounded}
+use Rattle.fs_cert_evidence.specs.Certificate as priced_answers
+use Rattle.fs_board_offers.specs.Priced as valid_priced
+use Rattle.fs_board_offers.specs.Valid.{Forbid, Covers, IsValid, IsValidFor, IsBest, IsRight, is_costly}
+use Rattle.fs_board_offers.specs.Bounds.{IsNoBetter}
 use Rattle.fs_model_laws.proofs.Ranked.{first-less}
-use Rattle.fs_model_laws.proofs.Floors.{floor-cost}
-use Rattle.fs_model_laws.proofs.Bounded.{bounded}
+use Rattle.fs_board_offers.proofs.Floors.{floor-cost}
+use Rattle.fs_board_offers.proofs.Bounded.{bounded}
 use Rattle.fs_values.specs.ThinAir.{CanBeListed}
 use Rattle.fs_verdict_laws.proofs.Deciding.{cycles_forbid_all}
 use Rattle.fs_verdict_laws.proofs.Covering.{forbids}
-use Rattle.fs_model_laws.specs.Trees.{IsPart}
+use Rattle.fs_board_offers.specs.Trees.{IsPart}
 use Rattle.fs_model_laws.proofs.Places.{count_one, at-append, at-more, at-end, once-counted}
-use Rattle.fs_model_laws.proofs.PartsOfTests.{part-child, part-root, under-root}
-use Rattle.fs_model_laws.proofs.Children.{one-child}
-use Rattle.fs_model_laws.proofs.Final.{filling-shows, all-shown}
+use Rattle.fs_board_offers.proofs.PartsOfTests.{part-child, part-root, under-root}
+use Rattle.fs_board_offers.proofs.Children.{one-child, rising-part}
+use Rattle.fs_board_offers.proofs.Final.{filling-shows, all-shown}
+use Rattle.fs_board_offers.proofs.Priced.{same-slots, same-cost, same-cheapest, to-prices, from-prices}
 
 -- one of the parts has the placement under it
 record IsUnderSome (parts : List Part) (q : List Entry) : Type 0 where
@@ -33,79 +38,79 @@ record IsUnderSome (parts : List Part) (q : List Entry) : Type 0 where
   under : is_under part q ≡ true
 
 -- what the version asks of the answer: nothing is cheaper, or nothing is better
-abbrev IsNoBest : Version → PriceTable → List Entry → List Entry → Type 0
-IsNoBest First prices p q = cost prices q < cost prices p → ⊥
-IsNoBest Second prices p q = is_better prices q p ≡ false
-IsNoBest Fourth prices p q = is_better prices q p ≡ false
+abbrev IsNoBest : Version → Offers → List Entry → List Entry → Type 0
+IsNoBest First offers p q = cost offers q < cost offers p → ⊥
+IsNoBest Second offers p q = is_better offers q p ≡ false
+IsNoBest Fourth offers p q = is_better offers q p ≡ false
 
-no-best : (version : Version) (prices : PriceTable) (p q : List Entry) → IsNoBetter prices (Some p) q → IsNoBest version prices p q
-no-best First prices p q worse =
-    λ cheaper. false≢true (sym worse ∙ first-less (cost prices q) (cost prices p) (precedes q p) cheaper)
-no-best Second prices p q worse = worse
-no-best Fourth prices p q worse = worse
+no-best : (version : Version) (offers : Offers) (p q : List Entry) → IsNoBetter offers (Some p) q → IsNoBest version offers p q
+no-best First offers p q worse =
+    λ cheaper. false≢true (sym worse ∙ first-less (cost offers q) (cost offers p) (precedes offers q p) cheaper)
+no-best Second offers p q worse = worse
+no-best Fourth offers p q worse = worse
 
-either-way : (version : Version) (t : Test) (prices : PriceTable) (p q : List Entry) → Allows t q ⊎ IsNoBetter prices (Some p) q
-    → Allows t q ⊎ IsNoBest version prices p q
-either-way version t prices p q decided = elim decided [
+either-way : (version : Version) (t : Test) (offers : Offers) (p q : List Entry) → Allows t q ⊎ IsNoBetter offers (Some p) q
+    → Allows t q ⊎ IsNoBest version offers p q
+either-way version t offers p q decided = elim decided [
   | inl allowed ↦ inl allowed
-  | inr worse ↦ inr (no-best version prices p q worse)
+  | inr worse ↦ inr (no-best version offers p q worse)
 ]
 
-module _ (t : Test) (prices : PriceTable) where
-  costly-leaf : (version : Version) (p : List Entry) (part : Part) (q : List Entry) → IsPart t prices part → IsPlacement t prices q
-      → is_under part q ≡ true → is_costly version prices p part ≡ true → Allows t q ⊎ IsNoBest version prices p q
+module _ (t : Test) (offers : Offers) (rises : is_rising (slots offers) ≡ true) where
+  costly-leaf : (version : Version) (p : List Entry) (part : Part) (q : List Entry) → IsPart offers part → IsPlacement offers q
+      → is_under part q ≡ true → is_costly version offers p part ≡ true → Allows t q ⊎ IsNoBest version offers p q
   costly-leaf First p part q is placement under costly =
-      let least = floor-cost prices part q under in
-      let most = leb-true (cost prices p) (cost prices (floor part)) costly in
+      let least = floor-cost offers part q under in
+      let most = leb-true (cost offers p) (cost offers (floor part)) costly in
       inr (λ cheaper. omega (arith, least, most, cheaper))
   costly-leaf Second p part q is placement under costly =
-      bounded t prices (Some p) part [] q is.slots (All-nil (Shows t (floor part))) costly placement under
+      bounded t offers (Some p) part [] q (rising-part offers part rises is) (All-nil (Shows t (floor part))) costly placement.offered under
   costly-leaf Fourth p part q is placement under costly =
-      bounded t prices (Some p) part [] q is.slots (All-nil (Shows t (floor part))) costly placement under
+      bounded t offers (Some p) part [] q (rising-part offers part rises is) (All-nil (Shows t (floor part))) costly placement.offered under
 
   abbrev AreParts : List Part → Type 0
-  AreParts parts = (k : ℕ) (part : Part) → slice_get parts k ≡ Some part → IsPart t prices part
+  AreParts parts = (k : ℕ) (part : Part) → slice_get parts k ≡ Some part → IsPart offers part
 
   rest-parts : (part : Part) (parts : List Part) → AreParts (part ∷ parts) → AreParts parts
   rest-parts part parts each = λ k other at. each (suc k) other at
 
-  children-parts : (slot : Slot) (part : Part) (parts : List Part) → AreParts (part ∷ parts) → AreParts (child_parts prices slot part ++ parts)
-  children-parts slot part parts each = λ k other at. elim (at-append (child_parts prices slot part) parts k other at) [
-    | inl child ↦ part-child t prices slot part other k (each 0 part refl) child
+  children-parts : (slot : Slot) (part : Part) (parts : List Part) → AreParts (part ∷ parts) → AreParts (child_parts offers slot part ++ parts)
+  children-parts slot part parts each = λ k other at. elim (at-append (child_parts offers slot part) parts k other at) [
+    | inl child ↦ part-child offers slot part other k (each 0 part refl) child
     | inr later ↦ each (suc later.0) other later.1
   ]
 
   -- what lies under a part that is split lies under a child, and what lies under a later part still does
-  under-children : (slot : Slot) (part : Part) (parts : List Part) (q : List Entry) → AreParts (part ∷ parts) → IsPlacement t prices q
+  under-children : (slot : Slot) (part : Part) (parts : List Part) (q : List Entry) → AreParts (part ∷ parts) → IsPlacement offers q
       → is_undecided slot part ≡ true → (k : ℕ) (other : Part) → slice_get (part ∷ parts) k ≡ Some other → is_under other q ≡ true
-      → IsUnderSome (child_parts prices slot part ++ parts) q
+      → IsUnderSome (child_parts offers slot part ++ parts) q
   under-children slot part parts q each placement free zero other at under =
       let same : part ≡ other = cc in
-      let one = one-child t prices slot part q (each 0 part refl) placement free
+      let one = one-child offers slot part q rises (each 0 part refl) placement free
       ∙ (ap (λ o. count_one (is_under o q)) same ∙ ap count_one under) in
-      let once = once-counted (λ child. is_under child q) (child_parts prices slot part) one in
+      let once = once-counted (λ child. is_under child q) (child_parts offers slot part) one in
       record {
         number = once.number;
         part = once.item;
-        at = at-more (child_parts prices slot part) parts once.number once.item once.at;
+        at = at-more (child_parts offers slot part) parts once.number once.item once.at;
         under = once.passes;
       }
   under-children slot part parts q each placement free (suc k) other at under = record {
-    number = length (child_parts prices slot part) + k;
+    number = length (child_parts offers slot part) + k;
     part = other;
-    at = at-end (child_parts prices slot part) parts (length (child_parts prices slot part) + k) k other refl at;
+    at = at-end (child_parts offers slot part) parts (length (child_parts offers slot part) + k) k other refl at;
     under = under;
   }
 
-  module _ (c : Certificate) (p q : List Entry) (placement : IsPlacement t prices q) where
-    covered : (items : List Item) (parts : List Part) → AreParts parts → Covers t prices c p parts items
+  module _ (c : Certificate) (p q : List Entry) (placement : IsPlacement offers q) where
+    covered : (items : List Item) (parts : List Part) → AreParts parts → Covers t offers c p parts items
         → (k : ℕ) (part : Part) → slice_get parts k ≡ Some part → is_under part q ≡ true
-        → Allows t q ⊎ IsNoBest c.version prices p q
+        → Allows t q ⊎ IsNoBest c.version offers p q
     covered items [] each covers k part at under = absurd (cc)
     covered [] (first ∷ parts) each covers k part at under = absurd covers
     covered (SplitAt number ∷ items) (first ∷ parts) each covers k part at under =
         let some = under-children covers.0 first parts q each placement covers.2 k part at under in
-        covered items (child_parts prices covers.0 first ++ parts) (children-parts covers.0 first parts each) covers.3
+        covered items (child_parts offers covers.0 first ++ parts) (children-parts covers.0 first parts each) covers.3
         some.number some.part some.at some.under
     covered (Costly ∷ items) (first ∷ parts) each covers zero part at under =
         let same : first ≡ part = cc in
@@ -120,24 +125,24 @@ module _ (t : Test) (prices : PriceTable) where
     covered (Bounded js ∷ items) (first ∷ parts) each covers zero part at under =
         let same : first ≡ part = cc in
         let is = each 0 first refl in
-        either-way c.version t prices p q
-        (bounded t prices (Some p) first covers.0.0 q is.slots (all-shown t c.witnesses (floor first) js covers.0.0 covers.0.1)
-        covers.0.2 placement (ap (λ o. is_under o q) same ∙ under))
+        either-way c.version t offers p q
+        (bounded t offers (Some p) first covers.0.0 q (rising-part offers first rises is) (all-shown t c.witnesses (floor first) js covers.0.0 covers.0.1)
+        covers.0.2 placement.offered (ap (λ o. is_under o q) same ∙ under))
     covered (Bounded js ∷ items) (first ∷ parts) each covers (suc k) part at under =
         covered items parts (rest-parts first parts each) covers.1 k part at under
 
-  root-part : AreParts (undecided t ∷ [])
-  root-part zero part at = let same : undecided t ≡ part = cc in subst (IsPart t prices) same (part-root t prices)
+  root-part : AreParts (undecided offers ∷ [])
+  root-part zero part at = let same : undecided offers ≡ part = cc in subst (IsPart offers) same (part-root offers)
   root-part (suc k) part at = absurd (cc)
 
-  decided : (c : Certificate) (p q : List Entry) → IsValidFor t prices c p → IsPlacement t prices q
-      → Allows t q ⊎ IsNoBest c.version prices p q
+  decided : (c : Certificate) (p q : List Entry) → IsValidFor t offers c p → IsPlacement offers q
+      → Allows t q ⊎ IsNoBest c.version offers p q
   decided c p q valid placement =
-      covered c p q placement c.tree (undecided t ∷ []) root-part valid.tree 0 (undecided t) refl (under-root t prices q placement)
+      covered c p q placement c.tree (undecided offers ∷ []) root-part valid.tree 0 (undecided offers) refl (under-root offers q placement)
 
-  first-best : (p : List Entry) → IsPlacement t prices p → (Allows t p → ⊥)
-      → ((q : List Entry) → IsPlacement t prices q → Allows t q ⊎ (is_better prices q p ≡ false))
-      → IsCheapest t prices p
+  first-best : (p : List Entry) → IsPlacement offers p → (Allows t p → ⊥)
+      → ((q : List Entry) → IsPlacement offers q → Allows t q ⊎ (is_better offers q p ≡ false))
+      → IsCheapest t offers p
   first-best p placement forbids each = record {
     placement = placement;
     forbids = forbids;
@@ -148,8 +153,8 @@ module _ (t : Test) (prices : PriceTable) where
   }
 
   -- what the tree shows of the answer, by the version
-  best : (version : Version) (p : List Entry) → IsPlacement t prices p → (Allows t p → ⊥)
-      → ((q : List Entry) → IsPlacement t prices q → Allows t q ⊎ IsNoBest version prices p q) → IsBest version t prices p
+  best : (version : Version) (p : List Entry) → IsPlacement offers p → (Allows t p → ⊥)
+      → ((q : List Entry) → IsPlacement offers q → Allows t q ⊎ IsNoBest version offers p q) → IsBest version t offers p
   best First p placement forbids each = record {
     placement = placement;
     forbids = forbids;
@@ -163,11 +168,38 @@ module _ (t : Test) (prices : PriceTable) where
   forbidden listed p (Listed cycles) shown = cycles_forbid_all t listed p cycles shown
   forbidden listed p (Inferred inferences) shown = forbids t listed p inferences shown
 
-  valid-best : CanBeListed t → (c : Certificate) (p : List Entry) → IsValidFor t prices c p → IsBest c.version t prices p
+  valid-best : CanBeListed t → (c : Certificate) (p : List Entry) → IsValidFor t offers c p → IsBest c.version t offers p
   valid-best listed c p valid =
       best c.version p valid.answered.placement (forbidden listed p c.cycles valid.cycles) (λ q. decided c p q valid)
 
-  pub valid-right : CanBeListed t → (c : Certificate) (answer : Option (List Entry)) → IsValid t prices c answer
-      → IsRight c.version t prices answer
-  valid-right listed c (Some p) valid = valid-best listed c p valid
-  valid-right listed c None valid = (valid.execution, valid.refutes)
+  valid-for-offers : CanBeListed t → (c : Certificate) (answer : Option (List Entry)) → IsValid t offers c answer
+      → IsRight c.version t offers answer
+  valid-for-offers listed c (Some p) valid = valid-best listed c p valid
+  valid-for-offers listed c None valid = (valid.execution, valid.refutes)
+
+-- ---- of prices
+
+module _ (t : Test) (prices : PriceTable) where
+  best-priced : (version : Version) (p : List Entry) → IsBest version t (offers_of t prices) p → priced_answers.IsBest version t prices p
+  best-priced First p is =
+      let over = is.placement.slots ∙ same-slots t prices in record {
+        placement = to-prices t prices p is.placement;
+        forbids = is.forbids;
+        cheaper = λ q placement cheaper.
+            let mine = same-cost t prices q placement.slots in
+            let theirs = same-cost t prices p over in
+            is.cheaper q (from-prices t prices q placement) (omega (arith, mine, theirs, cheaper));
+      }
+  best-priced Second p is = (same-cheapest t prices p).0 is
+  best-priced Fourth p is = (same-cheapest t prices p).0 is
+
+  right-priced : (version : Version) (answer : Option (List Entry)) → IsRight version t (offers_of t prices) answer
+      → priced_answers.IsRight version t prices answer
+  right-priced version (Some p) is = best-priced version p is
+  right-priced version None is = is
+
+  pub valid-right : CanBeListed t → (c : Certificate) (answer : Option (List Entry)) → valid_priced.IsValid t prices c answer
+      → priced_answers.IsRight c.version t prices answer
+  valid-right listed c answer valid =
+      right-priced c.version answer
+      (valid-for-offers t (offers_of t prices) (ap is_rising (same-slots t prices) ∙ rising-slots_from 0 t.codes) listed c answer valid)

@@ -1,5 +1,5 @@
 -- Filling a placement slot by slot, from the words of its fences.
-use Rattle.std.proofs.Common.{◌≡◌, ℕ, zero, suc, ◌+◌, ◌≤◌, true, false, Option, None, Some, is_some, List, [], ◌∷◌, ◌++◌, length, drop, refl, sym, ◌∙◌, ap, ap₂, subst, arith, append_assoc}
+use Rattle.std.proofs.Common.{◌≡◌, ℕ, zero, suc, ◌+◌, ◌≤◌, true, false, Option, None, Some, List, [], ◌∷◌, ◌++◌, length, drop, refl, sym, ◌∙◌, ap, ap₂, subst, arith, append_assoc}
 use Rattle.std.specs.Prelude.{if◌then◌else◌, slice_get}
 use Rattle.std.specs.List.{AllByRecursion, list_all}
 use Rattle.std.proofs.lemmas.Bool.{and_parts, and_from, false≢true, or_left, or_right}
@@ -10,7 +10,7 @@ use Rattle.fs_kinds.specs.declared.kind.Kind.{Kind}
 use Rattle.fs_kinds.specs.declared.placement.Entry.{Entry}
 use Rattle.fs_kinds.specs.declared.slot.Slot.{Slot}
 use Rattle.fs_kinds.specs.Placement.{slots_of, all_with, has_slot, with_kind}
-use Rattle.fs_kinds.specs.PriceTable.{PriceTable, is_offered, price_of}
+use Rattle.fs_board_offers.specs.Offers.{Offers, is_offered, offer_at}
 use Rattle.fs_kinds.specs.Slot.{IsSlot, fence_word, is_same_slot, is_before, is_rising}
 use Rattle.fs_cert_evidence.specs.Certificate.{fence_words, words_at}
 use Rattle.fs_check_certificate.specs.inner.Filled.{Fills, IsFilling}
@@ -81,23 +81,23 @@ no_later s k (e ∷ p) words is small all same = by_kind e.kind (no_later s k p 
         let one = same_fence e.slot s l k small.0 is (heads same).0 in
         not_before s (subst (λ u. is_before s u ≡ true) one.0 parts.0)
 
-record Headed (prices : PriceTable) (s : Slot) (after : List Slot) (kind : Option Kind) (words : List (List ℕ)) (r : List Entry) : Type 0 where
+record Headed (offers : Offers) (s : Slot) (after : List Slot) (kind : Option Kind) (words : List (List ℕ)) (r : List Entry) : Type 0 where
   rest : List Entry
   is : r ≡ record { slot = s; kind = kind } ∷ rest
-  offered : is_offered prices kind ≡ true
-  fills : Fills prices after words rest
+  offered : is_offered (offer_at offers s) kind ≡ true
+  fills : Fills offers after words rest
 
-module _ (prices : PriceTable) (s : Slot) (after : List Slot) (is : IsSlot s) (small : AllByRecursion IsSlot after) (before : list_all (is_before s) after ≡ true) where
+module _ (offers : Offers) (s : Slot) (after : List Slot) (is : IsSlot s) (small : AllByRecursion IsSlot after) (before : list_all (is_before s) after ≡ true) where
   -- where the first word is that of a fence at the first slot, that fence is there
-  head_filled : (k : Kind) (words : List (List ℕ)) (r : List Entry) → Fills prices (s ∷ after) (fence_word s k ∷ words) r → Headed prices s after (Some k) words r
+  head_filled : (k : Kind) (words : List (List ℕ)) (r : List Entry) → Fills offers (s ∷ after) (fence_word s k ∷ words) r → Headed offers s after (Some k) words r
   head_filled k words [] f = absurd (let none : [] ≡ s ∷ after = f.slots in cc)
-  head_filled k words (e ∷ p) f = by_kind e.kind (and_parts (is_offered prices e.kind) _ f.offered).0 f.worded
+  head_filled k words (e ∷ p) f = by_kind e.kind (and_parts (is_offered (offer_at offers e.slot) e.kind) _ f.offered).0 f.worded
     where
       same_slots : (e.slot ≡ s) × (slots_of p ≡ after)
       same_slots = heads f.slots
 
-      by_kind : (kind : Option Kind) → is_offered prices kind ≡ true → words_at e.slot kind ++ fence_words p ≡ fence_word s k ∷ words
-          → Headed prices s after (Some k) words (record { slot = e.slot; kind = kind } ∷ p)
+      by_kind : (kind : Option Kind) → is_offered (offer_at offers e.slot) kind ≡ true → words_at e.slot kind ++ fence_words p ≡ fence_word s k ∷ words
+          → Headed offers s after (Some k) words (record { slot = e.slot; kind = kind } ∷ p)
       by_kind None offered same = absurd (no_later s k p words is (subst (AllByRecursion IsSlot) (sym same_slots.1) small)
           (ap (list_all (is_before s)) same_slots.1 ∙ before) same)
       by_kind (Some l) offered same =
@@ -106,26 +106,27 @@ module _ (prices : PriceTable) (s : Slot) (after : List Slot) (is : IsSlot s) (s
           record {
             rest = p;
             is = ap₂ (λ u m. record { slot = u; kind = Some m } ∷ p) same_slots.0 one.1;
-            offered = subst (λ m. is_offered prices (Some m) ≡ true) one.1 offered;
-            fills = record { slots = same_slots.1; offered = (and_parts (is_offered prices e.kind) _ f.offered).1; worded = parts.1 };
+            offered = subst (λ (u : Slot). is_offered (offer_at offers u) (Some k) ≡ true) same_slots.0
+                (subst (λ m. is_offered (offer_at offers e.slot) (Some m) ≡ true) one.1 offered);
+            fills = record { slots = same_slots.1; offered = (and_parts (is_offered (offer_at offers e.slot) e.kind) _ f.offered).1; worded = parts.1 };
           }
 
   -- where it isn't, there is none
-  head_bare : (words : List (List ℕ)) (r : List Entry) → ((k : Kind) → slice_get words 0 ≡ Some (fence_word s k) → ⊥) → Fills prices (s ∷ after) words r
-      → Headed prices s after None words r
+  head_bare : (words : List (List ℕ)) (r : List Entry) → ((k : Kind) → slice_get words 0 ≡ Some (fence_word s k) → ⊥) → Fills offers (s ∷ after) words r
+      → Headed offers s after None words r
   head_bare words [] other f = absurd (let none : [] ≡ s ∷ after = f.slots in cc)
   head_bare words (e ∷ p) other f = by_kind e.kind f.worded
     where
       same_slots : (e.slot ≡ s) × (slots_of p ≡ after)
       same_slots = heads f.slots
 
-      by_kind : (kind : Option Kind) → words_at e.slot kind ++ fence_words p ≡ words → Headed prices s after None words (record { slot = e.slot; kind = kind } ∷ p)
+      by_kind : (kind : Option Kind) → words_at e.slot kind ++ fence_words p ≡ words → Headed offers s after None words (record { slot = e.slot; kind = kind } ∷ p)
       by_kind (Some l) same = absurd (other l (ap (λ ws. slice_get ws 0) (sym same) ∙ ap (λ u. Some (fence_word u l)) same_slots.0))
       by_kind None same = record {
         rest = p;
         is = ap (λ u. record { slot = u; kind = None } ∷ p) same_slots.0;
         offered = refl;
-        fills = record { slots = same_slots.1; offered = (and_parts (is_offered prices e.kind) _ f.offered).1; worded = same };
+        fills = record { slots = same_slots.1; offered = (and_parts (is_offered (offer_at offers e.slot) e.kind) _ f.offered).1; worded = same };
       }
 
 -- ---- lists from a place on
@@ -157,7 +158,7 @@ none_left (x ∷ p) e = absurd (let none : x.slot ∷ slots_of p ≡ [] = e in c
 
 -- ---- the placement as it grows
 
-module _ (prices : PriceTable) (all : List Slot) (words : List (List ℕ)) where
+module _ (offers : Offers) (all : List Slot) (words : List (List ℕ)) where
   -- The first slots are done, with the first words, and the others have no fence yet. What fills the slots is what is
   -- done and what fills the rest.
   pub record Going (i used : ℕ) (p : List Entry) : Type 0 where
@@ -165,27 +166,27 @@ module _ (prices : PriceTable) (all : List Slot) (words : List (List ℕ)) where
     is : p ≡ done ++ all_with None (drop i all)
     parts : slots_of done ++ drop i all ≡ all
     pub low : used ≤ length words
-    sound : (q : List Entry) → Fills prices (drop i all) (drop used words) q → Fills prices all words (done ++ q)
-    complete : (q : List Entry) → Fills prices all words q → (r : List Entry) × (q ≡ done ++ r) × Fills prices (drop i all) (drop used words) r
+    sound : (q : List Entry) → Fills offers (drop i all) (drop used words) q → Fills offers all words (done ++ q)
+    complete : (q : List Entry) → Fills offers all words q → (r : List Entry) × (q ≡ done ++ r) × Fills offers (drop i all) (drop used words) r
 
   pub begin : Going 0 0 (all_with None all)
   begin = record { done = []; is = refl; parts = refl; low = omega arith; sound = λ q f. f; complete = λ q f. (q, refl, f) }
 
   step : (i used more : ℕ) (s : Slot) (kind : Option Kind) (p q : List Entry) (g : Going i used p) → drop i all ≡ s ∷ drop (i + 1) all → more ≤ length words
       → q ≡ g.done ++ record { slot = s; kind = kind } ∷ all_with None (drop (i + 1) all)
-      → ((r : List Entry) → Fills prices (s ∷ drop (i + 1) all) (drop used words) r → Headed prices s (drop (i + 1) all) kind (drop more words) r)
-      → ((r : List Entry) → Fills prices (drop (i + 1) all) (drop more words) r → Fills prices (s ∷ drop (i + 1) all) (drop used words) (record { slot = s; kind = kind } ∷ r))
+      → ((r : List Entry) → Fills offers (s ∷ drop (i + 1) all) (drop used words) r → Headed offers s (drop (i + 1) all) kind (drop more words) r)
+      → ((r : List Entry) → Fills offers (drop (i + 1) all) (drop more words) r → Fills offers (s ∷ drop (i + 1) all) (drop used words) (record { slot = s; kind = kind } ∷ r))
       → Going (i + 1) more q
   step i used more s kind p q g at low is takes gives = record {
     done = g.done ++ entry ∷ [];
     is = is ∙ sym (append_assoc g.done (entry ∷ []) (all_with None (drop (i + 1) all)));
     parts = regroup g.done entry (drop (i + 1) all) ∙ ap (λ rest. slots_of g.done ++ rest) (sym at) ∙ g.parts;
     low = low;
-    sound = λ r f. subst (Fills prices all words) (sym (append_assoc g.done (entry ∷ []) r))
-        (g.sound (entry ∷ r) (subst (λ rest. Fills prices rest (drop used words) (entry ∷ r)) (sym at) (gives r f)));
+    sound = λ r f. subst (Fills offers all words) (sym (append_assoc g.done (entry ∷ []) r))
+        (g.sound (entry ∷ r) (subst (λ rest. Fills offers rest (drop used words) (entry ∷ r)) (sym at) (gives r f)));
     complete = λ r f.
         let old = g.complete r f in
-        let head = takes old.0 (subst (λ rest. Fills prices rest (drop used words) old.0) at old.2) in
+        let head = takes old.0 (subst (λ rest. Fills offers rest (drop used words) old.0) at old.2) in
         (head.rest, old.1 ∙ ap (λ rest. g.done ++ rest) head.is ∙ sym (append_assoc g.done (entry ∷ []) head.rest), head.fills);
   }
     where
@@ -208,12 +209,12 @@ module _ (prices : PriceTable) (all : List Slot) (words : List (List ℕ)) where
     pub has_it : has_slot s p ≡ true
     has_it = ap (has_slot s) placed ∙ there s g.done (all_with None (drop (i + 1) all)) None
 
-    filled_at : (k : Kind) → slice_get words used ≡ Some (fence_word s k) → (r : List Entry) → Fills prices (s ∷ drop (i + 1) all) (drop used words) r
-        → Headed prices s (drop (i + 1) all) (Some k) (drop (used + 1) words) r
-    filled_at k e r f = head_filled prices s (drop (i + 1) all) in_range.0 in_range.1 before k (drop (used + 1) words) r
-        (subst (λ ws. Fills prices (s ∷ drop (i + 1) all) ws r) (drop_first words used (fence_word s k) e) f)
+    filled_at : (k : Kind) → slice_get words used ≡ Some (fence_word s k) → (r : List Entry) → Fills offers (s ∷ drop (i + 1) all) (drop used words) r
+        → Headed offers s (drop (i + 1) all) (Some k) (drop (used + 1) words) r
+    filled_at k e r f = head_filled offers s (drop (i + 1) all) in_range.0 in_range.1 before k (drop (used + 1) words) r
+        (subst (λ ws. Fills offers (s ∷ drop (i + 1) all) ws r) (drop_first words used (fence_word s k) e) f)
 
-    pub put : (k : Kind) → slice_get words used ≡ Some (fence_word s k) → is_some (price_of prices k) ≡ true → Going (i + 1) (used + 1) (with_kind s (Some k) p)
+    pub put : (k : Kind) → slice_get words used ≡ Some (fence_word s k) → is_offered (offer_at offers s) (Some k) ≡ true → Going (i + 1) (used + 1) (with_kind s (Some k) p)
     put k e offered = step i used (used + 1) s (Some k) p (with_kind s (Some k) p) g at (let less = slice_get_within words used _ e in omega (arith, less))
         (ap (with_kind s (Some k)) placed ∙ put_here s (Some k) g.done (drop (i + 1) all) here_rising)
         (filled_at k e)
@@ -223,15 +224,15 @@ module _ (prices : PriceTable) (all : List Slot) (words : List (List ℕ)) where
           worded = ap (λ rest. fence_word s k ∷ rest) f.worded ∙ sym (drop_first words used (fence_word s k) e);
         })
 
-    pub refuse : (k : Kind) → slice_get words used ≡ Some (fence_word s k) → is_some (price_of prices k) ≡ false → (q : List Entry) → Fills prices all words q → ⊥
+    pub refuse : (k : Kind) → slice_get words used ≡ Some (fence_word s k) → is_offered (offer_at offers s) (Some k) ≡ false → (q : List Entry) → Fills offers all words q → ⊥
     refuse k e missing q f =
         let old = g.complete q f in
-        let head = filled_at k e old.0 (subst (λ rest. Fills prices rest (drop used words) old.0) at old.2) in
+        let head = filled_at k e old.0 (subst (λ rest. Fills offers rest (drop used words) old.0) at old.2) in
         false≢true (sym missing ∙ head.offered)
 
     pub skip : ((k : Kind) → slice_get words used ≡ Some (fence_word s k) → ⊥) → Going (i + 1) used p
     skip other = step i used used s None p p g at g.low placed
-        (λ r f. head_bare prices s (drop (i + 1) all) in_range.0 in_range.1 before (drop used words) r (λ k e. other k (sym (first_dropped words used) ∙ e)) f)
+        (λ r f. head_bare offers s (drop (i + 1) all) in_range.0 in_range.1 before (drop used words) r (λ k e. other k (sym (first_dropped words used) ∙ e)) f)
         (λ r f. record { slots = ap (λ rest. s ∷ rest) f.slots; offered = f.offered; worded = f.worded })
 
   -- ---- the end
@@ -243,20 +244,20 @@ module _ (prices : PriceTable) (all : List Slot) (words : List (List ℕ)) where
     placed_whole : p ≡ g.done ++ []
     placed_whole = g.is ∙ ap (λ rest. g.done ++ all_with None rest) no_slots
 
-    rest_of : (q : List Entry) → Fills prices all words q → (r : List Entry) × (q ≡ g.done ++ r) × (r ≡ []) × (fence_words r ≡ drop used words)
+    rest_of : (q : List Entry) → Fills offers all words q → (r : List Entry) × (q ≡ g.done ++ r) × (r ≡ []) × (fence_words r ≡ drop used words)
     rest_of q f =
         let old = g.complete q f in
         (old.0, old.1, none_left old.0 (old.2.slots ∙ no_slots), old.2.worded)
 
-    pub whole : used ≡ length words → IsFilling prices all words (Some p)
+    pub whole : used ≡ length words → IsFilling offers all words (Some p)
     whole end =
         let no_words : drop used words ≡ [] = drop_all used words (omega (arith, end)) in
-        let empty : Fills prices (drop i all) (drop used words) [] = record { slots = sym no_slots; offered = refl; worded = sym no_words } in (
-          subst (Fills prices all words) (sym placed_whole) (g.sound [] empty),
+        let empty : Fills offers (drop i all) (drop used words) [] = record { slots = sym no_slots; offered = refl; worded = sym no_words } in (
+          subst (Fills offers all words) (sym placed_whole) (g.sound [] empty),
           λ q f. (let rest = rest_of q f in rest.1 ∙ ap (λ r. g.done ++ r) rest.2 ∙ sym placed_whole),
         )
 
-    pub left : (used ≡ length words → ⊥) → (q : List Entry) → Fills prices all words q → ⊥
+    pub left : (used ≡ length words → ⊥) → (q : List Entry) → Fills offers all words q → ⊥
     left more q f =
         let rest = rest_of q f in
         let none : [] ≡ drop used words = ap fence_words (sym rest.2) ∙ rest.3 in

@@ -9,14 +9,14 @@ use Rattle.fs_kinds.specs.declared.reason.Reason.{Reason}
 use Rattle.fs_kinds.specs.declared.reason.Reason.TheVariants as reason
 use Rattle.fs_kinds.specs.declared.slot.Slot.{Slot}
 use Rattle.fs_kinds.specs.Placement.{all_with}
-use Rattle.fs_kinds.specs.PriceTable.{PriceTable}
+use Rattle.fs_board_offers.specs.Offers.{Offers}
 use Rattle.fs_model.specs.declared.test.Test.{Test}
 use Rattle.fs_model.specs.Slots.{slots}
 use Rattle.fs_model.specs.Witness.{Witness}
-use Rattle.fs_cert_evidence.specs.Certificate.{Certificate, Answer, Fenced, NoneForbids, Cycles, Listed, Inferred, IsEmpty, Link, Inference, Item, SplitAt, Costly, Refuted, Bounded, IsAnswered}
-use Rattle.fs_cert_evidence.specs.Parts.{Part, undecided, filled, child_parts}
-use Rattle.fs_cert_evidence.specs.Refusals.{IsBad, IsBadAnswer, IsCyclesRefusal, Fails, IsRefusal, IsRefusedAfter, IsPlacedRefusal}
-use Rattle.fs_cert_evidence.specs.Valid.{Forbid, Refutes, IsValidFor, IsValidForNone}
+use Rattle.fs_cert_evidence.specs.Certificate.{Certificate, Answer, Fenced, NoneForbids, Cycles, Listed, Inferred, IsEmpty, Link, Inference, Item, SplitAt, Costly, Refuted, Bounded}
+use Rattle.fs_board_offers.specs.Parts.{Part, undecided, filled, child_parts, slots_in_part}
+use Rattle.fs_board_offers.specs.Refusals.{IsBad, IsBadAnswer, IsCyclesRefusal, Fails, IsRefusal, IsRefusedAfter, IsPlacedRefusal}
+use Rattle.fs_board_offers.specs.Valid.{Forbid, Refutes, IsAnswered, IsValidFor, IsValidForNone}
 use Rattle.fs_cert_json.specs.declared.certificate.Certificate.{Certificate as Kept}
 use Rattle.fs_cert_json.specs.declared.certificate.CertifiedCycles.{CertifiedCycles}
 use Rattle.fs_cert_json.specs.declared.certificate.CertifiedCycles.TheVariants.{Listed as KeptList, Inferred as KeptInferences}
@@ -25,7 +25,7 @@ use Rattle.fs_cert_evidence.specs.Inferences.{inference_of}
 use Rattle.fs_check_certificate.specs.Cycles.{IsCyclesVerdict, count_in}
 use Rattle.fs_check_certificate.specs.inner.Filled.{IsPlacementFor}
 use Rattle.fs_check_certificate.specs.inner.Judgements.{IsPlacedVerdict}
-use Rattle.fs_check_certificate.specs.Leaves.{Decides, slots_in_part}
+use Rattle.fs_check_certificate.specs.Leaves.{Decides}
 use Rattle.fs_check_certificate.specs.inner.Walks.{IsWalked}
 use Rattle.fs_check_certificate.proofs.Against.{is_of_cycles, of_cycles}
 use Rattle.fs_check_certificate.proofs.Walking.{undecided_at, slots_undecided}
@@ -38,14 +38,14 @@ is_of_tree (reason.Node k) = true
 is_of_tree (reason.Witness j) = true
 is_of_tree other = false
 
-module _ (t : Test) (prices : PriceTable) (c : Certificate) (p : List Entry) where
-  of_tree : (parts : List Part) (items : List Item) (k : ℕ) (r : Reason) → Fails t prices c p parts items k r → is_of_tree r ≡ true
+module _ (t : Test) (offers : Offers) (c : Certificate) (p : List Entry) where
+  of_tree : (parts : List Part) (items : List Item) (k : ℕ) (r : Reason) → Fails t offers c p parts items k r → is_of_tree r ≡ true
   of_tree [] [] k r failing = absurd failing
   of_tree [] (item ∷ items) k r failing = ap is_of_tree failing
   of_tree (part ∷ parts) [] k r failing = ap is_of_tree failing
   of_tree (part ∷ parts) (SplitAt j ∷ items) k r failing = elim failing [
     | inl here ↦ ap is_of_tree here.1
-    | inr later ↦ of_tree (child_parts prices later.0 part ++ parts) items (k + 1) r later.3
+    | inr later ↦ of_tree (child_parts offers later.0 part ++ parts) items (k + 1) r later.3
   ]
   of_tree (part ∷ parts) (Costly ∷ items) k r failing = elim failing [
     | inl here ↦ ap is_of_tree here.1
@@ -65,7 +65,7 @@ module _ (t : Test) (prices : PriceTable) (c : Certificate) (p : List Entry) whe
 
   -- a failure of the tree, where the cycles are right
   placed : (why : Reason) → is_of_tree why ≡ true → Forbid t p c.cycles
-      → Fails t prices c p (undecided t ∷ []) c.tree 0 why → IsPlacedRefusal t prices c p why
+      → Fails t offers c p (undecided offers ∷ []) c.tree 0 why → IsPlacedRefusal t offers c p why
   placed reason.Tree of forbid failing = (forbid, failing)
   placed (reason.Node k) of forbid failing = (forbid, failing)
   placed (reason.Witness j) of forbid failing = (forbid, failing)
@@ -73,57 +73,55 @@ module _ (t : Test) (prices : PriceTable) (c : Certificate) (p : List Entry) whe
 
   -- a reason against the cycles
   against : (why : Reason) → is_of_cycles why ≡ true → IsCyclesRefusal t p c.cycles why
-      → IsPlacedRefusal t prices c p why
+      → IsPlacedRefusal t offers c p why
   against reason.Cycles of refused = refused
   against (reason.Cycle k) of refused = refused
   against other of refused = absurd (false≢true of)
 
   pub cycles_against : (why : Option Reason) → is_some why ≡ true → IsCyclesVerdict t p c.cycles why
-      → IsPlacedVerdict t prices c p why
+      → IsPlacedVerdict t offers c p why
   cycles_against None some verdict = absurd (cc)
   cycles_against (Some why) some refused = against why (of_cycles t p c.cycles why refused) refused
 
   -- nothing against the cycles, and what is said against the tree
   pub tree_against : (before why : Option Reason) → is_some before ≡ false → IsCyclesVerdict t p c.cycles before
-      → IsWalked t prices c p (undecided t ∷ []) c.tree why → IsPlacedVerdict t prices c p why
+      → IsWalked t offers c p (undecided offers ∷ []) c.tree why → IsPlacedVerdict t offers c p why
   tree_against None None none forbid walked = (forbid, walked)
   tree_against None (Some why) none forbid failing =
-      placed why (of_tree (undecided t ∷ []) c.tree 0 why failing) forbid failing
+      placed why (of_tree (undecided offers ∷ []) c.tree 0 why failing) forbid failing
   tree_against (Some r) why none forbid walked = absurd (cc)
 
-  refused_after : (why : Reason) → IsAnswered t prices c.answer p → IsPlacedRefusal t prices c p why
-      → IsRefusedAfter t prices c why c.answer
+  refused_after : (why : Reason) → IsAnswered offers c.answer p → IsPlacedRefusal t offers c p why
+      → IsRefusedAfter t offers c why c.answer
   refused_after why answered refused =
       let is = answered.answered in
-      subst (IsRefusedAfter t prices c why) (sym is)
-      (p, subst (λ (answer : Answer). IsAnswered t prices answer p) is answered, refused)
+      subst (IsRefusedAfter t offers c why) (sym is)
+      (p, subst (λ (answer : Answer). IsAnswered offers answer p) is answered, refused)
 
   -- where the answer is one, a reason against the cycles or the tree
-  pub placed_refused : (why : Reason) → IsAnswered t prices c.answer p → IsPlacedVerdict t prices c p (Some why)
-      → IsRefusal t prices c why
+  pub placed_refused : (why : Reason) → IsAnswered offers c.answer p → IsPlacedVerdict t offers c p (Some why)
+      → IsRefusal t offers c why
   placed_refused reason.Answer answered refused =
-      absurd (false≢true (of_tree (undecided t ∷ []) c.tree 0 reason.Answer refused.1))
+      absurd (false≢true (of_tree (undecided offers ∷ []) c.tree 0 reason.Answer refused.1))
   placed_refused why answered refused = refused_after why answered refused
 
   -- and where nothing is said against them
-  pub placed_valid : IsAnswered t prices c.answer p → IsPlacedVerdict t prices c p None → IsValidFor t prices c p
+  pub placed_valid : IsAnswered offers c.answer p → IsPlacedVerdict t offers c p None → IsValidFor t offers c p
   placed_valid answered whole = record { answered = answered; cycles = whole.0; tree = whole.1 }
 
 -- ---- answers of a placement
 
--- the answer is none of the test and the prices
-pub bad_answer : (t u : Test) (prices : PriceTable) (c : Certificate) (n : ℕ) (fences : List (List ℕ)) (found : Option (List Entry)) → c.answer ≡ Fenced n fences → u ≡ t
-    → found ≡ None → IsPlacementFor u prices (Fenced n fences) found → IsRefusal t prices c reason.Answer
-bad_answer t u prices c n fences found is same none given =
-    let of_u = subst (IsPlacementFor u prices (Fenced n fences)) none given in
-    subst (IsBad t prices c) (sym is) (subst (λ (v : Test). IsPlacementFor v prices (Fenced n fences) None) same of_u)
+-- the answer is none of the offers
+pub bad_answer : (t : Test) (offers : Offers) (c : Certificate) (n : ℕ) (fences : List (List ℕ)) (found : Option (List Entry)) → c.answer ≡ Fenced n fences
+    → found ≡ None → IsPlacementFor offers (Fenced n fences) found → IsRefusal t offers c reason.Answer
+bad_answer t offers c n fences found is none given =
+    subst (IsBad offers c) (sym is) (subst (IsPlacementFor offers (Fenced n fences)) none given)
 
 -- it is this placement
-pub good_answer : (t u : Test) (prices : PriceTable) (c : Certificate) (answer : Answer) (found : Option (List Entry)) (p : List Entry) → c.answer ≡ answer → u ≡ t
-    → found ≡ Some p → IsPlacementFor u prices answer found → IsAnswered t prices c.answer p
-good_answer t u prices c answer found p is same some given =
-    let of_u = subst (IsPlacementFor u prices answer) some given in
-    subst (λ (a : Answer). IsAnswered t prices a p) (sym is) (subst (λ (v : Test). IsPlacementFor v prices answer (Some p)) same of_u)
+pub good_answer : (offers : Offers) (c : Certificate) (answer : Answer) (found : Option (List Entry)) (p : List Entry) → c.answer ≡ answer
+    → found ≡ Some p → IsPlacementFor offers answer found → IsAnswered offers c.answer p
+good_answer offers c answer found p is some given =
+    subst (λ (a : Answer). IsAnswered offers a p) (sym is) (subst (IsPlacementFor offers answer) some given)
 
 -- ---- answers of none
 
@@ -187,10 +185,10 @@ not_bare cycles true [] witnesses none unlike =
     inr (inr (λ one. false≢true (sym unlike ∙ eq-eqb (length witnesses) 1 one)))
 
 -- a certificate of none that has more or less than its witness is refused
-pub bad_none : (t : Test) (prices : PriceTable) (kept : Kept) (c : Certificate) → KeepsCertificate kept c → c.answer ≡ NoneForbids
-    → bare (count_in kept.cycles) kept.tree kept.witnesses ≡ false → IsBadAnswer t prices c
-bad_none t prices kept c keeps is unlike =
-    subst (IsBad t prices c) (sym is)
+pub bad_none : (offers : Offers) (kept : Kept) (c : Certificate) → KeepsCertificate kept c → c.answer ≡ NoneForbids
+    → bare (count_in kept.cycles) kept.tree kept.witnesses ≡ false → IsBadAnswer offers c
+bad_none offers kept c keeps is unlike =
+    subst (IsBad offers c) (sym is)
     (not_bare c.cycles (count_of c.cycles == 0) c.tree c.witnesses refl (sym (kept_bare kept c keeps) ∙ unlike))
 
 only_one : (ws : List Witness) (w : Witness) → length ws ≡ 1 → slice_get ws 0 ≡ Some w → ws ≡ w ∷ []
@@ -220,22 +218,22 @@ none_valid t kept c keeps is alike b holds decided =
     }
 
 -- one whose witness doesn't is refused
-pub none_refused : (t : Test) (prices : PriceTable) (kept : Kept) (c : Certificate) → KeepsCertificate kept c → c.answer ≡ NoneForbids
+pub none_refused : (t : Test) (offers : Offers) (kept : Kept) (c : Certificate) → KeepsCertificate kept c → c.answer ≡ NoneForbids
     → bare (count_in kept.cycles) kept.tree kept.witnesses ≡ true → (b : Bool) → b ≡ false
-    → Decides b (Refutes t c.witnesses (all_with (Some RwRw) (slots t)) 0) → IsRefusal t prices c (reason.Witness 0)
-none_refused t prices kept c keeps is alike b fails decided =
+    → Decides b (Refutes t c.witnesses (all_with (Some RwRw) (slots t)) 0) → IsRefusal t offers c (reason.Witness 0)
+none_refused t offers kept c keeps is alike b fails decided =
     let unshown = subst (λ (d : Bool). Decides d (Refutes t c.witnesses (all_with (Some RwRw) (slots t)) 0)) fails decided in
     let all = and_parts ((count_of c.cycles == 0) && (length c.tree == 0)) (length c.witnesses == 1)
     (sym (kept_bare kept c keeps) ∙ alike) in
     let both = and_parts (count_of c.cycles == 0) (length c.tree == 0) all.0 in
-    let good : IsBadAnswer t prices c → ⊥ = λ bad. elim (subst (IsBad t prices c) is bad) [
+    let good : IsBadAnswer offers c → ⊥ = λ bad. elim (subst (IsBad offers c) is bad) [
       | inl some ↦ some (no_cycles c.cycles both.0)
       | inr others ↦ elim others [
         | inl some ↦ some (empty c.tree both.1)
         | inr more ↦ more (eqb-true (length c.witnesses) 1 all.1)
       ]
     ] in
-    subst (IsRefusedAfter t prices c (reason.Witness 0)) (sym is) (good, unshown, refl)
+    subst (IsRefusedAfter t offers c (reason.Witness 0)) (sym is) (good, unshown, refl)
 
 filled_undecided : (ss : List Slot) → filled (map undecided_at ss) ≡ all_with (Some RwRw) ss
 filled_undecided [] = refl

@@ -7,7 +7,7 @@ use Rattle.std.proofs.lemmas.List.Elements.{All-from_recursion, recursion_from_A
 use Rattle.fs_kinds.specs.declared.kind.Kind.{Kind}
 use Rattle.fs_kinds.specs.declared.placement.Entry.{Entry}
 use Rattle.fs_kinds.specs.Placement.{slots_of}
-use Rattle.fs_kinds.specs.PriceTable.{PriceTable}
+use Rattle.fs_board_offers.specs.Offers.{Offers}
 use Rattle.fs_kinds.specs.declared.slot.Slot.{Slot}
 use Rattle.fs_kinds.specs.Slot.{is_rising}
 use Rattle.fs_model.specs.declared.test.Test.{Test}
@@ -18,19 +18,19 @@ use Rattle.fs_model.specs.Allows.{Shows}
 use Rattle.fs_model.specs.Execution.{Execution}
 use Rattle.fs_model.specs.Witness.{Witness}
 use Rattle.fs_cert_evidence.specs.Widths.{Width, width, is_within_width}
-use Rattle.fs_cert_evidence.specs.Parts.{Part, floor, filled_with}
-use Rattle.fs_cert_evidence.specs.Pruning.{is_pruned}
+use Rattle.fs_board_offers.specs.Parts.{Part, floor, filled_with, slots_in_part}
+use Rattle.fs_board_offers.specs.Pruning.{is_pruned}
 use Rattle.fs_cert_evidence.specs.Refusals.{IsFirstUnshown}
 use Rattle.fs_cert_evidence.specs.Shown.{ShowsAs}
-use Rattle.fs_cert_evidence.specs.Valid.{Refutes, RefutesBy, Bounds}
+use Rattle.fs_board_offers.specs.Valid.{Refutes, RefutesBy, Bounds}
 use Rattle.fs_cert_evidence.specs.declared.evidence.Pairs.{Pairs}
 use Rattle.fs_cert_evidence.specs.Evidence.{pairs_at, widths_of}
 use Rattle.fs_model_laws.proofs.ExactWidths.{exact}
 use Rattle.fs_model_laws.proofs.Weakening.{execution-weaker}
 use Rattle.fs_check.proofs.Shown.{one_shown}
-use Rattle.fs_cert_evidence.specs.Breaks.{fits, is_kept}
+use Rattle.fs_board_offers.specs.Breaks.{fits, is_kept}
 use Rattle.fs_check_certificate.specs.Breaks.{is_shown_with, is_shown_under, widths_in, breaks_of, all_breaks, breaks_at, is_bounded}
-use Rattle.fs_check_certificate.specs.Leaves.{Decides, slots_in_part, ShowsWidths, AreShown}
+use Rattle.fs_check_certificate.specs.Leaves.{Decides, ShowsWidths, AreShown}
 use Rattle.fs_check_certificate.proofs.Pruned.{breaks_on, same_pruned}
 
 -- ---- deciding
@@ -57,11 +57,11 @@ got_both R (x ∷ xs) (y ∷ ys) zero h = inr (x, y, refl, refl, h.0)
 got_both R (x ∷ xs) (y ∷ ys) (suc k) h = got_both R xs ys k h.1
 
 -- what it costs to break a witness, where its widths are known
-got_breaks : (prices : PriceTable) (ss : List Slot) (shown : List (Option (List Pairs))) (j : ℕ) (widths : List Pairs) → slice_get shown j ≡ Some (Some widths)
-    → breaks_at (all_breaks prices ss shown) j ≡ breaks_of prices ss widths
-got_breaks prices ss [] j widths at = absurd (cc)
-got_breaks prices ss (kept ∷ shown) zero widths at = ap (λ k. breaks_of prices ss (widths_in k)) (some_is kept (Some widths) at)
-got_breaks prices ss (kept ∷ shown) (suc j) widths at = got_breaks prices ss shown j widths at
+got_breaks : (offers : Offers) (ss : List Slot) (shown : List (Option (List Pairs))) (j : ℕ) (widths : List Pairs) → slice_get shown j ≡ Some (Some widths)
+    → breaks_at (all_breaks offers ss shown) j ≡ breaks_of offers ss widths
+got_breaks offers ss [] j widths at = absurd (cc)
+got_breaks offers ss (kept ∷ shown) zero widths at = ap (λ k. breaks_of offers ss (widths_in k)) (some_is kept (Some widths) at)
+got_breaks offers ss (kept ∷ shown) (suc j) widths at = got_breaks offers ss shown j widths at
 
 -- ---- the slots of a part
 
@@ -205,18 +205,18 @@ module _ (t : Test) (bounded : IsBounded t) (part : Part) (same : slots_in_part 
   all_shown js e = All-from_recursion (Refutes t ws (floor part)) js (all_by js e)
 
   -- their executions, and what it costs to break them
-  each : (prices : PriceTable) (js : List ℕ) → find fails js ≡ None
+  each : (offers : Offers) (js : List ℕ) → find fails js ≡ None
       → (es : List Execution) × AllZip (RefutesBy t ws (floor part)) js es
-      × (map (breaks_at (all_breaks prices (slots t) shown)) js ≡ map (breaks_on prices (slots_in_part part)) (map (width t) es))
-  each prices [] e = ([], tt, refl)
-  each prices (x ∷ xs) none =
+      × (map (breaks_at (all_breaks offers (slots t) shown)) js ≡ map (breaks_on offers (slots_in_part part)) (map (width t) es))
+  each offers [] e = ([], tt, refl)
+  each offers (x ∷ xs) none =
       let split = shown_first (is_shown_under None part shown x) x (find fails xs) none in
       let one = known t bounded part same None ws shown are x split.0 in
-      let rest = each prices xs split.1 in (
+      let rest = each offers xs split.1 in (
         one.0 ∷ rest.0,
         (one.1, rest.1),
         ap₂ (λ v vs. v ∷ vs)
-            (got_breaks prices (slots t) shown x (widths_of (width t one.0) (slots t)) one.2 ∙ ap (λ ss. breaks_on prices ss (width t one.0)) (sym same))
+            (got_breaks offers (slots t) shown x (widths_of (width t one.0) (slots t)) one.2 ∙ ap (λ ss. breaks_on offers ss (width t one.0)) (sym same))
             rest.2,
       )
 
@@ -233,21 +233,21 @@ module _ (t : Test) (bounded : IsBounded t) (part : Part) (same : slots_in_part 
   one_each (j ∷ js) (e ∷ es) [] h k = absurd k
   one_each (j ∷ js) (e ∷ es) (f ∷ fs) h k = ap₂ (λ x xs. x ∷ xs) (one_by j e f h.0 k.0) (one_each js es fs h.1 k.1)
 
-  module _ (prices : PriceTable) (p : List Entry) (js : List ℕ) (none : find fails js ≡ None)
-      (breaks : List (List (Option ℕ))) (are_breaks : breaks ≡ all_breaks prices (slots t) shown) where
+  module _ (offers : Offers) (p : List Entry) (js : List ℕ) (none : find fails js ≡ None)
+      (breaks : List (List (Option ℕ))) (are_breaks : breaks ≡ all_breaks offers (slots t) shown) where
     abbrev bounds : Bool
-    bounds = is_bounded prices (Some p) part (map (breaks_at breaks) js)
+    bounds = is_bounded offers (Some p) part (map (breaks_at breaks) js)
 
-    pruned_is : bounds ≡ is_pruned prices (Some p) part (map (width t) (each prices js none).0)
+    pruned_is : bounds ≡ is_pruned offers (Some p) part (map (width t) (each offers js none).0)
     pruned_is =
-        ap (λ bs. is_bounded prices (Some p) part (map (breaks_at bs) js)) are_breaks
-        ∙ (ap (is_bounded prices (Some p) part) (each prices js none).2 ∙ same_pruned prices (Some p) part (map (width t) (each prices js none).0))
+        ap (λ bs. is_bounded offers (Some p) part (map (breaks_at bs) js)) are_breaks
+        ∙ (ap (is_bounded offers (Some p) part) (each offers js none).2 ∙ same_pruned offers (Some p) part (map (width t) (each offers js none).0))
 
-    pub bound_holds : bounds ≡ true → Bounds t prices ws p part js
-    bound_holds is = ((each prices js none).0, (each prices js none).1, sym pruned_is ∙ is)
+    pub bound_holds : bounds ≡ true → Bounds t offers ws p part js
+    bound_holds is = ((each offers js none).0, (each offers js none).1, sym pruned_is ∙ is)
 
-    pub bound_fails : bounds ≡ false → Bounds t prices ws p part js → ⊥
+    pub bound_fails : bounds ≡ false → Bounds t offers ws p part js → ⊥
     bound_fails is (es, by, pruned) =
-        let same_es = one_each js es (each prices js none).0 by (each prices js none).1 in
-        let both : true ≡ false = sym pruned ∙ (ap (λ fs. is_pruned prices (Some p) part (map (width t) fs)) same_es ∙ (sym pruned_is ∙ is)) in
+        let same_es = one_each js es (each offers js none).0 by (each offers js none).1 in
+        let both : true ≡ false = sym pruned ∙ (ap (λ fs. is_pruned offers (Some p) part (map (width t) fs)) same_es ∙ (sym pruned_is ∙ is)) in
         cc

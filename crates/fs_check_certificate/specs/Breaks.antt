@@ -4,12 +4,11 @@ use Rattle.std.specs.List.{zip}
 use Rattle.fs_kinds.specs.declared.kind.Kind.{Kind}
 use Rattle.fs_kinds.specs.declared.placement.Entry.{Entry}
 use Rattle.fs_kinds.specs.declared.slot.Slot.{Slot}
-use Rattle.fs_kinds.specs.Kind.{all_kinds}
-use Rattle.fs_kinds.specs.PriceTable.{PriceTable, weight_of, cost}
-use Rattle.fs_cert_evidence.specs.Parts.{Part, Decision, floor}
-use Rattle.fs_cert_evidence.specs.Pruning.{is_no_better}
+use Rattle.fs_board_offers.specs.Offers.{Offers, cost}
+use Rattle.fs_board_offers.specs.Parts.{Part, Decision, floor}
+use Rattle.fs_board_offers.specs.Pruning.{is_no_better}
 use Rattle.fs_cert_evidence.specs.declared.evidence.Pairs.{Pairs}
-use Rattle.fs_cert_evidence.specs.Breaks.{is_kept, break_cost, lesser_of, least_of, break_apart, bound_of}
+use Rattle.fs_board_offers.specs.Breaks.{is_kept, lesser_of, break_at, break_apart, bound_of}
 
 -- a witness of which this is kept shows the outcome, and so it does with what is decided and this kind elsewhere
 abbrev pub is_shown_with : Option Kind → Part → Option (Option (List Pairs)) → Bool
@@ -24,21 +23,13 @@ is_shown_under kind part shown j = is_shown_with kind part (slice_get shown j)
 abbrev pub widths_in : Option (List Pairs) → List Pairs
 widths_in kept = unwrap_or kept []
 
--- all ways to decide a slot
-abbrev pub all_options : List (Option Kind)
-all_options = None ∷ map (λ kind. Some kind) all_kinds
-
--- what the cheapest offered fence costs that breaks the witness at the slot
-abbrev pub break_at : PriceTable → Slot → Pairs → Option ℕ
-break_at prices slot pairs = least_of (break_cost prices pairs (weight_of prices slot)) all_options
-
--- and so at each of these slots
-abbrev pub breaks_of : PriceTable → List Slot → List Pairs → List (Option ℕ)
-breaks_of prices slots widths = map (λ pair. break_at prices pair.0 pair.1) (zip slots widths)
+-- what the cheapest fence costs that is offered and breaks the witness, at each of these slots
+abbrev pub breaks_of : Offers → List Slot → List Pairs → List (Option ℕ)
+breaks_of offers slots widths = map (λ pair. break_at offers pair.0 pair.1) (zip slots widths)
 
 -- and so for each witness, and at no slot for one that doesn't show the outcome
-abbrev pub all_breaks : PriceTable → List Slot → List (Option (List Pairs)) → List (List (Option ℕ))
-all_breaks prices slots = map (λ kept. breaks_of prices slots (widths_in kept))
+abbrev pub all_breaks : Offers → List Slot → List (Option (List Pairs)) → List (List (Option ℕ))
+all_breaks offers slots = map (λ kept. breaks_of offers slots (widths_in kept))
 
 -- what it costs at each slot to break the witness of this number
 abbrev pub breaks_at : List (List (Option ℕ)) → ℕ → List (Option ℕ)
@@ -59,7 +50,7 @@ abbrev pub is_breakable_at : ℕ → Decision → List (Option ℕ) → Bool
 is_breakable_at k d breaks = is_open d (slice_get breaks k)
 
 -- they bound the part
-abbrev pub is_bounded : PriceTable → (bound : Option (List Entry)) → Part → List (List (Option ℕ)) → Bool
-is_bounded prices bound part ws =
+abbrev pub is_bounded : Offers → (bound : Option (List Entry)) → Part → List (List (Option ℕ)) → Bool
+is_bounded offers bound part ws =
     break_apart is_breakable_at 0 part ws
-    && is_no_better prices bound part (bound_of (least_in part) (cost prices (floor part)) ws)
+    && is_no_better offers bound part (bound_of (least_in part) (cost offers (floor part)) ws)

@@ -7,8 +7,7 @@ use Rattle.fs_model.specs.declared.test.Test.{Test}
 use Rattle.fs_cert_evidence.specs.CandidateFaults.{IsCyclesFault, HasNoCyclesFault}
 use Rattle.fs_cert_evidence.specs.Certificate.{Certificate, IsRight}
 use Rattle.fs_cert_evidence.specs.CertificateFile.{IsCertificateFile}
-use Rattle.fs_cert_evidence.specs.Refusals.{IsRefusal}
-use Rattle.fs_cert_evidence.specs.Valid.{IsValid}
+use Rattle.fs_board_offers.specs.Priced.{IsValid, IsRefusal}
 use Rattle.fs_cert_json.specs.Kept.{KeepsCertificate}
 use Rattle.fs_check_certificate.specs.declared.certificate_verdict.CheckVerdict.{CheckVerdict}
 use Rattle.fs_check_certificate.specs.declared.certificate_verdict.CheckVerdict.TheVariants.{Yes, No}

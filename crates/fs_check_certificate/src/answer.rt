@@ -7,12 +7,12 @@ ghost use Rattle.fs_kinds.specs.declared.fault.Fault.TheVariants.{Memory};
 ghost use Rattle.fs_kinds.specs.declared.kind.Kind.{Kind};
 ghost use Rattle.fs_kinds.specs.Placement.{all_with};
 ghost use Rattle.fs_kinds.specs.Slot.{IsSlot, fence_word, is_rising};
-ghost use Rattle.fs_model.specs.Test.{IsBounded};
+ghost use Rattle.fs_board_offers.specs.Offers.{slots as slots_of};
 ghost use Rattle.fs_cert_evidence.specs.Certificate.{Fenced};
 ghost use Rattle.fs_check_certificate.specs.inner.Filled.{IsFilling, IsPlacementFor};
 
-use fs_kinds::{Fault, Kind, Placement, Prices, Slot, read_fence};
-use fs_model::{Test, slots};
+use fs_board_offers::Offers;
+use fs_kinds::{Fault, Kind, Placement, Slot, read_fence};
 use std::alloc::Global;
 
 /// The kind of the fence that the word names, where it names one at this slot.
@@ -43,19 +43,19 @@ fn kind_at(words: &[String], number: usize, slot: Slot) -> Option<Kind>
 fn fill(
     placement: Placement,
     slots: &[Slot],
-    prices: &Prices,
+    offers: &Offers,
     words: &[String],
 ) -> Option<Placement>
     requires rising { IsTrue (is_rising slots.now) }
     requires small { AllByRecursion IsSlot slots.now }
     requires empty { placement ≡ all_with None slots.now }
-    ensures { IsFilling prices.now slots.now (map string_bytes words.now) result }
+    ensures { IsFilling offers.now slots.now (map string_bytes words.now) result }
 {
     let mut placement = placement;
     let mut used = 0;
     for slot in slots {
         if let Some(kind) = kind_at(words, used, *slot) {
-            if prices.of(kind).is_none() {
+            if !offers.is_offered(*slot, Some(kind)) {
                 return None;
             }
             match placement.with(*slot, Some(kind)) {
@@ -71,25 +71,24 @@ fn fill(
     }
 }
 
-/// The placement whose cost this is, and the words of whose fences in slot order these are: over the slots of the test,
-/// with offered kinds. None where there is no such placement. The error is `Memory`. Linear in the words and the slots.
+/// The placement whose cost this is, and the words of whose fences in slot order these are: over the slots of the offers,
+/// with offered kinds. None where there is no such placement. The error is `Memory`. It takes time of slots times slots.
 pub(crate) fn answered_placement(
     alloc: Global,
-    test: &Test,
-    prices: &Prices,
+    offers: &Offers,
     cost: u64,
     fences: &[String],
 ) -> Result<Option<Placement>, Fault>
-    requires { IsBounded test.now }
-    ensures ok { IfOk result (IsPlacementFor test.now prices.now (Fenced cost (map string_bytes fences.now))) }
+    requires { AllByRecursion IsSlot (slots_of offers.now) }
+    ensures ok { IfOk result (IsPlacementFor offers.now (Fenced cost (map string_bytes fences.now))) }
     ensures err { IsOkUnless result Memory }
 {
-    let slots = slots(alloc, test)?;
+    let slots = offers.slots(alloc)?;
     let empty = Placement::bottom(alloc, &slots)?;
-    let Some(placement) = fill(empty, &slots, prices, fences) else {
+    let Some(placement) = fill(empty, &slots, offers, fences) else {
         return Ok(None);
     };
-    if prices.cost(&placement) == cost {
+    if offers.cost(&placement) == cost {
         Ok(Some(placement))
     } else {
         Ok(None)

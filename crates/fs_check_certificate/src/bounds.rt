@@ -5,21 +5,21 @@
 ghost use Rattle.std.specs.Prelude.{◌≡◌, None, Some, List, not, map};
 ghost use Rattle.std.specs.List.{find};
 ghost use Rattle.fs_kinds.specs.declared.kind.Kind.TheVariants.{RwRw};
-ghost use Rattle.fs_kinds.specs.PriceTable.{cost};
+ghost use Rattle.fs_board_offers.specs.Offers.{cost};
 ghost use Rattle.fs_model.specs.declared.test.Test.{Test};
 ghost use Rattle.fs_model.specs.Test.{IsBounded};
 ghost use Rattle.fs_model.specs.Slots.{slots};
 ghost use Rattle.fs_model.specs.Witness.{Witness};
-ghost use Rattle.fs_cert_evidence.specs.Parts.{filled, floor};
-ghost use Rattle.fs_cert_evidence.specs.Pruning.{is_no_better};
-ghost use Rattle.fs_cert_evidence.specs.Valid.{Refutes};
-ghost use Rattle.fs_cert_evidence.specs.Breaks.{breaks_one, break_apart, bound_of};
+ghost use Rattle.fs_board_offers.specs.Parts.{filled, floor, slots_in_part};
+ghost use Rattle.fs_board_offers.specs.Valid.{Refutes};
+ghost use Rattle.fs_board_offers.specs.Breaks.{breaks_one, break_apart, bound_of};
 ghost use Rattle.fs_check_certificate.specs.Breaks.{is_shown_under, all_breaks, breaks_at, least_in, is_breakable_at};
 ghost use Rattle.fs_check_certificate.specs.Breaks.{is_bounded};
-ghost use Rattle.fs_check_certificate.specs.Leaves.{Decides, slots_in_part, AreShown, IsBounding};
+ghost use Rattle.fs_check_certificate.specs.Leaves.{Decides, AreShown, IsBounding};
 
-use fs_cert_evidence::{Decision, Pairs, cost, floor_cost, floor_precedes, is_kept, lesser};
-use fs_kinds::{Entry, Kind, List, Prices};
+use fs_board_offers::{Offers, floor_cost, is_kept, is_no_better, lesser};
+use fs_cert_evidence::{Decision, Pairs};
+use fs_kinds::{Entry, Kind, List};
 
 /// What is said of a leaf that witnesses are to bound.
 pub enum Bounding {
@@ -131,15 +131,15 @@ fn break_apart(part: &[Decision], breaks: &[List<Option<u32>>], numbers: &[u64])
 /// What the floor costs, and breaking each of the witnesses of these numbers. Nothing where one of them can't be
 /// broken. It takes time of slots times numbers.
 fn bound_of(
-    prices: &Prices,
+    offers: &Offers,
     part: &[Decision],
     breaks: &[List<Option<u32>>],
     numbers: &[u64],
 ) -> Option<u128>
-    ensures { result ≡ bound_of (least_in part.now) (cost prices.now (floor part.now))
+    ensures { result ≡ bound_of (least_in part.now) (cost offers.now (floor part.now))
         (map (breaks_at breaks.now) numbers.now) }
 {
-    let mut total = floor_cost(prices, part);
+    let mut total = floor_cost(offers, part);
     for number in numbers {
         let Some(least) = least_in(part, breaks_at(breaks, *number)) else {
             return None;
@@ -149,40 +149,29 @@ fn bound_of(
     Some(total)
 }
 
-/// Is nothing that costs so much, or can't be had at all, under the part better than the answer?
-fn is_reached(prices: &Prices, answer: &[Entry], part: &[Decision], bound: Option<u128>) -> bool
-    ensures { result ≡ is_no_better prices.now (Some answer.now) part.now bound }
-{
-    let Some(bound) = bound else {
-        return true;
-    };
-    let cost = cost(prices, answer);
-    cost < bound || cost == bound && !floor_precedes(part, answer)
-}
-
 /// Do the witnesses of these numbers bound the part, where each shows the outcome under its floor?
 fn is_bounded(
-    prices: &Prices,
+    offers: &Offers,
     answer: &[Entry],
     part: &[Decision],
     breaks: &[List<Option<u32>>],
     numbers: &[u64],
 ) -> bool
-    ensures { result ≡ is_bounded prices.now (Some answer.now) part.now (map (breaks_at breaks.now) numbers.now) }
+    ensures { result ≡ is_bounded offers.now (Some answer.now) part.now (map (breaks_at breaks.now) numbers.now) }
 {
     break_apart(part, breaks, numbers)
-        && is_reached(
-            prices,
+        && is_no_better(
+            offers,
             answer,
             part,
-            bound_of(prices, part, breaks, numbers),
+            bound_of(offers, part, breaks, numbers),
         )
 }
 
 /// What is said of a leaf that the witnesses of these numbers are to bound, against the answer, by what it costs at
 /// each slot to break each witness. It takes time of slots times numbers.
 pub fn judge_bounded(
-    prices: &Prices,
+    offers: &Offers,
     answer: &[Entry],
     part: &[Decision],
     shown: &[Option<List<Pairs>>],
@@ -190,13 +179,13 @@ pub fn judge_bounded(
     numbers: &[u64],
 ) -> Bounding
     ensures { (t : Test) (ws : List Witness) → IsBounded t → slots_in_part part.now ≡ slots t → AreShown t ws shown.now
-        → breaks.now ≡ all_breaks prices.now (slots
-        t) shown.now → IsBounding t prices.now ws answer.now part.now numbers.now result }
+        → breaks.now ≡ all_breaks offers.now (slots
+        t) shown.now → IsBounding t offers.now ws answer.now part.now numbers.now result }
 {
     if let Some(number) = first_unshown(part, shown, numbers) {
         return Bounding::Unshown(number);
     }
-    if is_bounded(prices, answer, part, breaks, numbers) {
+    if is_bounded(offers, answer, part, breaks, numbers) {
         Bounding::Holds
     } else {
         Bounding::Fails

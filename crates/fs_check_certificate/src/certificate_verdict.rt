@@ -3,11 +3,13 @@
 ghost use Rattle.std.specs.Prelude.{◌≢◌, All, IfOk, OnOk, IfErr, IsOkUnless};
 ghost use Rattle.std.specs.Arc.{arc_value};
 ghost use Rattle.fs_kinds.specs.declared.fault.Fault.TheVariants.{Memory};
-ghost use Rattle.fs_kinds.specs.PriceTable.{PriceTable};
+ghost use Rattle.fs_kinds.specs.PriceTable.{PriceTable, IsPriceTable};
 ghost use Rattle.fs_model.specs.declared.test.Test.{Test as Tests};
 ghost use Rattle.fs_model.specs.Test.{IsBounded, IsStart};
+ghost use Rattle.fs_model.specs.Slots as its;
 ghost use Rattle.fs_cert_evidence.specs.CandidateFaults.{IsCyclesFault, HasNoCyclesFault};
 ghost use Rattle.fs_cert_evidence.specs.Certificate.{Certificate as Said};
+ghost use Rattle.fs_board_offers.specs.Offers.{slots, offers_of};
 ghost use Rattle.fs_values.specs.ThinAir.{CanBeListed};
 ghost use Rattle.fs_cert_json.specs.Kept.{KeepsCertificate};
 ghost use Rattle.fs_check_certificate.specs.Checks.{IsCheckVerdict, IsJudged, IsCheckFault};
@@ -18,6 +20,7 @@ use crate::fenced::{Judgement, judge_fenced};
 use crate::laws::valid_is_right;
 use crate::unforbidden::judge_none;
 use crate::{Held, hold};
+use fs_board_offers::Offers;
 use fs_cert_json::{Certificate, CertifiedAnswer};
 use fs_kinds::{Fault, Placement, Prices, Reason};
 use fs_model::Test;
@@ -38,25 +41,26 @@ pub enum CheckVerdict {
 fn judge(
     alloc: Global,
     held: &Held<'_>,
-    prices: &Prices,
+    offers: &Offers,
     certificate: &Certificate,
 ) -> Result<Judgement, Fault>
     requires test { IsBounded (test_in held.now) }
     requires starts { All IsStart (test_in held.now).starts }
+    requires slots { slots offers.now ≡ its.slots (test_in held.now) }
     requires listing { HasListing held.now }
     ensures ok { (c : Said) → KeepsCertificate certificate.now c → Holds held.now c.cycles
-        → IfOk result (IsJudgement (test_in held.now) prices.now c) }
+        → IfOk result (IsJudgement (test_in held.now) offers.now c) }
     ensures err { IsOkUnless result Memory }
 {
     match &certificate.answer {
         CertifiedAnswer::Fenced { cost, fences } => {
-            judge_fenced(alloc, held, prices, certificate, *cost, fences)
+            judge_fenced(alloc, held, offers, certificate, *cost, fences)
         }
         CertifiedAnswer::NoneForbids => judge_none(alloc, held.test(), certificate),
     }
 }
 
-/// What is said of a certificate, or why its cycles can't be judged.
+/// What is said of a certificate for the offers that the prices make, or why its cycles can't be judged.
 fn judge_certificate(
     alloc: Global,
     test: Arc<Test>,
@@ -65,22 +69,24 @@ fn judge_certificate(
 ) -> Result<Judgement, Fault>
     requires test { IsBounded (arc_value test) }
     requires starts { All IsStart (arc_value test).starts }
+    requires table { IsPriceTable prices.now }
     ensures ok { (c : Said) → KeepsCertificate certificate.now c
-        → IfOk result (IsJudgement (arc_value test) prices.now c) }
+        → IfOk result (IsJudgement (arc_value test) (offers_of (arc_value test) prices.now) c) }
     ensures listable { OnOk result (CanBeListed (arc_value test)) }
     ensures clean { (c : Said) → KeepsCertificate certificate.now c
         → OnOk result (HasNoCyclesFault c.cycles (arc_value test)) }
     ensures err { (c : Said) → KeepsCertificate certificate.now c
         → IfErr result (λ f. f ≢ Memory → IsCyclesFault c.cycles (arc_value test) f) }
 {
+    let offers = Offers::priced(alloc, &test, prices)?;
     let held = hold(alloc, test, &certificate.cycles)?;
-    judge(alloc, &held, prices, certificate)
+    judge(alloc, &held, &offers, certificate)
 }
 
 /// The verdict on a certificate of which this is said.
 fn verdict_of(certificate: Certificate, judgement: Judgement) -> CheckVerdict
     ensures { (t : Tests) (prices : PriceTable) (c : Said) → CanBeListed t → KeepsCertificate certificate c
-        → IsJudgement t prices c judgement → IsCheckVerdict t prices c result }
+        → IsJudgement t (offers_of t prices) c judgement → IsCheckVerdict t prices c result }
 {
     valid_is_right();
     match judgement {
@@ -98,6 +104,7 @@ fn check_certificate(
 ) -> Result<CheckVerdict, Fault>
     requires test { IsBounded (arc_value test) }
     requires starts { All IsStart (arc_value test).starts }
+    requires table { IsPriceTable prices.now }
     ensures ok { (c : Said) → KeepsCertificate certificate c
         → IfOk result (IsCheckVerdict (arc_value test) prices.now c) }
     ensures clean { (c : Said) → KeepsCertificate certificate c
@@ -127,6 +134,7 @@ pub fn check(
 ) -> Result<CheckVerdict, Fault>
     requires test { IsBounded (arc_value test) }
     requires starts { All IsStart (arc_value test).starts }
+    requires table { IsPriceTable prices.now }
     ensures ok { IfOk result (IsJudged (arc_value test) prices.now certificate.now) }
     ensures err { IfErr result (λ f. f ≢ Memory → IsCheckFault (arc_value test) certificate.now f) }
 {

@@ -6,7 +6,7 @@ ghost use Rattle.fs_kinds.specs.PriceTable.{PriceTable};
 ghost use Rattle.fs_model.specs.declared.test.Test.{Test};
 ghost use Rattle.fs_cert_evidence.specs.Certificate.{Certificate, IsRight};
 ghost use Rattle.fs_cert_evidence.specs.CertificateFile.{IsCertificateFile};
-ghost use Rattle.fs_cert_evidence.specs.Valid.{IsValid};
+ghost use Rattle.fs_board_offers.specs.Priced.{IsValid};
 ghost use Rattle.fs_values.specs.ThinAir.{CanBeListed};
 
 /// A law: a file says one certificate at most. So what is said of the one that a call has read is said of the file.

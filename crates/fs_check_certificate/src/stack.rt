@@ -2,10 +2,11 @@
 
 ghost use Rattle.std.specs.Prelude.{◌≡◌, [], ◌∷◌, ◌++◌, IfOk, OnOk, IfSome, IfNone, None, map, length, ◌==◌};
 ghost use Rattle.std.specs.List.{list_any};
-ghost use Rattle.fs_cert_evidence.specs.Parts.{Part as PartValue, decide, is_undecided, child_parts};
+ghost use Rattle.fs_board_offers.specs.Parts.{Part as PartValue, decide, is_undecided, child_parts};
 
-use fs_cert_evidence::{Decision, OPTIONS, is_offered};
-use fs_kinds::{Kind, List, Prices, Slot};
+use fs_board_offers::{OPTIONS, Offers};
+use fs_cert_evidence::Decision;
+use fs_kinds::{Kind, List, Slot};
 use std::alloc::{AllocError, Global};
 use std::marker::Model;
 
@@ -55,7 +56,7 @@ pub(crate) struct Stack {
 
 impl Model for Stack {
     ghost use Rattle.std.specs.Prelude.{List, reverse};
-    ghost use Rattle.fs_cert_evidence.specs.Parts.{Part};
+    ghost use Rattle.fs_board_offers.specs.Parts.{Part};
 
     ghost Value = { List Part };
 
@@ -99,15 +100,15 @@ impl Stack {
     pub(crate) fn push_children(
         &mut self,
         alloc: Global,
-        prices: &Prices,
+        offers: &Offers,
         part: &[Decision],
         slot: Slot,
     ) -> Result<(), AllocError>
-        ensures { OnOk result (self.new ≡ child_parts prices.now slot part.now ++ self.old) }
+        ensures { OnOk result (self.new ≡ child_parts offers.now slot part.now ++ self.old) }
     {
         for way in (0..OPTIONS.len()).rev() {
             let kind = OPTIONS[way];
-            if is_offered(prices, kind) {
+            if offers.is_offered(slot, kind) {
                 self.push(decide(alloc, part, slot, kind)?)?;
             }
         }

@@ -2,23 +2,25 @@
 
 ghost use Rattle.std.specs.Prelude.{◌≡◌, [], ◌∷◌, IfOk, IfSome, IfNone, Some, false, true, map, slice_get};
 ghost use Rattle.fs_model.specs.declared.test.Test.{Test};
-ghost use Rattle.fs_model.specs.Slots.{slots};
+ghost use Rattle.fs_model.specs.Slots as its;
 ghost use Rattle.fs_model.specs.Test.{IsBounded};
-ghost use Rattle.fs_cert_evidence.specs.Parts.{undecided, is_undecided};
+ghost use Rattle.fs_board_offers.specs.Offers.{slots};
+ghost use Rattle.fs_board_offers.specs.Parts.{undecided, is_undecided, slots_in_part};
 ghost use Rattle.fs_cert_evidence.specs.Certificate.{Certificate, SplitAt, Costly, Refuted, Bounded};
-ghost use Rattle.fs_cert_evidence.specs.Valid.{is_costly};
-ghost use Rattle.fs_cert_evidence.specs.Refusals.{is_free};
+ghost use Rattle.fs_board_offers.specs.Valid.{is_costly};
+ghost use Rattle.fs_board_offers.specs.Refusals.{is_free};
 ghost use Rattle.fs_check_certificate.specs.Breaks.{all_breaks};
-ghost use Rattle.fs_check_certificate.specs.Leaves.{slots_in_part, AreShown};
+ghost use Rattle.fs_check_certificate.specs.Leaves.{AreShown};
 ghost use Rattle.fs_cert_json.specs.Kept.{version_of, item_of};
 ghost use Rattle.fs_check_certificate.specs.inner.Walks.{AreOfTest, AreGrounds, IsTaken, IsLeaf, IsWalked};
 
 use crate::costs::{is_dearer, is_no_better};
 use crate::stack::{Stack, is_undecided};
 use crate::{Bounding, judge_bounded, refutes};
+use fs_board_offers::Offers;
 use fs_cert_evidence::{Decision, Pairs};
 use fs_cert_json::{Item, Version};
-use fs_kinds::{Entry, List, Prices, Reason, Slot};
+use fs_kinds::{Entry, List, Reason, Slot};
 use std::alloc::{AllocError, Global};
 
 /// By what the leaves of a tree are judged: the answer's placement, what is kept of the witnesses, and what it costs to
@@ -26,7 +28,7 @@ use std::alloc::{AllocError, Global};
 #[derive(Clone, Copy)]
 pub(crate) struct Grounds<'a> {
     pub(crate) version: Version,
-    pub(crate) prices: &'a Prices,
+    pub(crate) offers: &'a Offers,
     pub(crate) slots: &'a [Slot],
     pub(crate) answer: &'a [Entry],
     pub(crate) shown: &'a [Option<List<Pairs>>],
@@ -36,18 +38,18 @@ pub(crate) struct Grounds<'a> {
 impl Grounds<'_> {
     /// Is nothing under the part better than the answer, by the rule of the version?
     fn is_costly(&self, part: &[Decision]) -> bool
-        ensures { result ≡ is_costly (version_of self.now.version) self.now.prices.now self.now.answer.now part.now }
+        ensures { result ≡ is_costly (version_of self.now.version) self.now.offers.now self.now.answer.now part.now }
     {
         match self.version {
-            Version::First => is_dearer(self.prices, self.answer, part),
-            Version::Second | Version::Fourth => is_no_better(self.prices, self.answer, part),
+            Version::First => is_dearer(self.offers, self.answer, part),
+            Version::Second | Version::Fourth => is_no_better(self.offers, self.answer, part),
         }
     }
 
     /// Why the leaf that says that its part costs too much fails.
     fn costly_reason(&self, part: &[Decision], index: usize) -> Option<Reason>
         ensures { (t : Test) (c : Certificate) → c.version ≡ version_of self.now.version
-            → IsLeaf t self.now.prices.now c self.now.answer.now part.now Costly index result }
+            → IsLeaf t self.now.offers.now c self.now.answer.now part.now Costly index result }
     {
         if self.is_costly(part) {
             None
@@ -58,9 +60,9 @@ impl Grounds<'_> {
 
     /// Why the leaf that the witness of this number is to refute fails.
     fn refuted_reason(&self, part: &[Decision], number: u64, index: usize) -> Option<Reason>
-        ensures { (t : Test) (c : Certificate) → IsBounded t → slots_in_part part.now ≡ slots t
+        ensures { (t : Test) (c : Certificate) → IsBounded t → slots_in_part part.now ≡ its.slots t
             → AreShown t c.witnesses self.now.shown.now
-            → IsLeaf t self.now.prices.now c self.now.answer.now part.now (Refuted number) index result }
+            → IsLeaf t self.now.offers.now c self.now.answer.now part.now (Refuted number) index result }
     {
         let _at = index;
         if refutes(part, self.shown, number) {
@@ -72,13 +74,13 @@ impl Grounds<'_> {
 
     /// Why the leaf that the witnesses of these numbers are to bound fails.
     fn bounded_reason(&self, part: &[Decision], numbers: &[u64], index: usize) -> Option<Reason>
-        ensures { (t : Test) (c : Certificate) → IsBounded t → slots_in_part part.now ≡ slots t
+        ensures { (t : Test) (c : Certificate) → IsBounded t → slots_in_part part.now ≡ its.slots t
             → AreShown t c.witnesses self.now.shown.now
-            → self.now.breaks.now ≡ all_breaks self.now.prices.now (slots t) self.now.shown.now
-            → IsLeaf t self.now.prices.now c self.now.answer.now part.now (Bounded numbers.now) index result }
+            → self.now.breaks.now ≡ all_breaks self.now.offers.now (its.slots t) self.now.shown.now
+            → IsLeaf t self.now.offers.now c self.now.answer.now part.now (Bounded numbers.now) index result }
     {
         match judge_bounded(
-            self.prices,
+            self.offers,
             self.answer,
             part,
             self.shown,
@@ -95,7 +97,8 @@ impl Grounds<'_> {
     fn free_slot(&self, part: &[Decision], number: u64) -> Option<Slot>
         ensures some { IfSome result (λ slot. (slice_get self.now.slots.now number ≡ Some slot)
             × (is_undecided slot part.now ≡ true)) }
-        ensures none { (t : Test) → self.now.slots.now ≡ slots t → IfNone result (is_free t number part.now ≡ false) }
+        ensures none { (t : Test) → slots self.now.offers.now ≡ its.slots t → self.now.slots.now ≡ its.slots t
+            → IfNone result (is_free self.now.offers.now number part.now ≡ false) }
     {
         let slot = *self.slots.get(number as usize)?;
         if is_undecided(part, slot) {
@@ -114,15 +117,15 @@ impl Grounds<'_> {
         number: u64,
         index: usize,
     ) -> Result<Option<Reason>, AllocError>
-        ensures { (t : Test) (c : Certificate) → self.now.slots.now ≡ slots t → slots_in_part part.now ≡ slots t
-            → AreOfTest t stack.old
-            → IfOk result (λ why. IsTaken t self.now.prices.now c self.now.answer.now (part.now ∷ stack.old)
+        ensures { (t : Test) (c : Certificate) → slots self.now.offers.now ≡ its.slots t
+            → self.now.slots.now ≡ its.slots t → slots_in_part part.now ≡ its.slots t → AreOfTest t stack.old
+            → IfOk result (λ why. IsTaken t self.now.offers.now c self.now.answer.now (part.now ∷ stack.old)
             (SplitAt number) index why stack.new) }
     {
         let _at = index;
         match self.free_slot(part, number) {
             Some(slot) => {
-                stack.push_children(alloc, self.prices, part, slot)?;
+                stack.push_children(alloc, self.offers, part, slot)?;
                 Ok(None)
             }
             None => Ok(Some(Reason::Tree)),
@@ -137,8 +140,8 @@ impl Grounds<'_> {
         item: &Item,
         index: usize,
     ) -> Result<Option<Reason>, AllocError>
-        ensures { (t : Test) (c : Certificate) → AreGrounds t self.now.prices.now c self.now.version self.now.slots.now self.now.shown.now self.now.breaks.now → AreOfTest t stack.old
-            → IfOk result (λ why. IsTaken t self.now.prices.now c self.now.answer.now stack.old (item_of item.now) index
+        ensures { (t : Test) (c : Certificate) → AreGrounds t self.now.offers.now c self.now.version self.now.slots.now self.now.shown.now self.now.breaks.now → AreOfTest t stack.old
+            → IfOk result (λ why. IsTaken t self.now.offers.now c self.now.answer.now stack.old (item_of item.now) index
             why stack.new) }
     {
         let Some(part) = stack.pop() else {
@@ -159,8 +162,8 @@ impl Grounds<'_> {
         alloc: Global,
         tree: &[Item],
     ) -> Result<Option<Reason>, AllocError>
-        ensures { (t : Test) (c : Certificate) → AreGrounds t self.now.prices.now c self.now.version self.now.slots.now self.now.shown.now self.now.breaks.now
-            → IfOk result (IsWalked t self.now.prices.now c self.now.answer.now (undecided t ∷ [])
+        ensures { (t : Test) (c : Certificate) → AreGrounds t self.now.offers.now c self.now.version self.now.slots.now self.now.shown.now self.now.breaks.now
+            → IfOk result (IsWalked t self.now.offers.now c self.now.answer.now (undecided self.now.offers.now ∷ [])
             (map item_of tree.now)) }
     {
         let mut stack = Stack::new(alloc, self.slots)?;

@@ -2,12 +2,12 @@
 
 ghost use Rattle.std.specs.Prelude.{◌≡◌, ◌==◌, ◌&&◌, Some, All, length, IfOk, IsOkUnless};
 ghost use Rattle.fs_kinds.specs.declared.fault.Fault.TheVariants.{Memory};
-ghost use Rattle.fs_kinds.specs.PriceTable.{PriceTable};
+ghost use Rattle.fs_board_offers.specs.Offers.{Offers};
 ghost use Rattle.fs_kinds.specs.Placement.{all_with};
 ghost use Rattle.fs_model.specs.Slots.{slots};
 ghost use Rattle.fs_model.specs.Test.{IsBounded, IsStart};
 ghost use Rattle.fs_cert_evidence.specs.Certificate.{Certificate as Said, NoneForbids};
-ghost use Rattle.fs_cert_evidence.specs.Valid.{Refutes};
+ghost use Rattle.fs_board_offers.specs.Valid.{Refutes};
 ghost use Rattle.fs_cert_json.specs.Kept.{KeepsCertificate};
 ghost use Rattle.fs_check_certificate.specs.Cycles.{count_in};
 ghost use Rattle.fs_check_certificate.specs.inner.Judgements.{IsJudgement};
@@ -64,8 +64,8 @@ pub(crate) fn judge_none(
 ) -> Result<Judgement, Fault>
     requires test { IsBounded test.now }
     requires starts { All IsStart test.now.starts }
-    ensures ok { (c : Said) (prices : PriceTable) → KeepsCertificate certificate.now c → c.answer ≡ NoneForbids
-        → IfOk result (IsJudgement test.now prices c) }
+    ensures ok { (c : Said) (offers : Offers) → KeepsCertificate certificate.now c → c.answer ≡ NoneForbids
+        → IfOk result (IsJudgement test.now offers c) }
     ensures err { IsOkUnless result Memory }
 {
     if !is_bare(certificate) {

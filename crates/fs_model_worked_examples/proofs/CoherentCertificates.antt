@@ -7,15 +7,15 @@ use Rattle.fs_kinds.specs.declared.placement.Entry.{Entry}
 use Rattle.fs_kinds.specs.declared.reason.OperationName.{OperationName as Name}
 use Rattle.fs_kinds.specs.declared.reason.Reason.TheVariants as reason
 use Rattle.fs_kinds.specs.declared.slot.Slot.{Slot}
-use Rattle.fs_kinds.specs.PriceTable.{cost}
 use Rattle.fs_model.specs.declared.test.Test.{Test}
 use Rattle.fs_model.specs.Slots.{slot_at}
 use Rattle.fs_model.specs.Operations.{PreExecution}
 use Rattle.fs_model.specs.Witness.{name_of}
-use Rattle.fs_cert_evidence.specs.Certificate.{First, Second, Fenced, Link, Costly, Refuted, IsAnswered, fence_words}
+use Rattle.fs_cert_evidence.specs.Certificate.{First, Second, Fenced, Link, Costly, Refuted, fence_words}
 use Rattle.fs_cert_evidence.specs.Cycles.{IsCycle, HasCycles, around, are_edges}
-use Rattle.fs_cert_evidence.specs.Valid.{IsValidFor}
-use Rattle.fs_cert_evidence.specs.Refusals.{IsRefusal}
+use Rattle.fs_board_offers.specs.Offers.{Offers, cost, offers_of}
+use Rattle.fs_board_offers.specs.Priced.{IsValidFor, IsRefusal}
+use Rattle.fs_board_offers.specs.Valid.{IsAnswered}
 use Rattle.fs_model_worked_examples.specs.Rows.{prices, named}
 use Rattle.fs_model_worked_examples.specs.CoherentReads.{corr, store, loads, stale}
 use Rattle.fs_model_worked_examples.specs.CoherentCertificates.{unfenced, right_circle, wrong_rule, wrong_edge, no_operation, certificate, with_tree, leaf, six_leaves}
@@ -40,13 +40,16 @@ module _ (p q : Box (Unit {0}) Global) where
   abbrev t : Test
   t = corr p q
 
+  abbrev offers : Offers
+  offers = offers_of t prices
+
   cycle : IsCycle t unfenced stale right_circle
   cycle = record { some = lit≤ tt; most = lit≤ tt; operations = 0 ∷ 1 ∷ 2 ∷ []; names = refl; edges = refl }
 
   cycles : HasCycles t unfenced (right_circle ∷ [])
   cycles = (stale ∷ [], listing p q, (cycle, tt))
 
-  answered : IsAnswered t prices (Fenced 0 []) unfenced
+  answered : IsAnswered offers (Fenced 0 []) unfenced
   answered = record { placement = record { slots = refl; offered = refl }; answered = refl }
 
   pub first : IsValidFor t prices (certificate First 0 (right_circle ∷ []) leaf) unfenced
@@ -103,12 +106,12 @@ module _ (p q : Box (Unit {0}) Global) where
   )
 
   costs_nothing : (slot : Slot) (kind : Option Kind)
-      → Fenced 1 [] ≡ Fenced (cost prices (record { slot = slot; kind = kind } ∷ [])) (fence_words (record { slot = slot; kind = kind } ∷ []))
+      → Fenced 1 [] ≡ Fenced (cost offers (record { slot = slot; kind = kind } ∷ [])) (fence_words (record { slot = slot; kind = kind } ∷ []))
       → ⊥
   costs_nothing slot None e = cc
   costs_nothing slot (Some kind) e = cc
 
-  bad_answer : (r : List Entry) → IsAnswered t prices (Fenced 1 []) r → ⊥
+  bad_answer : (r : List Entry) → IsAnswered offers (Fenced 1 []) r → ⊥
   bad_answer [] a = let e = a.placement.slots in cc
   bad_answer (entry ∷ []) a = costs_nothing entry.slot entry.kind a.answered
   bad_answer (entry ∷ other ∷ r) a = let e = a.placement.slots in cc

@@ -8,8 +8,8 @@ use Rattle.std.proofs.lemmas.List.Elements.{All-from_recursion}
 use Rattle.fs_kinds.specs.declared.kind.Kind.TheVariants.{WR}
 use Rattle.fs_kinds.specs.declared.placement.Entry.{Entry}
 use Rattle.fs_kinds.specs.Kind.{Pair, ReadRead, ReadWrite, WriteRead, WriteWrite}
-use Rattle.fs_kinds.specs.Placement.{slots_of, precedes}
-use Rattle.fs_kinds.specs.PriceTable.{cost}
+use Rattle.fs_kinds.specs.Placement.{slots_of}
+use Rattle.fs_kinds.specs.PriceTable as priced
 use Rattle.fs_model.specs.Numbers.{stands_before}
 use Rattle.fs_model.specs.Operations.{steps_of, po, paired}
 use Rattle.fs_model.specs.Source.{gmo, source_in}
@@ -19,13 +19,15 @@ use Rattle.fs_model.specs.Allows.{Shows, Allows, IsPlacement}
 use Rattle.fs_model.proofs.Ranges.{each_two_below, implies_at, po_in_range}
 use Rattle.fs_model.proofs.Preserved.{ppo_in_po}
 use Rattle.fs_cert_evidence.specs.Widths.{width}
-use Rattle.fs_cert_evidence.specs.Parts.{floor, is_under}
-use Rattle.fs_cert_evidence.specs.Pruning.{are_apart, lower_bound, is_pruned}
+use Rattle.fs_board_offers.specs.Offers.{cost, precedes}
+use Rattle.fs_board_offers.specs.Parts.{floor, is_under}
+use Rattle.fs_board_offers.specs.Pruning.{are_apart, lower_bound, is_pruned}
+use Rattle.fs_board_offers.proofs.Bounded.{bounded}
+use Rattle.fs_board_offers.proofs.Priced.{from-prices, same-cost}
 use Rattle.fs_model_worked_examples.specs.StoreBuffering.{sb, buffered, fences}
-use Rattle.fs_model_worked_examples.specs.Rows.{prices}
+use Rattle.fs_model_worked_examples.specs.Rows.{prices, offers}
 use Rattle.fs_model_worked_examples.proofs.StoreBuffering.{x, first, second}
 use Rattle.fs_model_worked_examples.specs.EarlyReads.{root, reads_early, first_slot, second_slot, first_early, second_early, KeepsAt}
-use Rattle.fs_model_laws.proofs.Bounded.{bounded}
 use Rattle.fs_model_laws.proofs.Ranked.{first-less, nil≢cons}
 
 abbrev no_pair : ℕ → ℕ → Bool
@@ -140,10 +142,10 @@ module _ (p q : Box (Unit {0}) Global) where
   both_show : All (Shows (sb p q) (floor root)) both
   both_show = All-from_recursion (Shows (sb p q) (floor root)) both (first_shows, (second_shows, tt))
 
-  pub both_bound : lower_bound prices root (map (width (sb p q)) both) ≡ Some 18
+  pub both_bound : lower_bound offers root (map (width (sb p q)) both) ≡ Some 18
   both_bound = refl
 
-  pub both_apart : are_apart prices root (map (width (sb p q)) both) ≡ true
+  pub both_apart : are_apart offers root (map (width (sb p q)) both) ≡ true
   both_apart = refl
 
   -- The law of bounded parts takes any list of entries for the bound. This one costs 18, and the floor isn't before it:
@@ -151,7 +153,7 @@ module _ (p q : Box (Unit {0}) Global) where
   abbrev longer : List Entry
   longer = floor root ++ fences (Some WR) (Some WR)
 
-  prunes : is_pruned prices (Some longer) root (map (width (sb p q)) both) ≡ true
+  prunes : is_pruned offers (Some longer) root (map (width (sb p q)) both) ≡ true
   prunes = refl
 
   under-root : (r : List Entry) → slots_of r ≡ first_slot ∷ second_slot ∷ [] → is_under root r ≡ true
@@ -163,9 +165,15 @@ module _ (p q : Box (Unit {0}) Global) where
       rw (one, two) refl
   under-root (e ∷ f ∷ g ∷ r) same = absurd (nil≢cons _ _ (sym (ap (drop 2) same)))
 
-  pub cheap_allows : (r : List Entry) → IsPlacement (sb p q) prices r → cost prices r < 18 → Allows (sb p q) r
+  dear : cost offers longer ≡ 18
+  dear = refl
+
+  pub cheap_allows : (r : List Entry) → IsPlacement (sb p q) prices r → priced.cost prices r < 18 → Allows (sb p q) r
   cheap_allows r placement cheap =
-      elim (bounded (sb p q) prices (Some longer) root both r refl both_show prunes placement (under-root r placement.slots)) [
+      let there = from-prices (sb p q) prices r placement in
+      let costs : cost offers r ≡ priced.cost prices r = same-cost (sb p q) prices r placement.slots in
+      let less : cost offers r < cost offers longer = omega (arith, costs, cheap, dear) in
+      elim (bounded (sb p q) offers (Some longer) root both r refl both_show prunes there.offered (under-root r placement.slots)) [
         | inl allowed ↦ allowed
-        | inr no_better ↦ absurd (true≢false (sym (first-less (cost prices r) (cost prices longer) (precedes r longer) cheap) ∙ no_better))
+        | inr no_better ↦ absurd (true≢false (sym (first-less (cost offers r) (cost offers longer) (precedes offers r longer) less) ∙ no_better))
       ]

@@ -9,7 +9,6 @@ use Rattle.fs_kinds.specs.declared.kind.Kind.TheVariants.{RR, RW, RRw, WR, WW, W
 use Rattle.fs_kinds.specs.declared.placement.Entry.{Entry}
 use Rattle.fs_kinds.specs.declared.reason.Reason.TheVariants as reason
 use Rattle.fs_kinds.specs.Placement.{all_with}
-use Rattle.fs_kinds.specs.PriceTable.{cost}
 use Rattle.fs_kinds.specs.Slot.{fence_word}
 use Rattle.fs_model.specs.declared.test.Test.{Test}
 use Rattle.fs_model.specs.Condition.{condition_of}
@@ -20,13 +19,15 @@ use Rattle.fs_model.specs.Execution.{Execution, code_of, registers_of, pre_execu
 use Rattle.fs_model.specs.Shows.{holds, final_register, final_word}
 use Rattle.fs_model.specs.Witness.{Witness, IsOfWitness}
 use Rattle.fs_model.proofs.Runs.{run_once}
-use Rattle.fs_cert_evidence.specs.Certificate.{Fenced, Filter, Costly, IsAnswered, fence_words}
+use Rattle.fs_cert_evidence.specs.Certificate.{Fenced, Filter, Costly, fence_words}
 use Rattle.fs_cert_evidence.specs.Shown.{ShowsAs}
 use Rattle.fs_cert_evidence.specs.Cycles.{IsCycle}
-use Rattle.fs_cert_evidence.specs.Valid.{Refutes, IsValidForNone}
-use Rattle.fs_cert_evidence.specs.Refusals.{IsRefusal, IsBadAnswer}
+use Rattle.fs_board_offers.specs.Offers.{cost}
+use Rattle.fs_board_offers.specs.Priced.{IsRefusal}
+use Rattle.fs_board_offers.specs.Refusals.{IsBadAnswer}
+use Rattle.fs_board_offers.specs.Valid.{Refutes, IsAnswered, IsValidForNone}
 use Rattle.fs_model_worked_examples.specs.Rows.{prices}
-use Rattle.fs_model_worked_examples.specs.MessagePassing.{mp, mp11, two_stores, two_loads, overtaken, passed, passes, passing_fences}
+use Rattle.fs_model_worked_examples.specs.MessagePassing.{mp, mp11, two_stores, two_loads, overtaken, passed, passes, passing_offers, passing_fences}
 use Rattle.fs_model_worked_examples.specs.PassingCertificates.{two_fences, fence_texts, fenced_circle, fenced, seven_leaves, nothing_helps, nothing_inferred}
 use Rattle.fs_model_worked_examples.proofs.Inversion.{two_runs}
 use Rattle.fs_model_worked_examples.proofs.MessagePassing.{given, shows, chosen}
@@ -64,7 +65,7 @@ module _ (p q : Box (Unit {0}) Global) where
   cycle : IsCycle t two_fences overtaken fenced_circle
   cycle = record { some = lit≤ tt; most = lit≤ tt; operations = 0 ∷ 1 ∷ 2 ∷ 3 ∷ []; names = refl; edges = refl }
 
-  answered : IsAnswered t prices (Fenced 5 fence_texts) two_fences
+  answered : IsAnswered passing_offers (Fenced 5 fence_texts) two_fences
   unfolding digits
   answered = record { placement = record { slots = refl; offered = refl }; answered = refl }
 
@@ -120,7 +121,7 @@ module _ (p q : Box (Unit {0}) Global) where
   idle e (w, seen) =
       false≢true (subst (λ runs. holds (final_register t runs) (final_word (pre_execution t e.traces) e.order) (condition_of t.condition) ≡ true) (traces_of e w) seen.outcome)
 
-  good : IsBadAnswer t prices (nothing_helps [] (passes ∷ [])) → ⊥
+  good : IsBadAnswer passing_offers (nothing_helps [] (passes ∷ [])) → ⊥
   good (inl cycles) = cycles refl
   good (inr (inl tree)) = tree refl
   good (inr (inr length)) = length refl
@@ -159,7 +160,7 @@ module _ (p q : Box (Unit {0}) Global) where
   load_word RwRw e = absurd (false≢true (load_test e))
   load_word Tso e = absurd (false≢true (load_test e))
 
-  costs_five : (first second : Option Kind) → Fenced 6 fence_texts ≡ Fenced (cost prices (passing_fences first second)) (fence_words (passing_fences first second)) → ⊥
+  costs_five : (first second : Option Kind) → Fenced 6 fence_texts ≡ Fenced (cost passing_offers (passing_fences first second)) (fence_words (passing_fences first second)) → ⊥
   costs_five None None e = let f = texts e in cc
   costs_five None (Some b) e = let f = texts e in cc
   costs_five (Some a) None e = let f = texts e in cc
@@ -167,18 +168,18 @@ module _ (p q : Box (Unit {0}) Global) where
       let f = texts e in
       let first = store_word a (let g = f in cc) in
       let second = load_word b (let g = f in cc) in
-      let price : 6 ≡ cost prices (passing_fences (Some a) (Some b)) = costs e in
-      let price : 6 ≡ cost prices (passing_fences (Some WW) (Some b)) = subst (λ k. 6 ≡ cost prices (passing_fences (Some k) (Some b))) first price in
-      let price : 6 ≡ 5 = subst (λ k. 6 ≡ cost prices (passing_fences (Some WW) (Some k))) second price in
+      let price : 6 ≡ cost passing_offers (passing_fences (Some a) (Some b)) = costs e in
+      let price : 6 ≡ cost passing_offers (passing_fences (Some WW) (Some b)) = subst (λ k. 6 ≡ cost passing_offers (passing_fences (Some k) (Some b))) first price in
+      let price : 6 ≡ 5 = subst (λ k. 6 ≡ cost passing_offers (passing_fences (Some WW) (Some k))) second price in
       omega (arith, price)
 
-  bad_answer : (r : List Entry) → IsAnswered t prices (Fenced 6 fence_texts) r → ⊥
+  bad_answer : (r : List Entry) → IsAnswered passing_offers (Fenced 6 fence_texts) r → ⊥
   bad_answer [] a = let e = a.placement.slots in cc
   bad_answer (entry ∷ []) a = let e = a.placement.slots in cc
   bad_answer (one ∷ two ∷ []) a =
       let e = a.placement.slots in
       let same : one ∷ two ∷ [] ≡ passing_fences one.kind two.kind = placed one two e in
-      costs_five one.kind two.kind (subst (λ r. Fenced 6 fence_texts ≡ Fenced (cost prices r) (fence_words r)) same a.answered)
+      costs_five one.kind two.kind (subst (λ r. Fenced 6 fence_texts ≡ Fenced (cost passing_offers r) (fence_words r)) same a.answered)
   bad_answer (one ∷ two ∷ three ∷ r) a = let e = a.placement.slots in cc
 
   pub dear : IsRefusal t prices (fenced 6 (Costly ∷ [])) reason.Answer

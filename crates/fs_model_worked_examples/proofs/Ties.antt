@@ -3,14 +3,14 @@ use Rattle.std.proofs.Common.{◌≡◌, None, Some, refl, Box}
 use Rattle.std.specs.declared.alloc.Global.{Global}
 use Rattle.fs_kinds.specs.declared.kind.Kind.TheVariants.{WW, WRw, RwRw}
 use Rattle.fs_model.specs.Allows.{Allows}
-use Rattle.fs_cert_evidence.specs.Board.{Board}
-use Rattle.fs_cert_evidence.specs.Histories.{IsHistory}
-use Rattle.fs_model_worked_examples.specs.Ties.{two_writes, equal_prices, between_stores, stores_part, earlier_last, earlier_first}
+use Rattle.fs_board_offers.specs.Board.{Board}
+use Rattle.fs_board_offers.specs.Histories.{IsHistory}
+use Rattle.fs_model_worked_examples.specs.Ties.{two_writes, equal_offers, between_stores, stores_part, earlier_last, earlier_first}
 
 module _ (p q : Box (Unit {0}) Global) where
   pub later_posted : (Allows (two_writes p q) (between_stores (Some WRw) (Some WRw)) → ⊥)
       → (Allows (two_writes p q) (between_stores (Some WRw) (Some WW)) → ⊥)
-      → (board : Board) × IsHistory (two_writes p q) equal_prices 8 earlier_last board × (board.bound ≡ Some (between_stores (Some WRw) (Some WW)))
+      → (board : Board) × IsHistory (two_writes p q) equal_offers 8 earlier_last board × (board.bound ≡ Some (between_stores (Some WRw) (Some WW)))
   later_posted later earlier = (
     _,
     (
@@ -62,7 +62,7 @@ module _ (p q : Box (Unit {0}) Global) where
   )
 
   pub earlier_posted : (Allows (two_writes p q) (between_stores (Some WRw) (Some WW)) → ⊥)
-      → (board : Board) × IsHistory (two_writes p q) equal_prices 8 earlier_first board × (board.bound ≡ Some (between_stores (Some WRw) (Some WW)))
+      → (board : Board) × IsHistory (two_writes p q) equal_offers 8 earlier_first board × (board.bound ≡ Some (between_stores (Some WRw) (Some WW)))
   earlier_posted earlier = (
     _,
     (

@@ -11,19 +11,19 @@ use Rattle.fs_model.specs.Operations.{steps_of}
 use Rattle.fs_model.specs.Execution.{Execution, ObeysAxioms}
 use Rattle.fs_model.specs.Witness.{name_of, IsOfWitness}
 use Rattle.fs_cert_evidence.specs.Shown.{IsShownBy}
-use Rattle.fs_cert_evidence.specs.Board.{Board}
-use Rattle.fs_cert_evidence.specs.Histories.{IsHistory}
+use Rattle.fs_board_offers.specs.Board.{Board}
+use Rattle.fs_board_offers.specs.Histories.{IsHistory}
 use Rattle.fs_model.proofs.Runs.{run_once}
 use Rattle.fs_model_worked_examples.specs.StoreBuffering.{sb, code, registers, steps, fences, buffered}
-use Rattle.fs_model_worked_examples.specs.Rows.{prices, part, loads_first}
-use Rattle.fs_model_worked_examples.specs.MessagePassing.{mp11, passing_part}
+use Rattle.fs_model_worked_examples.specs.Rows.{prices, offers, part, loads_first}
+use Rattle.fs_model_worked_examples.specs.MessagePassing.{mp11, passing_offers, passing_part}
 use Rattle.fs_model_worked_examples.specs.Witnessed.{closed_root, held_root}
 use Rattle.fs_model_worked_examples.proofs.Named.{Numbers, numbered, same_name}
 use Rattle.fs_model_worked_examples.proofs.Inversion.{two_runs}
 use Rattle.fs_model_worked_examples.proofs.MessagePassing.{shown}
 use Rattle.fs_model_worked_examples.proofs.StoreBuffering.{x, first, second}
 
-pub closed : (p q : Box (Unit {0}) Global) → (board : Board) × IsHistory (mp11 p q) prices 1 closed_root board
+pub closed : (p q : Box (Unit {0}) Global) → (board : Board) × IsHistory (mp11 p q) passing_offers 1 closed_root board
 closed p q = (
   _,
   (
@@ -96,7 +96,7 @@ module _ (p q : Box (Unit {0}) Global) where
       (subst (λ runs. map (name_of (record { traces = runs; words = 0 ∷ 0 ∷ [] })) e.order ≡ map (λ name. Some name) loads_first.order) same w.order)
       (subst (λ runs. ObeysAxioms (record { traces = runs; words = 0 ∷ 0 ∷ [] }) full e.order) same shows.execution.axioms)
 
-  pub held : (board : Board) × IsHistory (sb p q) prices 1 held_root board
+  pub held : (board : Board) × IsHistory (sb p q) offers 1 held_root board
   held = (
     _,
     (

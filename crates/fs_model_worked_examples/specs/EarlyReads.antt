@@ -8,7 +8,7 @@ use Rattle.fs_model.specs.declared.test.Test.{Test}
 use Rattle.fs_model.specs.Slots.{slot_at}
 use Rattle.fs_model.specs.Execution.{Execution}
 use Rattle.fs_cert_evidence.specs.Widths.{Width, width}
-use Rattle.fs_cert_evidence.specs.Parts.{Part}
+use Rattle.fs_board_offers.specs.Parts.{Part}
 use Rattle.fs_model_worked_examples.specs.StoreBuffering.{buffered}
 use Rattle.fs_model_worked_examples.specs.Rows.{part}
 

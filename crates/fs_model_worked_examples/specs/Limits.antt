@@ -2,13 +2,10 @@
 use Rattle.std.specs.Prelude.{ℕ, None, Some, List, [], ◌∷◌}
 use Rattle.fs_kinds.specs.declared.kind.Kind.TheVariants.{WR}
 use Rattle.fs_model.specs.Slots.{slot_at}
-use Rattle.fs_cert_evidence.specs.Parts.{child_parts}
-use Rattle.fs_cert_evidence.specs.Board.{Board, Take, Claim, SplitAt, Split, Given, Children, NotYours, Decided, Full, with_status, with_open, opening}
-use Rattle.fs_cert_evidence.specs.Histories.{LogEntry}
-use Rattle.fs_model_worked_examples.specs.StoreBuffering.{sb}
-use Rattle.fs_model_worked_examples.specs.Rows.{prices, part, entry}
-use Rattle.std.proofs.Common.{Box}
-use Rattle.std.specs.declared.alloc.Global.{Global}
+use Rattle.fs_board_offers.specs.Parts.{child_parts}
+use Rattle.fs_board_offers.specs.Board.{Board, Take, Claim, SplitAt, Split, Given, Children, NotYours, Decided, Full, with_status, with_open, opening}
+use Rattle.fs_board_offers.specs.Histories.{LogEntry}
+use Rattle.fs_model_worked_examples.specs.Rows.{offers, part, entry}
 
 -- The root is split before hart 0's load. Then node 4 can't be split by one who doesn't hold it, nor where it is
 -- decided, and before hart 1's load the board is full.
@@ -25,6 +22,6 @@ until_full =
     ∷ []
 
 -- the root and its seven children
-abbrev pub split_once : Box (Unit {0}) Global → Box (Unit {0}) Global → (limit : ℕ) → Board
-split_once p q limit =
-    with_open (child_parts prices (slot_at 0 2) (part None None)) (with_status (Split (slot_at 0 2) 1) 0 (part None None) (opening (sb p q) limit))
+abbrev pub split_once : (limit : ℕ) → Board
+split_once limit =
+    with_open (child_parts offers (slot_at 0 2) (part None None)) (with_status (Split (slot_at 0 2) 1) 0 (part None None) (opening offers limit))

@@ -16,9 +16,10 @@ use Rattle.fs_model.specs.declared.step.Step.{Step}
 use Rattle.fs_model.specs.Execution.{Execution}
 use Rattle.fs_model.specs.Witness.{Witness}
 use Rattle.fs_cert_evidence.specs.Candidates.{Candidate}
-use Rattle.fs_cert_evidence.specs.Parts.{Part}
+use Rattle.fs_board_offers.specs.Offers.{Offers, offers_for}
+use Rattle.fs_board_offers.specs.Parts.{Part}
 use Rattle.fs_model_worked_examples.specs.StoreBuffering.{registers}
-use Rattle.fs_model_worked_examples.specs.Rows.{named}
+use Rattle.fs_model_worked_examples.specs.Rows.{named, prices}
 
 -- ori x5,x0,1 / sw x5,0(x6) / ori x7,x0,1 / sw x7,0(x8) and lw x5,0(x6) / lw x7,0(x8); the condition is `1:x5=1 /\
 -- 1:x7=word`
@@ -68,11 +69,15 @@ passes = record {
   order = named 0 1 ∷ named 0 3 ∷ named 1 0 ∷ named 1 1 ∷ [];
 }
 
--- a fence, or none, between the two stores and between the two loads
+-- what the prices offer between the two stores and between the two loads
+abbrev pub passing_offers : Offers
+passing_offers = offers_for prices (slot_at 0 3 ∷ slot_at 1 1 ∷ [])
+
+-- a fence, or none, there
 abbrev pub passing_fences : Option Kind → Option Kind → List Entry
 passing_fences first second = record { slot = slot_at 0 3; kind = first } ∷ record { slot = slot_at 1 1; kind = second } ∷ []
 
--- what is decided there
+-- what is decided
 abbrev pub passing_part : (first second : Option (Option Kind)) → Part
 passing_part first second = record { slot = slot_at 0 3; decided = first } ∷ record { slot = slot_at 1 1; decided = second } ∷ []
 

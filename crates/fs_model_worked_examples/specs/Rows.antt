@@ -10,9 +10,10 @@ use Rattle.fs_model.specs.Slots.{slot_at}
 use Rattle.fs_model.specs.declared.step.Choice.TheVariants.{Word}
 use Rattle.fs_model.specs.Witness.{Witness}
 use Rattle.fs_model_worked_examples.specs.StoreBuffering.{fences}
-use Rattle.fs_cert_evidence.specs.Parts.{Part}
-use Rattle.fs_cert_evidence.specs.Board.{Event, Reply, Take, Claim, Adopt, SplitAt, CutCost, Post, Given, Gone, Children, NotYours, Decided, Closed, Cheaper}
-use Rattle.fs_cert_evidence.specs.Histories.{LogEntry}
+use Rattle.fs_board_offers.specs.Offers.{Offers, offers_for}
+use Rattle.fs_board_offers.specs.Parts.{Part}
+use Rattle.fs_board_offers.specs.Board.{Event, Reply, Take, Claim, Adopt, SplitAt, CutCost, Post, Given, Gone, Children, NotYours, Decided, Closed, Cheaper}
+use Rattle.fs_board_offers.specs.Histories.{LogEntry}
 
 -- the operation of instruction number `at` of a hart
 abbrev pub named : ℕ → ℕ → Name
@@ -37,7 +38,11 @@ one_choice = record { choices = (Word 0 ∷ []) ∷ [] ∷ []; order = [] }
 abbrev pub prices : PriceTable
 prices = record { prices = Some 3 ∷ Some 3 ∷ None ∷ Some 9 ∷ Some 2 ∷ None ∷ None ∷ None ∷ Some 10 ∷ Some 5 ∷ []; weights = [] }
 
--- what is decided before the load of each hart
+-- what they offer before the load of each hart
+abbrev pub offers : Offers
+offers = offers_for prices (slot_at 0 2 ∷ slot_at 1 2 ∷ [])
+
+-- what is decided there
 abbrev pub part : (first second : Option (Option Kind)) → Part
 part first second = record { slot = slot_at 0 2; decided = first } ∷ record { slot = slot_at 1 2; decided = second } ∷ []
 

@@ -14,9 +14,10 @@ use Rattle.fs_model.specs.declared.outcome.Outcome.TheVariants as outcome
 use Rattle.fs_model.specs.declared.test.Test.{Test}
 use Rattle.fs_model.specs.declared.test.Quantifier.TheVariants.{Exists}
 use Rattle.fs_model.specs.Slots.{slot_at}
-use Rattle.fs_cert_evidence.specs.Parts.{Part}
-use Rattle.fs_cert_evidence.specs.Board.{Take, Claim, SplitAt, CutCost, Post, Given, Children, Closed, Cheaper}
-use Rattle.fs_cert_evidence.specs.Histories.{LogEntry}
+use Rattle.fs_board_offers.specs.Offers.{Offers, offers_for}
+use Rattle.fs_board_offers.specs.Parts.{Part}
+use Rattle.fs_board_offers.specs.Board.{Take, Claim, SplitAt, CutCost, Post, Given, Children, Closed, Cheaper}
+use Rattle.fs_board_offers.specs.Histories.{LogEntry}
 use Rattle.fs_model_worked_examples.specs.StoreBuffering.{registers}
 use Rattle.fs_model_worked_examples.specs.Rows.{entry}
 
@@ -39,11 +40,15 @@ two_writes p q = record {
 abbrev pub equal_prices : PriceTable
 equal_prices = record { prices = None ∷ None ∷ None ∷ None ∷ Some 2 ∷ Some 2 ∷ None ∷ None ∷ Some 3 ∷ None ∷ []; weights = [] }
 
--- a fence, or none, before the second store of each hart
+-- what they offer before the second store of each hart
+abbrev pub equal_offers : Offers
+equal_offers = offers_for equal_prices (slot_at 0 3 ∷ slot_at 1 3 ∷ [])
+
+-- a fence, or none, there
 abbrev pub between_stores : Option Kind → Option Kind → List Entry
 between_stores first second = record { slot = slot_at 0 3; kind = first } ∷ record { slot = slot_at 1 3; kind = second } ∷ []
 
--- what is decided there
+-- what is decided
 abbrev pub stores_part : (first second : Option (Option Kind)) → Part
 stores_part first second = record { slot = slot_at 0 3; decided = first } ∷ record { slot = slot_at 1 3; decided = second } ∷ []
 

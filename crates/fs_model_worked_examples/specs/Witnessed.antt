@@ -1,8 +1,8 @@
 -- Boards that a witness ends or doesn't.
 use Rattle.std.specs.Prelude.{None, Some, List, [], ◌∷◌}
 use Rattle.fs_kinds.specs.declared.kind.Kind.TheVariants.{WR}
-use Rattle.fs_cert_evidence.specs.Board.{Take, CutWitness, Post, Peek, Given, Idle, Done, NotYours, Closed, NotCovered, Other, Seen}
-use Rattle.fs_cert_evidence.specs.Histories.{LogEntry}
+use Rattle.fs_board_offers.specs.Board.{Take, CutWitness, Post, Peek, Given, Idle, Done, NotYours, Closed, NotCovered, Other, Seen}
+use Rattle.fs_board_offers.specs.Histories.{LogEntry}
 use Rattle.fs_model_worked_examples.specs.StoreBuffering.{fences}
 use Rattle.fs_model_worked_examples.specs.Rows.{entry, part, loads_first}
 use Rattle.fs_model_worked_examples.specs.MessagePassing.{passes, passing_part}

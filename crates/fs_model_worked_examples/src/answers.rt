@@ -13,10 +13,11 @@ ghost use Rattle.fs_cert_evidence.specs.Cycles.{IsCycle};
 ghost use Rattle.fs_model_worked_examples.specs.CoherentReads.{corr, stale, circle};
 ghost use Rattle.fs_model.specs.Allows.{Allows};
 ghost use Rattle.fs_model.specs.Reasons.{IsYes, IsReason};
-ghost use Rattle.fs_cert_evidence.specs.Board.{Board};
-ghost use Rattle.fs_cert_evidence.specs.Histories.{IsHistory};
+ghost use Rattle.fs_board_offers.specs.Board.{Board};
+ghost use Rattle.fs_board_offers.specs.Histories.{IsHistory};
 ghost use Rattle.fs_model_worked_examples.specs.StoreBuffering.{sb, fences};
-ghost use Rattle.fs_model_worked_examples.specs.Rows.{loads_first, against_rule_4, one_choice, prices, two_workers};
+ghost use Rattle.fs_model_worked_examples.specs.Rows.{loads_first, against_rule_4, one_choice, prices};
+ghost use Rattle.fs_model_worked_examples.specs.Rows.{offers, two_workers};
 
 /// A law: the witness with both loads first shows store buffering without fences. With `w,r` before the load of hart 0
 /// rule 4 speaks against it, and without a choice for hart 1 its choices do.
@@ -32,7 +33,7 @@ pub fn reasons()
 /// `w,r` is closed.
 pub fn board()
     ensures history { (p q : Box (Unit {0}) Global) → (Allows (sb p q) (fences (Some WR) (Some WR)) → ⊥)
-        → (board : Board) × IsHistory (sb p q) prices 14 two_workers board × (board.bound
+        → (board : Board) × IsHistory (sb p q) offers 14 two_workers board × (board.bound
         ≡ Some (fences (Some WR) (Some WR))) }
     ensures cost { cost prices (fences (Some WR) (Some WR)) ≡ 18 }
 {}

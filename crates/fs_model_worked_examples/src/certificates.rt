@@ -6,10 +6,11 @@ ghost use Rattle.std.specs.declared.alloc.Global.{Global};
 ghost use Rattle.fs_kinds.specs.declared.reason.Reason.TheVariants.{Answer, Cycles, Cycle, Tree, Node, Witness};
 ghost use Rattle.fs_cert_evidence.specs.Certificate.{First, Second, Filter, Costly, Refuted, Bounded};
 ghost use Rattle.fs_cert_evidence.specs.Listings.{IsListing};
-ghost use Rattle.fs_cert_evidence.specs.Parts.{undecided};
-ghost use Rattle.fs_cert_evidence.specs.Valid.{IsValidFor, IsValidForNone};
-ghost use Rattle.fs_cert_evidence.specs.Refusals.{IsRefusal, Fails};
-ghost use Rattle.fs_model_worked_examples.specs.Rows.{prices};
+ghost use Rattle.fs_cert_evidence.specs.Valid.{IsValidForNone};
+ghost use Rattle.fs_board_offers.specs.Parts.{undecided};
+ghost use Rattle.fs_board_offers.specs.Priced.{IsValidFor, IsRefusal};
+ghost use Rattle.fs_board_offers.specs.Refusals.{Fails};
+ghost use Rattle.fs_model_worked_examples.specs.Rows.{prices, offers};
 ghost use Rattle.fs_model_worked_examples.specs.StoreBuffering.{sb};
 ghost use Rattle.fs_model_worked_examples.specs.Bounded.{both_fences, bounded_by};
 ghost use Rattle.fs_model_worked_examples.specs.CoherentReads.{corr, stale};
@@ -97,12 +98,12 @@ pub fn certificates_of_none()
 /// it; that is less than 18.
 pub fn bounded_leaves()
     ensures missing { (p q : Box (Unit {0}) Global)
-        → Fails (sb p q) prices (bounded_by (0 ∷ 1 ∷ [])) both_fences (undecided (sb p q) ∷ []) (Bounded (0 ∷ 1 ∷ []) ∷
+        → Fails (sb p q) offers (bounded_by (0 ∷ 1 ∷ [])) both_fences (undecided offers ∷ []) (Bounded (0 ∷ 1 ∷ []) ∷
         []) 0 (Witness 1) }
     ensures before_node { (p q : Box (Unit {0}) Global)
-        → Fails (sb p q) prices (bounded_by (0 ∷ 1 ∷ [])) both_fences (undecided (sb p q) ∷ []) (Bounded (0 ∷ 1 ∷ []) ∷
+        → Fails (sb p q) offers (bounded_by (0 ∷ 1 ∷ [])) both_fences (undecided offers ∷ []) (Bounded (0 ∷ 1 ∷ []) ∷
         []) 0 (Node 0) → ⊥ }
     ensures cheap { (p q : Box (Unit {0}) Global)
-        → Fails (sb p q) prices (bounded_by (0 ∷ [])) both_fences (undecided (sb p q) ∷ []) (Bounded (0 ∷ []) ∷
+        → Fails (sb p q) offers (bounded_by (0 ∷ [])) both_fences (undecided offers ∷ []) (Bounded (0 ∷ []) ∷
         []) 0 (Node 0) }
 {}

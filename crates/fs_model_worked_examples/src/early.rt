@@ -8,10 +8,11 @@ ghost use Rattle.fs_kinds.specs.declared.placement.Entry.{Entry};
 ghost use Rattle.fs_kinds.specs.PriceTable.{cost};
 ghost use Rattle.fs_model.specs.Allows.{Shows, Allows, IsPlacement};
 ghost use Rattle.fs_cert_evidence.specs.Widths.{width};
-ghost use Rattle.fs_cert_evidence.specs.Parts.{floor};
-ghost use Rattle.fs_cert_evidence.specs.Pruning.{are_apart, is_pruned, lower_bound};
+ghost use Rattle.fs_board_offers.specs.Offers.{cost as cost_in};
+ghost use Rattle.fs_board_offers.specs.Parts.{floor};
+ghost use Rattle.fs_board_offers.specs.Pruning.{are_apart, is_pruned, lower_bound};
 ghost use Rattle.fs_model_worked_examples.specs.StoreBuffering.{sb, fences};
-ghost use Rattle.fs_model_worked_examples.specs.Rows.{prices};
+ghost use Rattle.fs_model_worked_examples.specs.Rows.{prices, offers};
 ghost use Rattle.fs_model_worked_examples.specs.EarlyReads.{root, reads_early, keeps_all, first_slot, second_slot};
 ghost use Rattle.fs_model_worked_examples.specs.EarlyReads.{first_early, second_early, KeepsAt};
 
@@ -21,15 +22,15 @@ ghost use Rattle.fs_model_worked_examples.specs.EarlyReads.{first_early, second_
 /// the same slot are not apart. One that keeps all pairs can't be broken, and so gives no lower bound: it prunes even
 /// then.
 pub fn early_widths()
-    ensures both { lower_bound prices root (reads_early first_slot ∷ reads_early second_slot ∷ []) ≡ Some 18 }
-    ensures dearer { (p : List Entry) → cost prices p ≡ 17
-        → is_pruned prices (Some p) root (reads_early first_slot ∷ reads_early second_slot ∷ []) ≡ true }
-    ensures equal { is_pruned prices (Some (fences (Some WR) (Some WR))) root
+    ensures both { lower_bound offers root (reads_early first_slot ∷ reads_early second_slot ∷ []) ≡ Some 18 }
+    ensures dearer { (p : List Entry) → cost_in offers p ≡ 17
+        → is_pruned offers (Some p) root (reads_early first_slot ∷ reads_early second_slot ∷ []) ≡ true }
+    ensures equal { is_pruned offers (Some (fences (Some WR) (Some WR))) root
         (reads_early first_slot ∷ reads_early second_slot ∷ []) ≡ false }
-    ensures unbound { is_pruned prices None root (reads_early first_slot ∷ reads_early second_slot ∷ []) ≡ false }
-    ensures shared { are_apart prices root (reads_early first_slot ∷ reads_early first_slot ∷ []) ≡ false }
-    ensures unbroken { lower_bound prices root (keeps_all ∷ []) ≡ None }
-    ensures pruned { is_pruned prices None root (keeps_all ∷ []) ≡ true }
+    ensures unbound { is_pruned offers None root (reads_early first_slot ∷ reads_early second_slot ∷ []) ≡ false }
+    ensures shared { are_apart offers root (reads_early first_slot ∷ reads_early first_slot ∷ []) ≡ false }
+    ensures unbroken { lower_bound offers root (keeps_all ∷ []) ≡ None }
+    ensures pruned { is_pruned offers None root (keeps_all ∷ []) ≡ true }
 {}
 
 /// A law: store buffering has such executions, and they show the outcome without fences. They are apart and bound what
@@ -40,9 +41,9 @@ pub fn early_reads()
     ensures first_keeps { (p q : Box (Unit {0}) Global) → KeepsAt (sb p q) first_early (reads_early first_slot) }
     ensures second_keeps { (p q : Box (Unit {0}) Global) → KeepsAt (sb p q) second_early (reads_early second_slot) }
     ensures apart { (p q : Box (Unit {0}) Global)
-        → are_apart prices root (map (width (sb p q)) (first_early ∷ second_early ∷ [])) ≡ true }
+        → are_apart offers root (map (width (sb p q)) (first_early ∷ second_early ∷ [])) ≡ true }
     ensures bound { (p q : Box (Unit {0}) Global)
-        → lower_bound prices root (map (width (sb p q)) (first_early ∷ second_early ∷ [])) ≡ Some 18 }
+        → lower_bound offers root (map (width (sb p q)) (first_early ∷ second_early ∷ [])) ≡ Some 18 }
     ensures cheap { (p q : Box (Unit {0}) Global) (r : List Entry)
         → IsPlacement (sb p q) prices r → cost prices r < 18 → Allows (sb p q) r }
 {}

@@ -4,8 +4,8 @@ use Rattle.std.specs.Prelude.{sum_by}
 use Rattle.std.proofs.lemmas.List.Elements.{All-cons, All-tail, All-take}
 use Rattle.std.proofs.lemmas.List.Kept.{AllPairs-cons}
 use Rattle.std.proofs.lemmas.Option.{slice_get_within}
-use Rattle.fs_cert_evidence.specs.Histories.{LogEntry}
-use Rattle.fs_cert_evidence.specs.Receipts.{Pass, Receipt, IsLogged, IsAgreed}
+use Rattle.fs_board_offers.specs.Histories.{LogEntry}
+use Rattle.fs_board_offers.specs.Receipts.{Pass, Receipt, IsLogged, IsAgreed}
 use Rattle.fs_pool.specs.Ends.{AreGiven, AreLogged, AllLogged}
 
 -- ---- the receipts of one pass

@@ -1,7 +1,7 @@
 -- The question of the board is the one asked.
 use Rattle.std.proofs.Common.{ℕ, sym, ap, subst, ◌∙◌}
-use Rattle.fs_cert_evidence.specs.Board.{Event, Reply}
-use Rattle.fs_cert_evidence.specs.Evidence.{Question}
+use Rattle.fs_board_offers.specs.Board.{Event, Reply}
+use Rattle.fs_board_offers.specs.Questions.{Question}
 use Rattle.fs_board.specs.declared.event.Event.{Event as CodeEvent}
 use Rattle.fs_board.specs.declared.event.Reply.{Reply as CodeReply}
 use Rattle.fs_board.specs.Asking.{IsMade, Tells}

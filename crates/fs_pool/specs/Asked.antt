@@ -2,7 +2,7 @@
 use Rattle.std.specs.Prelude.{◌≡◌, ℕ, []}
 use Rattle.fs_model.specs.declared.outcome.Outcome.TheVariants as outcome
 use Rattle.fs_model.specs.declared.test.Quantifier.TheVariants as quantifier
-use Rattle.fs_cert_evidence.specs.Evidence.{Question}
+use Rattle.fs_board_offers.specs.Questions.{Question}
 use Rattle.fs_board.specs.View.{Search}
 
 -- the board is asked this, and no node's number may pass the limit
@@ -10,7 +10,7 @@ pub record IsAsked (s : Search) (q : Question) (most : ℕ) : Type 0 where
   pub question : s.question ≡ q
   pub limit : s.board.limit ≡ most
 
--- a test without harts, and no prices: what `Brand` has by itself, before a caller says what is asked
+-- a test without harts, for which nothing is offered: what `Brand` has by itself, before a caller says what is asked
 abbrev pub no_question : Question
 no_question = record {
   test = record {
@@ -21,5 +21,5 @@ no_question = record {
     quantifier = quantifier.Exists;
     condition = outcome.Always;
   };
-  prices = record { prices = []; weights = [] };
+  offers = [];
 }

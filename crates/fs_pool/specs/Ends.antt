@@ -1,9 +1,9 @@
 -- How a desk ends.
 use Rattle.std.specs.Prelude.{◌≡◌, ◌≢◌, ℕ, ◌+◌, ◌<◌, ◌≤◌, List, [], ◌∷◌, All, AllPairs, drop}
 use Rattle.fs_kinds.specs.declared.fault.Fault.TheVariants.{StrangePass}
-use Rattle.fs_cert_evidence.specs.Histories.{LogEntry}
-use Rattle.fs_cert_evidence.specs.Receipts.{Pass, Receipt, IsLogged, IsAgreed}
-use Rattle.fs_cert_evidence.specs.Evidence.{Question}
+use Rattle.fs_board_offers.specs.Histories.{LogEntry}
+use Rattle.fs_board_offers.specs.Receipts.{Pass, Receipt, IsLogged, IsAgreed}
+use Rattle.fs_board_offers.specs.Questions.{Question}
 use Rattle.fs_pool.specs.declared.ending.Unfinished.{Unfinished}
 use Rattle.fs_pool.specs.declared.ending.Unfinished.TheVariants.{Unmatched, Fault as Failed}
 use Rattle.fs_pool.specs.Asked.{IsAsked}

@@ -1,7 +1,7 @@
 -- The passes of a desk, and what an event adds to one.
 use Rattle.std.specs.Prelude.{◌≡◌, ℕ, zero, suc, List, [], ◌∷◌, ◌++◌}
-use Rattle.fs_cert_evidence.specs.Board.{Event}
-use Rattle.fs_cert_evidence.specs.Receipts.{Pass, Receipt}
+use Rattle.fs_board_offers.specs.Board.{Event}
+use Rattle.fs_board_offers.specs.Receipts.{Pass, Receipt}
 
 -- the passes of the workers from 0 on, without receipts
 abbrev pub first_passes : ℕ → List Pass

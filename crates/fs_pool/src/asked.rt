@@ -6,7 +6,7 @@ use std::marker::Brand;
 /// all that has to agree on them is generic in one such type, and a program picks it by `Brand`.
 pub trait Asked {
     ghost use Rattle.std.specs.Prelude.{ℕ};
-    ghost use Rattle.fs_cert_evidence.specs.Evidence.{Question};
+    ghost use Rattle.fs_board_offers.specs.Questions.{Question};
 
     ghost question: { Question };
 

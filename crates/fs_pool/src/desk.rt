@@ -7,7 +7,7 @@ ghost use Rattle.std.specs.Arc.{arc_value};
 ghost use Rattle.fs_kinds.specs.declared.fault.Fault.TheVariants.{Memory};
 ghost use Rattle.fs_model.specs.Allows.{Allows};
 ghost use Rattle.fs_model.specs.Execution.{Execution};
-ghost use Rattle.fs_cert_evidence.specs.Board.{Take, Claim, Adopt, SplitAt, CutCost, CutWitness, CutBound, Post, Peek};
+ghost use Rattle.fs_board_offers.specs.Board.{Take, Claim, Adopt, SplitAt, CutCost, CutWitness, CutBound, Post, Peek};
 ghost use Rattle.fs_cert_evidence.specs.Evidence.{Shown, IsWitnessFor, ShowsForbidden, witness_in, placement_in};
 ghost use Rattle.fs_board.specs.Growth.{AreWitnesses};
 ghost use Rattle.fs_board.specs.View.{event_of, reply_of};

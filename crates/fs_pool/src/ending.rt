@@ -1,8 +1,8 @@
 //! The end of a desk: its board, where its log and the receipts of all passes agree.
 
 ghost use Rattle.std.specs.Prelude.{◌≡◌, ◌≢◌, ◌<◌, IfOk, IfErr, IsTrue, All, AllPairs, drop, length, sum_by};
-ghost use Rattle.fs_cert_evidence.specs.Histories.{IsHistory};
-ghost use Rattle.fs_cert_evidence.specs.Receipts.{IsAgreed, IsLogged};
+ghost use Rattle.fs_board_offers.specs.Histories.{IsHistory};
+ghost use Rattle.fs_board_offers.specs.Receipts.{IsAgreed, IsLogged};
 ghost use Rattle.fs_pool.specs.Asked.{IsAsked};
 ghost use Rattle.fs_pool.specs.Ends.{AreGiven, AreLogged, AllLogged, IsUnfinished};
 
@@ -148,7 +148,7 @@ fn log_since(log: &[LogEntry], since: usize) -> &[LogEntry]
 #[tactic(auto, using(crate::proofs::Agreeing::agreed, crate::proofs::Agreeing::agreed_logged))]
 pub fn finish<A: Asked>(desk: Desk<A>, passes: Vec<Pass<A>>) -> Result<Board, Unfinished<A>>
     ensures asked { IfOk result (λ b. IsAsked b A.question A.limit) }
-    ensures legal { IfOk result (λ b. IsHistory b.question.test b.question.prices b.board.limit b.log b.board) }
+    ensures legal { IfOk result (λ b. IsHistory b.question.test b.question.offers b.board.limit b.log b.board) }
     ensures agreed { IfOk result (λ b. IsAgreed passes.items (drop desk.since b.log)) }
     ensures err { IfErr result (IsUnfinished A.question A.limit desk passes.items) }
 {

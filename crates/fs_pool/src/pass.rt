@@ -2,7 +2,7 @@
 
 ghost use Rattle.std.specs.Prelude.{◌≡◌, ◌<◌, ◌++◌, ◌∷◌, [], List, IfSome, IfNone, vec_len};
 ghost use Rattle.std.specs.Vec.{vec_capacity};
-ghost use Rattle.fs_cert_evidence.specs.Receipts.{Receipt as ReceiptValue};
+ghost use Rattle.fs_board_offers.specs.Receipts.{Receipt as ReceiptValue};
 ghost use Rattle.fs_board.specs.View.{event_of, reply_of};
 ghost use Rattle.fs_board.specs.Asking.{Tells};
 
@@ -21,7 +21,7 @@ pub struct Receipt<A: Asked> {
 }
 
 impl<A: Asked> Model for Receipt<A> {
-    ghost use Rattle.fs_cert_evidence.specs.Receipts.{Receipt as ReceiptValue};
+    ghost use Rattle.fs_board_offers.specs.Receipts.{Receipt as ReceiptValue};
     ghost use Rattle.fs_board.specs.View.{event_of, reply_of};
     ghost use Rattle.fs_board.specs.Asking.{Tells};
 
@@ -78,7 +78,7 @@ pub struct Pass<A: Asked> {
 }
 
 impl<A: Asked> Model for Pass<A> {
-    ghost use Rattle.fs_cert_evidence.specs.Receipts.{Pass as PassValue};
+    ghost use Rattle.fs_board_offers.specs.Receipts.{Pass as PassValue};
 
     ghost Value = { PassValue };
 

@@ -1,7 +1,7 @@
 //! What the lock keeps.
 
 ghost use Rattle.std.specs.Prelude.{◌≡◌, ◌≢◌, [], IfOk, OnErr, IsTrue, length};
-ghost use Rattle.fs_cert_evidence.specs.Board.{is_open};
+ghost use Rattle.fs_board_offers.specs.Board.{is_open};
 ghost use Rattle.fs_board.specs.Counts.{count_of};
 ghost use Rattle.fs_board.specs.View.{Answers, event_of, reply_of};
 ghost use Rattle.fs_board.specs.Asking.{IsMade, Tells};

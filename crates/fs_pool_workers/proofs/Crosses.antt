@@ -10,7 +10,7 @@ use Rattle.fs_instr.proofs.instr.Instr.TheSendSync as instr
 use Rattle.fs_model.proofs.lists.Name.TheSendSync as name
 use Rattle.fs_model.proofs.test.Location.TheSendSync as location
 use Rattle.fs_model.proofs.test.Quantifier.TheSendSync as quantifier
-use Rattle.fs_kinds.proofs.prices.Prices.TheSendSync as prices
+use Rattle.fs_board_offers.proofs.offers.Offers.TheSendSync as offers
 use Rattle.fs_pool.specs.declared.Asked as asked
 use Rattle.fs_pool.specs.contracts.shared.Shared as Shared
 use Rattle.fs_pool.specs.contracts.desk.Desk as Desk
@@ -39,10 +39,10 @@ test_sync : IsSync Test.the_row
 test_sync = declared_sync Test.the_type (name.the_sync, (search (instr.the_sync, list.the_sync, crosses, sendable) depth 20, (search (list.the_sync, crosses, sendable) depth 20, (search (location.the_sync, list.the_sync, crosses, sendable) depth 20, (quantifier.the_sync, (outcome_sync, tt))))))
 
 pub question_send : IsSend Question.the_row
-question_send = search (test_send, test_sync, prices.the_send, crosses, sendable) depth 40 fits 100000
+question_send = search (test_send, test_sync, offers.the_send, crosses, sendable) depth 40 fits 100000
 
 pub question_sync : IsSync Question.the_row
-question_sync = search (test_send, test_sync, prices.the_sync, crosses, sendable) depth 40 fits 100000
+question_sync = search (test_send, test_sync, offers.the_sync, crosses, sendable) depth 40 fits 100000
 
 board_send : IsSend Board.the_row
 board_send = search (question_send, question_sync, tree.the_send, entry.the_send, crosses, sendable) depth 40 fits 100000

@@ -1,7 +1,7 @@
 -- Which fault a search by many workers hands on.
 use Rattle.std.proofs.Common.{◌≡◌, ℕ, subst}
 use Rattle.fs_kinds.specs.declared.fault.Fault.{Fault}
-use Rattle.fs_cert_evidence.specs.Evidence.{Question}
+use Rattle.fs_board_offers.specs.Questions.{Question}
 use Rattle.fs_board_search.specs.Answers.{IsSolveFault}
 
 -- a fault of what is equal

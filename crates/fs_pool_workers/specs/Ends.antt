@@ -1,6 +1,6 @@
 -- What an answer's board goes on from.
 use Rattle.std.specs.Prelude.{ℕ, List, drop}
-use Rattle.fs_cert_evidence.specs.Receipts.{Pass, IsAgreed}
+use Rattle.fs_board_offers.specs.Receipts.{Pass, IsAgreed}
 use Rattle.fs_board.specs.View.{Search}
 use Rattle.fs_board_search.specs.Histories.{GoesOn}
 

@@ -2,10 +2,10 @@
 
 ghost use Rattle.std.specs.Prelude.{◌≡◌, ◌≢◌, ◌≤◌, [], IfOk, IfErr, IfSome, IsOkUnless, OnOk, All, drop, map};
 ghost use Rattle.std.specs.Arc.{arc_value};
-ghost use Rattle.fs_kinds.specs.PriceTable.{IsPriceTable};
+ghost use Rattle.fs_board_offers.specs.Questions.{HasTop};
 ghost use Rattle.fs_model.specs.Test.{IsBounded, IsStart};
-ghost use Rattle.fs_cert_evidence.specs.Receipts.{IsAgreed};
-ghost use Rattle.fs_cert_evidence.specs.Sizes.{HasNoRunFault};
+ghost use Rattle.fs_board_offers.specs.Receipts.{IsAgreed};
+ghost use Rattle.fs_board_offers.specs.Sizes.{HasNoRunFault};
 ghost use Rattle.fs_board.specs.Growth.{AreWitnesses};
 ghost use Rattle.fs_pool.specs.Asked.{IsAsked};
 ghost use Rattle.fs_board_search.specs.Answers.{IsAnswer, IsSolveFault, Rests};
@@ -15,10 +15,11 @@ ghost use Rattle.fs_pool_workers.specs.Ends.{GoesOnFrom};
 use crate::gate::{Alone, Gate};
 use crate::work::Workplace;
 use fs_board::Board;
+use fs_board_offers::Question;
 use fs_board_search::{
     Problem, Solved, Unwatched, conclude, problem_of, search_alone, solve_problem,
 };
-use fs_cert_evidence::{Question, Witness};
+use fs_cert_evidence::Witness;
 use fs_kinds::Fault;
 use fs_pool::{Asked, Desk, Hand, Pass, finish, hands};
 use std::alloc::{AllocError, Global};
@@ -113,10 +114,10 @@ fn concluded<A: Asked, G: Gate>(
     gate: &G,
 ) -> Result<Option<Solved>, Fault>
     requires test { IsBounded A.question.test }
-    requires prices { IsPriceTable A.question.prices }
+    requires top { HasTop A.question.offers }
     requires same { arc_value problem.now ≡ A.question.test }
     requires clean { HasNoRunFault (arc_value problem.now) }
-    ensures ok { IfOk result (λ found. IfSome found (λ s. IsAnswer A.question.test A.question.prices s.answer)) }
+    ensures ok { IfOk result (λ found. IfSome found (λ s. IsAnswer A.question.test A.question.offers s.answer)) }
     ensures rests { IfOk result (λ found. IfSome found (Rests A.question A.limit)) }
     ensures left { IfOk result (λ found. IfSome found (λ s. IfSome s.board (GoesOnFrom passes.items desk.since))) }
     ensures err { IfErr result (λ f. f ≢ Fault.Memory → IsSolveFault A.question A.limit f) }
@@ -144,13 +145,13 @@ fn search_together<A: Asked + Send + Sync, R: Threads + Wait + Sync, G: Gate + S
 ) -> Result<Option<Solved>, Fault>
     requires asked { IsAsked begun.board A.question A.limit }
     requires test { IsBounded A.question.test }
-    requires prices { IsPriceTable A.question.prices }
+    requires top { HasTop A.question.offers }
     requires same { arc_value problem.now ≡ A.question.test }
     requires clean { HasNoRunFault (arc_value problem.now) }
     requires met { AreWitnesses A.question.test (map arc_value begun.met.items) }
     requires some { 1 ≤ workers }
     requires few { workers ≤ 16 }
-    ensures ok { IfOk result (λ found. IfSome found (λ s. IsAnswer A.question.test A.question.prices s.answer)) }
+    ensures ok { IfOk result (λ found. IfSome found (λ s. IsAnswer A.question.test A.question.offers s.answer)) }
     ensures rests { IfOk result (λ found. IfSome found (Rests A.question A.limit)) }
     ensures err { IfErr result (λ f. f ≢ Fault.Memory → IsSolveFault A.question A.limit f) }
 {
@@ -219,12 +220,12 @@ pub fn solve<R: Threads + Wait + Sync, G: Gate + Sync>(
 ) -> Result<Solved, Fault>
     requires test { IsBounded (arc_value question).test }
     requires starts { All IsStart (arc_value question).test.starts }
-    requires prices { IsPriceTable (arc_value question).prices }
+    requires top { HasTop (arc_value question).offers }
     requires some { 1 ≤ workers }
     requires few { workers ≤ 16 }
     requires least { 1 ≤ limit }
     requires most { limit ≤ 1000000 }
-    ensures ok { IfOk result (λ s. IsAnswer (arc_value question).test (arc_value question).prices s.answer) }
+    ensures ok { IfOk result (λ s. IsAnswer (arc_value question).test (arc_value question).offers s.answer) }
     ensures clean { OnOk result (HasNoRunFault (arc_value question).test) }
     ensures rests { IfOk result (Rests (arc_value question) limit) }
     ensures err { IfErr result (λ f. f ≢ Fault.Memory → IsSolveFault (arc_value question) limit f) }

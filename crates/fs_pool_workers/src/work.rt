@@ -4,14 +4,15 @@
 ghost use Rattle.std.specs.Prelude.{◌≡◌, IfOk, IfSome, map};
 ghost use Rattle.std.specs.Arc.{arc_value};
 ghost use Rattle.fs_model.specs.Slots.{slots};
-ghost use Rattle.fs_model_laws.specs.Bounds.{slots_in_part};
+ghost use Rattle.fs_board_offers.specs.Parts.{slots_in_part};
 ghost use Rattle.fs_board.specs.Asking.{IsMade};
 ghost use Rattle.fs_board.specs.Growth.{AreWitnesses};
 
 use crate::gate::Gate;
 use fs_board::{Event, Part, Reply};
+use fs_board_offers::Question;
 use fs_board_search::{Child, Problem, Scout, TRIES, Taken, Way};
-use fs_cert_evidence::{Question, Witness};
+use fs_cert_evidence::Witness;
 use fs_kinds::Slot;
 use fs_pool::{Asked, Desk, Hand, Pass};
 use std::alloc::{AllocError, Global};

@@ -6,10 +6,10 @@ ghost use Rattle.fs_model.specs.Test.{IsBounded, IsTest};
 use crate::printing::{print_fences, print_reply, say_refused};
 use crate::questions::{Request, forbidden_on, problem_of, witness_on, witnesses_on};
 use fs_board::{Board, Reply};
-use fs_cert_evidence::Question;
+use fs_board_offers::Question;
 use fs_judge::Problem;
 use fs_kinds::{Fault, Slot};
-use fs_tests_shared::{MP11, PRICES, SB, TWO_WRITES, cost_of, question_of};
+use fs_tests_shared::{MP11, PRICES, SB, TWO_WRITES, question_of};
 use std::alloc::Global;
 use std::sync::Arc;
 
@@ -26,13 +26,13 @@ struct State {
 impl State {
     /// That of the board.
     fn of(board: &Board) -> State {
-        let prices = &board.question().prices;
+        let offers = board.question().offers();
         State {
             log: board.log().len(),
             nodes: board.len(),
             open: board.open_count(),
             witnesses: board.witnesses().len(),
-            cost: board.bound().map(|bound| cost_of(prices, &bound.placement)),
+            cost: board.bound().map(|bound| offers.cost(&bound.placement)),
         }
     }
 

@@ -6,7 +6,7 @@ ghost use Rattle.fs_model.specs.Test.{IsBounded, IsTest};
 use crate::printing::{print_reply, say_refused};
 use crate::questions::{Request, forbidden_on, problem_of, witness_on, witnesses_on};
 use fs_board::Board;
-use fs_cert_evidence::Question;
+use fs_board_offers::Question;
 use fs_judge::Problem;
 use fs_kinds::{Fault, Slot};
 use fs_pool::{Asked, Desk, Pass, finish};

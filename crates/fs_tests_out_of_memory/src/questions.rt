@@ -7,7 +7,8 @@ ghost use Rattle.fs_model.specs.Execution.{Execution};
 ghost use Rattle.fs_cert_evidence.specs.Evidence.{IsWitnessFor, ShowsForbidden, placement_in};
 ghost use Rattle.fs_board.specs.Growth.{AreWitnesses};
 
-use fs_cert_evidence::{Forbidden, Question, Witness};
+use fs_board_offers::Question;
+use fs_cert_evidence::{Forbidden, Witness};
 use fs_judge::{Problem, Verdict};
 use fs_judge_tests::verdict_on;
 use fs_kinds::{Fault, List, Slot};
@@ -36,7 +37,7 @@ pub(crate) fn problem_of(alloc: Global, question: &Question) -> Result<Problem, 
     requires { IsTest question.now.test }
     ensures { IfOk result (λ problem. problem ≡ question.now.test) }
 {
-    Problem::new(alloc, Arc::try_clone(&question.test)?)
+    Problem::new(alloc, Arc::try_clone(question.test())?)
 }
 
 /// The witness of the verdict on the placement that the words name. `BadFence` where it forbids the outcome.

@@ -122,7 +122,7 @@ pub(crate) fn make<R: Print + AllocGlobal>(rt: &R) -> Result<(), Fault> {
     let alloc = rt.alloc();
     let question = question_of(alloc, SB, PRICES)?;
     let _ = rt.println("verdicts");
-    let problem = twice!(rt, problem_of(alloc, &question.test))?;
+    let problem = twice!(rt, problem_of(alloc, question.test()))?;
     let mut judge = Judge::new(alloc, problem);
     judge_on(rt, alloc, &mut judge, "")?;
     judge_on(rt, alloc, &mut judge, "P0:2=w,r P1:2=w,r")

@@ -7,7 +7,7 @@ mod questions;
 mod texts;
 
 pub use listing::{Digits, MANY, copy, order_of, picked, placements_of, runs_of, runs_over};
-pub use questions::{PRICES, cost_of, placement_of, question_of, told, write_fences};
+pub use questions::{PRICES, placement_of, question_of, told, write_fences};
 pub use texts::{
     ADD2, ANNOTATED, CO_RR, FENCED, FORWARDED, LB, LBC, LBD, LRSC, LRSCF, LRSCY, MP, MP11, MPA,
     MPB, POINTER, SB, SBF, SBX, SBXA, TWO_WRITES,

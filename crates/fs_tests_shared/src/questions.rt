@@ -1,12 +1,13 @@
 //! Placements, prices and questions from texts, and answers as text.
 ghost use Rattle.std.specs.Prelude.{◌≡◌, IfOk};
 ghost use Rattle.std.specs.Arc.{arc_value};
-ghost use Rattle.fs_kinds.specs.PriceTable.{IsPriceTable};
 ghost use Rattle.fs_kinds.specs.Placement.{slots_of};
+ghost use Rattle.fs_kinds.specs.PriceTable.{IsPriceTable};
 ghost use Rattle.fs_model.specs.Slots.{slots};
 ghost use Rattle.fs_model.specs.Test.{IsBounded, IsTest};
+ghost use Rattle.fs_board_offers.specs.Questions.{HasTop};
 
-use fs_cert_evidence::Question;
+use fs_board_offers::Question;
 use fs_kinds::{Fault, Placement, Prices, read_prices};
 use fs_litmus::{Test, read_fences, read_test};
 use std::alloc::{AllocError, Global};
@@ -15,14 +16,27 @@ use std::sync::Arc;
 /// Prices for six of the kinds.
 pub const PRICES: &str = r#"{"r,r":3,"r,w":3,"w,w":2,"w,r":9,"tso":5,"rw,rw":10}"#;
 
-/// The question of the test and the prices that these texts hold.
+/// The question of this test, with what these prices offer.
+fn priced(alloc: Global, test: Test, prices: &Prices) -> Result<Arc<Question>, Fault>
+    requires test { IsTest test }
+    requires table { IsPriceTable prices.now }
+    ensures test { IfOk result (λ question. IsTest (arc_value question).test) }
+    ensures top { IfOk result (λ question. HasTop (arc_value question).offers) }
+{
+    let test = Arc::new(alloc, test)?;
+    let question = Question::priced(alloc, test, prices)?;
+    let shared = Arc::new(alloc, question)?;
+    Ok(shared)
+}
+
+/// The question of the test that this text holds, with what the prices in the other one offer.
 pub fn question_of(alloc: Global, text: &str, prices: &str) -> Result<Arc<Question>, Fault>
     ensures test { IfOk result (λ question. IsTest (arc_value question).test) }
-    ensures prices { IfOk result (λ question. IsPriceTable (arc_value question).prices) }
+    ensures top { IfOk result (λ question. HasTop (arc_value question).offers) }
 {
     let prices = read_prices(alloc, prices.as_bytes())?;
-    let test = Arc::new(alloc, read_test(alloc, text.as_bytes())?)?;
-    Ok(Arc::new(alloc, Question { test, prices })?)
+    let test = read_test(alloc, text.as_bytes())?;
+    priced(alloc, test, &prices)
 }
 
 /// The placement that the words name, which spaces part.
@@ -35,18 +49,6 @@ pub fn placement_of(alloc: Global, test: &Test, words: &str) -> Result<Placement
         fences.push(String::from_str(alloc, word)?)?;
     }
     read_fences(alloc, test, None, &fences)
-}
-
-/// What the placement costs: the sum over the slots of price times weight.
-pub fn cost_of(prices: &Prices, placement: &Placement) -> u64 {
-    let mut cost: u64 = 0;
-    for entry in placement.as_slice() {
-        if let Some(price) = entry.kind.and_then(|kind| prices.of(kind)) {
-            let weight = u64::from(prices.weight(entry.slot));
-            cost = cost.saturating_add(u64::from(price).saturating_mul(weight));
-        }
-    }
-    cost
 }
 
 /// Writes the words of the placement's fences, with a space before each.

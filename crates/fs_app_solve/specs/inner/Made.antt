@@ -10,10 +10,11 @@ use Rattle.fs_pool_workers.specs.Answers.{Answer, placement_of}
 use Rattle.fs_pool_workers.specs.Forms as answer
 use Rattle.fs_cert.specs.Certified.{Certifies, CertifiesNone}
 use Rattle.fs_app_solve.specs.Solve.{IsCertificateOf}
+use Rattle.fs_board_offers.specs.Offers.{Offers}
 
-abbrev pub CertifiesAnswer : Test → PriceTable → Answer → Certificate → Type 0
-CertifiesAnswer t prices (answer.Fenced f n) = Certifies t prices (Some (placement_in f))
-CertifiesAnswer t prices (answer.None w) = CertifiesNone t prices w.witness
+abbrev pub CertifiesAnswer : Test → Offers → Answer → Certificate → Type 0
+CertifiesAnswer t offers (answer.Fenced f n) = Certifies t offers (Some (placement_in f))
+CertifiesAnswer t offers (answer.None w) = CertifiesNone t offers w.witness
 
 abbrev pub HasWitness : Answer → List Witness → Type 0
 HasWitness (answer.Fenced f n) witnesses = Unit {0}

@@ -4,7 +4,7 @@ use Rattle.fs_kinds.specs.declared.kind.Kind.{Kind}
 use Rattle.fs_kinds.specs.declared.placement.Entry.{Entry}
 use Rattle.fs_kinds.specs.declared.slot.Slot.{Slot}
 use Rattle.fs_kinds.specs.Placement.{with_kind}
-use Rattle.fs_cert_evidence.specs.Parts.{Part, Decision}
+use Rattle.fs_board_offers.specs.Parts.{Part, Decision}
 
 abbrev pub put_kind : Slot → Option (Option Kind) → List Entry → List Entry
 put_kind slot None p = p

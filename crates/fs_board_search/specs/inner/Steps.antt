@@ -1,10 +1,9 @@
 -- What one step of a search does to its board: it tries to close a node, or it is done with one.
 use Rattle.std.specs.Prelude.{◌≡◌, ℕ, ◌<◌, ◌≤◌, Bool, true, false, ◌&&◌, not}
 use Rattle.fs_model.specs.Slots.{slots}
-use Rattle.fs_cert_evidence.specs.Parts.{Part}
-use Rattle.fs_model_laws.specs.Bounds.{slots_in_part}
-use Rattle.fs_cert_evidence.specs.Board.{Board, Status, Reply, Closed, Given, Children, is_open, is_held}
-use Rattle.fs_cert_evidence.specs.Histories.{HoldsNode}
+use Rattle.fs_board_offers.specs.Parts.{Part, slots_in_part}
+use Rattle.fs_board_offers.specs.Board.{Board, Status, Reply, Closed, Given, Children, is_open, is_held}
+use Rattle.fs_board_offers.specs.Histories.{HoldsNode}
 use Rattle.fs_board.specs.Counts.{count_of}
 use Rattle.fs_board.specs.View.{Search}
 use Rattle.fs_board_search.specs.Histories.{GoesOn}

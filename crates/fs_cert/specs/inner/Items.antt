@@ -4,14 +4,15 @@ use Rattle.std.specs.List.{AllByRecursion, range_with_len}
 use Rattle.fs_kinds.specs.declared.placement.Entry.{Entry}
 use Rattle.fs_kinds.specs.declared.slot.Slot.{Slot}
 use Rattle.fs_kinds.specs.Slot.{is_same_slot}
-use Rattle.fs_cert_evidence.specs.Parts.{undecided}
+use Rattle.fs_board_offers.specs.Parts.{undecided}
 use Rattle.fs_cert_evidence.specs.Certificate as said
 use Rattle.fs_cert_evidence.specs.Certificate.{Certificate, First, Second, Item}
 use Rattle.fs_cert_evidence.specs.CertificateFile.{is_sayable, numbers_in, most_number}
-use Rattle.fs_cert_evidence.specs.Valid.{Covers}
-use Rattle.fs_cert_evidence.specs.Board.{Status, Open, Held, Split, Costly, Witnessed, Bounded, Posted}
+use Rattle.fs_board_offers.specs.Valid.{Covers}
+use Rattle.fs_board_offers.specs.Board.{Status, Open, Held, Split, Costly, Witnessed, Bounded, Posted}
 use Rattle.fs_board.specs.View.{Search}
 use Rattle.fs_cert.specs.inner.Copies.{AreNumbered}
+use Rattle.fs_board_offers.specs.Offers.{Offers, options, offer_at}
 
 -- the slot's number; how many slots there are where it is none of them
 abbrev pub number_in : List Slot → Slot → ℕ
@@ -28,6 +29,11 @@ item_at ss numbers (Witnessed j) = said.Refuted (unwrap_or (slice_get numbers j)
 item_at ss numbers (Bounded first zero) = said.Costly
 item_at ss numbers (Bounded first (suc count)) = said.Bounded (take (suc count) (drop first numbers))
 item_at ss numbers Posted = said.Costly
+
+-- in how many ways a node of this status was split
+abbrev pub ways_of : Offers → Status → ℕ
+ways_of offers (Split slot first) = length (options (offer_at offers slot))
+ways_of offers _ = 0
 
 -- the children of a node of this status, where a split makes so many
 abbrev pub below : (ways : ℕ) → Status → List ℕ
@@ -60,4 +66,4 @@ AreSayable = AllByRecursion IsSayable
 abbrev pub IsTreeOf : Search → (numbers : List ℕ) → List Item → Type 0
 IsTreeOf s numbers items = (c : Certificate) (p : List Entry) → c.version ≢ First → s.board.bound ≡ Some p
     → AreNumbered c.witnesses s.board.witnesses numbers
-    → Covers s.question.test s.question.prices c p (undecided s.question.test ∷ []) items
+    → Covers s.question.test s.question.offers c p (undecided s.question.offers ∷ []) items

@@ -1,36 +1,75 @@
-use Rattle.std.proofs.Common.{◌≢◌, ◌∙◌, ap, inl, sym, subst}
-use Rattle.fs_kinds.specs.declared.fault.Fault.TheVariants.{Memory}
+use Rattle.std.proofs.Common.{◌∙◌, ap, inl, sym, subst}
+use Rattle.std.specs.Prelude.{All}
 use Rattle.fs_kinds.specs.PriceTable.{IsPriceTable}
-use Rattle.fs_model.specs.Test.{IsBounded}
-use Rattle.fs_cert_evidence.specs.Sizes.{HasNoRunFault, IsUnanswered}
+use Rattle.fs_model.specs.declared.test.Test.{Test}
+use Rattle.fs_model.specs.Test.{IsBounded, IsStart}
+use Rattle.fs_cert_evidence.specs.CandidateFaults.{IsCandidateFault}
 use Rattle.fs_cert_evidence.specs.Evidence.{Question}
+use Rattle.fs_cert_evidence.specs.Sizes.{HasNoRunFault}
+use Rattle.fs_board_search.specs.Priced.{question_of}
+use Rattle.fs_board_search.proofs.PricedAnswers.{priced-fault}
 use Rattle.fs_app_place_order.proofs.Faults.{IfErr-handed}
+use Rattle.fs_app_audit.proofs.Searched.{asked-test, asked-top, asked-best}
 use Rattle.fs_app_audit.proofs.findings.best.Goals as goal
+
+pub offered_question-requires-clause-bounded : goal.offered_question-requires-clause-bounded
+offered_question-requires-clause-bounded c = subst (λ (q : Question). IsBounded q.test) (sym c.deref.ensures) c.requires.bounded
+
+pub offered_question-requires-clause-table : goal.offered_question-requires-clause-table
+offered_question-requires-clause-table c = subst (λ (q : Question). IsPriceTable q.prices) (sym c.deref.ensures) c.requires.prices
+
+pub returns-in_err-asked-clause-err : goal.returns-in_err-asked-clause-err
+returns-in_err-asked-clause-err c =
+    IfErr-handed c.from_residual.result _ _ c.from_residual.ensures.1 (λ other. absurd (other c.in_err-asked.ensures.err))
+
+pub problem_of-requires-clause-bounded : goal.problem_of-requires-clause-bounded
+problem_of-requires-clause-bounded c =
+    let is = c.in_ok-asked.ensures.ok ∙ ap (λ (q : Question). question_of q.test q.prices) c.deref.ensures in
+    subst IsBounded (sym (asked-test _ _ _ is)) c.requires.bounded
+
+pub problem_of-requires-clause-starts : goal.problem_of-requires-clause-starts
+problem_of-requires-clause-starts c =
+    let is = c.in_ok-asked.ensures.ok ∙ ap (λ (q : Question). question_of q.test q.prices) c.deref.ensures in
+    subst (λ (t : Test). All IsStart t.starts) (sym (asked-test _ _ _ is)) c.requires.starts
 
 pub returns-in_err-problem-clause-err : goal.returns-in_err-problem-clause-err
 returns-in_err-problem-clause-err c =
-    IfErr-handed c.from_residual.result _ _ c.from_residual.ensures.1 (λ other. inl (c.in_err-problem.ensures.err other))
+    let is = c.in_ok-asked.ensures.ok ∙ ap (λ (q : Question). question_of q.test q.prices) c.deref.ensures in
+    IfErr-handed c.from_residual-in_err-problem.result _ _ c.from_residual-in_err-problem.ensures.1
+    (λ other. inl (subst (λ (t : Test). IsCandidateFault t c.in_err-problem.field-0.0) (asked-test _ _ _ is) (c.in_err-problem.ensures.err other)))
 
 pub solve_problem-requires-clause-bounded : goal.solve_problem-requires-clause-bounded
 solve_problem-requires-clause-bounded c =
-    subst IsBounded (c.in_ok-problem.ensures.same ∙ sym c.in_ok-shared.ensures) c.requires.bounded
+    let is = c.in_ok-asked.ensures.ok ∙ ap (λ (q : Question). question_of q.test q.prices) c.deref.ensures in
+    subst IsBounded (sym (asked-test _ _ _ is) ∙ c.in_ok-problem.ensures.same ∙ sym c.in_ok-shared.ensures) c.requires.bounded
 
 pub solve_problem-requires-clause-same : goal.solve_problem-requires-clause-same
-solve_problem-requires-clause-same c =
-    ap (λ (q : Question). q.test) c.in_ok-asked.ensures ∙ c.in_ok-problem.ensures.same ∙ sym c.in_ok-shared.ensures
+solve_problem-requires-clause-same c = c.in_ok-problem.ensures.same ∙ sym c.in_ok-shared.ensures
 
 pub solve_problem-requires-clause-clean : goal.solve_problem-requires-clause-clean
 solve_problem-requires-clause-clean c =
     subst HasNoRunFault (c.in_ok-problem.ensures.same ∙ sym c.in_ok-shared.ensures) c.in_ok-problem.ensures.clean
 
-pub solve_problem-requires-clause-prices : goal.solve_problem-requires-clause-prices
-solve_problem-requires-clause-prices c = subst (λ (q : Question). IsPriceTable q.prices) (sym c.in_ok-asked.ensures) c.requires.prices
+pub solve_problem-requires-clause-top : goal.solve_problem-requires-clause-top
+solve_problem-requires-clause-top c =
+    let is = c.in_ok-asked.ensures.ok ∙ ap (λ (q : Question). question_of q.test q.prices) c.deref.ensures in
+    asked-top _ _ _ is c.requires.prices
 
 pub returns-in_err-solved-clause-err : goal.returns-in_err-solved-clause-err
 returns-in_err-solved-clause-err c =
-    let fault = c.in_err-solved.field-0.0 in
+    let is = c.in_ok-asked.ensures.ok ∙ ap (λ (q : Question). question_of q.test q.prices) c.deref.ensures in
     IfErr-handed c.from_residual-in_err-solved.result _ _ c.from_residual-in_err-solved.ensures.1
-    (subst (λ (q : Question). fault ≢ Memory → IsUnanswered q.test q.prices c.args.limit fault) c.in_ok-asked.ensures c.in_err-solved.ensures.err)
+    (λ other. priced-fault _ _ _ c.args.limit c.in_err-solved.field-0.0 is (c.in_err-solved.ensures.err other))
+
+pub kept_or_first-requires-clause-first : goal.kept_or_first-requires-clause-first
+kept_or_first-requires-clause-first c =
+    let is = c.in_ok-asked.ensures.ok ∙ ap (λ (q : Question). question_of q.test q.prices) c.deref.ensures in
+    (asked-best _ _ _ is _ _ _ _ c.in-Fenced.is c.deref-3.ensures c.in_ok-solved.ensures.ok).0
+
+pub kept_or_first-requires-clause-cost : goal.kept_or_first-requires-clause-cost
+kept_or_first-requires-clause-cost c =
+    let is = c.in_ok-asked.ensures.ok ∙ ap (λ (q : Question). question_of q.test q.prices) c.deref.ensures in
+    (asked-best _ _ _ is _ _ _ _ c.in-Fenced.is c.deref-3.ensures c.in_ok-solved.ensures.ok).1
 
 pub returns-in_err-best-in-Fenced-clause-err : goal.returns-in_err-best-in-Fenced-clause-err
 returns-in_err-best-in-Fenced-clause-err c =

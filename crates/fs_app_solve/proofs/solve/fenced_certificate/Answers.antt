@@ -1,14 +1,8 @@
 use Rattle.std.proofs.Common.{subst, sym, ◌∙◌}
-use Rattle.fs_model.specs.Test.{IsBounded}
-use Rattle.fs_cert_evidence.specs.Evidence.{Question, ShowsForbidden}
+use Rattle.fs_cert_evidence.specs.Evidence.{ShowsForbidden}
 use Rattle.fs_app_solve.proofs.Founding.{board-there, least-there}
 use Rattle.fs_app_solve.proofs.solve.fenced_certificate.Goals as goal
-
-pub from_board-requires-clause-bounded : goal.from_board-requires-clause-bounded
-from_board-requires-clause-bounded c =
-    let found = c.requires.found in
-    let of = board-there c.args.question.now found.1 c.args.solved.now c.in-Some.board.now c.in-Some.ensures found.2.rests in
-    subst (λ (q : Question). IsBounded q.test) (sym of.question) found.2.bounded
+use Rattle.fs_board_offers.specs.Questions.{Question}
 
 pub from_board-requires-clause-finished : goal.from_board-requires-clause-finished
 from_board-requires-clause-finished c =

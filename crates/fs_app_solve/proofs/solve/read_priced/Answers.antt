@@ -1,6 +1,6 @@
 use Rattle.fs_app_place_order.proofs.Faults.{IfErr-handed}
-use Rattle.fs_app_solve.proofs.SolveFaults.{solve-test}
-use Rattle.fs_app_solve.specs.Solve.{of_memory}
+use Rattle.fs_app_solve.proofs.Founding.{asked-by}
+use Rattle.fs_app_solve.proofs.SolveFaults.{solve-memory, solve-test}
 use Rattle.fs_app_solve.proofs.solve.read_priced.Goals as goal
 
 pub returns-in_err-read-clause-fault : goal.returns-in_err-read-clause-fault
@@ -11,4 +11,8 @@ returns-in_err-read-clause-fault c =
 pub returns-in_err-question-clause-fault : goal.returns-in_err-question-clause-fault
 returns-in_err-question-clause-fault c =
     IfErr-handed c.from_residual-in_err-question.result _ _ c.from_residual-in_err-question.ensures.1
-    (λ bytes priced limit. of_memory)
+    (λ bytes priced limit. solve-memory _ _ _ _ c.in_err-question.ensures.err)
+
+pub returns-clause-asked : goal.returns-clause-asked
+returns-clause-asked c = λ bytes priced.
+    asked-by _ _ _ _ _ c.in_ok-question.ensures.ok c.in_ok-read.ensures.ok priced c.in_ok-read.ensures.test c.requires.table

@@ -5,6 +5,6 @@ use Rattle.fs_board.proofs.bounds.breaks_one.Given as goal
 
 abbrev pub invariant-loop-witness : goal.invariant-loop-witness
 invariant-loop-witness l = record {
-  so_far : l.count ≡ count_by (λ w. is_breakable_at l.prices l.k l.decision (widths_in w)) (take l.witness-index l.witnesses);
+  so_far : l.count ≡ count_by (λ w. is_breakable_at l.offers l.k l.decision (widths_in w)) (take l.witness-index l.witnesses);
   most : l.count ≤ l.witness-index;
 }

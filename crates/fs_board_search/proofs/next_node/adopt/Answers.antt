@@ -1,5 +1,5 @@
 use Rattle.std.proofs.Common.{subst, arith}
-use Rattle.fs_cert_evidence.specs.Board.{Adopt}
+use Rattle.fs_board_offers.specs.Board.{Adopt}
 use Rattle.fs_board.specs.View.{Answers}
 use Rattle.fs_board_search.proofs.Replied.{given-out}
 use Rattle.fs_board_search.proofs.next_node.adopt.Goals as goal

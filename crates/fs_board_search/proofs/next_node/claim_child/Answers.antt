@@ -1,5 +1,5 @@
 use Rattle.std.proofs.Common.{◌≡◌, sym, subst, ap, arith}
-use Rattle.fs_cert_evidence.specs.Board.{Board, Claim}
+use Rattle.fs_board_offers.specs.Board.{Board, Claim}
 use Rattle.fs_board.specs.View.{Answers}
 use Rattle.fs_board_search.specs.inner.Steps.{done}
 use Rattle.fs_board_search.proofs.Replied.{given-out}

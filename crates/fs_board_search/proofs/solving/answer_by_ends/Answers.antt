@@ -1,33 +1,27 @@
 use Rattle.std.proofs.Common.{◌≡◌, None, Some, inr, sym, subst, ap, ◌∙◌}
 use Rattle.fs_kinds.specs.Placement.{all_with}
 use Rattle.fs_model.specs.Slots.{slots}
-use Rattle.fs_cert_evidence.specs.Evidence.{Question, Refuted, ShowsForbidden, placement_in}
+use Rattle.fs_cert_evidence.specs.Evidence.{Refuted, ShowsForbidden, placement_in}
+use Rattle.fs_board_offers.specs.Questions.{Question}
 use Rattle.fs_judge.specs.Verdicts.{IsVerdict}
 use Rattle.fs_board_search.specs.Answers.{IsAnswer, placement_of}
-use Rattle.fs_board_search.proofs.Ends.{none-offered, none-answer}
+use Rattle.fs_board_search.proofs.Ends.{none-answer}
 use Rattle.fs_board_search.proofs.solving.answer_by_ends.Goals as goal
-
-pub fenced-requires : goal.fenced-requires
-fenced-requires c =
-    let t = c.args.problem.now in
-    let refuted = subst (IsVerdict t (all_with None (slots t))) c.in-Forbids.is c.in_ok-on_none.ensures.ok in
-    let placed : placement_in c.in_ok-least-in-Forbids.least ≡ all_with None (slots t) =
-    ap (λ (f : Refuted). f.placement) c.in_ok-least-in-Forbids.ensures.ok ∙ refuted.0 in
-    none-offered t c.behind-question.inside.prices (placement_in c.in_ok-least-in-Forbids.least) placed
+use Rattle.fs_board_offers.specs.Offers.{Offers, cost}
 
 pub returns-in-Forbids-clause-ok : goal.returns-in-Forbids-clause-ok
 returns-in-Forbids-clause-ok c =
     let t = c.args.problem.now in
-    let prices = c.args.board.now.question.prices in
+    let offers = c.args.board.now.question.offers in
     let refuted = subst (IsVerdict t (all_with None (slots t))) c.in-Forbids.is c.in_ok-on_none.ensures.ok in
     let least = c.in_ok-least-in-Forbids.least in
     let placed : placement_in least ≡ all_with None (slots t) =
     ap (λ (f : Refuted). f.placement) c.in_ok-least-in-Forbids.ensures.ok ∙ refuted.0 in
-    let priced : c.behind-question.inside.prices ≡ prices =
-    ap (λ (q : Question). q.prices) (c.behind-question.view_is ∙ (c.deref.ensures ∙ c.question.ensures)) in
-    let answer = none-answer t (placement_in least) c.behind-question.inside.prices prices priced placed refuted.2 in
+    let priced : c.offers.result.now ≡ offers =
+    c.offers.ensures.value ∙ ap (λ (q : Question). q.offers) (c.deref.ensures ∙ c.question.ensures) in
+    let cheapest = none-answer t (placement_in least) c.args.board.now.question c.requires.same c.log-legal.ensures.asked placed refuted.2 in
     let shows : ShowsForbidden t least.value = subst (ShowsForbidden t) (sym c.in_ok-least-in-Forbids.ensures.ok) refuted.1 in
-    subst (IsAnswer t prices) (sym c.fenced.ensures) (answer.0, answer.1, shows)
+    subst (IsAnswer t offers) (sym c.fenced.ensures) (cheapest, ap (λ (x : Offers). cost x (placement_in least)) priced, shows)
 
 pub returns-in-Forbids-clause-ends : goal.returns-in-Forbids-clause-ends
 returns-in-Forbids-clause-ends c =

@@ -14,6 +14,6 @@ unreachable-requires c =
     let s = c.args.board.now in
     let refuted = subst (IsVerdict t (all_with (Some RwRw) (slots t))) c.in-Forbids.is c.in_ok-verdict.ensures.ok in
     let nothing : s.board.bound ≡ None =
-    subst (λ (found : Option Answer). MatchOption found (s.board.bound ≡ None) (λ a. IsAnswer s.question.test s.question.prices a × (s.board.bound ≡ placement_of a)))
+    subst (λ (found : Option Answer). MatchOption found (s.board.bound ≡ None) (λ a. IsAnswer s.question.test s.question.offers a × (s.board.bound ≡ placement_of a)))
     c.in_default.is c.in_ok-answer.ensures.ok in
-    refuted.2 (all-allowed s t c.requires.same c.requires.prices c.log-legal.ensures.legal c.requires.finished (sym nothing))
+    refuted.2 (all-allowed s t c.requires.same c.log-legal.ensures.asked c.requires.top c.log-legal.ensures.legal c.requires.finished (sym nothing))

@@ -1,8 +1,8 @@
 use Rattle.std.proofs.Common.{rules, ◌∙◌, Option, IfSome, MatchOption, sym, ap, subst}
-use Rattle.fs_kinds.specs.PriceTable.{PriceTable}
+use Rattle.fs_board_offers.specs.Offers.{Offers}
 use Rattle.fs_model.specs.declared.test.Test.{Test}
-use Rattle.fs_cert_evidence.specs.Sizes.{HasNoRunFault}
-use Rattle.fs_cert_evidence.specs.Evidence.{Question}
+use Rattle.fs_board_offers.specs.Sizes.{HasNoRunFault}
+use Rattle.fs_board_offers.specs.Questions.{Question}
 use Rattle.fs_board.specs.View.{Search}
 use Rattle.fs_board_search.specs.Answers.{IsAnswer, IsAtAnEnd, IsAtLimit, IsBoardOf}
 use Rattle.fs_board_search.specs.Histories.{GoesOn}
@@ -22,9 +22,9 @@ returns-in_err-solved-in-Err-NodeLimit-clause-err g c =
 pub returns-in-Err-NodeLimit-clause-ok : goal.returns-in-Err-NodeLimit-clause-ok
 returns-in-Err-NodeLimit-clause-ok g c =
     let answer = c.in_ok-solved-in-Err-NodeLimit.solved.answer in
-    let priced = ap (λ (q : Question). q.prices) c.in-Err-NodeLimit.ensures.goes.question in
-    subst (λ (t : Test). IsAnswer t c.args.board.question.prices answer) (c.deref-in-Err-NodeLimit.ensures ∙ sym c.requires.same)
-    (subst (λ (prices : PriceTable). IsAnswer c.deref-in-Err-NodeLimit.result.now prices answer) priced c.in_ok-solved-in-Err-NodeLimit.ensures.ok)
+    let priced = ap (λ (q : Question). q.offers) c.in-Err-NodeLimit.ensures.goes.question in
+    subst (λ (t : Test). IsAnswer t c.args.board.question.offers answer) (c.deref-in-Err-NodeLimit.ensures ∙ sym c.requires.same)
+    (subst (λ (offers : Offers). IsAnswer c.deref-in-Err-NodeLimit.result.now offers answer) priced c.in_ok-solved-in-Err-NodeLimit.ensures.ok)
 
 pub returns-in-Err-NodeLimit-clause-rests : goal.returns-in-Err-NodeLimit-clause-rests
 returns-in-Err-NodeLimit-clause-rests g c =

@@ -2,8 +2,8 @@ use Rattle.std.proofs.Common.{◌≢◌, ◌∙◌, ap, sym, subst}
 use Rattle.fs_kinds.specs.declared.fault.Fault.TheVariants.{Memory}
 use Rattle.fs_model.specs.declared.test.Test.{Test}
 use Rattle.fs_cert_evidence.specs.CandidateFaults.{IsCandidateFault}
-use Rattle.fs_cert_evidence.specs.Sizes.{HasNoRunFault}
-use Rattle.fs_cert_evidence.specs.Evidence.{Question}
+use Rattle.fs_board_offers.specs.Sizes.{HasNoRunFault}
+use Rattle.fs_board_offers.specs.Questions.{Question}
 use Rattle.fs_board_search.proofs.Ends.{handed}
 use Rattle.fs_board_search.proofs.solving.problem_of.Goals as goal
 

@@ -1,5 +1,5 @@
 use Rattle.std.proofs.Common.{inl, subst}
-use Rattle.fs_cert_evidence.specs.Sizes.{HasNoRunFault}
+use Rattle.fs_board_offers.specs.Sizes.{HasNoRunFault}
 use Rattle.fs_board_search.proofs.Ends.{handed}
 use Rattle.fs_board_search.proofs.solving.solve.Goals as goal
 

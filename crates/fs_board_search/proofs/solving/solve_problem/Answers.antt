@@ -1,6 +1,6 @@
 use Rattle.std.proofs.Common.{◌≡◌, ℕ, ap, subst}
 use Rattle.fs_kinds.specs.declared.fault.Fault.{Fault}
-use Rattle.fs_cert_evidence.specs.Evidence.{Question}
+use Rattle.fs_board_offers.specs.Questions.{Question}
 use Rattle.fs_board.specs.View.{Search}
 use Rattle.fs_board_search.specs.Answers.{IsSolveFault}
 use Rattle.fs_board_search.proofs.Ends.{handed}

@@ -1,7 +1,7 @@
 use Rattle.std.proofs.Common.{◌∙◌, ap, map, subst}
 use Rattle.std.specs.Arc.{arc_value}
 use Rattle.fs_model.specs.declared.test.Test.{Test}
-use Rattle.fs_cert_evidence.specs.Evidence.{Question}
+use Rattle.fs_board_offers.specs.Questions.{Question}
 use Rattle.fs_board.specs.Growth.{AreWitnesses}
 use Rattle.fs_board_search.proofs.Ends.{handed}
 use Rattle.fs_board_search.proofs.sweep.search_alone.Goals as goal

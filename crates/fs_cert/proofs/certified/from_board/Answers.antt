@@ -1,7 +1,7 @@
 use Rattle.std.proofs.Common.{◌≡◌, map, length, sym, ap, subst, ◌∙◌}
-use Rattle.fs_kinds.specs.PriceTable.{are_offered}
-use Rattle.fs_cert_evidence.specs.Evidence.{Question, witness_in}
-use Rattle.fs_model_laws.proofs.Closed.{history-right}
+use Rattle.fs_cert_evidence.specs.Evidence.{witness_in}
+use Rattle.fs_board_offers.specs.Questions.{Question}
+use Rattle.fs_board_offers.proofs.Closed.{history-right}
 use Rattle.fs_cert.specs.Certified.{Certifies, AreDistinct}
 use Rattle.fs_cert.specs.inner.Copies.{AreCopiedWitnesses, AreNumbered, StandsAt}
 use Rattle.fs_cert.specs.inner.Fenced.{IsFenced}
@@ -26,15 +26,6 @@ tree_of-requires-clause-long c =
     let all = map witness_in c.witnesses.result.now in
     ap length c.deref-4.ensures.value ∙ (sym (as_long (StandsAt numbering.0) all ns numbering.2) ∙ ap length c.witnesses.ensures.value)
 
-pub fenced-requires : goal.fenced-requires
-fenced-requires c =
-    let s = c.args.board.now in
-    let f = c.args.bound.now in
-    let same : c.deref-5.result.now ≡ s.question = c.deref-5.ensures ∙ c.question-question.ensures in
-    let right = history-right s.question.test s.question.prices s.board.limit s.log s.board c.log-legal.ensures.legal in
-    let forbidden = right.bound f.placement c.requires.posted in
-    ap (λ (q : Question). are_offered q.prices f.placement) same ∙ forbidden.placement.offered
-
 pub returns-clause-ok : goal.returns-clause-ok
 returns-clause-ok c =
     let s = c.args.board.now in
@@ -43,7 +34,7 @@ returns-clause-ok c =
     let all = map witness_in c.witnesses.result.now in
     let f = c.args.bound.now in
     let same : c.deref-5.result.now ≡ s.question = c.deref-5.ensures ∙ c.question-question.ensures in
-    let right = history-right s.question.test s.question.prices s.board.limit s.log s.board c.log-legal.ensures.legal in
+    let right = history-right s.question.test s.question.offers s.board.limit s.log s.board c.log-legal.ensures.legal in
     let forbidden = right.bound f.placement c.requires.posted in
     let tree = c.in_ok-tree.tree in
     let files = c.new-witnesses.result in
@@ -53,7 +44,7 @@ returns-clause-ok c =
     let numbered : AreNumbered numbering.0 s.board.witnesses c.deref-4.result.now =
     subst (AreNumbered numbering.0 s.board.witnesses) (sym c.deref-4.ensures.value)
     (subst (λ ws. AreNumbered numbering.0 ws ns) c.witnesses.ensures.value numbering.2) in
-    subst (λ bound. Certifies s.question.test s.question.prices bound made) (sym c.requires.posted)
+    subst (λ bound. Certifies s.question.test s.question.offers bound made) (sym c.requires.posted)
     (fenced_certifies s.question f tree files made numbering.0 is copied c.requires.cycles forbidden.placement c.in_ok-tree.ensures.small
     (λ certificate later witnesses. c.in_ok-tree.ensures.tree certificate f.placement later c.requires.posted
     (subst (λ ws. AreNumbered ws s.board.witnesses c.deref-4.result.now) (sym witnesses) numbered)))

@@ -16,4 +16,4 @@ invariant-loop-node l = record {
 
 -- a node weighs more than all below it
 abbrev pub decreases-loop-node : goal.decreases-loop-node
-decreases-loop-node l = weight (l.ways + 1) (length l.board.board.nodes) l.pending
+decreases-loop-node l = weight 12 (length l.board.board.nodes) l.pending

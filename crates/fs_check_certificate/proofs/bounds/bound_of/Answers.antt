@@ -1,9 +1,9 @@
 use Rattle.std.proofs.Common.{◌≡◌, ◌+◌, ◌<◌, None, Some, get_or, length, ◌∙◌, ap, ap₂, sym, arith}
-use Rattle.fs_kinds.specs.PriceTable.{cost}
-use Rattle.fs_cert_evidence.specs.Parts.{floor}
-use Rattle.fs_cert_evidence.specs.Pruning.{sum_of}
+use Rattle.fs_board_offers.specs.Offers.{cost}
+use Rattle.fs_board_offers.specs.Parts.{floor}
+use Rattle.fs_board_offers.specs.Pruning.{sum_of}
 use Rattle.fs_check_certificate.specs.Breaks.{least_in, breaks_at}
-use Rattle.fs_cert_evidence.proofs.Bounding.{bound_more, bound_none}
+use Rattle.fs_board_offers.proofs.Bounding.{bound_more, bound_none}
 use Rattle.fs_check_certificate.proofs.bounds.bound_of.Goals as goal
 
 pub returns-in_default : goal.returns-in_default
@@ -15,7 +15,7 @@ returns-in_default c =
     let test = c.loop-number-test.true in
     let within : i < length js = omega arith in
     let none : least_in part (breaks_at breaks (get_or js i 0)) ≡ None = ap (least_in part) (sym c.breaks_at.ensures) ∙ sym c.in_default.ensures in
-    sym (bound_none (least_in part) (cost c.args.prices.now (floor part)) (breaks_at breaks) js i 0 within none)
+    sym (bound_none (least_in part) (cost c.args.offers.now (floor part)) (breaks_at breaks) js i 0 within none)
 
 pub loop-number-preserved : goal.loop-number-preserved
 loop-number-preserved c =
@@ -30,6 +30,6 @@ loop-number-preserved c =
     let sum : c.in-Some.least + c.loop-number.total ≡ c.loop-number.total + c.from-total.result = omega (arith, from) in
     let was = c.loop-number.invariant.most in
     record {
-      so_far = bound_more (least_in part) (cost c.args.prices.now (floor part)) (breaks_at breaks) js i 0 within ∙ (ap₂ sum_of some c.loop-number.invariant.so_far ∙ ap Some sum);
+      so_far = bound_more (least_in part) (cost c.args.offers.now (floor part)) (breaks_at breaks) js i 0 within ∙ (ap₂ sum_of some c.loop-number.invariant.so_far ∙ ap Some sum);
       most = omega (arith, from);
     }

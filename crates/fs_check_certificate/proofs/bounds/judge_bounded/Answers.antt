@@ -8,12 +8,12 @@ returns-in-Some c t ws bounded same are costs =
 
 pub returns-then-is_bounded : goal.returns-then-is_bounded
 returns-then-is_bounded c t ws bounded same are costs =
-    bound_holds t bounded c.args.part.now same ws c.args.shown.now are c.args.prices.now c.args.answer.now c.args.numbers.now
+    bound_holds t bounded c.args.part.now same ws c.args.shown.now are c.args.offers.now c.args.answer.now c.args.numbers.now
     (sym c.first_unshown.ensures ∙ c.in_default.is) c.args.breaks.now costs (sym c.is_bounded.ensures ∙ c.if-is_bounded.true)
 
 pub returns-else-is_bounded : goal.returns-else-is_bounded
 returns-else-is_bounded c t ws bounded same are costs = (
   all_shown t bounded c.args.part.now same ws c.args.shown.now are c.args.numbers.now (sym c.first_unshown.ensures ∙ c.in_default.is),
-  bound_fails t bounded c.args.part.now same ws c.args.shown.now are c.args.prices.now c.args.answer.now c.args.numbers.now
+  bound_fails t bounded c.args.part.now same ws c.args.shown.now are c.args.offers.now c.args.answer.now c.args.numbers.now
       (sym c.first_unshown.ensures ∙ c.in_default.is) c.args.breaks.now costs (sym c.is_bounded.ensures ∙ c.if-is_bounded.false),
 )

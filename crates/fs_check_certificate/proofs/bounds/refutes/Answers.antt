@@ -1,7 +1,7 @@
 use Rattle.std.proofs.Common.{Some, sym, subst}
 use Rattle.fs_kinds.specs.declared.kind.Kind.TheVariants.{RwRw}
-use Rattle.fs_cert_evidence.specs.Parts.{filled}
-use Rattle.fs_cert_evidence.specs.Valid.{Refutes}
+use Rattle.fs_board_offers.specs.Parts.{filled}
+use Rattle.fs_board_offers.specs.Valid.{Refutes}
 use Rattle.fs_check_certificate.specs.Leaves.{Decides}
 use Rattle.fs_check_certificate.proofs.Refuting.{refuted}
 use Rattle.fs_check_certificate.proofs.bounds.refutes.Goals as goal

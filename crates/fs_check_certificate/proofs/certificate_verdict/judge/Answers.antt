@@ -12,6 +12,6 @@ returns-in-Fenced-clause-ok c said keeps holds =
 
 pub returns-in-NoneForbids-clause-ok : goal.returns-in-NoneForbids-clause-ok
 returns-in-NoneForbids-clause-ok c said keeps holds =
-    let prices = c.args.prices.now in
-    subst (λ (u : Test). IfOk c.judge_none.result (IsJudgement u prices said)) c.test.ensures
-    (c.judge_none.ensures.ok said prices keeps (keeps.answer ∙ ap answer_of c.in-NoneForbids.is))
+    let offers = c.args.offers.now in
+    subst (λ (u : Test). IfOk c.judge_none.result (IsJudgement u offers said)) c.test.ensures
+    (c.judge_none.ensures.ok said offers keeps (keeps.answer ∙ ap answer_of c.in-NoneForbids.is))

@@ -4,11 +4,11 @@ use Rattle.fs_check_certificate.proofs.Judged.{placed_refused, placed_valid}
 use Rattle.fs_check_certificate.proofs.fenced.judgement_of.Goals as goal
 
 pub returns-in-Some : goal.returns-in-Some
-returns-in-Some c t prices said answered against =
-    placed_refused t prices said c.args.placement c.in-Some.reason answered
-    (subst (IsPlacedVerdict t prices said c.args.placement) c.in-Some.is against)
+returns-in-Some c t offers said answered against =
+    placed_refused t offers said c.args.placement c.in-Some.reason answered
+    (subst (IsPlacedVerdict t offers said c.args.placement) c.in-Some.is against)
 
 pub returns-in-None : goal.returns-in-None
-returns-in-None c t prices said answered whole =
-    placed_valid t prices said c.args.placement answered
-    (subst (IsPlacedVerdict t prices said c.args.placement) c.in-None.is whole)
+returns-in-None c t offers said answered whole =
+    placed_valid t offers said c.args.placement answered
+    (subst (IsPlacedVerdict t offers said c.args.placement) c.in-None.is whole)

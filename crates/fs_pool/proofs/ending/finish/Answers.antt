@@ -1,7 +1,7 @@
 use Rattle.std.proofs.Common.{◌≡◌, ℕ, List, drop, length, subst, sym, ◌∙◌, ap}
 use Rattle.std.specs.Prelude.{sum_by}
-use Rattle.fs_cert_evidence.specs.Histories.{LogEntry}
-use Rattle.fs_cert_evidence.specs.Receipts.{Pass}
+use Rattle.fs_board_offers.specs.Histories.{LogEntry}
+use Rattle.fs_board_offers.specs.Receipts.{Pass}
 use Rattle.fs_pool.specs.Ends.{AreGiven, AllLogged}
 use Rattle.fs_pool.proofs.Agreeing.{agreed}
 use Rattle.fs_pool.proofs.ending.finish.Goals as goal

@@ -1,6 +1,6 @@
 use Rattle.std.proofs.Common.{ℕ, Option, None, Some, IfSome, List, drop, sym, subst}
-use Rattle.fs_cert_evidence.specs.Receipts.{Pass, IsAgreed}
-use Rattle.fs_cert_evidence.specs.Sizes.{HasNoRunFault}
+use Rattle.fs_board_offers.specs.Receipts.{Pass, IsAgreed}
+use Rattle.fs_board_offers.specs.Sizes.{HasNoRunFault}
 use Rattle.fs_board.specs.View.{Search}
 use Rattle.fs_board_search.specs.Histories.{GoesOn}
 use Rattle.fs_board_search.proofs.Ends.{handed}

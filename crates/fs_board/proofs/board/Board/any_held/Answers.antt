@@ -1,7 +1,7 @@
 use Rattle.std.proofs.Common.{◌≡◌, Some, subst}
 use Rattle.std.specs.Prelude.{IfSome}
-use Rattle.fs_cert_evidence.specs.Parts.{Part}
-use Rattle.fs_cert_evidence.specs.Board.{is_held, part_at}
+use Rattle.fs_board_offers.specs.Parts.{Part}
+use Rattle.fs_board_offers.specs.Board.{is_held, part_at}
 use Rattle.fs_board.specs.Growth.{board_of}
 use Rattle.fs_board.specs.View.{Search}
 use Rattle.fs_board.proofs.Children.{some_part}

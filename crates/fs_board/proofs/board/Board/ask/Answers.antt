@@ -1,5 +1,5 @@
 use Rattle.std.proofs.Common.{refl}
-use Rattle.fs_cert_evidence.specs.Board.{Take, Claim, Adopt}
+use Rattle.fs_board_offers.specs.Board.{Take, Claim, Adopt}
 use Rattle.fs_board.proofs.Telling.{told}
 use Rattle.fs_board.proofs.board.Board.ask.Goals as goal
 

@@ -1,12 +1,12 @@
 use Rattle.std.proofs.Common.{◌≡◌, true, false, None, map, sym, ◌∙◌, ap, ap₂, subst, length}
 use Rattle.std.specs.Arc.{arc_value}
 use Rattle.std.specs.List.{list_all}
-use Rattle.fs_cert_evidence.specs.Parts.{Part}
-use Rattle.fs_cert_evidence.specs.Board.{CutBound, NotCovered, Cheaper, Bounded}
+use Rattle.fs_board_offers.specs.Parts.{Part}
+use Rattle.fs_board_offers.specs.Board.{CutBound, NotCovered, Cheaper, Bounded}
 use Rattle.fs_cert_evidence.specs.Evidence.{Shown, witness_in}
 use Rattle.fs_board.specs.Growth.{AreWitnesses, board_of}
 use Rattle.fs_board.specs.View.{Search}
-use Rattle.fs_cert_evidence.specs.Breaks.{is_kept}
+use Rattle.fs_board_offers.specs.Breaks.{is_kept}
 use Rattle.fs_board.specs.inner.Breaks.{is_bounded, widths_in}
 use Rattle.fs_board.proofs.Backed.{plain_witnesses}
 use Rattle.fs_board.proofs.Cuts.{Holds, MayClose, all_uncovered, all_cheaper, may_bound}
@@ -38,11 +38,11 @@ refuse-requires-then-not-is_bounded-clause-step c =
     let are : AreWitnesses s.question.test (map arc_value ws) = subst (λ (y : Search). AreWitnesses y.question.test (map arc_value ws)) (sym c.self.view_is) c.requires in
     let kept : list_all (λ w. is_kept None part (widths_in w)) ws ≡ true =
     ap₂ (λ p us. list_all (λ w. is_kept None p (widths_in w)) us) (sym decisions) (sym listed) ∙ (sym c.are_kept.ensures ∙ c.if-not-are_kept.false) in
-    let same : c.as_slice-3.result.now ≡ part = c.as_slice-3.ensures.value ∙ c.deref-3.ensures in
+    let same : c.as_slice-3.result.now ≡ part = c.as_slice-3.ensures.value ∙ c.deref-2.ensures in
     let heard : c.as_slice-4.result.now ≡ ws = c.as_slice-4.ensures in
-    let cheap : is_bounded s.question.prices s.board.bound part (map widths_in ws) ≡ false =
-    ap₂ (λ p us. is_bounded s.question.prices s.board.bound p (map widths_in us)) (sym same) (sym heard)
-    ∙ (ap (λ (y : Search). is_bounded y.question.prices y.board.bound c.as_slice-3.result.now (map widths_in c.as_slice-4.result.now)) c.self.view_is
+    let cheap : is_bounded s.question.offers s.board.bound part (map widths_in ws) ≡ false =
+    ap₂ (λ p us. is_bounded s.question.offers s.board.bound p (map widths_in us)) (sym same) (sym heard)
+    ∙ (ap (λ (y : Search). is_bounded y.question.offers y.board.bound c.as_slice-3.result.now (map widths_in c.as_slice-4.result.now)) c.self.view_is
     ∙ (sym c.is_bounded.ensures ∙ c.if-not-is_bounded.true)) in
     subst (λ (y : Search). StepsFrom y c.args.worker (CutBound c.args.node (map witness_in ws)) Cheaper y.board) c.self.view_is
     (all_cheaper s c.args.worker c.args.node part c.self.invariant.replay held ws are kept cheap)
@@ -58,11 +58,11 @@ cover-requires-clause-may c =
     let are : AreWitnesses s.question.test (map arc_value ws) = subst (λ (y : Search). AreWitnesses y.question.test (map arc_value ws)) (sym c.self.view_is) c.requires in
     let kept : list_all (λ w. is_kept None part (widths_in w)) ws ≡ true =
     ap₂ (λ p us. list_all (λ w. is_kept None p (widths_in w)) us) (sym decisions) (sym listed) ∙ (sym c.are_kept.ensures ∙ c.if-not-are_kept.false) in
-    let same : c.as_slice-3.result.now ≡ part = c.as_slice-3.ensures.value ∙ c.deref-3.ensures in
+    let same : c.as_slice-3.result.now ≡ part = c.as_slice-3.ensures.value ∙ c.deref-2.ensures in
     let heard : c.as_slice-4.result.now ≡ ws = c.as_slice-4.ensures in
-    let dear : is_bounded s.question.prices s.board.bound part (map widths_in ws) ≡ true =
-    ap₂ (λ p us. is_bounded s.question.prices s.board.bound p (map widths_in us)) (sym same) (sym heard)
-    ∙ (ap (λ (y : Search). is_bounded y.question.prices y.board.bound c.as_slice-3.result.now (map widths_in c.as_slice-4.result.now)) c.self.view_is
+    let dear : is_bounded s.question.offers s.board.bound part (map widths_in ws) ≡ true =
+    ap₂ (λ p us. is_bounded s.question.offers s.board.bound p (map widths_in us)) (sym same) (sym heard)
+    ∙ (ap (λ (y : Search). is_bounded y.question.offers y.board.bound c.as_slice-3.result.now (map widths_in c.as_slice-4.result.now)) c.self.view_is
     ∙ (sym c.is_bounded.ensures ∙ c.if-not-is_bounded.false)) in
     let vs = map witness_in c.in_ok-shared.shared.items in
     let copied : map arc_value c.in_ok-shared.shared.items ≡ map arc_value ws = c.in_ok-shared.ensures ∙ ap (map arc_value) c.as_slice-5.ensures in

@@ -1,7 +1,7 @@
 use Rattle.std.proofs.Common.{◌≡◌, ◌++◌, ◌∷◌, [], Some, refl, sym, ◌∙◌, ap, subst}
 use Rattle.std.specs.Prelude.{slice_get}
 use Rattle.std.proofs.lemmas.Option.{slice_get_within}
-use Rattle.fs_cert_evidence.specs.Board.{Board, Node, Status, Closed, with_status}
+use Rattle.fs_board_offers.specs.Board.{Board, Node, Status, Closed, with_status}
 use Rattle.fs_board.specs.Growth.{Tree, board_of, marked}
 use Rattle.fs_board.specs.View.{Search, entry_of, event_of, status_of}
 use Rattle.fs_board.proofs.Children.{one_free}

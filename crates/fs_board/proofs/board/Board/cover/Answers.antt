@@ -2,8 +2,8 @@ use Rattle.std.proofs.Common.{◌≡◌, ◌++◌, ◌∷◌, [], Some, map, ref
 use Rattle.std.specs.Prelude.{slice_get}
 use Rattle.std.proofs.lemmas.Option.{slice_get_within}
 use Rattle.std.specs.Arc.{arc_value}
-use Rattle.fs_cert_evidence.specs.Board.{Board, Node, Status, Closed, with_status}
-use Rattle.fs_cert_evidence.specs.Histories.{with_witnesses}
+use Rattle.fs_board_offers.specs.Board.{Board, Node, Status, Closed, with_status}
+use Rattle.fs_board_offers.specs.Histories.{with_witnesses}
 use Rattle.fs_cert_evidence.specs.Evidence.{witness_in}
 use Rattle.fs_board.specs.Growth.{Tree, AreWitnesses, board_of, marked, with_more}
 use Rattle.fs_board.specs.View.{Search, IsReplay, Answers, entry_of, event_of, status_of}

@@ -1,7 +1,7 @@
 use Rattle.std.proofs.Common.{◌≡◌, map, sym, ◌∙◌, ap, subst}
 use Rattle.std.specs.Prelude.{IfOk}
 use Rattle.std.specs.Arc.{arc_value}
-use Rattle.fs_cert_evidence.specs.Board.{CutBound}
+use Rattle.fs_board_offers.specs.Board.{CutBound}
 use Rattle.fs_cert_evidence.specs.Evidence.{Shown, witness_in}
 use Rattle.fs_board.specs.Growth.{AreWitnesses}
 use Rattle.fs_board.specs.View.{Answers, reply_of}

@@ -1,12 +1,12 @@
 use Rattle.std.proofs.Common.{◌≡◌, true, false, [], ◌∷◌, Some, map, sym, ◌∙◌, ap, ap₂, subst}
 use Rattle.fs_kinds.specs.declared.kind.Kind.TheVariants.{RwRw}
 use Rattle.fs_model.specs.Execution.{Execution}
-use Rattle.fs_cert_evidence.specs.Parts.{Part}
-use Rattle.fs_cert_evidence.specs.Board.{CutWitness, NotCovered, Witnessed}
+use Rattle.fs_board_offers.specs.Parts.{Part}
+use Rattle.fs_board_offers.specs.Board.{CutWitness, NotCovered, Witnessed}
 use Rattle.fs_cert_evidence.specs.Evidence.{Shown, IsWitnessFor, witness_in}
 use Rattle.fs_board.specs.Growth.{board_of}
 use Rattle.fs_board.specs.View.{Search}
-use Rattle.fs_cert_evidence.specs.Breaks.{is_kept}
+use Rattle.fs_board_offers.specs.Breaks.{is_kept}
 use Rattle.fs_board.proofs.Backed.{plain_witnesses}
 use Rattle.fs_board.proofs.Cuts.{Holds, MayClose, uncovered, may_witness}
 use Rattle.fs_board.proofs.Replays.{StepsFrom}

@@ -1,8 +1,8 @@
 use Rattle.std.proofs.Common.{◌≡◌, ◌++◌, ◌∷◌, [], Some, refl, sym, ◌∙◌, ap, subst}
 use Rattle.std.specs.Prelude.{slice_get}
 use Rattle.std.proofs.lemmas.Option.{slice_get_within}
-use Rattle.fs_cert_evidence.specs.Parts.{Part}
-use Rattle.fs_cert_evidence.specs.Board.{Board, Node, Held, Given, with_status}
+use Rattle.fs_board_offers.specs.Parts.{Part}
+use Rattle.fs_board_offers.specs.Board.{Board, Node, Held, Given, with_status}
 use Rattle.fs_board.specs.Growth.{Tree, board_of, marked}
 use Rattle.fs_board.specs.View.{Search, entry_of, event_of}
 use Rattle.fs_board.proofs.Children.{one_free}

@@ -2,7 +2,7 @@ use Rattle.std.proofs.Common.{◌≡◌, Option, List, map, length, drop, sym, �
 use Rattle.std.specs.Prelude.{option_map}
 use Rattle.std.specs.Arc.{arc_value}
 use Rattle.fs_kinds.specs.declared.placement.Entry.{Entry}
-use Rattle.fs_cert_evidence.specs.Board.{Board, Seen}
+use Rattle.fs_board_offers.specs.Board.{Board, Seen}
 use Rattle.fs_cert_evidence.specs.Evidence.{Shown, Refuted, witness_in, placement_in}
 use Rattle.fs_board.specs.Growth.{Tree, board_of}
 use Rattle.fs_board.specs.View.{Search}

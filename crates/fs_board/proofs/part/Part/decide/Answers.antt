@@ -3,7 +3,7 @@ use Rattle.std.specs.Prelude.{if◌then◌else◌}
 use Rattle.fs_kinds.specs.declared.kind.Kind.{Kind}
 use Rattle.fs_kinds.specs.declared.slot.Slot.{Slot}
 use Rattle.fs_kinds.specs.Slot.{is_same_slot}
-use Rattle.fs_cert_evidence.specs.Parts.{Decision}
+use Rattle.fs_board_offers.specs.Parts.{Decision}
 use Rattle.fs_board.proofs.Filling.{rising_decided}
 use Rattle.fs_board.proofs.Mapped.{next_mapped}
 use Rattle.fs_board.proofs.part.Part.decide.Goals as goal

@@ -1,5 +1,5 @@
 use Rattle.std.proofs.Common.{◌≡◌, take}
-use Rattle.fs_cert_evidence.specs.Parts.{decide}
+use Rattle.fs_board_offers.specs.Parts.{decide}
 use Rattle.fs_board.proofs.part.Part.decide.Given as goal
 
 abbrev pub invariant-loop-decision : goal.invariant-loop-decision

@@ -1,6 +1,6 @@
 use Rattle.std.proofs.Common.{None, unwrap_or}
 use Rattle.fs_kinds.specs.declared.placement.Entry.{Entry}
-use Rattle.fs_cert_evidence.specs.Parts.{Decision}
+use Rattle.fs_board_offers.specs.Parts.{Decision}
 use Rattle.fs_board.proofs.Mapped.{next_mapped}
 use Rattle.fs_board.proofs.part.Part.least.Goals as goal
 

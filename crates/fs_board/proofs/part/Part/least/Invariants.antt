@@ -1,5 +1,5 @@
 use Rattle.std.proofs.Common.{◌≡◌, take}
-use Rattle.fs_cert_evidence.specs.Parts.{floor}
+use Rattle.fs_board_offers.specs.Parts.{floor}
 use Rattle.fs_board.proofs.part.Part.least.Given as goal
 
 abbrev pub invariant-loop-decision : goal.invariant-loop-decision

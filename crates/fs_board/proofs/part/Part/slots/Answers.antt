@@ -1,5 +1,5 @@
 use Rattle.std.proofs.Common.{ap}
-use Rattle.fs_cert_evidence.specs.Parts.{Decision}
+use Rattle.fs_board_offers.specs.Parts.{Decision}
 use Rattle.fs_board.proofs.Mapped.{next_mapped}
 use Rattle.fs_board.proofs.part.Part.slots.Goals as goal
 

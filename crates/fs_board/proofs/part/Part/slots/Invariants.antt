@@ -1,5 +1,5 @@
 use Rattle.std.proofs.Common.{◌≡◌, take}
-use Rattle.fs_model_laws.specs.Bounds.{slots_in_part}
+use Rattle.fs_board_offers.specs.Parts.{slots_in_part}
 use Rattle.fs_board.proofs.part.Part.slots.Given as goal
 
 abbrev pub invariant-loop-decision : goal.invariant-loop-decision

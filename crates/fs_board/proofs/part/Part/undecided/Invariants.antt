@@ -1,6 +1,6 @@
 use Rattle.std.proofs.Common.{◌≡◌, map, take, None}
 use Rattle.fs_kinds.specs.declared.slot.Slot.{Slot}
-use Rattle.fs_cert_evidence.specs.Parts.{Decision}
+use Rattle.fs_board_offers.specs.Parts.{Decision}
 use Rattle.fs_board.proofs.part.Part.undecided.Given as goal
 
 abbrev pub undecided_at : Slot → Decision

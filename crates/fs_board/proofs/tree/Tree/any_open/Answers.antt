@@ -1,6 +1,6 @@
 use Rattle.std.proofs.Common.{arith}
 use Rattle.std.proofs.lemmas.Option.{slice_get_within}
-use Rattle.fs_cert_evidence.specs.Board.{is_open}
+use Rattle.fs_board_offers.specs.Board.{is_open}
 use Rattle.fs_board.proofs.Children.{next_fits}
 use Rattle.fs_board.proofs.Counts.{none_passes}
 use Rattle.fs_board.proofs.tree.Tree.any_open.Goals as goal

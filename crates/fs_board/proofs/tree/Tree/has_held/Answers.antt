@@ -1,5 +1,5 @@
 use Rattle.std.proofs.Common.{◌==◌, not, sym, ◌∙◌, ap}
-use Rattle.fs_cert_evidence.specs.Board.{is_held, has_node}
+use Rattle.fs_board_offers.specs.Board.{is_held, has_node}
 use Rattle.fs_board.specs.Growth.{board_of}
 use Rattle.fs_board.proofs.Counts.{count_any}
 use Rattle.fs_board.proofs.tree.Tree.has_held.Goals as goal

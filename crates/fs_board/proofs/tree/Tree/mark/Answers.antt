@@ -1,6 +1,6 @@
 use Rattle.std.proofs.Common.{◌≡◌, ◌<◌, List, length, Some, slice_get, slice_set, sym, ◌∙◌, ap, arith, subst, refl}
 use Rattle.std.proofs.lemmas.Option.{slice_get_read, same_Some}
-use Rattle.fs_cert_evidence.specs.Board.{Node, is_open, is_held}
+use Rattle.fs_board_offers.specs.Board.{Node, is_open, is_held}
 use Rattle.std.specs.Arc.{arc_value}
 use Rattle.std.specs.Prelude.{option_map, map}
 use Rattle.fs_board.specs.Growth.{Tree, marked}

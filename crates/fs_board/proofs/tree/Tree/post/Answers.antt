@@ -1,6 +1,6 @@
 use Rattle.std.proofs.Common.{◌≡◌, Some, sym, ◌∙◌, ap, subst}
 use Rattle.std.specs.Prelude.{slice_get}
-use Rattle.fs_cert_evidence.specs.Board.{Posted}
+use Rattle.fs_board_offers.specs.Board.{Posted}
 use Rattle.fs_board.specs.Growth.{Tree, marked}
 use Rattle.fs_board.proofs.tree.Tree.post.Goals as goal
 

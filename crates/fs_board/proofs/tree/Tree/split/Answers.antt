@@ -1,6 +1,6 @@
 use Rattle.std.proofs.Common.{◌≡◌, length, Some, sym, ◌∙◌, ap, subst}
 use Rattle.std.specs.Prelude.{slice_get}
-use Rattle.fs_cert_evidence.specs.Board.{Node, Status, Split}
+use Rattle.fs_board_offers.specs.Board.{Node, Status, Split}
 use Rattle.fs_board.specs.Growth.{Tree, marked}
 use Rattle.fs_board.proofs.Counts.{get_grown, set_grown}
 use Rattle.fs_board.proofs.tree.Tree.split.Goals as goal

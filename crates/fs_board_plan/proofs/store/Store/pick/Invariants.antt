@@ -4,5 +4,5 @@ use Rattle.fs_model.specs.declared.test.Test.{Test}
 use Rattle.fs_board.specs.Growth.{AreWitnesses}
 use Rattle.fs_board_plan.proofs.store.Store.pick.Given as goal
 
-abbrev pub invariant-loop-offer : goal.invariant-loop-offer
-invariant-loop-offer l = (t : Test) → AreWitnesses t l.self → AreWitnesses t (map arc_value l.picked.items)
+abbrev pub invariant-loop-found : goal.invariant-loop-found
+invariant-loop-found l = (t : Test) → AreWitnesses t l.self → AreWitnesses t (map arc_value l.picked.items)

@@ -1,6 +1,6 @@
 use Rattle.std.proofs.Common.{map, refl, sym, subst}
 use Rattle.std.specs.Arc.{arc_value}
-use Rattle.fs_cert_evidence.specs.Evidence.{Question}
+use Rattle.fs_board_offers.specs.Questions.{Question}
 use Rattle.fs_board.specs.Growth.{AreWitnesses}
 use Rattle.fs_board_search.proofs.scout.Scout.bounding.Goals as goal
 

@@ -1,7 +1,8 @@
 use Rattle.std.proofs.Common.{◌∙◌, Option, IfSome, ap, sym, subst}
 use Rattle.std.specs.Arc.{arc_value}
 use Rattle.fs_model.specs.declared.test.Test.{Test}
-use Rattle.fs_cert_evidence.specs.Evidence.{Question, Refuted}
+use Rattle.fs_cert_evidence.specs.Evidence.{Refuted}
+use Rattle.fs_board_offers.specs.Questions.{Question}
 use Rattle.fs_board.specs.Growth.{AreWitnesses}
 use Rattle.fs_board_search.specs.Tries.{IsPostable}
 use Rattle.fs_board_search.proofs.Handed.{candidates-handed}

@@ -3,10 +3,9 @@ use Rattle.std.specs.Prelude.{is_none}
 use Rattle.std.specs.List.{list_any}
 use Rattle.fs_model.specs.declared.test.Test.{Test}
 use Rattle.fs_model.specs.Slots.{slots}
-use Rattle.fs_cert_evidence.specs.Parts.{Part, floor, filled}
+use Rattle.fs_board_offers.specs.Parts.{Part, floor, filled, slots_in_part}
 use Rattle.fs_cert_evidence.specs.Shown.{IsShownBy}
-use Rattle.fs_model_laws.specs.Bounds.{slots_in_part}
-use Rattle.fs_cert_evidence.specs.Evidence.{Question}
+use Rattle.fs_board_offers.specs.Questions.{Question}
 use Rattle.fs_judge.specs.Verdicts.{IsVerdict}
 use Rattle.fs_board_search.proofs.Handed.{candidates-handed}
 use Rattle.fs_board_plan.proofs.Parts.{floor-slots}

@@ -1,5 +1,5 @@
 use Rattle.std.proofs.Common.{ap}
-use Rattle.fs_cert_evidence.specs.Evidence.{Question}
+use Rattle.fs_board_offers.specs.Questions.{Question}
 use Rattle.fs_board_search.proofs.Handed.{candidates-handed}
 use Rattle.fs_board_search.proofs.scout.Scout.prepare.Goals as goal
 

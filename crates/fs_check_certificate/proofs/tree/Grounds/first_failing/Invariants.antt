@@ -7,5 +7,5 @@ use Rattle.fs_check_certificate.proofs.Walking.{Whole}
 use Rattle.fs_check_certificate.proofs.tree.Grounds.first_failing.Given as goal
 
 abbrev pub invariant-loop-index : goal.invariant-loop-index
-invariant-loop-index l = (t : Test) (c : Certificate) → AreGrounds t l.self.prices.now c l.self.version l.self.slots.now l.self.shown.now l.self.breaks.now
-    → Whole t l.self.prices.now c l.self.answer.now l.stack (map item_of (drop l.index l.tree)) l.index (map item_of l.tree)
+invariant-loop-index l = (t : Test) (c : Certificate) → AreGrounds t l.self.offers.now c l.self.version l.self.slots.now l.self.shown.now l.self.breaks.now
+    → Whole t l.self.offers.now c l.self.answer.now l.stack (map item_of (drop l.index l.tree)) l.index (map item_of l.tree)

@@ -1,0 +1,16 @@
+pub mod Offers
+pub mod Parts
+pub mod Questions
+pub mod Pruning
+pub mod Bests
+pub mod Breaks
+pub mod Board
+pub mod Histories
+pub mod Receipts
+pub mod Sizes
+pub mod Valid
+pub mod Refusals
+pub mod Priced
+pub mod Bounds
+pub mod Closing
+pub mod Trees
