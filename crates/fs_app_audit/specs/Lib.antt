@@ -3,4 +3,5 @@ pub mod Standing
 pub mod Advice
 pub mod Report
 pub mod Audit
+pub mod Priced
 pub mod inner

@@ -26,12 +26,13 @@ ghost use Rattle.fs_app_audit.specs.inner.Made.{IsSound, findings_of};
 
 use crate::advice::slot_of;
 use crate::asked::{Purpose, asked, bare};
+use crate::priced::Priced;
 use crate::standing::access_after;
 use crate::{is_fence, memory_kind};
 use fs_app_test::{Kind, forbids, judge_test};
-use fs_board_offers::Question as Offered;
+use fs_board_offers::Question;
 use fs_board_search::{Answer, Problem, Unwatched, problem_of, solve_problem};
-use fs_cert_evidence::{Forbidden, Question};
+use fs_cert_evidence::Forbidden;
 use fs_instr::Instr;
 use fs_kinds::{Entry, Fault, Kind as FenceKind, List, Placement, Prices, Slot, read_prices};
 use fs_litmus::{Code, Test, read_lines, read_test, slots};
@@ -55,7 +56,7 @@ pub(crate) struct Findings {
     /// The test with the FENCEs that count.
     pub(crate) asked: Arc<Test>,
     /// The test without FENCEs, and the prices.
-    pub(crate) question: Arc<Question>,
+    pub(crate) question: Arc<Priced>,
     /// The FENCEs as a placement over the slots of the test without them, as far as they fit.
     pub(crate) fences: Placement,
     /// Do all fit?
@@ -163,7 +164,7 @@ fn take_up_all(
 /// The FENCEs as a placement over the slots of the test without them, as far as they fit; and whether all do.
 fn written_placement(
     alloc: Global,
-    question: &Question,
+    question: &Priced,
     codes: &[Code],
 ) -> Result<(Placement, bool), Fault>
     requires bounded { IsBounded question.now.test }
@@ -185,7 +186,7 @@ fn written_placement(
 /// The same for a question that is shared: a placement over the slots of its test, with kinds that have a price.
 fn own_fences(
     alloc: Global,
-    question: &Arc<Question>,
+    question: &Arc<Priced>,
     codes: &[Code],
 ) -> Result<(Placement, bool), Fault>
     requires bounded { IsBounded (arc_value question.now).test }
@@ -225,7 +226,7 @@ fn costs_everywhere(prices: &Prices, placement: &Placement) -> bool
 /// Is no fence of the placement for nothing, does it cost as much as the cheapest, and forbid the outcome as they do?
 fn is_kept(
     alloc: Global,
-    question: &Arc<Question>,
+    question: &Arc<Priced>,
     problem: &Problem,
     own: &Placement,
     first: &Forbidden,
@@ -253,7 +254,7 @@ fn is_kept(
 /// The FENCEs as they are written, where they are kept; else the first of the cheapest placements.
 fn kept_or_first(
     alloc: Global,
-    question: &Arc<Question>,
+    question: &Arc<Priced>,
     problem: &Problem,
     own: &Placement,
     first: &Forbidden,
@@ -277,21 +278,21 @@ fn kept_or_first(
 }
 
 /// The question at whose slots the prices make the offers.
-fn offered_question(alloc: Global, question: &Question) -> Result<Arc<Offered>, Fault>
+fn offered_question(alloc: Global, question: &Priced) -> Result<Arc<Question>, Fault>
     requires bounded { IsBounded question.now.test }
     requires table { IsPriceTable question.now.prices }
     ensures ok { IfOk result (λ made. arc_value made ≡ question_of question.now.test question.now.prices) }
     ensures err { IsOkUnless result Fault.Memory }
 {
     let test = Arc::try_clone(&question.test)?;
-    let made = Offered::priced(alloc, test, &question.prices)?;
+    let made = Question::priced(alloc, test, &question.prices)?;
     Ok(Arc::new(alloc, made)?)
 }
 
 /// The fences that are advised; nothing where none rule the outcome out. The fault is that of a search by one worker.
 fn best(
     alloc: Global,
-    question: &Arc<Question>,
+    question: &Arc<Priced>,
     own: &Placement,
     limit: usize,
 ) -> Result<Option<Placement>, Fault>
@@ -370,7 +371,7 @@ fn bare_question(
     purpose: Purpose,
     bytes: &[u8],
     prices: Prices,
-) -> Result<Arc<Question>, Fault>
+) -> Result<Arc<Priced>, Fault>
     ensures same { IfOk result (λ question. (t : Tests) → Reads bytes.now t
         → IsSame (arc_value question).test (bare purpose t)) }
     ensures prices { IfOk result (λ question. (arc_value question).prices ≡ prices) }
@@ -379,7 +380,7 @@ fn bare_question(
     ensures err { IfErr result (λ f. f ≢ Fault.Memory → IsTestFault bytes.now f) }
 {
     let test = read_bare(alloc, purpose, bytes)?;
-    Ok(Arc::new(alloc, Question { test, prices })?)
+    Ok(Arc::new(alloc, Priced { test, prices })?)
 }
 
 /// What is found of a test that was judged as it is written.

@@ -8,6 +8,7 @@ mod asked;
 mod audit;
 mod easing;
 mod findings;
+mod priced;
 mod removal;
 mod report;
 pub mod slices;

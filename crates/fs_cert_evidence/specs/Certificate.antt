@@ -85,11 +85,6 @@ words_at slot (Some kind) = fence_word slot kind ∷ []
 abbrev pub fence_words : List Entry → List (List ℕ)
 fence_words = flat_map (λ e. words_at e.slot e.kind)
 
--- p is the placement that is answered
-pub record IsAnswered (t : Test) (prices : PriceTable) (answer : Answer) (p : List Entry) : Type 0 where
-  pub placement : IsPlacement t prices p
-  pub answered : answer ≡ Fenced (cost prices p) (fence_words p)
-
 -- p forbids the outcome, and every cheaper placement allows it
 pub record IsLeastCost (t : Test) (prices : PriceTable) (p : List Entry) : Type 0 where
   pub placement : IsPlacement t prices p

@@ -3,7 +3,6 @@ use Rattle.std.specs.Prelude.{◌≡◌, Bool, List, [], map}
 use Rattle.std.specs.declared.sync.Arc.{Arc}
 use Rattle.fs_kinds.specs.declared.placement.Entry.{Entry}
 use Rattle.fs_kinds.specs.declared.slot.Slot.{Slot}
-use Rattle.fs_kinds.specs.PriceTable.{PriceTable}
 use Rattle.fs_kinds.specs.Kind.{Pair, ReadRead, ReadWrite, WriteRead, WriteWrite}
 use Rattle.fs_model.specs.declared.test.Test.{Test}
 use Rattle.fs_model.specs.Slots.{slots}
@@ -19,11 +18,6 @@ use Rattle.fs_cert_evidence.specs.Widths.{Width, width}
 use Rattle.fs_cert_evidence.specs.declared.evidence.Pairs.{Pairs}
 use Rattle.fs_cert_evidence.specs.declared.evidence.Cause.{Cause as CodeCause}
 use Rattle.fs_cert_evidence.specs.declared.evidence.Cause.TheVariants as cause
-
--- a test, whose outcome is to be ruled out, and the prices of fences
-pub record Question : Type 0 where
-  pub test : Test
-  pub prices : PriceTable
 
 -- a witness, with a set of pairs for each slot of the test, in slot order
 pub record Shown : Type 0 where

@@ -5,7 +5,6 @@ pub mod CandidateFaults
 pub mod Shown
 pub mod Widths
 pub mod Parts
-pub mod Pruning
 pub mod Certificate
 pub mod Cycles
 pub mod Valid
@@ -19,9 +18,4 @@ pub mod Splits
 pub mod Trees
 pub mod Evidence
 pub mod Inferences
-pub mod Board
-pub mod Histories
 pub mod Sizes
-pub mod Receipts
-pub mod Bests
-pub mod Breaks

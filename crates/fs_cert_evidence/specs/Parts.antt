@@ -9,8 +9,6 @@ use Rattle.fs_kinds.specs.Kind.{all_kinds}
 use Rattle.fs_kinds.specs.Placement.{rank}
 use Rattle.fs_kinds.specs.PriceTable.{PriceTable, is_offered}
 use Rattle.fs_kinds.specs.Slot.{is_same_slot}
-use Rattle.fs_model.specs.declared.test.Test.{Test}
-use Rattle.fs_model.specs.Slots.{slots}
 
 pub record Decision : Type 0 where
   pub slot : Slot
@@ -18,9 +16,6 @@ pub record Decision : Type 0 where
 
 abbrev pub Part : Type 0
 Part = List Decision
-
-abbrev pub undecided : Test → Part
-undecided t = map (λ slot. record { slot = slot; decided = None }) (slots t)
 
 abbrev pub filled_with : Option Kind → Part → List Entry
 filled_with kind = map (λ d. record { slot = d.slot; kind = unwrap_or d.decided kind })
@@ -54,7 +49,3 @@ decide slot part kind = map (λ d. if is_same_slot d.slot slot then record { slo
 -- none, and then the offered kinds in table order
 abbrev pub options : PriceTable → List (Option Kind)
 options prices = None ∷ filter (is_offered prices) (map (λ kind. Some kind) all_kinds)
-
--- the slot decided in each of these ways
-abbrev pub child_parts : PriceTable → Slot → Part → List Part
-child_parts prices slot part = map (decide slot part) (options prices)

@@ -1,10 +1,4 @@
 mod ByLetters
-pub mod Bettering
-pub mod Bounded
-pub mod Breaks
-pub mod Children
-pub mod Closed
-pub mod Ended
 pub mod ExactWidths
 pub mod FencedAlike
 pub mod FencedChoices
@@ -22,17 +16,9 @@ pub mod FencedSame
 pub mod FencedSpread
 pub mod FencedSteps
 pub mod Filled
-pub mod Final
-pub mod Floors
-pub mod Growing
-pub mod Leaves
-pub mod Moves
 pub mod NoPlacement
-pub mod OneWitness
-pub mod PartsOfTests
 pub mod PlacedPairs
 pub mod Places
 pub mod Ranked
 pub mod Ranking
-pub mod Splitting
 pub mod Weakening

@@ -1,7 +1,5 @@
 pub mod Answers
 pub mod Bounds
-pub mod Closing
 pub mod Fenced
 pub mod Letters
 pub mod Strength
-pub mod Trees

@@ -4,7 +4,7 @@ use Rattle.fs_kinds.specs.PriceTable.{IsPriceTable}
 use Rattle.fs_model.specs.declared.test.Test.{Test}
 use Rattle.fs_model.specs.Test.{IsBounded, IsStart}
 use Rattle.fs_cert_evidence.specs.CandidateFaults.{IsCandidateFault}
-use Rattle.fs_cert_evidence.specs.Evidence.{Question}
+use Rattle.fs_app_audit.specs.Priced.{Priced}
 use Rattle.fs_cert_evidence.specs.Sizes.{HasNoRunFault}
 use Rattle.fs_board_search.specs.Priced.{question_of}
 use Rattle.fs_board_search.proofs.PricedAnswers.{priced-fault}
@@ -13,7 +13,7 @@ use Rattle.fs_app_audit.proofs.Searched.{asked-test, asked-top, asked-best}
 use Rattle.fs_app_audit.proofs.findings.best.Goals as goal
 
 pub offered_question-requires-clause-bounded : goal.offered_question-requires-clause-bounded
-offered_question-requires-clause-bounded c = subst (λ (q : Question). IsBounded q.test) (sym c.deref.ensures) c.requires.bounded
+offered_question-requires-clause-bounded c = subst (λ (q : Priced). IsBounded q.test) (sym c.deref.ensures) c.requires.bounded
 
 pub offered_question-requires-clause-table : goal.offered_question-requires-clause-table
 offered_question-requires-clause-table c = subst (λ (q : Question). IsPriceTable q.prices) (sym c.deref.ensures) c.requires.prices
@@ -24,23 +24,23 @@ returns-in_err-asked-clause-err c =
 
 pub problem_of-requires-clause-bounded : goal.problem_of-requires-clause-bounded
 problem_of-requires-clause-bounded c =
-    let is = c.in_ok-asked.ensures.ok ∙ ap (λ (q : Question). question_of q.test q.prices) c.deref.ensures in
+    let is = c.in_ok-asked.ensures.ok ∙ ap (λ (q : Priced). question_of q.test q.prices) c.deref.ensures in
     subst IsBounded (sym (asked-test _ _ _ is)) c.requires.bounded
 
 pub problem_of-requires-clause-starts : goal.problem_of-requires-clause-starts
 problem_of-requires-clause-starts c =
-    let is = c.in_ok-asked.ensures.ok ∙ ap (λ (q : Question). question_of q.test q.prices) c.deref.ensures in
+    let is = c.in_ok-asked.ensures.ok ∙ ap (λ (q : Priced). question_of q.test q.prices) c.deref.ensures in
     subst (λ (t : Test). All IsStart t.starts) (sym (asked-test _ _ _ is)) c.requires.starts
 
 pub returns-in_err-problem-clause-err : goal.returns-in_err-problem-clause-err
 returns-in_err-problem-clause-err c =
-    let is = c.in_ok-asked.ensures.ok ∙ ap (λ (q : Question). question_of q.test q.prices) c.deref.ensures in
+    let is = c.in_ok-asked.ensures.ok ∙ ap (λ (q : Priced). question_of q.test q.prices) c.deref.ensures in
     IfErr-handed c.from_residual-in_err-problem.result _ _ c.from_residual-in_err-problem.ensures.1
     (λ other. inl (subst (λ (t : Test). IsCandidateFault t c.in_err-problem.field-0.0) (asked-test _ _ _ is) (c.in_err-problem.ensures.err other)))
 
 pub solve_problem-requires-clause-bounded : goal.solve_problem-requires-clause-bounded
 solve_problem-requires-clause-bounded c =
-    let is = c.in_ok-asked.ensures.ok ∙ ap (λ (q : Question). question_of q.test q.prices) c.deref.ensures in
+    let is = c.in_ok-asked.ensures.ok ∙ ap (λ (q : Priced). question_of q.test q.prices) c.deref.ensures in
     subst IsBounded (sym (asked-test _ _ _ is) ∙ c.in_ok-problem.ensures.same ∙ sym c.in_ok-shared.ensures) c.requires.bounded
 
 pub solve_problem-requires-clause-same : goal.solve_problem-requires-clause-same
@@ -52,23 +52,23 @@ solve_problem-requires-clause-clean c =
 
 pub solve_problem-requires-clause-top : goal.solve_problem-requires-clause-top
 solve_problem-requires-clause-top c =
-    let is = c.in_ok-asked.ensures.ok ∙ ap (λ (q : Question). question_of q.test q.prices) c.deref.ensures in
+    let is = c.in_ok-asked.ensures.ok ∙ ap (λ (q : Priced). question_of q.test q.prices) c.deref.ensures in
     asked-top _ _ _ is c.requires.prices
 
 pub returns-in_err-solved-clause-err : goal.returns-in_err-solved-clause-err
 returns-in_err-solved-clause-err c =
-    let is = c.in_ok-asked.ensures.ok ∙ ap (λ (q : Question). question_of q.test q.prices) c.deref.ensures in
+    let is = c.in_ok-asked.ensures.ok ∙ ap (λ (q : Priced). question_of q.test q.prices) c.deref.ensures in
     IfErr-handed c.from_residual-in_err-solved.result _ _ c.from_residual-in_err-solved.ensures.1
     (λ other. priced-fault _ _ _ c.args.limit c.in_err-solved.field-0.0 is (c.in_err-solved.ensures.err other))
 
 pub kept_or_first-requires-clause-first : goal.kept_or_first-requires-clause-first
 kept_or_first-requires-clause-first c =
-    let is = c.in_ok-asked.ensures.ok ∙ ap (λ (q : Question). question_of q.test q.prices) c.deref.ensures in
+    let is = c.in_ok-asked.ensures.ok ∙ ap (λ (q : Priced). question_of q.test q.prices) c.deref.ensures in
     (asked-best _ _ _ is _ _ _ _ c.in-Fenced.is c.deref-3.ensures c.in_ok-solved.ensures.ok).0
 
 pub kept_or_first-requires-clause-cost : goal.kept_or_first-requires-clause-cost
 kept_or_first-requires-clause-cost c =
-    let is = c.in_ok-asked.ensures.ok ∙ ap (λ (q : Question). question_of q.test q.prices) c.deref.ensures in
+    let is = c.in_ok-asked.ensures.ok ∙ ap (λ (q : Priced). question_of q.test q.prices) c.deref.ensures in
     (asked-best _ _ _ is _ _ _ _ c.in-Fenced.is c.deref-3.ensures c.in_ok-solved.ensures.ok).1
 
 pub returns-in_err-best-in-Fenced-clause-err : goal.returns-in_err-best-in-Fenced-clause-err

@@ -7,7 +7,7 @@ use Rattle.fs_model.specs.declared.test.Test.{Test}
 use Rattle.fs_model.specs.Allows.{Allows}
 use Rattle.fs_model.specs.Slots.{slots}
 use Rattle.fs_cert_evidence.specs.CandidateFaults.{IsCandidateFault}
-use Rattle.fs_cert_evidence.specs.Evidence.{Question}
+use Rattle.fs_app_audit.specs.Priced.{Priced}
 use Rattle.fs_app_audit.specs.Audit.{costs_everywhere}
 use Rattle.fs_app_audit.proofs.Chosen.{is-kept}
 use Rattle.fs_app_audit.proofs.findings.is_kept.Goals as goal
@@ -18,7 +18,7 @@ forbids-requires c = c.requires.slots ∙ ap slots (sym c.requires.same)
 pub returns-then-cost-clause-yes : goal.returns-then-cost-clause-yes
 returns-then-cost-clause-yes c =
     let prices = (arc_value c.args.question.now).prices in
-    let behind : c.behind-question.inside.prices ≡ prices = ap (λ (q : Question). q.prices) (c.behind-question.view_is ∙ c.deref.ensures) in
+    let behind : c.behind-question.inside.prices ≡ prices = ap (λ (q : Priced). q.prices) (c.behind-question.view_is ∙ c.deref.ensures) in
     let each : costs_everywhere prices c.args.own.now ≡ true =
     ap (λ t. costs_everywhere t c.args.own.now) (sym behind) ∙ sym c.costs_everywhere.ensures ∙ c.if-costs_everywhere.true in
     let same : cost prices c.args.first.now.placement ≡ cost prices c.args.own.now =

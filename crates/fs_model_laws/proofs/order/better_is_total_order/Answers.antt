@@ -1,5 +1,5 @@
 use Rattle.fs_model_laws.proofs.Ranked.{better-irreflexive, better-transitive, better-total, one_cheapest}
-use Rattle.fs_model_laws.proofs.pruning.better_is_total_order.Goals as goal
+use Rattle.fs_model_laws.proofs.order.better_is_total_order.Goals as goal
 
 pub returns-clause-irreflexive : goal.returns-clause-irreflexive
 returns-clause-irreflexive c = better-irreflexive

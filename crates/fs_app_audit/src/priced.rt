@@ -1,4 +1,4 @@
-//! What a search is asked.
+//! What is asked of a test.
 
 use fs_kinds::Prices;
 use fs_model::Test;
@@ -7,18 +7,18 @@ use std::sync::Arc;
 
 /// A test, whose outcome is to be ruled out, and the prices of fences.
 #[derive(Drop)]
-pub struct Question {
-    pub test: Arc<Test>,
-    pub prices: Prices,
+pub(crate) struct Priced {
+    pub(crate) test: Arc<Test>,
+    pub(crate) prices: Prices,
 }
 
-impl Model for Question {
+impl Model for Priced {
     ghost use Rattle.std.specs.Arc.{arc_value};
     ghost use Rattle.std.specs.Coded.{codes};
     ghost use Rattle.fs_model.specs.contracts.outcome.Outcome as outcome;
-    ghost use Rattle.fs_cert_evidence.specs.Evidence.{Question as Asked};
+    ghost use Rattle.fs_app_audit.specs.Priced.{Priced as PricedValue};
 
-    ghost Value = { Asked };
+    ghost Value = { PricedValue };
 
     ghost view = { λ q. record { test = arc_value q.test; prices = q.prices } };
 

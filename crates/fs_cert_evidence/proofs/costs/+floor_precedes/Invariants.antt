@@ -1,5 +1,0 @@
-use Rattle.std.proofs.Common.{length}
-use Rattle.fs_cert_evidence.proofs.costs.+floor_precedes.Given as goal
-
-abbrev pub decreases-floor_precedes : goal.decreases-floor_precedes
-decreases-floor_precedes l = length l.part.now

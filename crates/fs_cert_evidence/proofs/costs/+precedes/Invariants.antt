@@ -1,5 +1,0 @@
-use Rattle.std.proofs.Common.{length}
-use Rattle.fs_cert_evidence.proofs.costs.+precedes.Given as goal
-
-abbrev pub decreases-precedes : goal.decreases-precedes
-decreases-precedes l = length l.placement.now

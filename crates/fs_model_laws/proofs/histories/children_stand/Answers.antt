@@ -1,5 +1,0 @@
-use Rattle.fs_model_laws.proofs.Splitting.{history-split}
-use Rattle.fs_model_laws.proofs.histories.children_stand.Goals as goal
-
-pub returns : goal.returns
-returns c = history-split

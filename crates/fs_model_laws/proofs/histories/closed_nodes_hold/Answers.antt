@@ -1,8 +1,0 @@
-use Rattle.fs_model_laws.proofs.Closed.{history-right}
-use Rattle.fs_model_laws.proofs.histories.closed_nodes_hold.Goals as goal
-
-pub returns-clause-closed : goal.returns-clause-closed
-returns-clause-closed c = λ t prices limit log board history. (history-right t prices limit log board history).closed
-
-pub returns-clause-bound : goal.returns-clause-bound
-returns-clause-bound c = λ t prices limit log board history. (history-right t prices limit log board history).bound

@@ -1,8 +1,0 @@
-use Rattle.fs_model_laws.proofs.Leaves.{history-parts, history-leaf}
-use Rattle.fs_model_laws.proofs.histories.one_leaf.Goals as goal
-
-pub returns-clause-parts : goal.returns-clause-parts
-returns-clause-parts c = history-parts
-
-pub returns-clause-leaf : goal.returns-clause-leaf
-returns-clause-leaf c = history-leaf

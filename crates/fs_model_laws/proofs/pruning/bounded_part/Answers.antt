@@ -1,5 +1,0 @@
-use Rattle.fs_model_laws.proofs.Bounded.{bounded}
-use Rattle.fs_model_laws.proofs.pruning.bounded_part.Goals as goal
-
-pub returns : goal.returns
-returns c = bounded

@@ -1,8 +1,0 @@
-use Rattle.fs_model_laws.proofs.OneWitness.{unbroken-shows, unbroken-prunes}
-use Rattle.fs_model_laws.proofs.pruning.one_witness_prunes.Goals as goal
-
-pub returns-clause-shows : goal.returns-clause-shows
-returns-clause-shows c = unbroken-shows
-
-pub returns-clause-prunes : goal.returns-clause-prunes
-returns-clause-prunes c = λ prices bound part w. unbroken-prunes prices w bound part
