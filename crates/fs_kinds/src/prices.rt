@@ -40,13 +40,15 @@ impl Model for Prices {
 }
 
 impl Prices {
-    ghost use Rattle.fs_kinds.specs.PriceTable.{price_of, weight_of};
+    ghost use Rattle.fs_kinds.specs.PriceTable.{IsPriceTable, price_of, weight_of};
 
-    /// The price of a fence of this kind, from 1 to 1,000,000, where the kind is offered.
+    /// The price of a fence of this kind, from 1 to 1,000,000, where the kind is offered. A call tells of all prices and
+    /// weights that they are in range, and that `rw,rw` is offered.
     pub fn of(&self, kind: Kind) -> Option<u32>
         ensures price { result ≡ price_of self.now kind }
         ensures in_range { IfSome result (λ n. (1 ≤ n) × (n ≤ most_price)) }
         ensures top { kind ≡ Kind.RwRw → IsSome result }
+        ensures table { IsPriceTable self.now }
     {
         self.prices[kind.table_index()]
     }
