@@ -3,7 +3,7 @@
 ghost use Rattle.std.specs.Prelude.{◌≡◌, ◌≤◌, ◌*◌, IsTrue, IfOk, IfSome, IsOkUnless, Option, option_map};
 ghost use Rattle.std.specs.List.{find};
 ghost use Rattle.fs_kinds.specs.Slot.{IsSlot, is_same_slot, is_rising};
-ghost use Rattle.fs_kinds.specs.PriceTable.{IsPriceTable, price_of as price_in, weight_of};
+ghost use Rattle.fs_kinds.specs.PriceTable.{price_of as price_in, weight_of};
 ghost use Rattle.fs_model.specs.Test.{IsBounded};
 ghost use Rattle.fs_board_offers.specs.Offers.{price_of, is_offered, kind_cost, is_kind, is_kept, rank_in, rank_at};
 ghost use Rattle.fs_board_offers.specs.Offers.{first_kind, slots, AreOffers, offer_at, entry_cost, cost, offer_of};
@@ -163,13 +163,13 @@ impl Offers {
 
     /// What the prices offer at the slots of the test. The error is F19.
     pub fn priced(alloc: Global, test: &Test, prices: &Prices) -> Result<Offers, Fault>
-        requires test { IsBounded test.now }
-        requires table { IsPriceTable prices.now }
+        requires { IsBounded test.now }
         ensures ok { IfOk result (λ offers. offers ≡ offers_of test.now prices.now) }
         ensures err { IsOkUnless result Fault.Memory }
     {
         let slots = fs_model::slots(alloc, test)?;
         let offers = offers_for(alloc, prices, &slots)?;
+        let _in_range = prices.of(Kind::RwRw);
         Ok(Offers::new(offers))
     }
 

@@ -2,7 +2,6 @@
 
 ghost use Rattle.std.specs.Prelude.{◌≡◌, IfOk, IsOkUnless};
 ghost use Rattle.std.specs.Arc.{arc_value};
-ghost use Rattle.fs_kinds.specs.PriceTable.{IsPriceTable};
 ghost use Rattle.fs_model.specs.Test.{IsBounded};
 ghost use Rattle.fs_model.specs.Slots as its;
 ghost use Rattle.fs_board_offers.specs.Offers.{slots, offers_of, AreOffers};
@@ -48,8 +47,7 @@ impl Question {
 
     /// The test with what the prices offer at its slots. The error is F19.
     pub fn priced(alloc: Global, test: Arc<Test>, prices: &Prices) -> Result<Question, Fault>
-        requires bounded { IsBounded (arc_value test) }
-        requires table { IsPriceTable prices.now }
+        requires { IsBounded (arc_value test) }
         ensures ok { IfOk result (λ q. q
             ≡ record { test = arc_value test; offers = offers_of (arc_value test) prices.now }) }
         ensures err { IsOkUnless result Fault.Memory }
