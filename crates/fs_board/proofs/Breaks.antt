@@ -1,5 +1,5 @@
 -- What breaks a witness at a slot, and the least that it costs.
-use Rattle.std.proofs.Common.{◌≡◌, ◌+◌, ◌*◌, ◌<◌, true, false, ◌&&◌, ◌||◌, not, Option, None, Some, is_none, List, [], ◌∷◌, map, refl, sym, ap, ◌∙◌}
+use Rattle.std.proofs.Common.{◌≡◌, true, false, ◌&&◌, ◌||◌, not, Option, None, Some, is_none, List, [], ◌∷◌, map, refl, sym, ap}
 use Rattle.std.specs.Prelude.{if◌then◌else◌, filter}
 use Rattle.std.specs.List.{list_any}
 use Rattle.fs_kinds.specs.declared.kind.Kind.{Kind}
