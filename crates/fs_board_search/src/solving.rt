@@ -130,8 +130,8 @@ fn answer_by_ends(alloc: Global, problem: &Problem, board: &Board) -> Result<Sol
 
 /// Ends the search of a board, whatever open and held nodes it has, and reads the answer from it: the cheapest
 /// placement that forbids the outcome, of several the first, or a witness that none does. F16 comes only where fences
-/// are needed, `rw,rw` in every slot is enough, and the tree of all placements has more nodes below its root than the
-/// board's limit; F13 to F15 where a verdict can't be made for the candidates; or F19. The problem is that of the
+/// are needed, `rw,rw` in every slot is enough, and the tree of all placements may have more nodes below its root than
+/// the board's limit; F13 to F15 where a verdict can't be made for the candidates; or F19. The problem is that of the
 /// board's test, and the witness of none depends on it alone, not on what was searched before. What is handed out with
 /// the answer, `solve` says, and a board that is handed out is this one gone on with: its log begins with what was
 /// logged before. It takes what `search` takes, and at most two verdicts more.
@@ -183,12 +183,12 @@ pub fn problem_of(alloc: Global, question: &Arc<Question>) -> Result<Arc<Problem
 
 /// The answer to a question: the cheapest placement that forbids the outcome, of several the first, or a witness that
 /// none does. No node of the search has a number above the limit. F16 comes only where fences are needed, `rw,rw` in
-/// every slot is enough, and the tree of all placements has more nodes below its root than the limit. F13 to F15 come
-/// where the candidates can't be listed; or F19.
+/// every slot is enough, and the tree of all placements may have more nodes below its root than the limit. F13 to F15
+/// come where the candidates can't be listed; or F19.
 ///
 /// The finished board is handed out with the answer, and its bound is the answer's placement. There is none only where
-/// the tree of all placements has more nodes below its root than the limit, and then the answer is none or no fence at
-/// all. An answer that is a placement comes with what shows that it forbids the outcome.
+/// the tree of all placements may have more nodes below its root than the limit, and then the answer is none or no
+/// fence at all. An answer that is a placement comes with what shows that it forbids the outcome.
 ///
 /// To list the candidates takes time by how many lists of runs and how many raw candidates there are, times the square
 /// of the operations. What the search takes after that, `search` says; the watch is told how far it is.

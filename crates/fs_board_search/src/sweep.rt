@@ -95,9 +95,9 @@ fn sweep<W: Watch>(
 
 /// Searches until the board is finished, whatever open and held nodes it has: a child of its own first, then any open
 /// node, then any that is held, whoever holds it. It works as worker 0, and makes a plan before the first node. F16
-/// where a split is refused for want of nodes, and then the tree of all placements has more nodes below its root than
-/// the limit; F13 to F15 where a verdict can't be made for the candidates; else F19. The problem is that of the board's
-/// test.
+/// where a split is refused for want of nodes, and then the tree of all placements may have more nodes below its root
+/// than the limit; F13 to F15 where a verdict can't be made for the candidates; else F19. The problem is that of the
+/// board's test.
 ///
 /// There are no more nodes than the board's limit allows. At each one, the stored witnesses are held against it by four
 /// bits a slot, and those that show the outcome under its least placement are sorted. Where they don't close it, the

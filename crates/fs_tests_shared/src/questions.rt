@@ -2,13 +2,12 @@
 ghost use Rattle.std.specs.Prelude.{◌≡◌, IfOk};
 ghost use Rattle.std.specs.Arc.{arc_value};
 ghost use Rattle.fs_kinds.specs.Placement.{slots_of};
-ghost use Rattle.fs_kinds.specs.PriceTable.{IsPriceTable};
 ghost use Rattle.fs_model.specs.Slots.{slots};
 ghost use Rattle.fs_model.specs.Test.{IsBounded, IsTest};
 ghost use Rattle.fs_board_offers.specs.Questions.{HasTop};
 
 use fs_board_offers::Question;
-use fs_kinds::{Fault, Placement, Prices, read_prices};
+use fs_kinds::{Fault, Kind, Placement, Prices, read_prices};
 use fs_litmus::{Test, read_fences, read_test};
 use std::alloc::{AllocError, Global};
 use std::sync::Arc;
@@ -18,11 +17,11 @@ pub const PRICES: &str = r#"{"r,r":3,"r,w":3,"w,w":2,"w,r":9,"tso":5,"rw,rw":10}
 
 /// The question of this test, with what these prices offer.
 fn priced(alloc: Global, test: Test, prices: &Prices) -> Result<Arc<Question>, Fault>
-    requires test { IsTest test }
-    requires table { IsPriceTable prices.now }
+    requires { IsTest test }
     ensures test { IfOk result (λ question. IsTest (arc_value question).test) }
     ensures top { IfOk result (λ question. HasTop (arc_value question).offers) }
 {
+    let _top = prices.of(Kind::RwRw);
     let test = Arc::new(alloc, test)?;
     let question = Question::priced(alloc, test, prices)?;
     let shared = Arc::new(alloc, question)?;

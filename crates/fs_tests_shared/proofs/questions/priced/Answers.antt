@@ -7,9 +7,9 @@ use Rattle.fs_tests_shared.proofs.questions.priced.Goals as goal
 pub returns-clause-test : goal.returns-clause-test
 returns-clause-test c =
     let same = c.in_ok-shared.ensures.ok ∙ c.in_ok-question.ensures.ok in
-    subst IsTest (sym (ap (λ (q : Question). q.test) same ∙ c.in_ok-test.ensures.ok)) c.requires.test
+    subst IsTest (sym (ap (λ (q : Question). q.test) same ∙ c.in_ok-test.ensures.ok)) c.requires
 
 pub returns-clause-top : goal.returns-clause-top
 returns-clause-top c =
     let same = c.in_ok-shared.ensures.ok ∙ c.in_ok-question.ensures.ok in
-    subst (λ (q : Question). HasTop q.offers) (sym same) (has-top _ _ c.requires.table)
+    subst (λ (q : Question). HasTop q.offers) (sym same) (has-top _ _ c.of-top.ensures.table)
