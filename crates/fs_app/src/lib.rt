@@ -13,6 +13,7 @@ mod program;
 mod progress;
 mod sources;
 mod states;
+mod telling;
 mod whole;
 
 pub use fs_app_audit::{run_audit, run_mended};
@@ -26,4 +27,5 @@ pub use fs_app_test::{
     Expected, Kind, Line, Note, Said, expected_of, test_file, test_objects, test_report,
     vacuous_note,
 };
+pub use fs_app_why::{why_allowed, why_answer, why_order};
 pub use program::run;

@@ -346,6 +346,10 @@ const LINES_HELP: &str = "Print a JSON object for each file, a line each";
 
 const JSON_HELP: &str = "Print a JSON object";
 
+const WHY_HELP: &str = "Tell the execution that shows the outcome, in the order of memory";
+
+const WITHOUT_HELP: &str = "Tell an execution without each fence; or the one beside `none`";
+
 const SHELL_HELP: &str = "Which shell is to read it";
 
 const WRITE_HELP: &str = "Print the test with the cheapest fences in place of its own";
@@ -418,6 +422,8 @@ pub struct Test<'a> {
     pub jobs: u8,
     /// Whether JSON is to be printed.
     pub json: bool,
+    /// Whether executions are to be told below the lines; not as JSON.
+    pub why: bool,
 }
 
 /// Where it is said what is expected of tests.
@@ -458,6 +464,8 @@ pub struct Order<'a> {
     pub test: &'a str,
     pub witness: &'a str,
     pub fences: Vec<String>,
+    /// Whether the execution is to be told below a yes.
+    pub why: bool,
 }
 
 /// What `solve` was asked for.
@@ -473,6 +481,8 @@ pub struct Solve<'a> {
     pub certificate: Option<&'a str>,
     /// Whether JSON is to be printed.
     pub json: bool,
+    /// Whether executions are to be told below the answer; not as JSON.
+    pub why: bool,
 }
 
 /// What `audit` was asked for.
@@ -494,6 +504,8 @@ pub struct Check<'a> {
     pub certificate: &'a str,
     /// Whether JSON is to be printed.
     pub json: bool,
+    /// Whether executions are to be told below the answer; not as JSON.
+    pub why: bool,
 }
 
 /// The request that the words make, the program's name first. An error holds the text for the user, and help and the
@@ -526,12 +538,18 @@ fn task_of<'a>(alloc: Global, name: &str, found: &ArgMatches<'a>) -> Result<Task
     }
 }
 
+/// Is something to be told below an answer? As JSON nothing is.
+fn tells(found: &ArgMatches<'_>) -> bool {
+    found.get_flag("why") && !found.get_flag("json")
+}
+
 fn test_of<'a>(alloc: Global, found: &ArgMatches<'a>) -> Result<Test<'a>, AllocError> {
     Ok(Test {
         files: words_of(alloc, found, "FILE")?,
         expect: expectations_of(found),
         jobs: found.get_one::<u8>("jobs").unwrap_or(ONE_WORKER),
         json: found.get_flag("json"),
+        why: tells(found),
     })
 }
 
@@ -596,6 +614,7 @@ fn order_of<'a>(alloc: Global, found: &ArgMatches<'a>) -> Result<Order<'a>, Allo
         test: found.get_str("FILE").unwrap_or(""),
         witness: found.get_str("WITNESS").unwrap_or(""),
         fences: fences_of(alloc, found)?,
+        why: found.get_flag("why"),
     })
 }
 
@@ -607,6 +626,7 @@ fn solve_of<'a>(found: &ArgMatches<'a>) -> Solve<'a> {
         nodes: found.get_one::<u32>("nodes").unwrap_or(MOST_NODES),
         certificate: found.get_str("cert"),
         json: found.get_flag("json"),
+        why: tells(found),
     }
 }
 
@@ -625,6 +645,7 @@ fn check_of<'a>(found: &ArgMatches<'a>) -> Check<'a> {
         prices: found.get_str("PRICES").unwrap_or(""),
         certificate: found.get_str("CERTIFICATE").unwrap_or(""),
         json: found.get_flag("json"),
+        why: tells(found),
     }
 }
 
@@ -698,6 +719,7 @@ fn test_command<'a>(alloc: Global) -> Result<Command<'a>, AllocError> {
     let command = with_argument(command, threads(alloc, "jobs", JOBS_HELP));
     let command = with_argument(command, flag(alloc, "json", LINES_HELP));
     let command = with_argument(command, optional(alloc, "expect", "LIST", EXPECT_HELP));
+    let command = with_argument(command, flag(alloc, "why", WHY_HELP));
     with_voice(alloc, command)
 }
 
@@ -731,6 +753,7 @@ fn order_command<'a>(alloc: Global) -> Result<Command<'a>, AllocError> {
     let command = with_argument(Ok(command), required(alloc, "FILE", FILE_HELP));
     let command = with_argument(command, required(alloc, "WITNESS", WITNESS_HELP));
     let command = with_argument(command, fences(alloc, FENCE_HELP));
+    let command = with_argument(command, flag(alloc, "why", WHY_HELP));
     with_voice(alloc, command)
 }
 
@@ -744,6 +767,7 @@ fn solve_command<'a>(alloc: Global) -> Result<Command<'a>, AllocError> {
     let command = with_argument(command, nodes(alloc, NODES_HELP));
     let command = with_argument(command, option(alloc, "cert", "PATH", CERT_HELP));
     let command = with_argument(command, flag(alloc, "json", JSON_HELP));
+    let command = with_argument(command, flag(alloc, "why", WITHOUT_HELP));
     with_voice(alloc, command)
 }
 
@@ -766,6 +790,7 @@ fn check_command<'a>(alloc: Global) -> Result<Command<'a>, AllocError> {
     let command = with_argument(command, required(alloc, "PRICES", PRICES_HELP));
     let command = with_argument(command, required(alloc, "CERTIFICATE", CERTIFICATE_HELP));
     let command = with_argument(command, flag(alloc, "json", JSON_HELP));
+    let command = with_argument(command, flag(alloc, "why", WITHOUT_HELP));
     with_voice(alloc, command)
 }
 
