@@ -6,11 +6,16 @@ mod failure;
 mod faults;
 mod input;
 mod judging;
+mod kinds;
 mod limits;
+mod lines;
+mod list_error;
 mod missing;
+mod names;
 mod papers;
 mod program;
 mod progress;
+mod rows;
 mod sources;
 mod states;
 mod telling;
@@ -28,4 +33,8 @@ pub use fs_app_test::{
     vacuous_note,
 };
 pub use fs_app_why::{why_allowed, why_answer, why_order};
+pub use kinds::{Kinds, kind_by, kinds_of};
+pub use list_error::ListError;
+pub use names::test_name;
 pub use program::run;
+pub use rows::{Row, read_rows};

@@ -346,9 +346,13 @@ const LINES_HELP: &str = "Print a JSON object for each file, a line each";
 
 const JSON_HELP: &str = "Print a JSON object";
 
-const WHY_HELP: &str = "Tell the execution that shows the outcome, in the order of memory";
+const ORDER_WHY_HELP: &str = "Tell the execution of a yes, operation by operation";
 
-const WITHOUT_HELP: &str = "Tell an execution without each fence; or the one beside `none`";
+const TEST_WHY_HELP: &str =
+    "Tell an execution of each outcome that is allowed, operation by operation; not with --json";
+
+const WITHOUT_HELP: &str =
+    "Tell an execution without each fence, or the one beside `none`; not with --json";
 
 const SHELL_HELP: &str = "Which shell is to read it";
 
@@ -422,7 +426,7 @@ pub struct Test<'a> {
     pub jobs: u8,
     /// Whether JSON is to be printed.
     pub json: bool,
-    /// Whether executions are to be told below the lines; not as JSON.
+    /// Whether executions are to be told below the lines.
     pub why: bool,
 }
 
@@ -481,7 +485,7 @@ pub struct Solve<'a> {
     pub certificate: Option<&'a str>,
     /// Whether JSON is to be printed.
     pub json: bool,
-    /// Whether executions are to be told below the answer; not as JSON.
+    /// Whether executions are to be told below the answer.
     pub why: bool,
 }
 
@@ -504,7 +508,7 @@ pub struct Check<'a> {
     pub certificate: &'a str,
     /// Whether JSON is to be printed.
     pub json: bool,
-    /// Whether executions are to be told below the answer; not as JSON.
+    /// Whether executions are to be told below the answer.
     pub why: bool,
 }
 
@@ -538,18 +542,13 @@ fn task_of<'a>(alloc: Global, name: &str, found: &ArgMatches<'a>) -> Result<Task
     }
 }
 
-/// Is something to be told below an answer? As JSON nothing is.
-fn tells(found: &ArgMatches<'_>) -> bool {
-    found.get_flag("why") && !found.get_flag("json")
-}
-
 fn test_of<'a>(alloc: Global, found: &ArgMatches<'a>) -> Result<Test<'a>, AllocError> {
     Ok(Test {
         files: words_of(alloc, found, "FILE")?,
         expect: expectations_of(found),
         jobs: found.get_one::<u8>("jobs").unwrap_or(ONE_WORKER),
         json: found.get_flag("json"),
-        why: tells(found),
+        why: found.get_flag("why"),
     })
 }
 
@@ -626,7 +625,7 @@ fn solve_of<'a>(found: &ArgMatches<'a>) -> Solve<'a> {
         nodes: found.get_one::<u32>("nodes").unwrap_or(MOST_NODES),
         certificate: found.get_str("cert"),
         json: found.get_flag("json"),
-        why: tells(found),
+        why: found.get_flag("why"),
     }
 }
 
@@ -645,7 +644,7 @@ fn check_of<'a>(found: &ArgMatches<'a>) -> Check<'a> {
         prices: found.get_str("PRICES").unwrap_or(""),
         certificate: found.get_str("CERTIFICATE").unwrap_or(""),
         json: found.get_flag("json"),
-        why: tells(found),
+        why: found.get_flag("why"),
     }
 }
 
@@ -719,7 +718,7 @@ fn test_command<'a>(alloc: Global) -> Result<Command<'a>, AllocError> {
     let command = with_argument(command, threads(alloc, "jobs", JOBS_HELP));
     let command = with_argument(command, flag(alloc, "json", LINES_HELP));
     let command = with_argument(command, optional(alloc, "expect", "LIST", EXPECT_HELP));
-    let command = with_argument(command, flag(alloc, "why", WHY_HELP));
+    let command = with_argument(command, telling(alloc, TEST_WHY_HELP)?);
     with_voice(alloc, command)
 }
 
@@ -753,7 +752,7 @@ fn order_command<'a>(alloc: Global) -> Result<Command<'a>, AllocError> {
     let command = with_argument(Ok(command), required(alloc, "FILE", FILE_HELP));
     let command = with_argument(command, required(alloc, "WITNESS", WITNESS_HELP));
     let command = with_argument(command, fences(alloc, FENCE_HELP));
-    let command = with_argument(command, flag(alloc, "why", WHY_HELP));
+    let command = with_argument(command, flag(alloc, "why", ORDER_WHY_HELP));
     with_voice(alloc, command)
 }
 
@@ -767,7 +766,7 @@ fn solve_command<'a>(alloc: Global) -> Result<Command<'a>, AllocError> {
     let command = with_argument(command, nodes(alloc, NODES_HELP));
     let command = with_argument(command, option(alloc, "cert", "PATH", CERT_HELP));
     let command = with_argument(command, flag(alloc, "json", JSON_HELP));
-    let command = with_argument(command, flag(alloc, "why", WITHOUT_HELP));
+    let command = with_argument(command, telling(alloc, WITHOUT_HELP)?);
     with_voice(alloc, command)
 }
 
@@ -790,7 +789,7 @@ fn check_command<'a>(alloc: Global) -> Result<Command<'a>, AllocError> {
     let command = with_argument(command, required(alloc, "PRICES", PRICES_HELP));
     let command = with_argument(command, required(alloc, "CERTIFICATE", CERTIFICATE_HELP));
     let command = with_argument(command, flag(alloc, "json", JSON_HELP));
-    let command = with_argument(command, flag(alloc, "why", WITHOUT_HELP));
+    let command = with_argument(command, telling(alloc, WITHOUT_HELP)?);
     with_voice(alloc, command)
 }
 
@@ -835,6 +834,11 @@ fn flag<'a>(alloc: Global, name: &'a str, help: &'a str) -> Arg<'a> {
         .help(help)
         .long(name)
         .action(ArgAction::SetTrue)
+}
+
+/// What asks that executions are told, which no JSON has.
+fn telling<'a>(alloc: Global, help: &'a str) -> Result<Arg<'a>, AllocError> {
+    flag(alloc, "why", help).conflicts_with("json")
 }
 
 /// One word or more.

@@ -13,7 +13,7 @@ use Rattle.fs_app_test.specs.declared.said.Kind.{Kind}
 use Rattle.fs_app_test.specs.declared.said.Kind.TheVariants as kind
 use Rattle.fs_app_states_log.specs.Lines.{cut}
 use Rattle.fs_app_io.specs.Lines.{says}
-use Rattle.fs_app_test_list.specs.declared.rows.Row.{Row as Rows}
+use Rattle.fs_app.specs.declared.rows.Row.{Row as Rows}
 
 -- the name of a test, and what it is expected to be
 abbrev pub Named : Type 0

@@ -4,9 +4,9 @@ ghost use Rattle.std.specs.Prelude.{◌≡◌, ◌++◌, Some, map, option_map, 
 ghost use Rattle.std.specs.Str.Lines.{lines};
 ghost use Rattle.fs_app_states_log.specs.Blocks.{pair_now};
 ghost use Rattle.fs_app_states_log.specs.Lines.{cut};
-ghost use Rattle.fs_app_test_list.specs.Rows.{kind_named, row_of, read_row, said_by, AreRows};
+ghost use Rattle.fs_app.specs.Rows.{kind_named, row_of, read_row, said_by, AreRows};
 
-use crate::error::ListError;
+use crate::list_error::ListError;
 use crate::lines::{lines_of, says};
 use fs_app_test::Kind;
 use std::alloc::Global;

@@ -2,9 +2,9 @@
 
 ghost use Rattle.std.specs.Prelude.{◌≡◌, Some, IfOk, OnOk};
 ghost use Rattle.std.specs.BTreeMap.{Updates, get};
-ghost use Rattle.fs_app_test_list.specs.Rows.{order, AreKinds};
+ghost use Rattle.fs_app.specs.Rows.{order, AreKinds};
 
-use crate::error::ListError;
+use crate::list_error::ListError;
 use crate::rows::Row;
 use fs_app_test::Kind;
 use std::alloc::Global;
