@@ -617,7 +617,12 @@ fn answer_check<'a, R: Files + Input + AllocGlobal>(
     papers.read_evidence(rt, check.certificate, CERTIFICATE_LIMIT)?;
     let checked = checked(rt.alloc(), papers)?;
     let tells = check.why && is_yes(checked.output.status);
-    let below = answer_why(rt.alloc(), tells, &papers.test.bytes, &papers.evidence.bytes)?;
+    let below = answer_why(
+        rt.alloc(),
+        tells,
+        &papers.test.bytes,
+        &papers.evidence.bytes,
+    )?;
     let shown = in_form(checked.output, checked.object, check.json);
     let output = with_below(shown, below.as_str())?;
     Ok(output)

@@ -71,12 +71,7 @@ fn push_below(name: &str, told: &str, text: &mut String) -> Result<(), AllocErro
 }
 
 /// Appends the execution below the name in the line, as it is shown.
-fn push_named(
-    alloc: Global,
-    line: &Line,
-    told: &str,
-    text: &mut String,
-) -> Result<(), AllocError>
+fn push_named(alloc: Global, line: &Line, told: &str, text: &mut String) -> Result<(), AllocError>
     requires { (test : List ℕ) × IsAllowedWhy test told.now }
     ensures { OnOk result (AreTold (string_bytes text.old) → AreTold (string_bytes text.new)) }
 {

@@ -97,7 +97,13 @@ fn fence_line(
     };
     let line = line_of(lines, name);
     let instr = instruction(alloc, test, slot)?;
-    format!(in alloc; "\n{} before {} (line {}, {})\n", kind.name(), slot, line, instr.as_str())
+    format!(in alloc;
+        "\n{} before {} (line {}, {})\n",
+        kind.name(),
+        slot,
+        line,
+        instr.as_str()
+    )
 }
 
 /// The execution without the fence, below a line that says so.
