@@ -93,11 +93,13 @@ impl Judged {
 
     /// Keeps the bytes, or nothing where the test doesn't allow its outcome.
     fn keep(&mut self, alloc: Global, line: &Line, bytes: Vec<u8>) -> Result<(), AllocError> {
-        if line.said.witness.is_some() {
-            self.tests.push(bytes)
+        let kept = if line.said.witness.is_some() {
+            bytes
         } else {
-            self.tests.push(Vec::new(alloc))
-        }
+            Vec::new(alloc)
+        };
+        self.tests.push(kept)?;
+        Ok(())
     }
 
     fn add_message(&mut self, message: Option<String>) {
