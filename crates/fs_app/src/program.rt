@@ -368,7 +368,7 @@ fn lines_output(alloc: Global, test: &Test<'_>, judged: &Judged) -> Result<Outpu
 {
     let said = said_output(alloc, test, &judged.lines)?;
     let below = tests_why(alloc, test.why, &judged.lines, &judged.tests)?;
-    let output = with_below(said, below.as_str())?;
+    let output = with_below(said, &below)?;
     Ok(output)
 }
 
@@ -439,7 +439,7 @@ fn answer_order<'a, R: Files + Input + AllocGlobal>(
     papers.read_evidence(rt, order.witness, INPUT_LIMIT)?;
     let verdict = ordered(rt.alloc(), papers)?;
     let below = order_why(rt.alloc(), order.why, papers)?;
-    let output = with_below(verdict, below.as_str())?;
+    let output = with_below(verdict, &below)?;
     Ok(output)
 }
 
@@ -499,7 +499,7 @@ fn solved<R: Files + AllocGlobal>(
     let certificate = found.certificate(rt.alloc())?;
     let test = &papers.test.bytes;
     let below = answer_why(rt.alloc(), solve.why, test, certificate.as_bytes())?;
-    let told = with_below(output, below.as_str())?;
+    let told = with_below(output, &below)?;
     if let Some(path) = solve.certificate {
         write_whole(rt, path, certificate.as_bytes())?;
     }
@@ -624,7 +624,7 @@ fn answer_check<'a, R: Files + Input + AllocGlobal>(
         &papers.evidence.bytes,
     )?;
     let shown = in_form(checked.output, checked.object, check.json);
-    let output = with_below(shown, below.as_str())?;
+    let output = with_below(shown, &below)?;
     Ok(output)
 }
 

@@ -13,12 +13,13 @@ use fs_kinds::Fault;
 use std::alloc::{AllocError, Global};
 
 /// The output with this text below its own.
-pub(crate) fn with_below(output: Output, below: &str) -> Result<Output, Fault>
-    ensures text { IfOk result (λ made. string_bytes made.text ≡ string_bytes output.text ++ below.now) }
+pub(crate) fn with_below(output: Output, below: &String) -> Result<Output, Fault>
+    ensures text { IfOk result (λ made.
+        string_bytes made.text ≡ string_bytes output.text ++ string_bytes below.now) }
     ensures status { IfOk result (λ made. made.status ≡ output.status) }
 {
     let Output { mut text, status } = output;
-    text.push_str(below)?;
+    text.push_str(below.as_str())?;
     Ok(Output { text, status })
 }
 

@@ -1,4 +1,4 @@
-use Rattle.std.proofs.Common.{◌∙◌, ap, codes, string_bytes}
+use Rattle.std.proofs.Common.{refl}
 use Rattle.std.proofs.lemmas.Result.{on_ok_weaker}
 use Rattle.fs_app.proofs.Told.{one_more}
 use Rattle.fs_app.proofs.telling.push_named.Goals as goal
@@ -9,10 +9,10 @@ returns c =
     (λ is before. one_more _ _ _
     (record {
       test = c.requires.0;
-      name = string_bytes c.in_ok-name.name;
+      name = c.as_str-2.result.now;
       execution = c.args.told.now;
       is_execution = c.requires.1;
-      below = ap (λ name. codes "\n" ++ (name ++ c.args.told.now)) c.as_str.ensures;
+      below = refl;
     })
     is before)
     c.push_below.ensures
