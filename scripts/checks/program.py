@@ -109,6 +109,48 @@ def check_answers(checks):
             checks.expect(f"{test} with its fences", ("fenced 0\n", 0), (found.out, found.status))
 
 
+def done_by(test, operation):
+    """What an operation does, in the words of `--why` but for its source."""
+    names = {address: name for name, address in test.addresses.items()}
+    loaded, stored = (f"&{names[it]}" if it in names else str(it) for it in (operation.loaded, operation.stored))
+    at = names[operation.address]
+    if operation.loads():
+        return f"reads {at}={loaded}" + (f", stores {stored}" if operation.stores() else "")
+    return f"stores {at}={stored}"
+
+
+def told(test, block):
+    """The witness that is told there, as JSON: of each hart the choices of the run that does what is told of it."""
+    rows = re.findall(r"(?m)^  (P(\d+):\d+) +line .*  ((?:reads|stores) .*)$", block)
+    choices = []
+    for hart, runs in enumerate(model.all_runs_over(test, model.value_sets(test))):
+        does = {name: re.sub(r" (\(initial\)|from P\d+:\d+)", "", it) for name, of, it in rows if int(of) == hart}
+        of_harts = [(run, model.Operations(test, [run]).of_harts) for run in runs]
+        fits = [run.choices for run, made in of_harts
+                if {it.name: done_by(test, it) for it in made} == {f"P0{name[len(str(hart)) + 1:]}": does[name]
+                                                                     for name in does}]
+        choices += fits[:1]
+    return json.dumps({"choices": choices, "order": [name for name, _, _ in rows]})
+
+
+def check_why(checks):
+    """The executions that `solve --why` tells of the examples, `order` accepts: of each fence one without it. And it
+    tells them in the same rows."""
+    for path in tests_of_examples():
+        head, *blocks = rvfence("solve", path, PRICES, "--why", "-q").out.split("\n\n")
+        fences, test = fences_of(head.split("\n")), model.read(path, model.test_of)
+        cases = [(fence, [it for it in fences if it != fence]) for fence in fences]
+        if head.startswith("none"):
+            cases = [("all", [f"P{hart}:{at}=rw,rw" for hart, at in test.slots()])]
+        else:
+            lines = [re.sub(r"(\S+) before (\S+) .*", r"\2=\1", block.split("\n")[0]) for block in blocks]
+            checks.expect(f"the fences of which is told of {path}", fences, lines)
+        for (fence, words), block in zip(cases, blocks, strict=True):
+            witness = written(f"{checks.folder}/witness.json", told(test, block))
+            said, rows = rvfence("order", path, witness, *words, "--why"), block.partition("memory:\n")[2]
+            checks.expect(f"{path} without {fence}", f"yes\n\nIn the order of memory:\n{rows.rstrip()}\n", said.out)
+
+
 def answer_of(found):
     """The lines of `solve` that say what its JSON object says."""
     if found["answer"] == "none":
@@ -195,6 +237,6 @@ def check(run):
     # the launcher builds the program, so that no progress comes between later checks
     ran([f"{TOP}/rvfence", "place", f"{EXAMPLES}/MP.litmus"], seconds=None)
     checks = Transcripts(run)
-    for part in (check_transcripts, check_examples, check_idioms, check_documents, check_answers, check_objects,
-                 check_messages, check_progress):
+    for part in (check_transcripts, check_examples, check_idioms, check_documents, check_answers, check_why,
+                 check_objects, check_messages, check_progress):
         part(checks)

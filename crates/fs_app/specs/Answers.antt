@@ -1,5 +1,5 @@
 -- What a command answers, of the files that it has read. What a file gives when it is read no definition says.
-use Rattle.std.specs.Prelude.{◌≡◌, ℕ, Bool, true, false, List, [], ◌∷◌, Option, IfSome, IsSome, is_some, map, option_map, string_bytes, if◌then◌else◌}
+use Rattle.std.specs.Prelude.{◌≡◌, ℕ, Bool, true, false, ◌&&◌, List, [], ◌∷◌, ◌++◌, Option, IfSome, IsSome, is_some, map, option_map, string_bytes, if◌then◌else◌}
 use Rattle.fs_app_io.specs.declared.status.Output.{Output}
 use Rattle.fs_app_io.specs.declared.status.Status.{Status}
 use Rattle.fs_app_io.specs.declared.status.Status.TheVariants.{Success, Denied, Failure}
@@ -15,6 +15,7 @@ use Rattle.fs_app_test.specs.SaidVerdicts.{witness_in}
 use Rattle.fs_app_test.specs.Status.{report_status}
 use Rattle.fs_app_test.specs.Report.{report_text, json_text}
 use Rattle.fs_app_test.specs.Verdicts.{NamesFault}
+use Rattle.fs_app_why.specs.Why.{IsAnswerWhy, IsOrderWhy}
 use Rattle.fs_app_command_line.specs.declared.command.Task.{Task}
 use Rattle.fs_app_command_line.specs.declared.command.Task.TheVariants as task
 use Rattle.fs_app_command_line.specs.declared.command.Test.{Test}
@@ -24,6 +25,7 @@ use Rattle.fs_app_command_line.specs.declared.command.Solve.{Solve}
 use Rattle.fs_app_command_line.specs.declared.command.Audit.{Audit}
 use Rattle.fs_app_command_line.specs.declared.command.Check.{Check}
 use Rattle.fs_app.specs.declared.papers.Papers.{Papers}
+use Rattle.fs_app.specs.Telling.{AreTold, IsSolveWhy, IsTold, is_yes}
 
 -- the bytes of the prices that were read, where `place` is to read some
 abbrev pub offered : Place → Papers → Option (List ℕ)
@@ -43,20 +45,32 @@ pub record AnswersPlace (place : Place) (papers : Papers) (output : Output) : Ty
 pub record AnswersOrder (order : Order) (papers : Papers) (output : Output) : Type 0 where
   pub test_name : papers.test.name.now ≡ order.test.now
   pub witness_name : papers.evidence.name.now ≡ order.witness.now
-  pub answer : IsOrderAnswer papers.test.bytes.items papers.evidence.bytes.items (map string_bytes order.fences.items) (string_bytes output.text) output.status
-
--- the lines of an answer to the test and the prices, or the object of one
-pub record IsSolvedIn (is_json : Bool) (test prices text : List ℕ) (status : Status) : Type 0 where
   pub lines : List ℕ
+  pub below : List ℕ
+  pub answer : IsOrderAnswer papers.test.bytes.items papers.evidence.bytes.items (map string_bytes order.fences.items) lines output.status
+  pub told : IsTold order.why (IsOrderWhy papers.test.bytes.items papers.evidence.bytes.items (map string_bytes order.fences.items)) below
+  pub text : string_bytes output.text ≡ lines ++ below
+
+-- these lines of an answer to the test and the prices, or the object of one
+pub record IsSolvedIn (is_json : Bool) (test prices lines text : List ℕ) (status : Status) : Type 0 where
   pub object : List ℕ
   pub answer : IsSolved test prices lines status
   pub alike : AreOneAnswer lines object
   pub shown : text ≡ in_form is_json lines object
 
+-- an answer to the test and the prices, and what is told below it
+pub record IsSolvedAndTold (is_json why : Bool) (test prices : List ℕ) (output : Output) : Type 0 where
+  pub lines : List ℕ
+  pub shown : List ℕ
+  pub below : List ℕ
+  pub answer : IsSolvedIn is_json test prices lines shown output.status
+  pub told : IsTold why (IsSolveWhy test prices lines output.status) below
+  pub text : string_bytes output.text ≡ shown ++ below
+
 pub record AnswersSolve (solve : Solve) (papers : Papers) (output : Output) : Type 0 where
   pub test_name : papers.test.name.now ≡ solve.test.now
   pub prices_name : papers.prices.name.now ≡ solve.prices.now
-  pub answer : IsSolvedIn solve.json papers.test.bytes.items papers.prices.bytes.items (string_bytes output.text) output.status
+  pub answer : IsSolvedAndTold solve.json solve.why papers.test.bytes.items papers.prices.bytes.items output
 
 -- with `--write` the mended test
 abbrev pub IsAuditText : (is_mended : Bool) (test prices text : List ℕ) (status : Status) → Type 0
@@ -81,13 +95,17 @@ pub record AnswersCheck (check : Check) (papers : Papers) (output : Output) : Ty
   pub object : List ℕ
   pub answer : IsChecked papers.test.bytes.items papers.prices.bytes.items papers.evidence.bytes.items lines output.status
   pub alike : AreOneVerdict lines object
-  pub text : string_bytes output.text ≡ in_form check.json lines object
+  pub below : List ℕ
+  pub told : IsTold (check.why && is_yes output.status) (IsAnswerWhy papers.test.bytes.items papers.evidence.bytes.items) below
+  pub text : string_bytes output.text ≡ in_form check.json lines object ++ below
 
--- the text and the status are those of the same lines
+-- the text, but for what is told below it, and the status are those of the same lines
 pub record AnswersLines (test : Test) (output : Output) : Type 0 where
   pub lines : List Line
+  pub below : List ℕ
+  pub told : IsTold test.why AreTold below
   pub text : string_bytes output.text
-      ≡ in_form test.json (report_text (is_some test.expect) lines) (json_text (is_some test.expect) lines)
+      ≡ in_form test.json (report_text (is_some test.expect) lines) (json_text (is_some test.expect) lines) ++ below
   pub ends : output.status ≡ report_status (is_some test.expect) lines
 
 -- of the lines alone; or, where something is expected, with status 1 where a test isn't there of which it is, or no text

@@ -1,7 +1,10 @@
 //! What tests are expected to be, as `--expect` says it.
+use crate::kinds::{Kinds, kind_by, kinds_of};
+use crate::list_error::ListError;
+use crate::names::test_name;
+use crate::rows::Row;
 use fs_app_error_messages::shown_name;
 use fs_app_test::{Expected, expected_of, kind_text};
-use fs_app_test_list::{Kinds, ListError, Row, kind_by, kinds_of, test_name};
 use std::alloc::{AllocError, Global};
 use std::collections::BTreeSet;
 

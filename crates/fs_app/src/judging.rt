@@ -21,13 +21,15 @@ struct Taken<'a> {
     expected: Option<Expected>,
 }
 
-/// What is wanted of faults beside their lines.
+/// What is wanted beside lines: of faults messages and notes, and tests.
 #[derive(Clone, Copy)]
 pub(crate) struct Wants {
     /// Messages for people.
     pub messages: bool,
     /// Notes for those who read JSON.
     pub notes: bool,
+    /// Whether tests that allow their outcome are kept.
+    pub tests: bool,
 }
 
 /// What is said of files, in their order: a line of each, and messages of those that aren't tests, or weren't read.
@@ -35,6 +37,20 @@ pub(crate) struct Wants {
 pub(crate) struct Judged {
     pub lines: Vec<Line>,
     pub messages: Vec<String>,
+    /// Where tests are kept the bytes of those that have lines, or nothing of one that doesn't allow its outcome.
+    pub tests: Vec<Vec<u8>>,
+}
+
+/// The bytes of the file once more, where they are wanted and there are any.
+fn kept(
+    alloc: Global,
+    file: &Result<Vec<u8>, Missing>,
+    is_wanted: bool,
+) -> Result<Vec<u8>, AllocError> {
+    match file {
+        Ok(bytes) if is_wanted => Vec::from_slice(alloc, bytes),
+        _ => Ok(Vec::new(alloc)),
+    }
 }
 
 impl Judged {
@@ -42,11 +58,12 @@ impl Judged {
         Judged {
             lines: Vec::new(alloc),
             messages: Vec::new(alloc),
+            tests: Vec::new(alloc),
         }
     }
 
-    /// Adds what is said of a file, with its message and its note where they are wanted. Where there is no memory for a
-    /// message it is left out.
+    /// Adds what is said of a file, with its message, its note and its bytes where they are wanted. Where there is no
+    /// memory for a message it is left out.
     fn judge(&mut self, alloc: Global, taken: Taken<'_>, wants: Wants) -> Result<(), Fault> {
         let Taken {
             name,
@@ -61,12 +78,27 @@ impl Judged {
         } else {
             None
         };
+        let bytes = kept(alloc, &file, wants.tests)?;
         let mut line = test_file(alloc, name, file.map_err(Missing::fault))?;
+        if wants.tests {
+            self.keep(alloc, &line, bytes)?;
+        }
         if wants.notes {
             line.note = note_or(alloc, note, line.said.fault)?;
         }
         line.expected = expected;
         self.lines.push(line)?;
+        Ok(())
+    }
+
+    /// Keeps the bytes, or nothing where the test doesn't allow its outcome.
+    fn keep(&mut self, alloc: Global, line: &Line, bytes: Vec<u8>) -> Result<(), AllocError> {
+        let kept = if line.said.witness.is_some() {
+            bytes
+        } else {
+            Vec::new(alloc)
+        };
+        self.tests.push(kept)?;
         Ok(())
     }
 
@@ -83,6 +115,9 @@ impl Judged {
         }
         for message in later.messages {
             self.add_message(Some(message));
+        }
+        for test in later.tests {
+            self.tests.push(test)?;
         }
         Ok(())
     }

@@ -6,13 +6,19 @@ mod failure;
 mod faults;
 mod input;
 mod judging;
+mod kinds;
 mod limits;
+mod lines;
+mod list_error;
 mod missing;
+mod names;
 mod papers;
 mod program;
 mod progress;
+mod rows;
 mod sources;
 mod states;
+mod telling;
 mod whole;
 
 pub use fs_app_audit::{run_audit, run_mended};
@@ -26,4 +32,9 @@ pub use fs_app_test::{
     Expected, Kind, Line, Note, Said, expected_of, test_file, test_objects, test_report,
     vacuous_note,
 };
+pub use fs_app_why::{why_allowed, why_answer, why_order};
+pub use kinds::{Kinds, kind_by, kinds_of};
+pub use list_error::ListError;
+pub use names::test_name;
 pub use program::run;
+pub use rows::{Row, read_rows};

@@ -1,26 +1,31 @@
 //! A run of the program: from the words of its command line to what it prints and its exit status.
 
-ghost use Rattle.std.specs.Prelude.{◌≡◌, ◌≤◌, ℕ, List, [], IfOk, IfErr, IsSome, map, string_bytes};
+ghost use Rattle.std.specs.Prelude.{◌≡◌, ◌≤◌, ℕ, List, [], IfOk, IfErr, IsSome, is_some, map, string_bytes};
 ghost use Rattle.std.specs.Arc.{arc_value};
 ghost use Rattle.std.specs.Option.{option_copied};
 ghost use Rattle.fs_app_io.specs.declared.status.Status.TheVariants.{Success, Denied, Failure as Failed};
 ghost use Rattle.fs_app_place_order.specs.Place.{IsFencedText, IsFirstPlaceFault};
 ghost use Rattle.fs_app_place_order.specs.Order.{IsOrderAnswer, IsFirstOrderFault};
-ghost use Rattle.fs_app_solve.specs.Found.{IsFound};
+ghost use Rattle.fs_app_solve.specs.Found.{IsFound, Prints, lines_of};
 ghost use Rattle.fs_app_check.specs.Check.{IsChecked, AreOneVerdict, IsFirstCheckFault};
-ghost use Rattle.fs_app.specs.Answers.{IsSolvedIn, offered, in_form, IsAuditFault, IsAuditText, Answers, AnswersTest, AnswersPlace};
+ghost use Rattle.fs_app_test.specs.Report.{report_text, json_text};
+ghost use Rattle.fs_app_test.specs.Status.{report_status};
+ghost use Rattle.fs_app.specs.Answers.{IsSolvedAndTold, IsSolvedIn, offered, in_form, IsAuditFault, IsAuditText, Answers, AnswersTest, AnswersPlace};
 ghost use Rattle.fs_app.specs.Answers.{AnswersLines, AnswersOrder, AnswersSolve, AnswersAudit, AnswersCheck};
 
 use crate::expecting::Expecting;
 use crate::failure::Failure;
 use crate::faults::fault_object;
 use crate::input::INPUT_LIMIT;
-use crate::judging::{Wants, judge_files};
+use crate::judging::{Judged, Wants, judge_files};
 use crate::limits::{has_stack, room_of, tell, write_within};
+use crate::list_error::ListError;
 use crate::papers::Papers;
 use crate::progress::Progress;
+use crate::rows::read_rows;
 use crate::sources::sources;
 use crate::states::{answer_log, answer_states};
+use crate::telling::{answer_why, is_yes, order_why, tests_why, with_below};
 use crate::whole::write_whole;
 use clap::error::ErrorKind;
 use fs_app_audit::{run_audit, run_mended};
@@ -34,7 +39,6 @@ use fs_app_io::{Output, Status};
 use fs_app_place_order::{run_order, run_place};
 use fs_app_solve::{Found, run_solve, run_solve_alone};
 use fs_app_test::{Line, test_objects, test_report, vacuous_note};
-use fs_app_test_list::{ListError, read_rows};
 use fs_kinds::Fault;
 use std::alloc::Global;
 use std::process::ExitCode;
@@ -326,11 +330,12 @@ fn judged_tests<R: Files + Input + Eprint + AllocGlobal + Threads + Sync>(
     let wants = Wants {
         messages: voice.explains,
         notes: test.json,
+        tests: test.why,
     };
     let files = sources(rt, &test.files)?;
     let judged = judge_files(rt, &files, test.jobs, wants, expecting)?;
     let not_met = expecting.not_met(rt.alloc())?;
-    let output = tests_output(rt.alloc(), test, &judged.lines, not_met.is_empty())?;
+    let output = tests_output(rt.alloc(), test, &judged, not_met.is_empty())?;
     for message in &judged.messages {
         tell(rt, message);
     }
@@ -340,25 +345,38 @@ fn judged_tests<R: Files + Input + Eprint + AllocGlobal + Threads + Sync>(
     Ok(output)
 }
 
-/// The lines in print. Where something is expected, the status is 1 unless all of which it is are there.
+/// The lines in print, and what is told below them. Where something is expected, the status is 1 unless all of which it
+/// is are there.
 fn tests_output(
     alloc: Global,
     test: &Test<'_>,
-    lines: &[Line],
+    judged: &Judged,
     are_there: bool,
 ) -> Result<Output, Fault>
     ensures { IfOk result (AnswersTest test.now) }
 {
-    let output = lines_output(alloc, test, lines)?;
+    let output = lines_output(alloc, test, judged)?;
     if are_there || test.expect.is_none() {
         return Ok(output);
     }
     Ok(denied(output))
 }
 
-/// The lines in print.
-fn lines_output(alloc: Global, test: &Test<'_>, lines: &[Line]) -> Result<Output, Fault>
+/// The lines in print, and what is told below them.
+fn lines_output(alloc: Global, test: &Test<'_>, judged: &Judged) -> Result<Output, Fault>
     ensures { IfOk result (AnswersLines test.now) }
+{
+    let said = said_output(alloc, test, &judged.lines)?;
+    let below = tests_why(alloc, test.why, &judged.lines, &judged.tests)?;
+    let output = with_below(said, &below)?;
+    Ok(output)
+}
+
+/// The lines in print.
+fn said_output(alloc: Global, test: &Test<'_>, lines: &[Line]) -> Result<Output, Fault>
+    ensures text { IfOk result (λ output. string_bytes output.text ≡ in_form test.now.json
+        (report_text (is_some test.now.expect) lines.now) (json_text (is_some test.now.expect) lines.now)) }
+    ensures status { IfOk result (λ output. output.status ≡ report_status (is_some test.now.expect) lines.now) }
 {
     let expects = test.expect.is_some();
     if test.json {
@@ -419,7 +437,10 @@ fn answer_order<'a, R: Files + Input + AllocGlobal>(
     papers.fences = &order.fences;
     papers.read_test(rt, order.test)?;
     papers.read_evidence(rt, order.witness, INPUT_LIMIT)?;
-    ordered(rt.alloc(), papers)
+    let verdict = ordered(rt.alloc(), papers)?;
+    let below = order_why(rt.alloc(), order.why, papers)?;
+    let output = with_below(verdict, &below)?;
+    Ok(output)
 }
 
 /// The verdict on the witness that was read.
@@ -452,22 +473,46 @@ fn answer_solve<'a, R: Files + Input + Eprint + AllocGlobal + Clock + Threads + 
     let found = found(rt, solve, papers, &mut progress);
     progress.wipe();
     let found = found?;
-    let output = printed(rt.alloc(), &found, solve.json)?;
-    if let Some(path) = solve.certificate {
-        let certificate = found.certificate(rt.alloc())?;
-        write_whole(rt, path, certificate.as_bytes())?;
-    }
+    let output = solved(rt, solve, papers, &found)?;
     if voice.notes && found.is_free() {
         note_vacuous(rt, &papers.test.bytes)?;
     }
     Ok(output)
 }
 
+/// What is printed of what was found, and told below it, once its certificate is written where one is asked for.
+fn solved<R: Files + AllocGlobal>(
+    rt: &R,
+    solve: &Solve<'_>,
+    papers: &Papers<'_>,
+    found: &Found,
+) -> Result<Output, Fault>
+    requires { (limit : ℕ) × IsFound papers.now.test.bytes.items papers.now.prices.bytes.items limit
+        (arc_value found.now.question) found.now.solved }
+    ensures { IfOk result (IsSolvedAndTold solve.now.json solve.now.why papers.now.test.bytes.items
+        papers.now.prices.bytes.items) }
+{
+    let output = printed(rt.alloc(), found, solve.json)?;
+    if !solve.why && solve.certificate.is_none() {
+        return Ok(output);
+    }
+    let certificate = found.certificate(rt.alloc())?;
+    let test = &papers.test.bytes;
+    let below = answer_why(rt.alloc(), solve.why, test, certificate.as_bytes())?;
+    let told = with_below(output, &below)?;
+    if let Some(path) = solve.certificate {
+        write_whole(rt, path, certificate.as_bytes())?;
+    }
+    Ok(told)
+}
+
 /// What was found, in lines or as an object.
 fn printed(alloc: Global, found: &Found, is_json: bool) -> Result<Output, Fault>
-    ensures { IfOk result (λ output. (test prices : List ℕ) (limit : ℕ)
+    ensures answer { IfOk result (λ output. (test prices : List ℕ) (limit : ℕ)
         → IsFound test prices limit (arc_value found.now.question) found.now.solved
-        → IsSolvedIn is_json test prices (string_bytes output.text) output.status) }
+        → IsSolvedIn is_json test prices (lines_of found.now.solved.answer) (string_bytes output.text) output.status) }
+    ensures prints { IfOk result (λ output.
+        Prints found.now.solved.answer (lines_of found.now.solved.answer) output.status) }
 {
     let output = found.output(alloc)?;
     if !is_json {
@@ -571,7 +616,16 @@ fn answer_check<'a, R: Files + Input + AllocGlobal>(
     papers.read_prices(rt, check.prices)?;
     papers.read_evidence(rt, check.certificate, CERTIFICATE_LIMIT)?;
     let checked = checked(rt.alloc(), papers)?;
-    Ok(in_form(checked.output, checked.object, check.json))
+    let tells = check.why && is_yes(checked.output.status);
+    let below = answer_why(
+        rt.alloc(),
+        tells,
+        &papers.test.bytes,
+        &papers.evidence.bytes,
+    )?;
+    let shown = in_form(checked.output, checked.object, check.json);
+    let output = with_below(shown, &below)?;
+    Ok(output)
 }
 
 /// The verdict on the certificate that was read.

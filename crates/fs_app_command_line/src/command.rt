@@ -346,6 +346,14 @@ const LINES_HELP: &str = "Print a JSON object for each file, a line each";
 
 const JSON_HELP: &str = "Print a JSON object";
 
+const ORDER_WHY_HELP: &str = "Tell the execution of a yes, operation by operation";
+
+const TEST_WHY_HELP: &str =
+    "Tell an execution of each outcome that is allowed, operation by operation; not with --json";
+
+const WITHOUT_HELP: &str =
+    "Tell an execution without each fence, or the one beside `none`; not with --json";
+
 const SHELL_HELP: &str = "Which shell is to read it";
 
 const WRITE_HELP: &str = "Print the test with the cheapest fences in place of its own";
@@ -418,6 +426,8 @@ pub struct Test<'a> {
     pub jobs: u8,
     /// Whether JSON is to be printed.
     pub json: bool,
+    /// Whether executions are to be told below the lines.
+    pub why: bool,
 }
 
 /// Where it is said what is expected of tests.
@@ -458,6 +468,8 @@ pub struct Order<'a> {
     pub test: &'a str,
     pub witness: &'a str,
     pub fences: Vec<String>,
+    /// Whether the execution is to be told below a yes.
+    pub why: bool,
 }
 
 /// What `solve` was asked for.
@@ -473,6 +485,8 @@ pub struct Solve<'a> {
     pub certificate: Option<&'a str>,
     /// Whether JSON is to be printed.
     pub json: bool,
+    /// Whether executions are to be told below the answer.
+    pub why: bool,
 }
 
 /// What `audit` was asked for.
@@ -494,6 +508,8 @@ pub struct Check<'a> {
     pub certificate: &'a str,
     /// Whether JSON is to be printed.
     pub json: bool,
+    /// Whether executions are to be told below the answer.
+    pub why: bool,
 }
 
 /// The request that the words make, the program's name first. An error holds the text for the user, and help and the
@@ -532,6 +548,7 @@ fn test_of<'a>(alloc: Global, found: &ArgMatches<'a>) -> Result<Test<'a>, AllocE
         expect: expectations_of(found),
         jobs: found.get_one::<u8>("jobs").unwrap_or(ONE_WORKER),
         json: found.get_flag("json"),
+        why: found.get_flag("why"),
     })
 }
 
@@ -596,6 +613,7 @@ fn order_of<'a>(alloc: Global, found: &ArgMatches<'a>) -> Result<Order<'a>, Allo
         test: found.get_str("FILE").unwrap_or(""),
         witness: found.get_str("WITNESS").unwrap_or(""),
         fences: fences_of(alloc, found)?,
+        why: found.get_flag("why"),
     })
 }
 
@@ -607,6 +625,7 @@ fn solve_of<'a>(found: &ArgMatches<'a>) -> Solve<'a> {
         nodes: found.get_one::<u32>("nodes").unwrap_or(MOST_NODES),
         certificate: found.get_str("cert"),
         json: found.get_flag("json"),
+        why: found.get_flag("why"),
     }
 }
 
@@ -625,6 +644,7 @@ fn check_of<'a>(found: &ArgMatches<'a>) -> Check<'a> {
         prices: found.get_str("PRICES").unwrap_or(""),
         certificate: found.get_str("CERTIFICATE").unwrap_or(""),
         json: found.get_flag("json"),
+        why: found.get_flag("why"),
     }
 }
 
@@ -698,6 +718,7 @@ fn test_command<'a>(alloc: Global) -> Result<Command<'a>, AllocError> {
     let command = with_argument(command, threads(alloc, "jobs", JOBS_HELP));
     let command = with_argument(command, flag(alloc, "json", LINES_HELP));
     let command = with_argument(command, optional(alloc, "expect", "LIST", EXPECT_HELP));
+    let command = with_argument(command, telling(alloc, TEST_WHY_HELP)?);
     with_voice(alloc, command)
 }
 
@@ -731,6 +752,7 @@ fn order_command<'a>(alloc: Global) -> Result<Command<'a>, AllocError> {
     let command = with_argument(Ok(command), required(alloc, "FILE", FILE_HELP));
     let command = with_argument(command, required(alloc, "WITNESS", WITNESS_HELP));
     let command = with_argument(command, fences(alloc, FENCE_HELP));
+    let command = with_argument(command, flag(alloc, "why", ORDER_WHY_HELP));
     with_voice(alloc, command)
 }
 
@@ -744,6 +766,7 @@ fn solve_command<'a>(alloc: Global) -> Result<Command<'a>, AllocError> {
     let command = with_argument(command, nodes(alloc, NODES_HELP));
     let command = with_argument(command, option(alloc, "cert", "PATH", CERT_HELP));
     let command = with_argument(command, flag(alloc, "json", JSON_HELP));
+    let command = with_argument(command, telling(alloc, WITHOUT_HELP)?);
     with_voice(alloc, command)
 }
 
@@ -766,6 +789,7 @@ fn check_command<'a>(alloc: Global) -> Result<Command<'a>, AllocError> {
     let command = with_argument(command, required(alloc, "PRICES", PRICES_HELP));
     let command = with_argument(command, required(alloc, "CERTIFICATE", CERTIFICATE_HELP));
     let command = with_argument(command, flag(alloc, "json", JSON_HELP));
+    let command = with_argument(command, telling(alloc, WITHOUT_HELP)?);
     with_voice(alloc, command)
 }
 
@@ -810,6 +834,11 @@ fn flag<'a>(alloc: Global, name: &'a str, help: &'a str) -> Arg<'a> {
         .help(help)
         .long(name)
         .action(ArgAction::SetTrue)
+}
+
+/// What asks that executions are told, which no JSON has.
+fn telling<'a>(alloc: Global, help: &'a str) -> Result<Arg<'a>, AllocError> {
+    flag(alloc, "why", help).conflicts_with("json")
 }
 
 /// One word or more.

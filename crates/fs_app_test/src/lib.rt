@@ -27,5 +27,6 @@ pub use report::{kind_text, padded, test_report};
 pub use said::{Expected, Kind, Line, Note, Said};
 pub use said_of_verdict::{forbids, said_of};
 pub use status::status_of;
+pub use test_words::{name_of, value_text};
 pub use tested::test_file;
 pub use words::counted;

@@ -16,7 +16,7 @@ ghost use Rattle.fs_app_test.specs.inner.Parts.{ends_with};
 ghost use Rattle.fs_app_test.specs.Words.{stores_word, ends_as, is_stored, can_have, of_two, first_never};
 ghost use Rattle.fs_app_test.specs.Words.{atoms, never_in_outcome, never_words};
 
-use crate::test_words::value_text;
+use crate::test_words::{name_of, value_text};
 use fs_instr::Reg;
 use fs_kinds::List;
 use fs_model::{Location, Outcome, Quantifier, Step, Test};
@@ -211,16 +211,6 @@ fn is_outcome(quantifier: Quantifier) -> bool
     match quantifier {
         Quantifier::Exists | Quantifier::NotExists => true,
         Quantifier::Forall => false,
-    }
-}
-
-/// The name of the location.
-fn name_of(locations: &[Location], location: u8) -> &str
-    ensures { result.now ≡ name_of locations.now location }
-{
-    match locations.get(usize::from(location)) {
-        Some(location) => location.name.as_str(),
-        None => "",
     }
 }
 

@@ -1,0 +1,3 @@
+pub mod Certified
+pub mod Showing
+pub mod Telling

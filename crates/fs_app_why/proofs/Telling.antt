@@ -1,0 +1,71 @@
+-- What is told of runs with an order.
+use Rattle.std.proofs.Common.{◌≡◌, ◌∙◌, ℕ, Bool, true, false, List, Option, None, Some, IfSome, IfNone, map, length, ap, sym, subst}
+use Rattle.std.specs.Prelude.{if◌then◌else◌}
+use Rattle.fs_kinds.specs.declared.placement.Entry.{Entry}
+use Rattle.fs_model.specs.declared.operation.Operation.{Operation}
+use Rattle.fs_model.specs.declared.test.Test.{Test}
+use Rattle.fs_model.specs.Allows.{Shows}
+use Rattle.fs_model.specs.Witness.{Witness}
+use Rattle.fs_model.specs.Numbers.{numbers_below}
+use Rattle.fs_model.specs.Source.{source_in}
+use Rattle.fs_litmus.specs.Reads.{Reads}
+use Rattle.fs_litmus.specs.Lines.{StandIn}
+use Rattle.fs_cert_evidence.specs.Shown.{IsShownBy}
+use Rattle.fs_check.specs.declared.ordered.OrderedCandidate.{OrderedCandidate}
+use Rattle.fs_check.specs.Ordered.{IsOrdered, runs_in}
+use Rattle.fs_app_why.specs.declared.told.Told.{Told}
+use Rattle.fs_app_why.specs.inner.Told.{TellsExecution}
+use Rattle.fs_app_why.specs.Why.{IsExecutionTold, IsNotShown}
+use Rattle.fs_app_why.specs.Traces.{told_of, early_text, late_text, mark_text, marks_early, operation_at, passed, passing, places}
+
+-- the sources of the order's operations are those of the runs
+pub same_sources : (t : Test) (o : OrderedCandidate) → IsOrdered t o → (sources : List (Option ℕ))
+    → sources ≡ map (source_in (runs_in t o) o.order.listed) (numbers_below (length o.order.operations))
+    → sources ≡ (told_of (runs_in t o) o.order.listed).sources
+same_sources t o is sources e =
+    e ∙ ap (λ (ops : List Operation). map (source_in (runs_in t o) o.order.listed) (numbers_below (length ops)))
+    (is.operations ∙ is.made.operations)
+
+-- ---- which mark an operation has
+
+module _ (lines : List (List ℕ)) (told : Told) (a : ℕ) where
+  marked : Bool → List ℕ
+  marked early =
+      if early then early_text (places lines told (passed told a)) else late_text (places lines told (passing told a))
+
+  pub marked_early : (b : Bool) (text : List ℕ) → b ≡ marks_early told (operation_at told a).hart → b ≡ true
+      → text ≡ early_text (places lines told (passed told a)) → text ≡ mark_text lines told a
+  unfolding marked
+  marked_early b text e early is = is ∙ ap marked (sym early ∙ e)
+
+  pub marked_late : (b : Bool) (text : List ℕ) → b ≡ marks_early told (operation_at told a).hart → b ≡ false
+      → text ≡ late_text (places lines told (passing told a)) → text ≡ mark_text lines told a
+  unfolding marked
+  marked_late b text e late is = is ∙ ap marked (sym late ∙ e)
+
+-- ---- from the test that was read to its bytes
+
+module _ (fences : Test → List Entry) (heading bytes : List ℕ) (t : Test) (p : List Entry) (lines : List (List ℕ)) where
+  told_of_bytes : Reads bytes t → StandIn bytes lines → p ≡ fences t → (text : List ℕ) → TellsExecution t p lines heading text
+      → IsExecutionTold fences heading bytes text
+  told_of_bytes reads stand is text told = record {
+    the_test = t;
+    lines = lines;
+    execution = told.execution;
+    reads = reads;
+    stand = stand;
+    shows = subst (λ q. Shows t q told.execution) is told.shows;
+    told = told.told;
+  }
+
+  pub told_if_some : {A : Type 0} (text_of : A → List ℕ) (found : Option A) → Reads bytes t → StandIn bytes lines → p ≡ fences t
+      → IfSome found (λ text. TellsExecution t p lines heading (text_of text))
+      → IfSome found (λ text. IsExecutionTold fences heading bytes (text_of text))
+  told_if_some text_of (Some text) reads stand is told = told_of_bytes reads stand is (text_of text) told
+  told_if_some text_of None reads stand is told = tt
+
+pub not_shown_if_none : {A : Type 0} (fences : Test → List Entry) (bytes : List ℕ) (t : Test) (p : List Entry) (w : Witness) (found : Option A)
+    → Reads bytes t → p ≡ fences t → IfNone found (IsShownBy t p w → ⊥) → IfNone found (IsNotShown fences bytes w)
+not_shown_if_none fences bytes t p w (Some text) reads is not = tt
+not_shown_if_none fences bytes t p w None reads is not =
+    record { the_test = t; reads = reads; shown = subst (λ q. IsShownBy t q w → ⊥) is not }

@@ -1,0 +1,5 @@
+pub mod Words
+pub mod Tables
+pub mod Traces
+pub mod Why
+pub mod inner

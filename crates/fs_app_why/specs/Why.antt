@@ -1,0 +1,140 @@
+-- What `--why` prints below an answer.
+use Rattle.std.specs.Prelude.{◌≡◌, ◌⊎◌, ℕ, List, [], ◌∷◌, ◌++◌, length, Option, None, Some, codes, slice_get}
+use Rattle.std.specs.Fmt.{decimal}
+use Rattle.std.specs.List.{Contains, slice_index_or}
+use Rattle.fs_kinds.specs.declared.kind.Kind.{Kind}
+use Rattle.fs_kinds.specs.declared.placement.Entry.{Entry}
+use Rattle.fs_kinds.specs.declared.slot.Slot.{Slot}
+use Rattle.fs_kinds.specs.Kind.{word}
+use Rattle.fs_kinds.specs.Placement.{with_kind}
+use Rattle.fs_kinds.specs.Slot.{slot_name}
+use Rattle.fs_model.specs.declared.test.Test.{Test}
+use Rattle.fs_model.specs.Allows.{Shows, no_fences, full_fences}
+use Rattle.fs_model.specs.Execution.{Execution}
+use Rattle.fs_model.specs.Placed.{IsPlaced}
+use Rattle.fs_model.specs.Slots.{slots}
+use Rattle.fs_model.specs.Witness.{Witness}
+use Rattle.fs_litmus.specs.Reads.{Reads}
+use Rattle.fs_litmus.specs.Lines.{StandIn}
+use Rattle.fs_cert_evidence.specs.Certificate.{Answer, Certificate, Fenced, NoneForbids}
+use Rattle.fs_cert_evidence.specs.CertificateFile.{IsCertificateFile}
+use Rattle.fs_cert_evidence.specs.Shown.{ShowsAs, IsShownBy}
+use Rattle.fs_cert_evidence.specs.WitnessFile.{IsWitnessFile}
+use Rattle.fs_app_why.specs.Traces.{trace_text}
+use Rattle.fs_app_why.specs.Words.{line_of, text_of_instr}
+
+-- ---- of a witness to which `order` says yes, the execution that it gives
+
+abbrev pub order_heading : List ℕ
+order_heading = codes "\nIn the order of memory:\n"
+
+abbrev pub TellsGiven : Test → (lines : List (List ℕ)) → List Entry → Witness → (text : List ℕ) → Type 0
+TellsGiven t lines p w text =
+    (e : Execution) × ShowsAs t p w e × (text ≡ order_heading ++ trace_text t lines e)
+
+pub record IsOrderWhy (test witness : List ℕ) (fences : List (List ℕ)) (text : List ℕ) : Type 0 where
+  pub the_test : Test
+  pub lines : List (List ℕ)
+  pub placement : List Entry
+  pub given : Witness
+  pub reads : Reads test the_test
+  pub stand : StandIn test lines
+  pub placed : IsPlaced None (slots the_test) fences (Some placement)
+  pub says : IsWitnessFile (length the_test.codes) witness given
+  pub told : TellsGiven the_test lines placement given text ⊎ ((IsShownBy the_test placement given → ⊥) × (text ≡ []))
+
+-- ---- of a test, an execution that shows the outcome
+
+abbrev pub allowed_heading : List ℕ
+allowed_heading = codes "\nThe outcome can be, in the order of memory:\n"
+
+abbrev pub none_heading : List ℕ
+none_heading =
+    codes "\nThe outcome can be whatever fences are placed. With rw,rw at every slot, in the order of memory:\n"
+
+-- with the fences that this gives
+pub record IsExecutionTold (fences : Test → List Entry) (heading test text : List ℕ) : Type 0 where
+  pub the_test : Test
+  pub lines : List (List ℕ)
+  pub execution : Execution
+  pub reads : Reads test the_test
+  pub stand : StandIn test lines
+  pub shows : Shows the_test (fences the_test) execution
+  pub told : text ≡ heading ++ trace_text the_test lines execution
+
+-- the witness gives none
+pub record IsNotShown (fences : Test → List Entry) (test : List ℕ) (w : Witness) : Type 0 where
+  pub the_test : Test
+  pub reads : Reads test the_test
+  pub shown : IsShownBy the_test (fences the_test) w → ⊥
+
+-- as it is written
+abbrev pub IsAllowedWhy : (test text : List ℕ) → Type 0
+IsAllowedWhy = IsExecutionTold no_fences allowed_heading
+
+-- with rw,rw in every slot
+abbrev pub IsNoneWhy : (test text : List ℕ) → Type 0
+IsNoneWhy = IsExecutionTold full_fences none_heading
+
+-- ---- of fences, an execution without each
+
+-- the instruction before which the slot is, in print
+abbrev pub instr_at : Test → Slot → List ℕ
+instr_at t slot = text_of_instr (slice_get (slice_index_or t.codes slot.hart []) slot.at)
+
+abbrev pub fence_line : Test → (lines : List (List ℕ)) → Slot → Kind → List ℕ
+fence_line t lines slot kind =
+    codes "\n" ++ (word kind ++ (codes " before " ++ (slot_name slot ++ (codes " (line "
+    ++ (decimal (line_of lines (record { hart = slot.hart; at = slot.at })) ++ (codes ", " ++ (instr_at t slot ++ codes ")\n")))))))
+
+abbrev pub without_heading : List ℕ
+without_heading = codes "Without it, in the order of memory:\n"
+
+module _ (t : Test) (lines : List (List ℕ)) (NoneDoes : List Entry → Type 0) (p : List Entry) where
+  -- an execution that shows the outcome without the fence in this slot; none where nothing does so
+  abbrev pub TellsWithout : Slot → Kind → (text : List ℕ) → Type 0
+  TellsWithout slot kind text =
+      ((e : Execution) × Shows t (with_kind slot None p) e
+      × (text ≡ fence_line t lines slot kind ++ (without_heading ++ trace_text t lines e)))
+      ⊎ (NoneDoes (with_kind slot None p) × (text ≡ fence_line t lines slot kind))
+
+  -- of a slot without a fence nothing
+  abbrev pub TellsSlot : Slot → Option Kind → (text : List ℕ) → Type 0
+  TellsSlot slot None text = text ≡ []
+  TellsSlot slot (Some kind) text = TellsWithout slot kind text
+
+  abbrev pub TellsEntry : Entry → (text : List ℕ) → Type 0
+  TellsEntry entry text = TellsSlot entry.slot entry.kind text
+
+  -- of these slots, in their order
+  abbrev pub TellsFences : List Entry → (text : List ℕ) → Type 0
+  TellsFences [] text = text ≡ []
+  TellsFences (entry ∷ entries) text =
+      (told : List ℕ) × (others : List ℕ) × TellsEntry entry told × TellsFences entries others × (text ≡ told ++ others)
+
+-- none of these witnesses shows the outcome with these fences
+abbrev pub NoWitnessShows : Test → List Witness → List Entry → Type 0
+NoWitnessShows t ws p = (w : Witness) → Contains ws w → IsShownBy t p w → ⊥
+
+-- the words name fences in the test's slots; of each an execution without it, where one of the witnesses gives one
+pub record TellsAllFences (test : List ℕ) (words : List (List ℕ)) (ws : List Witness) (text : List ℕ) : Type 0 where
+  pub the_test : Test
+  pub lines : List (List ℕ)
+  pub placement : List Entry
+  pub reads : Reads test the_test
+  pub stand : StandIn test lines
+  pub placed : IsPlaced None (slots the_test) words (Some placement)
+  pub told : TellsFences the_test lines (NoWitnessShows the_test ws) placement placement text
+
+-- ---- of an answer that a certificate says
+
+-- of `none` an execution, where the first witness gives one
+abbrev pub TellsAnswer : (test : List ℕ) → Answer → List Witness → (text : List ℕ) → Type 0
+TellsAnswer test (Fenced cost fences) witnesses text = TellsAllFences test fences witnesses text
+TellsAnswer test NoneForbids [] text = text ≡ []
+TellsAnswer test NoneForbids (w ∷ ws) text = IsNoneWhy test text ⊎ (IsNotShown full_fences test w × (text ≡ []))
+
+pub record IsAnswerWhy (test certificate text : List ℕ) : Type 0 where
+  pub said : Certificate
+  pub file : IsCertificateFile certificate said
+  pub tells : TellsAnswer test said.answer said.witnesses text

@@ -1,0 +1,21 @@
+//! What `--why` prints, from the bytes of the files to its text: an execution as it comes to memory, with the
+//! operations that overtake others of their hart.
+#![tactic(auto)]
+
+mod answered;
+mod ends;
+mod marks;
+mod nearer;
+mod order;
+mod possible;
+mod relation;
+mod rows;
+mod table;
+mod told;
+mod trace;
+mod without;
+mod words;
+
+pub use answered::why_answer;
+pub use order::why_order;
+pub use possible::why_allowed;

@@ -1,0 +1,193 @@
+//! What each fence of an answer is for: an execution without it.
+
+ghost use Rattle.std.specs.Prelude.{◌≡◌, ◌++◌, [], None, IfOk, IfSome, IfNone, string_bytes};
+ghost use Rattle.std.specs.List.{slice_index_or};
+ghost use Rattle.fs_instr.specs.Writing.{instr_text};
+ghost use Rattle.fs_kinds.specs.Placement.{with_kind};
+ghost use Rattle.fs_model.specs.Test.{IsTest};
+ghost use Rattle.fs_model_axioms.specs.Final.{AreFinal};
+ghost use Rattle.fs_check.specs.Ordered.{IsOrdered, execution_in};
+ghost use Rattle.fs_app_why.specs.inner.Told.{IsShowing, NoneShows, SayWitnesses};
+ghost use Rattle.fs_app_why.specs.Traces.{trace_text};
+ghost use Rattle.fs_app_why.specs.Why.{TellsEntry, TellsFences, TellsWithout, fence_line, instr_at, without_heading};
+
+use crate::nearer::nearer;
+use crate::trace::trace_text;
+use crate::words::line_of;
+use fs_cert_evidence::WitnessFile;
+use fs_check::OrderedCandidate;
+use fs_instr::{Instr, write_instr};
+use fs_kinds::{Entry, Fault, Kind, List, OperationName, Placement, Slot};
+use fs_litmus::Test;
+use std::alloc::{AllocError, Global};
+
+/// The placement with no fence in the slot.
+fn without(placement: &Placement, slot: Slot) -> Result<Placement, Fault>
+    ensures { IfOk result (λ other. other ≡ with_kind slot None placement.now) }
+{
+    let mut other = placement.copy()?;
+    other.with(slot, None)?;
+    Ok(other)
+}
+
+/// The execution of the first of the witnesses that shows the outcome with these fences, with as much of program order
+/// as can be kept; what a fence in the slot would order is given up before all else.
+fn first_shown(
+    alloc: Global,
+    test: &Test,
+    placement: &Placement,
+    slot: Slot,
+    files: &[WitnessFile],
+) -> Result<Option<OrderedCandidate>, Fault>
+    requires test { IsTest test.now }
+    requires says { SayWitnesses files.now }
+    ensures some { IfOk result (λ found. IfSome found (IsShowing test.now placement.now)) }
+    ensures none { IfOk result (λ found. IfNone found (NoneShows test.now files.now placement.now)) }
+{
+    for file in files {
+        if let Some(found) = nearer(alloc, test, placement, Some(slot), file)? {
+            return Ok(Some(found));
+        }
+    }
+    Ok(None)
+}
+
+fn code_of(test: &Test, hart: u8) -> &[Instr]
+    ensures { result.now ≡ slice_index_or test.now.codes hart [] }
+{
+    let codes = test.codes.as_slice();
+    if usize::from(hart) < codes.len() {
+        codes[usize::from(hart)].as_slice()
+    } else {
+        &[]
+    }
+}
+
+fn instr_text(alloc: Global, instr: Instr) -> Result<String, AllocError>
+    ensures { IfOk result (λ text. string_bytes text ≡ instr_text instr) }
+{
+    let mut text = String::new(alloc);
+    write_instr(&instr, &mut text)?;
+    Ok(text)
+}
+
+/// The instruction before which the slot is, in print.
+fn instruction(alloc: Global, test: &Test, slot: Slot) -> Result<String, AllocError>
+    ensures { IfOk result (λ text. string_bytes text ≡ instr_at test.now slot) }
+{
+    match code_of(test, slot.hart).get(usize::from(slot.at)).copied() {
+        Some(instr) => instr_text(alloc, instr),
+        None => Ok(String::new(alloc)),
+    }
+}
+
+/// The line that says which fence it is, as `w,w before P0:3 (line 13, sw x7,0(x8))`.
+fn fence_line(
+    alloc: Global,
+    test: &Test,
+    lines: &[List<usize>],
+    slot: Slot,
+    kind: Kind,
+) -> Result<String, AllocError>
+    ensures { IfOk result (λ text. string_bytes text ≡ fence_line test.now lines.now slot kind) }
+{
+    let name = OperationName {
+        hart: slot.hart,
+        at: slot.at,
+    };
+    let line = line_of(lines, name);
+    let instr = instruction(alloc, test, slot)?;
+    format!(in alloc;
+        "\n{} before {} (line {}, {})\n",
+        kind.name(),
+        slot,
+        line,
+        instr.as_str()
+    )
+}
+
+/// The execution without the fence, below a line that says so.
+fn shown_text(
+    alloc: Global,
+    test: &Test,
+    lines: &[List<usize>],
+    ordered: &OrderedCandidate,
+) -> Result<String, AllocError>
+    requires test { IsTest test.now }
+    requires ordered { IsOrdered test.now ordered.now }
+    requires last { AreFinal test.now ordered.now.candidate.traces }
+    ensures { IfOk result (λ text. string_bytes text
+        ≡ without_heading ++ trace_text test.now lines.now (execution_in ordered.now)) }
+{
+    let trace = trace_text(alloc, test, lines, ordered)?;
+    format!(in alloc; "Without it, in the order of memory:\n{}", trace.as_str())
+}
+
+/// What is told of the fence of this kind in the slot.
+fn fence_text(
+    alloc: Global,
+    test: &Test,
+    lines: &[List<usize>],
+    placement: &Placement,
+    files: &[WitnessFile],
+    fence: (Slot, Kind),
+) -> Result<String, Fault>
+    requires test { IsTest test.now }
+    requires says { SayWitnesses files.now }
+    ensures { IfOk result (λ text.
+        TellsWithout test.now lines.now (NoneShows test.now files.now) placement.now fence.0 fence.1
+        (string_bytes text)) }
+{
+    let mut text = fence_line(alloc, test, lines, fence.0, fence.1)?;
+    let other = without(placement, fence.0)?;
+    match first_shown(alloc, test, &other, fence.0, files)? {
+        Some(shown) => {
+            let told = shown_text(alloc, test, lines, &shown)?;
+            text.push_str(told.as_str())?;
+            Ok(text)
+        }
+        None => Ok(text),
+    }
+}
+
+/// What is told of the fence in the slot, if there is one.
+fn entry_text(
+    alloc: Global,
+    test: &Test,
+    lines: &[List<usize>],
+    placement: &Placement,
+    files: &[WitnessFile],
+    entry: Entry,
+) -> Result<String, Fault>
+    requires test { IsTest test.now }
+    requires says { SayWitnesses files.now }
+    ensures { IfOk result (λ text.
+        TellsEntry test.now lines.now (NoneShows test.now files.now) placement.now entry (string_bytes text)) }
+{
+    match entry.kind {
+        Some(kind) => fence_text(alloc, test, lines, placement, files, (entry.slot, kind)),
+        None => Ok(String::new(alloc)),
+    }
+}
+
+/// What is told of each fence, in the order of their slots: where one of the witnesses shows the outcome without it, that
+/// execution.
+pub(crate) fn fences_text(
+    alloc: Global,
+    test: &Test,
+    lines: &[List<usize>],
+    placement: &Placement,
+    files: &[WitnessFile],
+) -> Result<String, Fault>
+    requires test { IsTest test.now }
+    requires says { SayWitnesses files.now }
+    ensures { IfOk result (λ text. TellsFences test.now lines.now (NoneShows test.now files.now) placement.now
+        placement.now (string_bytes text)) }
+{
+    let mut text = String::new(alloc);
+    for entry in placement.as_slice() {
+        let told = entry_text(alloc, test, lines, placement, files, *entry)?;
+        text.push_str(told.as_str())?;
+    }
+    Ok(text)
+}
