@@ -49,9 +49,10 @@ enum Found {
 }
 
 /// The files that the words name, in the order of the words. A folder stands for its files `*.litmus` and its folders,
-/// in the order of their bytes, without those whose names begin with a point and folders behind a link. A list, a file
-/// whose own name begins with `@`, stands for what it names. What can't be read, is too deep in others or comes too late
-/// has no bytes, and neither has a word that names no file; why is kept. The error is F19.
+/// in the order of their bytes, without what begins with a point, and folders behind a link that isn't called
+/// `*.litmus`. A list, a file whose own name begins with `@`, stands for what it names. What can't be read, a list or
+/// folder that stands in 16 others or comes after 64 MiB of these, and the name after 1,000,000 have no bytes, and neither
+/// has a word that names no file; why is kept. The error is F19.
 pub(crate) fn sources<R: Files + AllocGlobal>(
     rt: &R,
     words: &[String],

@@ -18,8 +18,8 @@ a last line that counts them. No fence is placed, and prices are not asked for.
              before an earlier one of its hart, and the earliest that it passes
   vacuous    no execution shows it, for a reason that has nothing to do with the memory
              model: no runs of the harts end so, whatever their loads return of the words
-             that are stored at all. Why: the first atom of the condition that nothing
-             makes true, mostly a slip of the pen
+             that are stored at all. Why: an atom of the condition that nothing makes
+             true, mostly a slip of the pen
   fault      the file isn't read, or not answered, and why; a message on standard error
              shows where, and what was expected
 
@@ -358,7 +358,7 @@ const SHELL_HELP: &str = "Which shell is to read it";
 
 const WRITE_HELP: &str = "Print the test with the cheapest fences in place of its own";
 
-const QUIET_HELP: &str = "Say nothing on standard error but the line of a fault";
+const QUIET_HELP: &str = "Say nothing on standard error but a line for what is wrong";
 
 const VERBOSE_HELP: &str = "Explain a fault: where it is, and what was expected";
 
@@ -383,7 +383,7 @@ pub const MOST_NODES: u32 = 1_000_000;
 #[derive(Drop)]
 pub struct Request<'a> {
     pub task: Task<'a>,
-    /// Whether all but the line of a fault is to be left out on standard error.
+    /// Whether all but a line for what is wrong is to be left out on standard error.
     pub quiet: bool,
     /// Whether a message is to explain a fault.
     pub verbose: bool,

@@ -18,7 +18,7 @@ use Rattle.fs_model.specs.Runs.{Program}
 use Rattle.fs_model.specs.Test.{IsTest, IsSame}
 use Rattle.fs_litmus.specs.Reads.{Reads}
 use Rattle.fs_litmus.proofs.ReadsOnce.{reads_once}
-use Rattle.fs_litmus_round_trip.proofs.PrintedReads.{printable, reads}
+use Rattle.fs_litmus.proofs.PrintedReads.{printable, reads}
 use Rattle.fs_app_guarantees.specs.Print.{cell, column, print, IsInstruction, IsPrintable, OfPrint}
 use Rattle.fs_app_guarantees.proofs.Assembled.{alike}
 use Rattle.fs_app_guarantees.proofs.Kept.{each}

@@ -14,7 +14,7 @@ use Rattle.fs_app_guarantees.proofs.KeptPlacements.{cheapest_same, of_witness_sa
 use Rattle.fs_app_guarantees.proofs.KeptRuns.{run_fault_same}
 use Rattle.fs_cert_evidence.specs.Texts.{fenced_lines, witness_text}
 use Rattle.fs_cert_evidence.specs.WitnessFile.{IsWitnessFile}
-use Rattle.fs_litmus_round_trip.proofs.Fencing.{read_back}
+use Rattle.fs_litmus.proofs.Fencing.{read_back}
 use Rattle.fs_model.specs.Allows.{Allows, IsPlacement, is_better}
 use Rattle.fs_model_laws.proofs.FencedSame.{allows_as_read}
 use Rattle.fs_model_laws.proofs.Filled.{filled-shows}

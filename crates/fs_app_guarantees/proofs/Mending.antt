@@ -14,7 +14,7 @@ use Rattle.fs_litmus.proofs.ReadsOnce.{reads_once}
 use Rattle.fs_kinds.specs.PriceTable.{PriceTable}
 use Rattle.fs_app_audit.specs.Audit.{IsAdvised, IsMended, fenced_text}
 use Rattle.fs_app_audit.specs.Unfenced.{names_devices, unfenced}
-use Rattle.fs_litmus_round_trip.proofs.Fencing.{read_back}
+use Rattle.fs_litmus.proofs.Fencing.{read_back}
 use Rattle.fs_app_audit.proofs.Bare.{test_unfenced}
 use Rattle.fs_app_guarantees.specs.Audits.{IsNothingOrKeepsDevices, IsNothingOrMended, device_fences}
 use Rattle.fs_app_guarantees.proofs.Devices.{devices_stay}

@@ -11,7 +11,7 @@ use Rattle.fs_model.proofs.ListedNumbers.{range-has}
 use Rattle.fs_model.proofs.ListedNumbers.{all_from as within}
 use Rattle.fs_model.proofs.Ranges.{each_two_below}
 use Rattle.fs_cert_evidence.specs.Widths.{single}
-use Rattle.fs_relation.specs.Edges.{has_bit, has_edge}
+use Rattle.fs_cand_witness.specs.Edges.{has_bit, has_edge}
 use Rattle.fs_cand_witness.specs.declared.points.Sides.{Sides}
 use Rattle.fs_cand_witness.specs.Fencing.{orders_at}
 use Rattle.fs_cand_witness.specs.declared.widths.Class.{Class}

@@ -1,3 +1,8 @@
+pub mod Bits
+pub mod Each
+pub mod Listed
+pub mod Walk
+pub mod Bitwise
 pub mod Below
 pub mod Orders
 pub mod StepSides

@@ -7,7 +7,7 @@ use Rattle.std.proofs.lemmas.List.Elements.{filter_map-append}
 use Rattle.fs_model.specs.Numbers.{has_number, stands_before}
 use Rattle.fs_model.proofs.ListedNumbers.{has-here, has-later}
 use Rattle.fs_model.proofs.NumberOrders.{before-here, before-later, before-second}
-use Rattle.fs_relation.specs.Edges.{has_bit}
+use Rattle.fs_cand_witness.specs.Edges.{has_bit}
 
 -- ---- what a test gives of the items
 

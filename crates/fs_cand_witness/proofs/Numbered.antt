@@ -8,7 +8,7 @@ use Rattle.fs_model.specs.Numbers.{has_number, numbers_below, stands_before}
 use Rattle.fs_model.proofs.ListedNumbers.{AreOnce, range-has, once-range}
 use Rattle.fs_model.proofs.NumberOrders.{not_itself, before_trans}
 use Rattle.fs_model.proofs.CountedNumbers.{IsWithin, each_once, no_others}
-use Rattle.fs_relation.specs.Orders.{IsOrderBelow, IsCycleBelow}
+use Rattle.fs_cand_witness.specs.Orders.{IsOrderBelow, IsCycleBelow}
 
 module _ (edge : ℕ → ℕ → Bool) (n : ℕ) (numbers : List ℕ) (is : IsOrderBelow edge n numbers) where
   all : IsWithin (numbers_below n) numbers

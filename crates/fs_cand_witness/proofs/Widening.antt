@@ -7,8 +7,8 @@ use Rattle.std.proofs.lemmas.Option.{slice_get_read}
 use Rattle.fs_kinds.specs.declared.slot.Slot.{Slot}
 use Rattle.fs_kinds.specs.Slot.{is_same_slot}
 use Rattle.std.proofs.lemmas.Nat.Bits.{bit_at_above}
-use Rattle.fs_relation.specs.Edges.{has_bit, has_edge}
-use Rattle.fs_relation.specs.Orders.{IsCycleBelow}
+use Rattle.fs_cand_witness.specs.Edges.{has_bit, has_edge}
+use Rattle.fs_cand_witness.specs.Orders.{IsCycleBelow}
 use Rattle.fs_cand_witness.specs.declared.points.Sides.{Sides}
 use Rattle.fs_cand_witness.specs.inner.Keeping.{are_ordered}
 use Rattle.fs_cand_witness.specs.inner.Widening.{AreTried, HasAll, IsMadeAt, IsMadeBy, IsMadeOf, IsTried, IsWider, KeepsAs}

@@ -35,8 +35,8 @@ use Rattle.fs_verdict_laws.proofs.Forth.{executed}
 use Rattle.fs_verdict_laws.proofs.Sorting.{sorted_ordered}
 use Rattle.fs_cand_witness.specs.Fencing.{is_fenced, orders_at}
 use Rattle.fs_cand_witness.proofs.Joined.{among, joined}
-use Rattle.fs_relation.specs.Edges.{has_edge}
-use Rattle.fs_relation.specs.Orders.{IsOrderBelow}
+use Rattle.fs_cand_witness.specs.Edges.{has_edge}
+use Rattle.fs_cand_witness.specs.Orders.{IsOrderBelow}
 use Rattle.fs_cert_evidence.specs.Evidence.{IsWitnessFor, Shown, pairs_at, widths_of}
 use Rattle.fs_cand_witness.specs.inner.Keeping.{width_in}
 use Rattle.fs_cand_witness.specs.Naming.{name_at}

@@ -4,8 +4,8 @@ use Rattle.std.specs.Int.{bit_at, bit_not, trailing_zeros, w64}
 use Rattle.std.proofs.lemmas.Bool.{cases_eq, eq-eqb, eqb-true}
 use Rattle.std.proofs.lemmas.Nat.{and_le_r}
 use Rattle.std.proofs.lemmas.Nat.Bits.{bit_at_not, bit_at-lt, bit_at-zero}
-use Rattle.fs_relation.specs.Edges.{has_bit, has_edge}
-use Rattle.fs_relation.proofs.Words.{IsTaken, both_bits, edge, lowest, no_bit, no_edge}
+use Rattle.fs_cand_witness.specs.Edges.{has_bit, has_edge}
+use Rattle.fs_cand_witness.proofs.Bitwise.{IsTaken, both_bits, edge, lowest, no_bit, no_edge}
 
 -- nothing of the word is missing in the row
 pub all_in : (row word b : ℕ) → row < 2 ^ 64 → bit_and (bit_not w64 row) word ≡ 0 → b < 64 → has_bit word b ≡ true → has_bit row b ≡ true

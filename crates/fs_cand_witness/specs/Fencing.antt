@@ -7,7 +7,7 @@ use Rattle.fs_kinds.specs.Placement.{kind_at}
 use Rattle.fs_model.specs.Numbers.{between}
 use Rattle.fs_model.specs.Operations.{PreExecution, place, po, classes}
 use Rattle.fs_model.specs.Fences.{kind_orders, placed_before}
-use Rattle.fs_relation.specs.Edges.{has_bit}
+use Rattle.fs_cand_witness.specs.Edges.{has_bit}
 use Rattle.fs_cand_witness.specs.declared.points.Sides.{Sides}
 
 -- a placed fence, before an instruction after a and up to b, orders a before b in program order

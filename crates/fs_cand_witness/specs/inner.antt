@@ -3,3 +3,4 @@ pub mod Halves
 pub mod Keeping
 pub mod Reading
 pub mod Widening
+pub mod Paths

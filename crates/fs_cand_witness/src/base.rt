@@ -7,11 +7,11 @@ ghost use Rattle.fs_cand.specs.Candidates.{candidate_of, IsMade};
 ghost use Rattle.fs_model.specs.Execution.{initial_words};
 ghost use Rattle.fs_model.specs.declared.test.Test.{Test};
 ghost use Rattle.fs_ppo.specs.Rules.{OfRuns};
-ghost use Rattle.fs_relation.specs.Edges.{has_edge, has_bit};
+ghost use Rattle.fs_cand_witness.specs.Edges.{has_edge, has_bit};
 
 use crate::judged::is_judged;
 use fs_cand::Candidate;
-use fs_relation::Rows;
+use crate::rows::Rows;
 
 /// The operations below n to which an edge leads from a.
 fn row_of(candidate: &Candidate, a: usize, n: usize) -> u64

@@ -3,12 +3,12 @@
 ghost use Rattle.std.specs.Prelude.{◌≡◌, ◌&&◌, ◌||◌, ℕ, true, false};
 ghost use Rattle.std.specs.List.{list_any};
 ghost use Rattle.fs_kinds.specs.Kind.{orders};
-ghost use Rattle.fs_relation.specs.Edges.{has_edge, has_bit};
+ghost use Rattle.fs_cand_witness.specs.Edges.{has_edge, has_bit};
 ghost use Rattle.fs_cand_witness.specs.Fencing.{after, orders_at};
 
 use crate::points::Sides;
 use fs_kinds::{Classes, Kind, Placement};
-use fs_relation::Rows;
+use crate::rows::Rows;
 
 const READS: Classes = Classes {
     reads: true,

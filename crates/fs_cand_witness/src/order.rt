@@ -2,11 +2,12 @@
 
 ghost use Rattle.std.specs.Prelude.{◌≡◌, ◌<◌, ◌≤◌, ℕ, true, take};
 ghost use Rattle.fs_model.specs.Numbers.{has_number, stands_before};
-ghost use Rattle.fs_relation.specs.Edges.{has_edge};
-ghost use Rattle.fs_relation.specs.Orders.{IsOrderBelow};
+ghost use Rattle.fs_cand_witness.specs.Edges.{has_edge};
+ghost use Rattle.fs_cand_witness.specs.Orders.{IsOrderBelow};
 ghost use Rattle.fs_cand_witness.specs.inner.Widening.{HasOrder};
 
-use fs_relation::{Judged, Rows, judge};
+use crate::cycles::{Judged, judge};
+use crate::rows::Rows;
 
 /// An order that extends the relation on the numbers below n: the first n.
 pub(crate) fn order_of(rows: &Rows, n: usize) -> [u8; 64]

@@ -7,7 +7,7 @@ ghost use Rattle.fs_kinds.specs.declared.placement.Entry.{Entry};
 ghost use Rattle.fs_model.specs.Numbers.{numbers_below};
 ghost use Rattle.fs_model.specs.Operations.{operation, nothing, steps_of};
 ghost use Rattle.fs_ppo.specs.Rules.{OfRuns};
-ghost use Rattle.fs_relation.specs.Edges.{has_bit};
+ghost use Rattle.fs_cand_witness.specs.Edges.{has_bit};
 ghost use Rattle.fs_cand_witness.specs.Fencing.{before, after, orders_at, is_fenced};
 ghost use Rattle.fs_cand_witness.specs.inner.Halves.{is_on, is_of, classes_on, orders_before_step};
 

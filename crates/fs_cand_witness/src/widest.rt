@@ -9,8 +9,8 @@ ghost use Rattle.fs_model.specs.Allows.{Shows};
 ghost use Rattle.fs_cert_evidence.specs.Candidates.{IsShowing, runs_of};
 ghost use Rattle.fs_cert_evidence.specs.Judged.{is_judged};
 ghost use Rattle.fs_cand.specs.Candidates.{candidate_of, IsMade};
-ghost use Rattle.fs_relation.specs.Edges.{has_edge};
-ghost use Rattle.fs_relation.specs.Orders.{IsOrderBelow};
+ghost use Rattle.fs_cand_witness.specs.Edges.{has_edge};
+ghost use Rattle.fs_cand_witness.specs.Orders.{IsOrderBelow};
 ghost use Rattle.fs_cert_evidence.specs.Evidence.{IsWitnessFor};
 ghost use Rattle.fs_cand_witness.specs.inner.Reading.{IsReadOff};
 
@@ -24,7 +24,7 @@ use fs_cand::Candidate;
 use fs_cert_evidence::Witness;
 use fs_kinds::{Fault, Placement, Slot};
 use fs_model::Test;
-use fs_relation::Rows;
+use crate::rows::Rows;
 use std::alloc::Global;
 
 /// What an order of the candidate's operations says: choices, names and widths.

@@ -12,7 +12,7 @@ use crate::Sides;
 use fs_cert_evidence::Pairs;
 use fs_kinds::{Fault, List, Slot};
 use fs_model::{Test, slots};
-use fs_relation::Rows;
+use crate::rows::Rows;
 use std::alloc::{AllocError, Global};
 
 // Operations that load, or those that store.

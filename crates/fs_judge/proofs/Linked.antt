@@ -13,7 +13,7 @@ use Rattle.fs_cert_evidence.specs.Certificate.{Link}
 use Rattle.fs_cert_evidence.specs.Judged.{is_edge, is_judged}
 use Rattle.fs_cert_evidence.specs.Cycles.{IsCycle, are_edges, most_links}
 use Rattle.fs_verdict_laws.proofs.JudgedEdges.{edge_low}
-use Rattle.fs_relation.specs.Edges.{has_edge}
+use Rattle.fs_cand_witness.specs.Edges.{has_edge}
 use Rattle.fs_judge.specs.inner.Links.{IsLink, followers}
 
 -- ---- a list that grows

@@ -7,13 +7,13 @@ ghost use Rattle.fs_model.specs.Execution.{initial_words};
 ghost use Rattle.fs_cert_evidence.specs.Candidates.{Candidate as Defined, IsRaw, runs_of};
 ghost use Rattle.fs_cert_evidence.specs.Judged.{is_judged};
 ghost use Rattle.fs_cand.specs.Candidates.{candidate_of, IsMade};
-ghost use Rattle.fs_relation.specs.Edges.{has_edge};
+ghost use Rattle.fs_cand_witness.specs.Edges.{has_edge};
 ghost use Rattle.fs_judge.specs.inner.Bases.{IsBase};
 
 use fs_cand::Candidate;
 use fs_cand_witness::{Sides, base_rows, fence_rows, sides_of};
 use fs_kinds::{Fault, List, Placement};
-use fs_relation::Rows;
+use fs_cand_witness::Rows;
 use std::alloc::Global;
 
 /// The judged relation of a candidate without placed fences, the places in its runs where fences may stand, and how

@@ -16,7 +16,7 @@ use fs_cand_witness::{Hints, widest_witness};
 use fs_cert_evidence::{Link, Witness};
 use fs_kinds::{Fault, List, Placement, Slot};
 use fs_model::Test;
-use fs_relation::{Judged, judge};
+use fs_cand_witness::{Judged, judge};
 use std::alloc::Global;
 
 /// What is found of a candidate with placed fences.

@@ -18,7 +18,7 @@ use fs_cert_evidence::Witness;
 use fs_check::OrderedCandidate;
 use fs_kinds::{Fault, Placement, Slot};
 use fs_model::Test;
-use fs_relation::has_order;
+use fs_cand_witness::has_order;
 use std::alloc::Global;
 
 /// A candidate that shows the outcome, and what is kept of it for judging it with any placement.

@@ -11,8 +11,8 @@ ghost use Rattle.fs_cert_evidence.specs.Judged.{is_judged};
 ghost use Rattle.fs_cert_evidence.specs.Cycles.{IsCycle};
 ghost use Rattle.fs_cand.specs.Candidates.{candidate_of, IsMade};
 ghost use Rattle.fs_ppo.specs.Rules.{OfRuns};
-ghost use Rattle.fs_relation.specs.Edges.{has_edge};
-ghost use Rattle.fs_relation.specs.Orders.{IsCycleBelow};
+ghost use Rattle.fs_cand_witness.specs.Edges.{has_edge};
+ghost use Rattle.fs_cand_witness.specs.Orders.{IsCycleBelow};
 ghost use Rattle.fs_judge.specs.inner.Links.{IsLink, followers};
 
 use crate::causes::cause;
@@ -20,7 +20,7 @@ use fs_cand::Candidate;
 use fs_cand_witness::operation_name;
 use fs_cert_evidence::Link;
 use fs_kinds::{Fault, List, OperationName, Placement};
-use fs_relation::Rows;
+use fs_cand_witness::Rows;
 use std::alloc::Global;
 
 /// The number after the one at this place of a cycle: the next one, or the first after the last.

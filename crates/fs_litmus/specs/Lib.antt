@@ -8,4 +8,5 @@ pub mod Lines
 pub mod Rising
 pub mod Faults
 pub mod Checks
+pub mod Fence
 pub mod inner

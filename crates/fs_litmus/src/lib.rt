@@ -1,4 +1,5 @@
-//! Reads litmus tests in herd7's RISC-V format, and hands on what they are: tests, slots, and the printer.
+//! Reads litmus tests in herd7's RISC-V format, and hands on what they are: tests, slots, and the printer. What is printed
+//! reads back, and so a fenced test is a test of its own.
 #![tactic(auto)]
 
 mod atoms;
@@ -9,6 +10,7 @@ mod lines;
 mod meaning;
 mod names;
 mod reader;
+mod round_trip;
 mod settings;
 mod starts;
 mod title;
@@ -19,3 +21,4 @@ pub use fs_model::{
 };
 pub use lines::read_lines;
 pub use reader::read_test;
+pub use round_trip::{fence, reads_back};

@@ -2,8 +2,7 @@
 ghost use Rattle.fs_model.specs.Test.{IsBounded, IsTest};
 
 use fs_kinds::{Fault, Placement, Slot};
-use fs_litmus::{Test, read_test, slots};
-use fs_litmus_round_trip::fence;
+use fs_litmus::{Test, fence, read_test, slots};
 use fs_tests_shared::{MP, MPB, placement_of, told};
 use std::alloc::{AllocError, Global};
 use std::test::Fail;

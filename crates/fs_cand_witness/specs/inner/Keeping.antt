@@ -6,7 +6,7 @@ use Rattle.fs_kinds.specs.Kind.{ReadRead, ReadWrite, WriteRead, WriteWrite}
 use Rattle.fs_kinds.specs.Slot.{is_same_slot}
 use Rattle.fs_model.specs.Numbers.{numbers_below}
 use Rattle.fs_cert_evidence.specs.Widths.{Width}
-use Rattle.fs_relation.specs.Edges.{has_bit, has_edge}
+use Rattle.fs_cand_witness.specs.Edges.{has_bit, has_edge}
 use Rattle.fs_cand_witness.specs.declared.points.Sides.{Sides}
 use Rattle.fs_cand_witness.specs.declared.widths.Class.{Class}
 use Rattle.fs_cand_witness.specs.declared.widths.Class.TheVariants.{Reads, Writes}

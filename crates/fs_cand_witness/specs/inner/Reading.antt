@@ -11,7 +11,7 @@ use Rattle.fs_model.specs.Numbers.{stands_before}
 use Rattle.fs_hart.specs.Steps.{steps_in}
 use Rattle.fs_cand.specs.declared.candidate.Candidate.{Candidate}
 use Rattle.fs_ppo.specs.Rules.{OfRuns}
-use Rattle.fs_relation.specs.Edges.{has_edge}
+use Rattle.fs_cand_witness.specs.Edges.{has_edge}
 use Rattle.fs_cand_witness.specs.declared.points.Sides.{Sides}
 use Rattle.fs_cand_witness.specs.Fencing.{orders_at, is_fenced}
 use Rattle.fs_cand_witness.specs.Naming.{name_at}

@@ -1,7 +1,7 @@
 -- Relations that are widened.
 use Rattle.std.specs.Prelude.{◌≡◌, ◌⊎◌, ℕ, Bool, true, Some, List, slice_get}
-use Rattle.fs_relation.specs.Edges.{has_bit, has_edge}
-use Rattle.fs_relation.specs.Orders.{IsOrderBelow}
+use Rattle.fs_cand_witness.specs.Edges.{has_bit, has_edge}
+use Rattle.fs_cand_witness.specs.Orders.{IsOrderBelow}
 use Rattle.fs_cand_witness.specs.declared.points.Sides.{Sides}
 
 -- an order of the numbers below n extends the relation

@@ -10,7 +10,7 @@ use Rattle.fs_cert_evidence.specs.Candidates.{Candidate, IsShowing, runs_of}
 use Rattle.fs_cert_evidence.specs.Judged.{is_judged}
 use Rattle.fs_cand.specs.Candidates.{candidate_of, IsMade}
 use Rattle.fs_values.specs.ThinAir.{CanBeListed}
-use Rattle.fs_relation.specs.Edges.{has_edge}
+use Rattle.fs_cand_witness.specs.Edges.{has_edge}
 use Rattle.fs_cand_witness.specs.Fencing.{orders_at, is_fenced}
 use Rattle.fs_judge.specs.declared.base.Base.{Base}
 use Rattle.fs_judge.specs.declared.known.Known.{Known}

@@ -2,7 +2,7 @@ use Rattle.std.proofs.Common.{◌≡◌, arith, length, ◌&&◌, ◌||◌, ◌=
 use Rattle.std.specs.Prelude.{nat_lt}
 use Rattle.fs_cert_evidence.specs.Judged.{is_judged}
 use Rattle.fs_cand.specs.Candidates.{candidate_of, runs_of}
-use Rattle.fs_relation.specs.Edges.{has_bit}
+use Rattle.fs_cand_witness.specs.Edges.{has_bit}
 use Rattle.fs_cand_witness.proofs.Below.{one_more}
 use Rattle.fs_model.specs.Operations.{operations}
 use Rattle.fs_model.specs.Execution.{initial_words}

@@ -1,7 +1,7 @@
 use Rattle.std.proofs.Common.{arith, ◌||◌, ◌==◌, ◌<◌, ℕ, Bool, [], ap, sym, ◌∙◌}
 use Rattle.fs_cert_evidence.specs.Judged.{is_judged}
 use Rattle.fs_cand.specs.Candidates.{candidate_of, runs_of}
-use Rattle.fs_relation.proofs.Bits.{bit_set_test}
+use Rattle.fs_cand_witness.proofs.Bits.{bit_set_test}
 use Rattle.fs_cand_witness.proofs.Below.{one_in, one_out}
 use Rattle.fs_cand_witness.proofs.base.row_of.Goals.{then-is_judged, else-is_judged}
 use Rattle.fs_cand_witness.proofs.base.row_of.Goals as goal

@@ -3,7 +3,7 @@ use Rattle.std.specs.Prelude.{nat_lt}
 use Rattle.fs_cert_evidence.specs.Judged.{is_judged}
 use Rattle.fs_cand.specs.Candidates.{candidate_of}
 use Rattle.fs_ppo.specs.Rules.{OfRuns}
-use Rattle.fs_relation.specs.Edges.{has_bit}
+use Rattle.fs_cand_witness.specs.Edges.{has_bit}
 use Rattle.fs_cand_witness.proofs.base.row_of.Given as goal
 
 -- the edges to the numbers so far

@@ -1,7 +1,7 @@
 use Rattle.std.proofs.Common.{◌≡◌, ◌||◌, Bool, true, false, Some, refl, sym, ◌∙◌}
 use Rattle.fs_kinds.specs.Kind.{orders}
 use Rattle.fs_kinds.specs.Placement.{kind_at}
-use Rattle.fs_relation.specs.Edges.{has_edge, has_bit}
+use Rattle.fs_cand_witness.specs.Edges.{has_edge, has_bit}
 use Rattle.fs_cand_witness.specs.Fencing.{before, after, orders_at}
 use Rattle.fs_cand_witness.proofs.Orders.{by_first}
 use Rattle.fs_cand_witness.proofs.fences.add_fence.Goals as goal

@@ -1,6 +1,6 @@
 use Rattle.std.proofs.Common.{◌≡◌, ℕ, take}
 use Rattle.std.specs.List.{list_any}
-use Rattle.fs_relation.specs.Edges.{has_edge}
+use Rattle.fs_cand_witness.specs.Edges.{has_edge}
 use Rattle.fs_cand_witness.specs.Fencing.{orders_at}
 use Rattle.fs_cand_witness.proofs.fences.fence_rows.Given as goal
 

@@ -1,6 +1,6 @@
 use Rattle.std.proofs.Common.{sym, ◌∙◌}
-use Rattle.fs_relation.specs.Edges.{has_bit}
-use Rattle.fs_relation.proofs.Bits.{bit_or_test}
+use Rattle.fs_cand_witness.specs.Edges.{has_bit}
+use Rattle.fs_cand_witness.proofs.Bits.{bit_or_test}
 use Rattle.fs_cand_witness.proofs.Orders.{by_second}
 use Rattle.fs_cand_witness.proofs.fences.ordered_after.Goals as goal
 

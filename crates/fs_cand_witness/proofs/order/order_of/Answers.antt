@@ -1,4 +1,4 @@
-use Rattle.fs_relation.specs.Edges.{has_edge}
+use Rattle.fs_cand_witness.specs.Edges.{has_edge}
 use Rattle.fs_cand_witness.proofs.Numbered.{no_cycle}
 use Rattle.fs_cand_witness.proofs.order.order_of.Goals as goal
 

@@ -1,8 +1,8 @@
 use Rattle.std.proofs.Common.{◌≡◌, ◌-◌, ◌+◌, ◌<◌, ◌∷◌, ◌∙◌, ◌==◌, ◌&&◌, ◌||◌, sym, ap, arith, drop, length, slice_index_or}
 use Rattle.std.proofs.lemmas.List.{drop_more}
 use Rattle.fs_model.specs.Numbers.{has_number, stands_before}
-use Rattle.fs_relation.specs.Edges.{has_bit, has_edge}
-use Rattle.fs_relation.proofs.Bits.{bit_set_test}
+use Rattle.fs_cand_witness.specs.Edges.{has_bit, has_edge}
+use Rattle.fs_cand_witness.proofs.Bits.{bit_set_test}
 use Rattle.fs_cand_witness.proofs.Listing.{has_at, row_before, bit_before}
 use Rattle.fs_cand_witness.proofs.order.order_rows.Goals as goal
 

@@ -1,6 +1,6 @@
 use Rattle.std.proofs.Common.{◌≡◌, ◌≤◌, ℕ, drop, length}
 use Rattle.fs_model.specs.Numbers.{has_number, stands_before}
-use Rattle.fs_relation.specs.Edges.{has_bit, has_edge}
+use Rattle.fs_cand_witness.specs.Edges.{has_bit, has_edge}
 use Rattle.fs_cand_witness.proofs.order.order_rows.Given as goal
 
 -- the rows of the numbers from here on, and these as bits

@@ -2,7 +2,7 @@ use Rattle.std.proofs.Common.{length, arith, ◌≡◌, ◌||◌, ◌==◌, ◌&
 use Rattle.std.specs.List.{slice_index_or}
 use Rattle.std.proofs.lemmas.List.{get_or_default}
 use Rattle.fs_model.specs.Operations.{nothing}
-use Rattle.fs_relation.proofs.Bits.{bit_set_test}
+use Rattle.fs_cand_witness.proofs.Bits.{bit_set_test}
 use Rattle.fs_cand_witness.specs.inner.Halves.{is_on, is_of}
 use Rattle.fs_cand_witness.proofs.Below.{one_in, one_out}
 use Rattle.fs_cand_witness.proofs.points.mask.Goals.{then-is_among, else-is_among}

@@ -2,7 +2,7 @@ use Rattle.std.proofs.Common.{◌≡◌, ℕ, ◌&&◌}
 use Rattle.std.specs.Prelude.{nat_lt}
 use Rattle.std.specs.List.{slice_index_or}
 use Rattle.fs_model.specs.Operations.{nothing}
-use Rattle.fs_relation.specs.Edges.{has_bit}
+use Rattle.fs_cand_witness.specs.Edges.{has_bit}
 use Rattle.fs_cand_witness.specs.inner.Halves.{is_on, is_of}
 use Rattle.fs_cand_witness.proofs.points.mask.Given as goal
 

@@ -1,5 +1,5 @@
 use Rattle.std.proofs.Common.{◌||◌, ◌&&◌, ◌∙◌, sym, ap, arith}
-use Rattle.fs_relation.specs.Edges.{has_bit, has_edge}
+use Rattle.fs_cand_witness.specs.Edges.{has_bit, has_edge}
 use Rattle.fs_cand_witness.proofs.Widening.{made_by, there_already, no_room}
 use Rattle.fs_cand_witness.proofs.widen.with_edges.Goals as goal
 

@@ -1,7 +1,7 @@
 use Rattle.std.proofs.Common.{ℕ, arith, subst, take}
 use Rattle.std.proofs.lemmas.Result.{IfOk-weaker}
-use Rattle.fs_relation.specs.Edges.{has_edge}
-use Rattle.fs_relation.specs.Orders.{IsOrderBelow}
+use Rattle.fs_cand_witness.specs.Edges.{has_edge}
+use Rattle.fs_cand_witness.specs.Orders.{IsOrderBelow}
 use Rattle.fs_cand_witness.proofs.Numbered.{order_below}
 use Rattle.fs_cand_witness.proofs.Witnessed.{witnessed}
 use Rattle.fs_cand_witness.proofs.widest.widest_witness.Goals as goal

@@ -1,8 +1,8 @@
 use Rattle.std.proofs.Common.{◌≢◌, ◌∙◌, inl, inr, sym, ap, arith}
 use Rattle.std.specs.Int.{trailing_zeros, w64}
 use Rattle.std.proofs.lemmas.Bool.{cases_Bool, both_ways}
-use Rattle.fs_relation.specs.Edges.{has_bit}
-use Rattle.fs_relation.proofs.Words.{lowest, lowest_taken, count_taken, edge}
+use Rattle.fs_cand_witness.specs.Edges.{has_bit}
+use Rattle.fs_cand_witness.proofs.Bitwise.{lowest, lowest_taken, count_taken, edge}
 use Rattle.fs_cand_witness.specs.inner.Keeping.{are_ordered}
 use Rattle.fs_cand_witness.proofs.Keeping.{ordered_at, ordered_from}
 use Rattle.fs_cand_witness.proofs.Words.{all_in, one_out, one_less, none_left}

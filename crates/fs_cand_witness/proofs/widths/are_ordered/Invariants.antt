@@ -1,7 +1,7 @@
 use Rattle.std.proofs.Common.{◌≡◌, ℕ, ◌<◌, true, false}
 use Rattle.std.specs.Int.{bit_at}
-use Rattle.fs_relation.specs.Edges.{has_bit, has_edge}
-use Rattle.fs_relation.proofs.Words.{count_below}
+use Rattle.fs_cand_witness.specs.Edges.{has_bit, has_edge}
+use Rattle.fs_cand_witness.proofs.Bitwise.{count_below}
 use Rattle.fs_cand_witness.proofs.widths.are_ordered.Given as goal
 
 -- those of the first that are not left come before each of the second

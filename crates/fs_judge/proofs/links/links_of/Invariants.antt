@@ -6,7 +6,7 @@ use Rattle.fs_cert_evidence.specs.Candidates.{IsRaw, runs_of}
 use Rattle.fs_cert_evidence.specs.Certificate.{Link}
 use Rattle.fs_cert_evidence.specs.Judged.{is_judged}
 use Rattle.fs_cand.specs.Candidates.{candidate_of, IsMade}
-use Rattle.fs_relation.specs.Edges.{has_edge}
+use Rattle.fs_cand_witness.specs.Edges.{has_edge}
 use Rattle.fs_judge.specs.inner.Links.{IsLink, followers}
 use Rattle.fs_judge.proofs.links.links_of.Given as goal
 

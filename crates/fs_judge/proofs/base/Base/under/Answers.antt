@@ -1,7 +1,7 @@
 use Rattle.std.proofs.Common.{◌≡◌, ◌||◌, Bool, true, false, refl, sym, ◌∙◌, ap}
 use Rattle.std.specs.List.{list_any}
 use Rattle.fs_cert_evidence.specs.Candidates.{runs_of}
-use Rattle.fs_relation.specs.Edges.{has_edge}
+use Rattle.fs_cand_witness.specs.Edges.{has_edge}
 use Rattle.fs_cand_witness.specs.Fencing.{orders_at, is_fenced}
 use Rattle.fs_cand_witness.proofs.Joined.{joined}
 use Rattle.fs_judge.proofs.base.Base.under.Goals as goal

@@ -1,7 +1,7 @@
 use Rattle.std.proofs.Common.{◌≡◌, ℕ, List, length, sym, ◌∙◌, ap, subst}
 use Rattle.fs_cand.specs.Candidates.{candidate_of}
-use Rattle.fs_relation.specs.Edges.{has_edge}
-use Rattle.fs_relation.specs.Orders.{IsOrderBelow}
+use Rattle.fs_cand_witness.specs.Edges.{has_edge}
+use Rattle.fs_cand_witness.specs.Orders.{IsOrderBelow}
 use Rattle.fs_judge.proofs.known.Known.witness.Goals as goal
 
 pub has_order-requires : goal.has_order-requires

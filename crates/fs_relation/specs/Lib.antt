@@ -1,4 +1,0 @@
-pub mod Edges
-pub mod Orders
-pub mod Judged
-pub mod inner
