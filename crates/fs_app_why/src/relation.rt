@@ -3,11 +3,10 @@
 
 ghost use Rattle.std.specs.Prelude.{◌<◌, ◌≤◌, length};
 
-use fs_cand_witness::{base_rows, fence_rows, operation_name, sides_of};
+use fs_cand_witness::{Rows, base_rows, fence_rows, has_order, operation_name, sides_of};
 use fs_check::OrderedCandidate;
 use fs_kinds::{Fault, OperationName, Placement, Slot};
 use fs_model::Operation;
-use fs_cand_witness::{Rows, has_order};
 use std::alloc::{AllocError, Global};
 
 /// As many operations as a relation has room for, and as many harts as sides are told of.

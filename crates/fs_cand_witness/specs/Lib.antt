@@ -4,4 +4,3 @@ pub mod Judged
 pub mod Fencing
 pub mod Naming
 pub mod inner
-

@@ -10,8 +10,8 @@ ghost use Rattle.fs_ppo.specs.Rules.{OfRuns};
 ghost use Rattle.fs_cand_witness.specs.Edges.{has_edge, has_bit};
 
 use crate::judged::is_judged;
-use fs_cand::Candidate;
 use crate::rows::Rows;
+use fs_cand::Candidate;
 
 /// The operations below n to which an edge leads from a.
 fn row_of(candidate: &Candidate, a: usize, n: usize) -> u64

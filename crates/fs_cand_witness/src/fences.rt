@@ -7,8 +7,8 @@ ghost use Rattle.fs_cand_witness.specs.Edges.{has_edge, has_bit};
 ghost use Rattle.fs_cand_witness.specs.Fencing.{after, orders_at};
 
 use crate::points::Sides;
-use fs_kinds::{Classes, Kind, Placement};
 use crate::rows::Rows;
+use fs_kinds::{Classes, Kind, Placement};
 
 const READS: Classes = Classes {
     reads: true,

@@ -8,10 +8,10 @@ ghost use Rattle.fs_cand_witness.specs.inner.Widening.{AreTried, HasOrder, IsMad
 ghost use Rattle.fs_cand_witness.specs.inner.Widening.{IsWider};
 
 use crate::Sides;
-use crate::widths::are_ordered;
-use fs_kinds::Slot;
 use crate::cycles::has_order;
 use crate::rows::Rows;
+use crate::widths::are_ordered;
+use fs_kinds::Slot;
 
 /// The relation with edges from each of some numbers to each of others, where an order extends it; else the relation.
 /// Nothing is tried where they are there already, as at an instruction that accesses no memory, whose pairs are those

@@ -17,6 +17,7 @@ ghost use Rattle.fs_cand_witness.specs.inner.Reading.{IsReadOff};
 use crate::choices::choices;
 use crate::chosen_names::names;
 use crate::order::{order_of, order_rows};
+use crate::rows::Rows;
 use crate::widen::widened;
 use crate::widths::widths;
 use crate::{Sides, sides_of};
@@ -24,7 +25,6 @@ use fs_cand::Candidate;
 use fs_cert_evidence::Witness;
 use fs_kinds::{Fault, Placement, Slot};
 use fs_model::Test;
-use crate::rows::Rows;
 use std::alloc::Global;
 
 /// What an order of the candidate's operations says: choices, names and widths.

@@ -9,10 +9,10 @@ ghost use Rattle.fs_cert_evidence.specs.Evidence.{pairs_at, widths_of};
 ghost use Rattle.fs_cand_witness.specs.inner.Keeping.{are_ordered, before_in, after_in, is_kept, keeps_all, width_in};
 
 use crate::Sides;
+use crate::rows::Rows;
 use fs_cert_evidence::Pairs;
 use fs_kinds::{Fault, List, Slot};
 use fs_model::{Test, slots};
-use crate::rows::Rows;
 use std::alloc::{AllocError, Global};
 
 // Operations that load, or those that store.

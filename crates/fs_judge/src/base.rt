@@ -11,9 +11,8 @@ ghost use Rattle.fs_cand_witness.specs.Edges.{has_edge};
 ghost use Rattle.fs_judge.specs.inner.Bases.{IsBase};
 
 use fs_cand::Candidate;
-use fs_cand_witness::{Sides, base_rows, fence_rows, sides_of};
+use fs_cand_witness::{Rows, Sides, base_rows, fence_rows, sides_of};
 use fs_kinds::{Fault, List, Placement};
-use fs_cand_witness::Rows;
 use std::alloc::Global;
 
 /// The judged relation of a candidate without placed fences, the places in its runs where fences may stand, and how

@@ -12,11 +12,10 @@ ghost use Rattle.fs_judge.specs.inner.Findings.{IsFinding};
 use crate::base::Base;
 use crate::links::links_of;
 use fs_cand::Candidate;
-use fs_cand_witness::{Hints, widest_witness};
+use fs_cand_witness::{Hints, Judged, judge, widest_witness};
 use fs_cert_evidence::{Link, Witness};
 use fs_kinds::{Fault, List, Placement, Slot};
 use fs_model::Test;
-use fs_cand_witness::{Judged, judge};
 use std::alloc::Global;
 
 /// What is found of a candidate with placed fences.

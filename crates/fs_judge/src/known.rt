@@ -13,12 +13,11 @@ ghost use Rattle.fs_judge.specs.inner.Bases.{IsKnown};
 use crate::base::Base;
 use crate::executed::candidate_of;
 use fs_cand::Candidate;
-use fs_cand_witness::{Hints, widest_witness};
+use fs_cand_witness::{Hints, has_order, widest_witness};
 use fs_cert_evidence::Witness;
 use fs_check::OrderedCandidate;
 use fs_kinds::{Fault, Placement, Slot};
 use fs_model::Test;
-use fs_cand_witness::has_order;
 use std::alloc::Global;
 
 /// A candidate that shows the outcome, and what is kept of it for judging it with any placement.

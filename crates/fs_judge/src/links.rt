@@ -17,10 +17,9 @@ ghost use Rattle.fs_judge.specs.inner.Links.{IsLink, followers};
 
 use crate::causes::cause;
 use fs_cand::Candidate;
-use fs_cand_witness::operation_name;
+use fs_cand_witness::{Rows, operation_name};
 use fs_cert_evidence::Link;
 use fs_kinds::{Fault, List, OperationName, Placement};
-use fs_cand_witness::Rows;
 use std::alloc::Global;
 
 /// The number after the one at this place of a cycle: the next one, or the first after the last.

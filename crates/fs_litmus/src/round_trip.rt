@@ -9,8 +9,8 @@ ghost use Rattle.fs_model.specs.Test.{IsTest, IsSame};
 ghost use Rattle.fs_litmus.specs.Reads.{Reads};
 ghost use Rattle.fs_litmus.specs.Fence.{IsFenceFault, ReadsBack};
 
-use fs_kinds::{Fault, Placement};
 use crate::reader::read_test;
+use fs_kinds::{Fault, Placement};
 use fs_model::{Test, write_fenced};
 use std::alloc::Global;
 
