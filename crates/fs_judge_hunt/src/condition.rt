@@ -127,8 +127,10 @@ pub(crate) fn within(nodes: &[Node], number: usize) -> &[Node] {
     let Some(behind) = nodes.get(number..) else {
         return &[];
     };
-    let size = behind.first().map_or(0, |node| node.size);
-    behind.get(..size).unwrap_or(&[])
+    match behind.first() {
+        Some(node) => behind.get(..node.size).unwrap_or(&[]),
+        None => &[],
+    }
 }
 
 /// The number of the left part, or the only one.
@@ -139,5 +141,8 @@ pub(crate) fn left_of(number: usize) -> usize {
 /// The number of the right part.
 pub(crate) fn right_of(nodes: &[Node], number: usize) -> usize {
     let left = left_of(number);
-    left.saturating_add(nodes.get(left).map_or(1, |node| node.size))
+    match nodes.get(left) {
+        Some(node) => left.saturating_add(node.size),
+        None => left.saturating_add(1),
+    }
 }

@@ -10,7 +10,7 @@ use crate::needs::{Need, SlotPairs};
 use crate::region::{Field, Region};
 use crate::splits::{Decision, Splitter};
 use crate::trail::{Dead, Mark, Trail};
-use crate::tree::{Branching, Fresh, Held, Leaf, Node, Tree, are_firm};
+use crate::tree::{Branching, Fresh, Held, Leaf, Node, Tree, are_firm, move_needs};
 use std::alloc::{AllocError, Global};
 use std::sync::Arc;
 
@@ -128,10 +128,26 @@ impl Search {
                 break;
             }
             if let Some(branching) = self.tree.branching(frame.node) {
-                branching.move_needs(need, used, placed)?;
+                move_needs(&branching.held, need, used, Some(placed))?;
             }
         }
         Ok(())
+    }
+
+    /// Adds what the step needs, which follows behind these in the region below the path.
+    fn add_step_needs(
+        &self,
+        need: &mut Need,
+        ground: Ground<'_>,
+        region: &Region,
+        step: &Step,
+        held: &[Held],
+    ) -> Result<(), AllocError> {
+        let placed = &ground.field.fences.pairs;
+        let mut used = step.used();
+        step.ending.clash.add_needs(need, ground.field, region)?;
+        move_needs(held, need, &mut used, None)?;
+        self.add_needs_above(need, &mut used, placed)
     }
 
     /// What the steps, which follow in the region below the path, need.
@@ -141,21 +157,10 @@ impl Search {
         region: &Region,
         steps: Vec<Step>,
     ) -> Result<Vec<Held>, AllocError> {
-        let placed = &ground.field.fences.pairs;
-        let mut all: Vec<Held> = Vec::new(ground.alloc);
+        let mut all = Vec::new(ground.alloc);
         for step in steps {
             let mut need = Need::new(ground.alloc);
-            step.ending
-                .clash
-                .add_needs(&mut need, ground.field, region)?;
-            let mut used = step.used();
-            for held in all.iter().rev() {
-                if used.has(held.step.first, held.step.second) {
-                    need.join(&held.need)?;
-                    used.remove(held.step.first, held.step.second);
-                }
-            }
-            self.add_needs_above(&mut need, &mut used, placed)?;
+            self.add_step_needs(&mut need, ground, region, &step, &all)?;
             all.push(Held { step, need })?;
         }
         Ok(all)
@@ -172,18 +177,7 @@ impl Search {
         let known = self.known(self.path.len(), placed);
         let mut need = Need::new(ground.alloc);
         let mut used = dead.ending.used.relation();
-        dead.ending
-            .clash
-            .add_needs(&mut need, ground.field, region)?;
-        for step in dead.steps.iter().rev() {
-            if used.has(step.first, step.second) && !known.has(step.first, step.second) {
-                used.remove(step.first, step.second);
-                used.join(&step.used());
-                step.ending
-                    .clash
-                    .add_needs(&mut need, ground.field, region)?;
-            }
-        }
+        dead.add_needs(&mut need, &mut used, ground.field, region, &known)?;
         self.add_needs_above(&mut need, &mut used, placed)?;
         Ok(need)
     }
@@ -300,12 +294,14 @@ impl Search {
 
     /// Follows with any fences what followed on the path, and this?
     fn is_firm(&self, held: &[Held]) -> bool {
+        for frame in &self.path {
+            if let Some(branching) = self.tree.branching(frame.node) {
+                if !are_firm(&branching.held) {
+                    return false;
+                }
+            }
+        }
         are_firm(held)
-            && self.path.iter().all(|frame| {
-                self.tree
-                    .branching(frame.node)
-                    .is_none_or(|branching| are_firm(&branching.held))
-            })
     }
 
     /// The split that is made of the region of the node below the path.
@@ -327,6 +323,20 @@ impl Search {
         chooser.split(&mut self.trail)
     }
 
+    /// The node of a part into which the path goes at its end.
+    fn node_of(&mut self, ground: Ground<'_>, child: Child) -> Result<Node, AllocError> {
+        match child {
+            Child::Ended(dead, region) => {
+                let leaf = self.leaf(ground, &region, dead)?;
+                Node::ended(ground.alloc, leaf)
+            }
+            Child::Open(region, steps) => {
+                let hunt = self.hunt;
+                Node::of(ground.alloc, region, Some(Fresh { hunt, steps }))
+            }
+        }
+    }
+
     /// Puts the parts of the node at the path's end into the tree.
     fn add_parts(&mut self, ground: Ground<'_>, children: Vec<Child>) -> Result<(), AllocError> {
         let mut part: usize = 0;
@@ -335,20 +345,7 @@ impl Search {
                 frame.part = part;
             }
             part = part.saturating_add(1);
-            let mut node = Node::new(ground.alloc);
-            match child {
-                Child::Ended(dead, region) => {
-                    let leaf = self.leaf(ground, &region, dead)?;
-                    node.add_leaf(leaf)?;
-                }
-                Child::Open(region, steps) => {
-                    node.region = Some(Box::new(ground.alloc, region)?);
-                    node.fresh = Some(Fresh {
-                        hunt: self.hunt,
-                        steps,
-                    });
-                }
-            }
+            let node = self.node_of(ground, child)?;
             self.tree.nodes.push(node)?;
         }
         Ok(())
@@ -428,9 +425,10 @@ impl Search {
         }
         let mut known = self.known(self.path.len().saturating_sub(1), placed);
         branching.add_held(&mut known, placed);
-        branching
-            .known_part(&known)
-            .is_some_and(|part| part != frame.part)
+        match branching.known_part(&known) {
+            Some(part) => part != frame.part,
+            None => false,
+        }
     }
 
     /// The next node, if the one at the path's end has a part left; else that one is done.
@@ -447,15 +445,21 @@ impl Search {
                 Some(next)
             };
         }
-        let has_many = self.tree.nodes.len() > MANY_NODES;
-        let frame = self.path.pop()?;
+        self.go_up();
+        None
+    }
+
+    /// The node at the path's end is done.
+    fn go_up(&mut self) {
+        let Some(frame) = self.path.pop() else {
+            return;
+        };
         self.trail.go_back(&frame.mark);
-        if has_many && frame.node != 0 {
+        if self.tree.nodes.len() > MANY_NODES && frame.node != 0 {
             if let Some(node) = self.tree.nodes.get_mut(frame.node) {
                 node.region = None;
             }
         }
-        None
     }
 
     /// Each node of the path keeps in which of its parts something was shown.

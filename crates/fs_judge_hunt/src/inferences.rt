@@ -151,8 +151,9 @@ impl Writer<'_> {
             let part = frame.left;
             let mut known = frame.known;
             if let Some(branching) = tree.branching(frame.node) {
-                if branching.known_part(&known).is_some_and(|one| one != part) {
-                    return Ok(());
+                match branching.known_part(&known) {
+                    Some(one) if one != part => return Ok(()),
+                    _ => {}
                 }
                 branching.add_decided(&mut known, part);
                 let number = branching.first.saturating_add(part);

@@ -53,7 +53,10 @@ fn lacking(region: &Region, facts: &Facts, edges: &[Edge]) -> Option<u8> {
     let mut found = None;
     for (place, edge) in edges.iter().enumerate() {
         let next = edges.get(place.saturating_add(1)).or(edges.first());
-        let next = next.map_or(edge.name, |next| next.name);
+        let next = match next {
+            Some(next) => next.name,
+            None => edge.name,
+        };
         match lack_of(region, facts, edge, next) {
             Lack::Nothing => {}
             Lack::Source(load) if found.is_none() || found == Some(load) => found = Some(load),
@@ -71,10 +74,19 @@ impl Learned {
         }
     }
 
+    /// Is the cycle there?
+    fn has(&self, edges: &[Edge]) -> bool {
+        for known in &self.cycles {
+            if are_same(known, edges) {
+                return true;
+            }
+        }
+        false
+    }
+
     /// Keeps the cycle, if it is new and there is room.
     pub(crate) fn add(&mut self, alloc: Global, edges: &[Edge]) -> Result<(), AllocError> {
-        let is_known = self.cycles.iter().any(|known| are_same(known, edges));
-        if !is_known && self.cycles.len() < MOST_CYCLES {
+        if self.cycles.len() < MOST_CYCLES && !self.has(edges) {
             let mut cycle = Vec::new(alloc);
             cycle.extend_from_slice(edges)?;
             self.cycles.push(cycle)?;
@@ -98,5 +110,13 @@ impl Learned {
 
 /// Are the two one cycle, from the same name on?
 fn are_same(known: &[Edge], edges: &[Edge]) -> bool {
-    known.len() == edges.len() && known.iter().zip(edges).all(|(one, other)| *one == *other)
+    if known.len() != edges.len() {
+        return false;
+    }
+    for (one, other) in known.iter().zip(edges) {
+        if *one != *other {
+            return false;
+        }
+    }
+    true
 }

@@ -50,23 +50,30 @@ fn has_sources(region: &Region, rule: &Rule) -> bool {
 
 /// The rule among these that puts the one before the other in each run.
 fn rule_in(rules: &[Rule], region: &Region, row: &[u64], first: u8, second: u8) -> Option<Cause> {
-    let rule = rules.iter().find(|rule| {
-        rule.first == first
+    for rule in rules {
+        if rule.first == first
             && rule.second == second
             && has_sources(region, rule)
             && (rule.is_whole || is_within(row, &rule.row))
-    })?;
-    Some(cause_of(rule.number))
+        {
+            return Some(cause_of(rule.number));
+        }
+    }
+    None
 }
 
 /// Does rule 12 do so?
 fn is_forwarded(hart: &Hart, region: &Region, row: &[u64], first: u8, second: u8) -> bool {
-    hart.forwarded.iter().any(|forwarded| {
-        forwarded.first == first
+    for forwarded in &hart.forwarded {
+        if forwarded.first == first
             && forwarded.second == second
             && region.origin(second) == Origin::From(forwarded.store)
             && is_within(row, &forwarded.row)
-    })
+        {
+            return true;
+        }
+    }
+    false
 }
 
 /// Why a rule but 4 puts the one before the other.
@@ -138,11 +145,30 @@ impl Edge {
 
 /// The place of the edge with the least name.
 fn least(edges: &[Edge]) -> usize {
-    let least = edges.iter().map(|edge| edge.name).min();
-    edges
-        .iter()
-        .position(|edge| Some(edge.name) == least)
-        .unwrap_or(0)
+    let mut found = 0;
+    let mut least = u8::MAX;
+    for (place, edge) in edges.iter().enumerate() {
+        if edge.name < least {
+            least = edge.name;
+            found = place;
+        }
+    }
+    found
+}
+
+/// Adds the links of these edges.
+fn push_links(
+    links: &mut Vec<Link>,
+    field: Field<'_>,
+    edges: &[Edge],
+) -> Result<(), AllocError> {
+    for edge in edges {
+        links.push(Link {
+            operation: field.name(edge.name),
+            cause: edge.cause,
+        })?;
+    }
+    Ok(())
 }
 
 /// The cycle of these edges, from its least name on.
@@ -153,13 +179,7 @@ pub(crate) fn inference_of(
 ) -> Result<Inference, AllocError> {
     let least = least(edges);
     let mut links = Vec::new(alloc);
-    let behind = edges.get(least..).unwrap_or(&[]);
-    let before = edges.get(..least).unwrap_or(&[]);
-    for edge in behind.iter().chain(before.iter()) {
-        links.push(Link {
-            operation: field.name(edge.name),
-            cause: edge.cause,
-        })?;
-    }
+    push_links(&mut links, field, edges.get(least..).unwrap_or(&[]))?;
+    push_links(&mut links, field, edges.get(..least).unwrap_or(&[]))?;
     Ok(Inference::Cycle(List::new(links)))
 }

@@ -1,10 +1,11 @@
 //! Regions: what is known of the candidates that are in one.
 
+use crate::access::Doing;
 use crate::condition::{Node, Wanted};
 use crate::hart::Hart;
 use crate::names::{MOST_NAMES, Origin, Relation};
 use crate::needs::Fences;
-use crate::rows::{Row, are_same, both, is_empty};
+use crate::rows::{Row, are_same, both, is_empty, is_within};
 use crate::rules::Rule;
 use crate::sum::{Left, left_with};
 use fs_kinds::{List, OperationName};
@@ -56,6 +57,11 @@ impl<'a> Field<'a> {
 
     pub(crate) fn hart_of(&self, name: u8) -> Option<&'a Hart> {
         self.harts.get(usize::from(self.owner(name)))
+    }
+
+    /// What the runs of its hart do at the name.
+    pub(crate) fn doing(&self, name: u8) -> Option<&'a Doing> {
+        self.hart_of(name)?.doing(name)
     }
 
     /// The rows of rule 4 in this hart.
@@ -200,13 +206,18 @@ impl Region {
         Ok(Some(region))
     }
 
+    /// Are its runs among the other's?
+    pub(crate) fn is_in(&self, other: &Region) -> bool {
+        for (one, left) in self.left.iter().zip(other.left.iter()) {
+            if !is_within(&one.row, &left.row) {
+                return false;
+            }
+        }
+        true
+    }
+
     /// Have the two the same runs and sources?
     pub(crate) fn is_like(&self, other: &Region) -> bool {
-        self.origins == other.origins
-            && self
-                .left
-                .iter()
-                .zip(other.left.iter())
-                .all(|(one, left)| are_same(&one.row, &left.row))
+        self.origins == other.origins && self.is_in(other) && other.is_in(self)
     }
 }
