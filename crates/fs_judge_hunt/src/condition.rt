@@ -108,16 +108,32 @@ fn size_of(part: Part, sizes: &mut Vec<usize>) -> usize {
     size.saturating_add(1)
 }
 
-/// The condition's parts.
-pub fn nodes(alloc: Global, condition: &Outcome) -> Result<Vec<Node>, AllocError> {
-    let parts = parts(alloc, condition)?;
+/// Adds the part with its size.
+fn push_node(
+    nodes: &mut Vec<Node>,
+    sizes: &mut Vec<usize>,
+    part: &Part,
+) -> Result<(), AllocError> {
+    let size = size_of(*part, sizes);
+    sizes.push(size)?;
+    nodes.push(Node { part: *part, size })?;
+    Ok(())
+}
+
+/// The parts with their sizes, the last one first.
+fn sized(alloc: Global, parts: &[Part]) -> Result<Vec<Node>, AllocError> {
     let mut nodes = Vec::new(alloc);
     let mut sizes = Vec::new(alloc);
     for part in parts.iter().rev() {
-        let size = size_of(*part, &mut sizes);
-        sizes.push(size)?;
-        nodes.push(Node { part: *part, size })?;
+        push_node(&mut nodes, &mut sizes, part)?;
     }
+    Ok(nodes)
+}
+
+/// The condition's parts.
+pub fn nodes(alloc: Global, condition: &Outcome) -> Result<Vec<Node>, AllocError> {
+    let parts = parts(alloc, condition)?;
+    let mut nodes = sized(alloc, &parts)?;
     nodes.reverse();
     Ok(nodes)
 }

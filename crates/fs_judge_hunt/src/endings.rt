@@ -163,8 +163,10 @@ impl<'a> Outlook<'a> {
     fn may(&self, alloc: Global, wanted: Wanted) -> Result<bool, AllocError> {
         let nodes: &[Node] = within(self.field.nodes, wanted.node);
         let mut stack = Vec::new(alloc);
-        for (place, node) in nodes.iter().enumerate().rev() {
-            self.step(&mut stack, node.part, wanted.node.saturating_add(place))?;
+        let mut number = wanted.node.saturating_add(nodes.len());
+        for node in nodes.iter().rev() {
+            number = number.saturating_sub(1);
+            self.step(&mut stack, node.part, number)?;
         }
         Ok(match stack.pop() {
             Some(Truth { yes, no }) => if wanted.truth { yes } else { no },

@@ -2,7 +2,7 @@
 //! is likely to end a region.
 
 use crate::facts::Facts;
-use crate::links::Edge;
+use crate::links::{Edge, edge_after};
 use crate::names::{MOST_NAMES, Origin, has};
 use crate::region::Region;
 use fs_cert_evidence::Cause;
@@ -52,8 +52,7 @@ fn lack_of(region: &Region, facts: &Facts, edge: &Edge, next: u8) -> Lack {
 fn lacking(region: &Region, facts: &Facts, edges: &[Edge]) -> Option<u8> {
     let mut found = None;
     for (place, edge) in edges.iter().enumerate() {
-        let next = edges.get(place.saturating_add(1)).or(edges.first());
-        let next = match next {
+        let next = match edge_after(edges, place) {
             Some(next) => next.name,
             None => edge.name,
         };

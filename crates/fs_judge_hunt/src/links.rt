@@ -106,6 +106,14 @@ fn cause(field: Field<'_>, region: &Region, facts: &Facts, first: u8, second: u8
     }
 }
 
+/// The edge behind the one of this place, which is the first behind the last.
+pub(crate) fn edge_after(edges: &[Edge], place: usize) -> Option<&Edge> {
+    match edges.get(place.saturating_add(1)) {
+        Some(edge) => Some(edge),
+        None => edges.first(),
+    }
+}
+
 /// Adds what the links of the cycle that rule 4 gives need in the region.
 pub(crate) fn add_needs(
     need: &mut Need,
@@ -114,17 +122,29 @@ pub(crate) fn add_needs(
     edges: &[Edge],
 ) -> Result<(), AllocError> {
     for (place, edge) in edges.iter().enumerate() {
-        let next = edges.get(place.saturating_add(1)).or(edges.first());
-        let (Some(hart), Some(next)) = (field.hart_of(edge.name), next) else {
-            continue;
-        };
         if edge.cause == Cause::Rule4 {
-            let row = region.row(field.owner(edge.name));
-            let (first, second) = (field.name(edge.name), field.name(next.name));
-            add_fences(need, hart, row, field.fences.entries, first, second)?;
+            if let Some(next) = edge_after(edges, place) {
+                add_need(need, field, region, edge.name, next.name)?;
+            }
         }
     }
     Ok(())
+}
+
+/// Adds what rule 4 needs to put the one before the other.
+fn add_need(
+    need: &mut Need,
+    field: Field<'_>,
+    region: &Region,
+    first: u8,
+    second: u8,
+) -> Result<(), AllocError> {
+    let row = region.row(field.owner(first));
+    let (one, other) = (field.name(first), field.name(second));
+    match field.hart_of(first) {
+        Some(hart) => add_fences(need, hart, row, field.fences.entries, one, other),
+        None => Ok(()),
+    }
 }
 
 impl Edge {

@@ -202,36 +202,39 @@ impl Outlook<'_> {
         }
     }
 
-    /// The hart's runs with which the wanted condition may have its truth value.
-    fn may_row(
+    /// Drops from the hart's runs those with which the wanted condition can't have its truth value.
+    fn narrow_by(
         &self,
         alloc: Global,
         hart: u8,
         found: &Hart,
+        row: &mut [u64],
         wanted: Wanted,
-    ) -> Result<Option<Row>, AllocError> {
+    ) -> Result<(), AllocError> {
         let nodes: &[Node] = within(self.field.nodes, wanted.node);
         let mut stack = Vec::new(alloc);
-        for (place, node) in nodes.iter().enumerate().rev() {
-            let number = wanted.node.saturating_add(place);
+        let mut number = wanted.node.saturating_add(nodes.len());
+        for node in nodes.iter().rev() {
+            number = number.saturating_sub(1);
             self.step_marks(alloc, hart, found, &mut stack, (node.part, number))?;
         }
-        match stack.pop() {
-            Some(Marks { yes, no }) => Ok(Some(if wanted.truth { yes } else { no })),
-            None => Ok(None),
+        if let Some(Marks { yes, no }) = stack.pop() {
+            if wanted.truth {
+                narrow(row, &yes);
+            } else {
+                narrow(row, &no);
+            }
         }
+        Ok(())
     }
 
     /// The hart's runs with each of which every wanted condition may have its truth value.
     pub(crate) fn showing(&self, alloc: Global, hart: u8) -> Result<Row, AllocError> {
         let mut row = Vec::new(alloc);
         row.extend_from_slice(self.region.row(hart))?;
-        let Some(found) = self.field.harts.get(usize::from(hart)) else {
-            return Ok(row);
-        };
-        for wanted in self.region.wanted.iter() {
-            if let Some(may) = self.may_row(alloc, hart, found, *wanted)? {
-                narrow(&mut row, &may);
+        if let Some(found) = self.field.harts.get(usize::from(hart)) {
+            for wanted in self.region.wanted.iter() {
+                self.narrow_by(alloc, hart, found, &mut row, *wanted)?;
             }
         }
         Ok(row)

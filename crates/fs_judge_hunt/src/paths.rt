@@ -88,15 +88,20 @@ pub(crate) fn way(
     Ok(Vec::new(alloc))
 }
 
+/// The name behind the one of this place in a cycle.
+pub(crate) fn name_after(cycle: &[u8], place: usize) -> u8 {
+    match cycle.get(place.saturating_add(1)) {
+        Some(name) => *name,
+        None => cycle.first().copied().unwrap_or(0),
+    }
+}
+
 /// How many steps of the cycle the relation has.
 fn count_in(relation: &Relation, cycle: &[u8]) -> usize {
     let mut count: usize = 0;
     for (place, name) in cycle.iter().enumerate() {
-        let next = cycle.get(place.saturating_add(1)).or(cycle.first());
-        if let Some(next) = next {
-            if relation.has(*name, *next) {
-                count = count.saturating_add(1);
-            }
+        if relation.has(*name, name_after(cycle, place)) {
+            count = count.saturating_add(1);
         }
     }
     count

@@ -5,7 +5,7 @@ use crate::endings::Outlook;
 use crate::facts::Facts;
 use crate::links::Edge;
 use crate::names::{MOST_NAMES, Pairs, Relation, bit, has};
-use crate::paths::{cycle, way};
+use crate::paths::{cycle, name_after, way};
 use crate::region::{Field, Region};
 use crate::uses::of_filter;
 use fs_cert_evidence::Cause;
@@ -151,8 +151,7 @@ impl Round<'_> {
         let mut used = Pairs::new(self.alloc);
         for (place, name) in names.iter().enumerate() {
             let is_last = place.saturating_add(1) == names.len();
-            let next = names.get(place.saturating_add(1)).or(names.first());
-            let next = next.copied().unwrap_or(0);
+            let next = name_after(names, place);
             let edge = match closing {
                 Some(cause) if is_last => Edge { name: *name, cause },
                 _ => Edge::found(self.field, region, &self.view.facts, &mut used, *name, next)?,

@@ -99,11 +99,22 @@ impl Splitter<'_> {
         let hart = self.field.owner(name);
         if let Some(doing) = self.field.doing(name) {
             for group in &doing.choices {
-                let some = region.with_some(self.alloc, self.field, hart, &group.row)?;
-                push_some(&mut left, some)?;
+                self.push_with(&mut left, region, hart, &group.row)?;
             }
         }
         Ok(left)
+    }
+
+    /// Adds the region with only those of the hart's runs that are in the row, if one is.
+    fn push_with(
+        self,
+        left: &mut Vec<Region>,
+        region: &Region,
+        hart: u8,
+        row: &[u64],
+    ) -> Result<(), AllocError> {
+        let some = region.with_some(self.alloc, self.field, hart, row)?;
+        push_some(left, some)
     }
 
     fn by_source(
@@ -131,8 +142,7 @@ impl Splitter<'_> {
     ) -> Result<(), AllocError> {
         let hart = self.field.owner(load);
         let idle = without(self.alloc, region.row(hart), &doing.loads.any)?;
-        let some = region.with_some(self.alloc, self.field, hart, &idle)?;
-        push_some(left, some)
+        self.push_with(left, region, hart, &idle)
     }
 
     /// Adds those in which it returns what its location begins with, if they may be left.
@@ -275,10 +285,7 @@ impl Splitter<'_> {
         };
         let row = outlook.showing(self.alloc, hart)?;
         let mut left = Vec::new(self.alloc);
-        push_some(
-            &mut left,
-            region.with_some(self.alloc, self.field, hart, &row)?,
-        )?;
+        self.push_with(&mut left, region, hart, &row)?;
         Ok(left)
     }
 }
