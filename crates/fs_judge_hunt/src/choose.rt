@@ -132,21 +132,17 @@ impl Chooser<'_> {
         decision: Decision,
         most: usize,
     ) -> Result<Option<Split>, AllocError> {
-        let mut regions = self.splitter().children(self.region, self.facts, decision)?;
+        let regions = self.splitter().children(self.region, self.facts, decision)?;
         if is_vain(self.region, decision, &regions) {
             return Ok(None);
         }
-        regions.reverse();
         let mut split = Split {
             decision,
             children: Vec::new(self.alloc),
             used: self.used(decision),
             live: 0,
         };
-        for _ in 0..regions.len() {
-            let Some(region) = regions.pop() else {
-                break;
-            };
+        for region in regions {
             self.add_child(trail, &mut split, region, most)?;
         }
         trail.set_open(decision, split.live);

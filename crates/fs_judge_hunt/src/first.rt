@@ -65,10 +65,15 @@ fn place_of_first(regions: &[Region], store: u8, stores: u64) -> usize {
 }
 
 impl Narrowing<'_> {
+    fn hunt(&self, region: &Region) -> Result<Hunted, AllocError> {
+        let copy = region.copy(self.alloc)?;
+        let mut search = Search::new(self.alloc, copy)?;
+        search.hunt(self.alloc, self.field, self.limits)
+    }
+
     /// Takes the smaller region, if it shows something.
     fn take(&mut self, smaller: Region) -> Result<Tried, AllocError> {
-        let mut search = Search::new(self.alloc, smaller.copy(self.alloc)?)?;
-        match search.hunt(self.alloc, self.field, self.limits)? {
+        match self.hunt(&smaller)? {
             Hunted::Shown(found) => {
                 self.region = smaller;
                 self.found = found;
@@ -80,12 +85,9 @@ impl Narrowing<'_> {
     }
 
     /// Takes the first of the smaller regions that shows something. What was found is in the one at this place.
-    fn take_first(&mut self, mut regions: Vec<Region>, place: usize) -> Result<Tried, AllocError> {
-        regions.reverse();
-        for number in 0..regions.len() {
-            let Some(smaller) = regions.pop() else {
-                break;
-            };
+    fn take_first(&mut self, regions: Vec<Region>, place: usize) -> Result<Tried, AllocError> {
+        let mut number: usize = 0;
+        for smaller in regions {
             if number == place {
                 self.region = smaller;
                 return Ok(Tried::Shown);
@@ -94,17 +96,17 @@ impl Narrowing<'_> {
             if tried != Tried::Refuted {
                 return Ok(tried);
             }
+            number = number.saturating_add(1);
         }
         Ok(Tried::GaveUp)
     }
 
     fn children(&self, decision: Decision) -> Result<Vec<Region>, AllocError> {
-        let facts = Facts::of(self.field, &self.region);
         let splitter = Splitter {
             alloc: self.alloc,
             field: self.field,
         };
-        splitter.children(&self.region, &facts, decision)
+        splitter.parts(&self.region, decision)
     }
 
     /// The least choice at each name.

@@ -209,12 +209,11 @@ impl Search {
         };
         let mut bare = region;
         bare.before = self.known(depth.saturating_add(1), &SlotPairs::new());
-        let facts = Facts::of(ground.field, &bare);
         let splitter = Splitter {
             alloc: ground.alloc,
             field: ground.field,
         };
-        let mut parts = splitter.children(&bare, &facts, branching.decision)?;
+        let mut parts = splitter.parts(&bare, branching.decision)?;
         if frame.part >= parts.len() {
             return Ok(None);
         }
@@ -279,6 +278,15 @@ impl Search {
             return Ok(None);
         };
         region.before = self.known(self.path.len(), &ground.field.fences.pairs);
+        self.look_at(ground, node, region)
+    }
+
+    fn look_at(
+        &mut self,
+        ground: Ground<'_>,
+        node: usize,
+        region: Region,
+    ) -> Result<Option<(Region, Vec<Step>)>, AllocError> {
         self.trail.looks = self.trail.looks.saturating_add(1);
         match look(ground.alloc, ground.field, region)? {
             Child::Ended(dead, region) => {
@@ -373,18 +381,21 @@ impl Search {
             count: split.children.len(),
             shown: 0,
         };
-        if let Some(node) = self.tree.nodes.get_mut(node) {
-            node.region = Some(Box::new(ground.alloc, region)?);
-            node.branching = Some(Box::new(ground.alloc, branching)?);
-        }
+        self.tree.branch(ground.alloc, node, region, branching)?;
+        self.go_down(node, mark)?;
+        self.add_parts(ground, split.children)?;
+        Ok(None)
+    }
+
+    /// Puts the node on the path.
+    fn go_down(&mut self, node: usize, mark: Mark) -> Result<(), AllocError> {
         self.path.push(Frame {
             node,
             taken: 0,
             part: 0,
             mark,
         })?;
-        self.add_parts(ground, split.children)?;
-        Ok(None)
+        Ok(())
     }
 
     /// Looks through the node below the path. Its region where nothing is left to decide.
@@ -398,12 +409,7 @@ impl Search {
         }
         if known.branching.is_some() {
             let mark = self.trail.mark();
-            self.path.push(Frame {
-                node,
-                taken: 0,
-                part: 0,
-                mark,
-            })?;
+            self.go_down(node, mark)?;
             return Ok(None);
         }
         match self.open(ground, node)? {
@@ -479,6 +485,14 @@ impl Search {
         self.entered.max(made) > limits.regions || self.trail.looks > limits.looks
     }
 
+    fn begin(&mut self, alloc: Global) {
+        self.path = Vec::new(alloc);
+        self.trail = Trail::new(alloc);
+        self.hunt = self.hunt.wrapping_add(1);
+        self.entered = 0;
+        self.before = self.tree.nodes.len();
+    }
+
     /// Looks through the tree, within the limits.
     pub(crate) fn hunt(
         &mut self,
@@ -487,11 +501,7 @@ impl Search {
         limits: Limits,
     ) -> Result<Hunted, AllocError> {
         let ground = Ground { alloc, field };
-        self.path = Vec::new(alloc);
-        self.trail = Trail::new(alloc);
-        self.hunt = self.hunt.wrapping_add(1);
-        self.entered = 0;
-        self.before = self.tree.nodes.len();
+        self.begin(alloc);
         let mut next = Some(0);
         for _ in 0..limits.regions.saturating_mul(4).saturating_add(8) {
             if self.has_passed(limits) {

@@ -253,7 +253,16 @@ impl Hunter {
         most: usize,
     ) -> Result<Found, AllocError> {
         let fenced = all_fenced(alloc, &self.runs.harts, placement)?;
-        let field = self.field(&fenced, placement);
+        self.hunt_in(alloc, self.field(&fenced, placement), kept, most)
+    }
+
+    fn hunt_in(
+        &self,
+        alloc: Global,
+        field: Field<'_>,
+        kept: &mut Kept,
+        most: usize,
+    ) -> Result<Found, AllocError> {
         let Some(mut search) = self.search(alloc, field, kept)? else {
             return Ok(Found::Refuted(List::new(Vec::new(alloc))));
         };
@@ -302,7 +311,15 @@ impl Hunter {
         placement: &Placement,
     ) -> Result<Option<Execution>, AllocError> {
         let fenced = all_fenced(alloc, &self.runs.harts, placement)?;
-        let field = self.field(&fenced, placement);
+        self.glimpse_in(alloc, self.field(&fenced, placement), kept)
+    }
+
+    fn glimpse_in(
+        &self,
+        alloc: Global,
+        field: Field<'_>,
+        kept: &mut Kept,
+    ) -> Result<Option<Execution>, AllocError> {
         let Some(mut search) = self.search(alloc, field, kept)? else {
             return Ok(None);
         };
@@ -325,7 +342,15 @@ impl Hunter {
         most: usize,
     ) -> Result<Found, AllocError> {
         let fenced = all_fenced(alloc, &self.runs.harts, placement)?;
-        let field = self.field(&fenced, placement);
+        self.first_in(alloc, self.field(&fenced, placement), most)
+    }
+
+    fn first_in(
+        &self,
+        alloc: Global,
+        field: Field<'_>,
+        most: usize,
+    ) -> Result<Found, AllocError> {
         let Some(root) = field.root(alloc, self.condition.truth)? else {
             return Ok(Found::Refuted(List::new(Vec::new(alloc))));
         };

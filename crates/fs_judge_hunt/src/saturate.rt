@@ -32,6 +32,26 @@ pub(crate) struct View {
     pub(crate) closure: Relation,
 }
 
+impl View {
+    fn of(facts: Facts) -> View {
+        View {
+            facts,
+            edges: Relation::new(),
+            fenced: Relation::new(),
+            closure: Relation::new(),
+        }
+    }
+
+    /// Takes the order of stores that is known now.
+    fn renew(&mut self, region: &Region, count: u8) {
+        self.edges = self.facts.plain_edges(region, count);
+        self.fenced = self.facts.fenced;
+        self.fenced.leave_out(&self.edges);
+        self.edges.join(&self.fenced);
+        self.closure = self.edges.closure(count);
+    }
+}
+
 /// What follows in the region.
 pub(crate) fn saturate(
     alloc: Global,
@@ -44,19 +64,9 @@ pub(crate) fn saturate(
         steps: Vec::new(alloc),
         ending: None,
     };
-    let facts = Facts::of(field, &looked.region);
-    let mut view = View {
-        facts,
-        edges: Relation::new(),
-        fenced: Relation::new(),
-        closure: Relation::new(),
-    };
+    let mut view = View::of(Facts::of(field, &looked.region));
     for _ in 0..MOST_ROUNDS {
-        view.edges = view.facts.plain_edges(&looked.region, field.count);
-        view.fenced = view.facts.fenced;
-        view.fenced.leave_out(&view.edges);
-        view.edges.join(&view.fenced);
-        view.closure = view.edges.closure(field.count);
+        view.renew(&looked.region, field.count);
         let round = Round {
             alloc,
             field,

@@ -94,6 +94,16 @@ impl Splitter<'_> {
         }
     }
 
+    /// The same, by what must hold in the region.
+    pub(crate) fn parts(
+        self,
+        region: &Region,
+        decision: Decision,
+    ) -> Result<Vec<Region>, AllocError> {
+        let facts = Facts::of(self.field, region);
+        self.children(region, &facts, decision)
+    }
+
     fn by_choice(self, region: &Region, name: u8) -> Result<Vec<Region>, AllocError> {
         let mut left = Vec::new(self.alloc);
         let hart = self.field.owner(name);

@@ -222,6 +222,23 @@ impl Tree {
         Ok(Tree { nodes, start })
     }
 
+    /// Puts into the node how its region is split.
+    pub(crate) fn branch(
+        &mut self,
+        alloc: Global,
+        number: usize,
+        region: Region,
+        branching: Branching,
+    ) -> Result<(), AllocError> {
+        let region = Box::new(alloc, region)?;
+        let branching = Box::new(alloc, branching)?;
+        if let Some(node) = self.nodes.get_mut(number) {
+            node.region = Some(region);
+            node.branching = Some(branching);
+        }
+        Ok(())
+    }
+
     pub(crate) fn node(&self, number: usize) -> Option<&Node> {
         self.nodes.get(number)
     }
