@@ -437,22 +437,27 @@ impl Search {
         }
     }
 
-    /// The next node, if the one at the path's end has a part left; else that one is done.
-    fn advance(&mut self, placed: &SlotPairs) -> Option<usize> {
+    /// Takes the next part of the node at the path's end, if it has one left.
+    fn next_part(&mut self) -> Option<usize> {
         let frame = self.path.last_mut()?;
         let branching = self.tree.branching(frame.node)?;
-        if frame.taken < branching.count {
-            frame.part = branching.part(frame.taken);
-            frame.taken = frame.taken.saturating_add(1);
-            let next = branching.first.saturating_add(frame.part);
-            return if self.is_contrary(placed) {
-                None
-            } else {
-                Some(next)
-            };
+        if frame.taken >= branching.count {
+            return None;
         }
-        self.go_up();
-        None
+        frame.part = branching.part(frame.taken);
+        frame.taken = frame.taken.saturating_add(1);
+        Some(branching.first.saturating_add(frame.part))
+    }
+
+    /// The next node, if the one at the path's end has a part left; else that one is done.
+    fn advance(&mut self, placed: &SlotPairs) -> Option<usize> {
+        let next = self.next_part();
+        if next.is_none() {
+            self.go_up();
+        } else if self.is_contrary(placed) {
+            return None;
+        }
+        next
     }
 
     /// The node at the path's end is done.

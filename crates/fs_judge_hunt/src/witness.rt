@@ -42,11 +42,22 @@ fn choices_of(alloc: Global, hart: &Hart, run: usize) -> Result<Choices, AllocEr
     Ok(Choices::new(choices))
 }
 
+/// Adds those of the first of these runs.
+fn push_choices(
+    alloc: Global,
+    lists: &mut Vec<Choices>,
+    hart: &Hart,
+    row: &[u64],
+) -> Result<(), AllocError> {
+    let choices = choices_of(alloc, hart, first_run(row).unwrap_or(0))?;
+    lists.push(choices)?;
+    Ok(())
+}
+
 fn choices(alloc: Global, field: Field<'_>, region: &Region) -> Result<ChoiceLists, AllocError> {
     let mut lists = Vec::new(alloc);
     for (hart, left) in field.harts.iter().zip(region.left.iter()) {
-        let choices = choices_of(alloc, hart, first_run(&left.row).unwrap_or(0))?;
-        lists.push(choices)?;
+        push_choices(alloc, &mut lists, hart, &left.row)?;
     }
     Ok(ChoiceLists::new(lists))
 }
