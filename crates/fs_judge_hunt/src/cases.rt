@@ -51,8 +51,8 @@ fn ways_of(part: Part, stack: &mut Vec<Ways>) -> Ways {
 /// In how many ways the condition gets its truth value.
 fn ways_in(alloc: Global, nodes: &[Node], truth: bool) -> Result<u64, AllocError> {
     let mut stack = Vec::new(alloc);
-    for node in nodes.iter().rev() {
-        let ways = ways_of(node.part, &mut stack);
+    for place in 0..nodes.len() {
+        let ways = ways_of(nodes[nodes.len() - 1 - place].part, &mut stack);
         stack.push(ways)?;
     }
     let ways = stack.pop().unwrap_or(ONE);
@@ -171,7 +171,12 @@ impl Splitter<'_> {
         match node.part {
             Part::Deny => self.push_parts(left, region, number, &[to_be(one, !truth)]),
             Part::Both | Part::Either if is_at_once(node.part, truth) => {
-                self.push_parts(left, region, number, &[to_be(one, truth), to_be(other, truth)])
+                self.push_parts(
+                    left,
+                    region,
+                    number,
+                    &[to_be(one, truth), to_be(other, truth)],
+                )
             }
             Part::Both | Part::Either => {
                 self.push_parts(left, region, number, &[to_be(one, truth)])?;

@@ -109,11 +109,7 @@ fn size_of(part: Part, sizes: &mut Vec<usize>) -> usize {
 }
 
 /// Adds the part with its size.
-fn push_node(
-    nodes: &mut Vec<Node>,
-    sizes: &mut Vec<usize>,
-    part: &Part,
-) -> Result<(), AllocError> {
+fn push_node(nodes: &mut Vec<Node>, sizes: &mut Vec<usize>, part: &Part) -> Result<(), AllocError> {
     let size = size_of(*part, sizes);
     sizes.push(size)?;
     nodes.push(Node { part: *part, size })?;
@@ -124,8 +120,8 @@ fn push_node(
 fn sized(alloc: Global, parts: &[Part]) -> Result<Vec<Node>, AllocError> {
     let mut nodes = Vec::new(alloc);
     let mut sizes = Vec::new(alloc);
-    for part in parts.iter().rev() {
-        push_node(&mut nodes, &mut sizes, part)?;
+    for place in 0..parts.len() {
+        push_node(&mut nodes, &mut sizes, &parts[parts.len() - 1 - place])?;
     }
     Ok(nodes)
 }

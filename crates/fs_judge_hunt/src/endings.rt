@@ -163,10 +163,13 @@ impl<'a> Outlook<'a> {
     fn may(&self, alloc: Global, wanted: Wanted) -> Result<bool, AllocError> {
         let nodes: &[Node] = within(self.field.nodes, wanted.node);
         let mut stack = Vec::new(alloc);
-        let mut number = wanted.node.saturating_add(nodes.len());
-        for node in nodes.iter().rev() {
-            number = number.saturating_sub(1);
-            self.step(&mut stack, node.part, number)?;
+        for place in 0..nodes.len() {
+            let place = nodes.len() - 1 - place;
+            self.step(
+                &mut stack,
+                nodes[place].part,
+                wanted.node.saturating_add(place),
+            )?;
         }
         Ok(match stack.pop() {
             Some(Truth { yes, no }) => if wanted.truth { yes } else { no },

@@ -123,7 +123,8 @@ impl Search {
         used: &mut Relation,
         placed: &SlotPairs,
     ) -> Result<(), AllocError> {
-        for frame in self.path.iter().rev() {
+        for depth in 0..self.path.len() {
+            let frame = &self.path[self.path.len() - 1 - depth];
             if used.is_empty() {
                 break;
             }

@@ -287,7 +287,9 @@ impl Hunter {
         let mut widest = execution;
         let mut borne = placement.copy()?;
         let mut slots = Vec::new(alloc);
-        for entry in placement.as_slice().iter().rev() {
+        let entries = placement.as_slice();
+        for place in 0..entries.len() {
+            let entry = &entries[entries.len() - 1 - place];
             let mut more = borne.copy()?;
             if more.with(entry.slot, Some(Kind::RwRw)).is_err() {
                 continue;
@@ -345,12 +347,7 @@ impl Hunter {
         self.first_in(alloc, self.field(&fenced, placement), most)
     }
 
-    fn first_in(
-        &self,
-        alloc: Global,
-        field: Field<'_>,
-        most: usize,
-    ) -> Result<Found, AllocError> {
+    fn first_in(&self, alloc: Global, field: Field<'_>, most: usize) -> Result<Found, AllocError> {
         let Some(root) = field.root(alloc, self.condition.truth)? else {
             return Ok(Found::Refuted(List::new(Vec::new(alloc))));
         };

@@ -85,8 +85,9 @@ impl Writer<'_> {
         let start = self.written.len();
         self.write_clash(&leaf.dead.ending.clash)?;
         let mut used = leaf.dead.ending.used.relation();
-        for step in leaf.dead.steps.iter().rev() {
-            self.write_step(step, start, before, &mut used)?;
+        let steps = leaf.dead.steps.as_slice();
+        for place in 0..steps.len() {
+            self.write_step(&steps[steps.len() - 1 - place], start, before, &mut used)?;
         }
         self.hand_up(&used);
         Ok(())
@@ -127,7 +128,8 @@ impl Writer<'_> {
             branching.drop_decided(used);
             self.write_decision(branching.decision)?;
         }
-        for held in branching.held.iter().rev() {
+        for place in 0..branching.held.len() {
+            let held = &branching.held[branching.held.len() - 1 - place];
             if held.need.is_met(&self.placed) {
                 self.write_step(&held.step, frame.start, &frame.above, used)?;
             }

@@ -18,7 +18,7 @@ pub(crate) struct Learned {
 }
 
 /// What a link lacks in a region.
-#[derive(Clone, Copy, PartialEq, Eq)]
+#[derive(Clone, Copy)]
 enum Lack {
     Nothing,
     /// What the load returns from.
@@ -112,8 +112,8 @@ fn are_same(known: &[Edge], edges: &[Edge]) -> bool {
     if known.len() != edges.len() {
         return false;
     }
-    for (one, other) in known.iter().zip(edges) {
-        if *one != *other {
+    for place in 0..known.len().min(edges.len()) {
+        if known[place] != edges[place] {
             return false;
         }
     }

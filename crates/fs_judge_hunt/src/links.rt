@@ -177,11 +177,7 @@ fn least(edges: &[Edge]) -> usize {
 }
 
 /// Adds the links of these edges.
-fn push_links(
-    links: &mut Vec<Link>,
-    field: Field<'_>,
-    edges: &[Edge],
-) -> Result<(), AllocError> {
+fn push_links(links: &mut Vec<Link>, field: Field<'_>, edges: &[Edge]) -> Result<(), AllocError> {
     for edge in edges {
         links.push(Link {
             operation: field.name(edge.name),

@@ -213,10 +213,10 @@ impl Outlook<'_> {
     ) -> Result<(), AllocError> {
         let nodes: &[Node] = within(self.field.nodes, wanted.node);
         let mut stack = Vec::new(alloc);
-        let mut number = wanted.node.saturating_add(nodes.len());
-        for node in nodes.iter().rev() {
-            number = number.saturating_sub(1);
-            self.step_marks(alloc, hart, found, &mut stack, (node.part, number))?;
+        for place in 0..nodes.len() {
+            let place = nodes.len() - 1 - place;
+            let node = (nodes[place].part, wanted.node.saturating_add(place));
+            self.step_marks(alloc, hart, found, &mut stack, node)?;
         }
         if let Some(Marks { yes, no }) = stack.pop() {
             if wanted.truth {

@@ -7,7 +7,7 @@ use std::alloc::{AllocError, Global};
 
 /// Pairs at slots, by their places in the placement: four bits for each of 48, as many as a test may have. Of slots
 /// past these nothing is kept.
-#[derive(Clone, Copy, PartialEq, Eq)]
+#[derive(Clone, Copy)]
 pub(crate) struct SlotPairs {
     words: [u64; 3],
 }

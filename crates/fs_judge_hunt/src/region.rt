@@ -216,8 +216,8 @@ impl Region {
 
     /// Are its runs among the other's?
     pub(crate) fn is_in(&self, other: &Region) -> bool {
-        for (one, left) in self.left.iter().zip(other.left.iter()) {
-            if !is_within(&one.row, &left.row) {
+        for hart in 0..self.left.len().min(other.left.len()) {
+            if !is_within(&self.left[hart].row, &other.left[hart].row) {
                 return false;
             }
         }

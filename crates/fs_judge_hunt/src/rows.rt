@@ -43,8 +43,8 @@ pub fn is_empty(row: &[u64]) -> bool {
 
 /// Has the other row each run of this one?
 pub(crate) fn is_within(row: &[u64], other: &[u64]) -> bool {
-    for (word, above) in row.iter().zip(other) {
-        if *word & !*above != 0 {
+    for place in 0..row.len().min(other.len()) {
+        if row[place] & !other[place] != 0 {
             return false;
         }
     }
@@ -62,8 +62,8 @@ pub fn has_all(row: &[u64], runs: usize) -> bool {
 
 /// Have the two a run in common?
 pub fn do_meet(row: &[u64], other: &[u64]) -> bool {
-    for (word, above) in row.iter().zip(other) {
-        if *word & *above != 0 {
+    for place in 0..row.len().min(other.len()) {
+        if row[place] & other[place] != 0 {
             return true;
         }
     }
@@ -78,8 +78,8 @@ pub(crate) fn are_same(row: &[u64], other: &[u64]) -> bool {
 /// The runs of this one that are among the other's, of which these bits are flipped.
 fn meeting(alloc: Global, row: &[u64], other: &[u64], flipped: u64) -> Result<Row, AllocError> {
     let mut made = Vec::new(alloc);
-    for (word, above) in row.iter().zip(other) {
-        made.push(*word & (*above ^ flipped))?;
+    for place in 0..row.len().min(other.len()) {
+        made.push(row[place] & (other[place] ^ flipped))?;
     }
     Ok(made)
 }
@@ -96,22 +96,22 @@ pub(crate) fn without(alloc: Global, row: &[u64], other: &[u64]) -> Result<Row, 
 
 /// Puts the other's runs into the row.
 pub fn join(row: &mut [u64], other: &[u64]) {
-    for (word, above) in row.iter_mut().zip(other) {
-        *word |= *above;
+    for place in 0..row.len().min(other.len()) {
+        row[place] |= other[place];
     }
 }
 
 /// Puts into the row the runs that are in both of the others.
 pub(crate) fn join_both(row: &mut [u64], one: &[u64], other: &[u64]) {
-    for ((word, left), right) in row.iter_mut().zip(one).zip(other) {
-        *word |= *left & *right;
+    for place in 0..row.len().min(one.len()).min(other.len()) {
+        row[place] |= one[place] & other[place];
     }
 }
 
 /// Leaves in the row what is among the other's runs, of which these bits are flipped.
 fn mask(row: &mut [u64], other: &[u64], flipped: u64) {
-    for (word, above) in row.iter_mut().zip(other) {
-        *word &= *above ^ flipped;
+    for place in 0..row.len().min(other.len()) {
+        row[place] &= other[place] ^ flipped;
     }
 }
 

@@ -10,7 +10,7 @@ use fs_cert_evidence::Inference;
 use std::alloc::{AllocError, Global};
 
 /// How a region is split.
-#[derive(Clone, Copy, PartialEq, Eq)]
+#[derive(Clone, Copy)]
 pub(crate) enum Decision {
     Choice(u8),
     Source(u8),

@@ -88,7 +88,8 @@ impl Dead {
         known: &Relation,
     ) -> Result<(), AllocError> {
         self.ending.clash.add_needs(need, field, region)?;
-        for step in self.steps.iter().rev() {
+        for place in 0..self.steps.len() {
+            let step = &self.steps[self.steps.len() - 1 - place];
             if used.has(step.first, step.second) && !known.has(step.first, step.second) {
                 used.remove(step.first, step.second);
                 used.join(&step.used());

@@ -44,7 +44,8 @@ pub(crate) fn move_needs(
     used: &mut Relation,
     placed: Option<&SlotPairs>,
 ) -> Result<(), AllocError> {
-    for one in held.iter().rev() {
+    for place in 0..held.len() {
+        let one = &held[held.len() - 1 - place];
         let (first, second) = (one.step.first, one.step.second);
         if used.has(first, second) && one.is_met(placed) {
             need.join(&one.need)?;
@@ -133,7 +134,8 @@ impl Node {
 
     /// What ends it with these pairs placed.
     pub(crate) fn leaf(&self, placed: &SlotPairs) -> Option<&Leaf> {
-        for leaf in self.leaves.iter().rev() {
+        for place in 0..self.leaves.len() {
+            let leaf = &self.leaves[self.leaves.len() - 1 - place];
             if leaf.need.is_met(placed) {
                 return Some(leaf);
             }

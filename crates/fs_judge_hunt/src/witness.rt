@@ -56,8 +56,13 @@ fn push_choices(
 
 fn choices(alloc: Global, field: Field<'_>, region: &Region) -> Result<ChoiceLists, AllocError> {
     let mut lists = Vec::new(alloc);
-    for (hart, left) in field.harts.iter().zip(region.left.iter()) {
-        push_choices(alloc, &mut lists, hart, &left.row)?;
+    for hart in 0..field.harts.len().min(region.left.len()) {
+        push_choices(
+            alloc,
+            &mut lists,
+            &field.harts[hart],
+            &region.left[hart].row,
+        )?;
     }
     Ok(ChoiceLists::new(lists))
 }
