@@ -51,8 +51,8 @@ fn ways_of(part: Part, stack: &mut Vec<Ways>) -> Ways {
 /// In how many ways the condition gets its truth value.
 fn ways_in(alloc: Global, nodes: &[Node], truth: bool) -> Result<u64, AllocError> {
     let mut stack = Vec::new(alloc);
-    for node in nodes.iter().rev() {
-        let ways = ways_of(node.part, &mut stack);
+    for place in 0..nodes.len() {
+        let ways = ways_of(nodes[nodes.len() - 1 - place].part, &mut stack);
         stack.push(ways)?;
     }
     let ways = stack.pop().unwrap_or(ONE);
@@ -95,6 +95,24 @@ pub(crate) fn is_at_once(part: Part, truth: bool) -> bool {
     }
 }
 
+fn to_be(node: usize, truth: bool) -> Wanted {
+    Wanted { node, truth }
+}
+
+/// These conditions with others in the place of the one of this number.
+fn replaced(
+    alloc: Global,
+    wanted: &[Wanted],
+    number: usize,
+    parts: &[Wanted],
+) -> Result<Vec<Wanted>, AllocError> {
+    let mut made = Vec::new(alloc);
+    made.extend_from_slice(wanted.get(..number).unwrap_or(&[]))?;
+    made.extend_from_slice(parts)?;
+    made.extend_from_slice(wanted.get(number.saturating_add(1)..).unwrap_or(&[]))?;
+    Ok(made)
+}
+
 impl Splitter<'_> {
     /// The region with these conditions in the place of the wanted one of this number.
     fn with_parts(
@@ -103,17 +121,24 @@ impl Splitter<'_> {
         number: usize,
         parts: &[Wanted],
     ) -> Result<Region, AllocError> {
-        let mut wanted = Vec::new(self.alloc);
-        for (place, known) in region.wanted.iter().enumerate() {
-            if place == number {
-                wanted.extend_from_slice(parts)?;
-            } else {
-                wanted.push(*known)?;
-            }
-        }
+        let wanted = replaced(self.alloc, region.wanted.as_slice(), number, parts)?;
+        let wanted = Arc::new(self.alloc, List::new(wanted))?;
         let mut parted = region.copy(self.alloc)?;
-        parted.wanted = Arc::new(self.alloc, List::new(wanted))?;
+        parted.wanted = wanted;
         Ok(parted)
+    }
+
+    /// Adds that region.
+    fn push_parts(
+        self,
+        left: &mut Vec<Region>,
+        region: &Region,
+        number: usize,
+        parts: &[Wanted],
+    ) -> Result<(), AllocError> {
+        let parted = self.with_parts(region, number, parts)?;
+        left.push(parted)?;
+        Ok(())
     }
 
     /// The regions of the ways in which the wanted condition of this number gets its truth value.
@@ -123,38 +148,41 @@ impl Splitter<'_> {
         number: usize,
     ) -> Result<Vec<Region>, AllocError> {
         let mut left = Vec::new(self.alloc);
-        let Some(wanted) = region.wanted.get(number) else {
-            return Ok(left);
-        };
-        let Some(node) = self.field.nodes.get(wanted.node) else {
-            return Ok(left);
-        };
-        let truth = wanted.truth;
-        let one = Wanted {
-            node: left_of(wanted.node),
-            truth,
-        };
-        let other = Wanted {
-            node: right_of(self.field.nodes, wanted.node),
-            truth,
-        };
-        match node.part {
-            Part::Deny => {
-                let denied = Wanted {
-                    node: one.node,
-                    truth: !truth,
-                };
-                left.push(self.with_parts(region, number, &[denied])?)?;
-            }
-            Part::Both | Part::Either if is_at_once(node.part, truth) => {
-                left.push(self.with_parts(region, number, &[one, other])?)?;
-            }
-            Part::Both | Part::Either => {
-                left.push(self.with_parts(region, number, &[one])?)?;
-                left.push(self.with_parts(region, number, &[other])?)?;
-            }
-            _ => {}
+        if let Some(wanted) = region.wanted.get(number) {
+            self.push_cases(&mut left, region, number, *wanted)?;
         }
         Ok(left)
+    }
+
+    /// Adds these.
+    fn push_cases(
+        self,
+        left: &mut Vec<Region>,
+        region: &Region,
+        number: usize,
+        wanted: Wanted,
+    ) -> Result<(), AllocError> {
+        let Some(node) = self.field.nodes.get(wanted.node) else {
+            return Ok(());
+        };
+        let Wanted { node: whole, truth } = wanted;
+        let one = left_of(whole);
+        let other = right_of(self.field.nodes, whole);
+        match node.part {
+            Part::Deny => self.push_parts(left, region, number, &[to_be(one, !truth)]),
+            Part::Both | Part::Either if is_at_once(node.part, truth) => {
+                self.push_parts(
+                    left,
+                    region,
+                    number,
+                    &[to_be(one, truth), to_be(other, truth)],
+                )
+            }
+            Part::Both | Part::Either => {
+                self.push_parts(left, region, number, &[to_be(one, truth)])?;
+                self.push_parts(left, region, number, &[to_be(other, truth)])
+            }
+            _ => Ok(()),
+        }
     }
 }

@@ -9,7 +9,7 @@ use crate::names::{Relation, bit, has};
 use crate::region::{Field, Region};
 use crate::saturate::{Looked, saturate};
 use crate::splits::{Decision, Splitter};
-use crate::trail::{Dead, Trail};
+use crate::trail::{Branch, Dead, Trail};
 use crate::uses::of_filter;
 use std::alloc::{AllocError, Global};
 use std::sync::Arc;
@@ -61,6 +61,21 @@ pub(crate) fn look(alloc: Global, field: Field<'_>, region: Region) -> Result<Ch
     }
 }
 
+/// What ends the region of the branch, if a look on the way has shown it.
+fn dead_at(
+    trail: &Trail,
+    branch: Option<Branch>,
+    region: &Region,
+) -> Result<Option<Arc<Dead>>, AllocError> {
+    let Some(branch) = branch else {
+        return Ok(None);
+    };
+    match trail.dead(branch, &region.before) {
+        Some(dead) => Ok(Some(Arc::try_clone(dead)?)),
+        None => Ok(None),
+    }
+}
+
 impl Chooser<'_> {
     fn splitter(&self) -> Splitter<'_> {
         Splitter {
@@ -79,24 +94,35 @@ impl Chooser<'_> {
         most: usize,
     ) -> Result<(), AllocError> {
         let branch = self.splitter().branch(split.decision, &region);
-        if let Some(dead) = branch.and_then(|branch| trail.dead(branch, &region.before)) {
-            let dead = Arc::try_clone(dead)?;
+        if let Some(dead) = dead_at(trail, branch, &region)? {
             split.children.push(Child::Ended(dead, region))?;
-            return Ok(());
-        }
-        if split.live >= most {
+        } else if split.live >= most {
             split.live = split.live.saturating_add(1);
-            return Ok(());
+        } else {
+            let child = self.look_at(trail, branch, region)?;
+            if let Child::Open(_, _) = &child {
+                split.live = split.live.saturating_add(1);
+            }
+            split.children.push(child)?;
         }
+        Ok(())
+    }
+
+    /// Looks at the region of the branch, which the trail keeps where it ends.
+    fn look_at(
+        &self,
+        trail: &mut Trail,
+        branch: Option<Branch>,
+        region: Region,
+    ) -> Result<Child, AllocError> {
         trail.looks = trail.looks.saturating_add(1);
         let child = look(self.alloc, self.field, region)?;
-        match (&child, branch) {
-            (Child::Ended(dead, _), Some(branch)) => trail.add(branch, dead)?,
-            (Child::Ended(_, _), None) => {}
-            (Child::Open(_, _), _) => split.live = split.live.saturating_add(1),
+        if let Child::Ended(dead, _) = &child {
+            if let Some(branch) = branch {
+                trail.add(branch, dead)?;
+            }
         }
-        split.children.push(child)?;
-        Ok(())
+        Ok(child)
     }
 
     /// Looks at what the decision makes of the region; nothing where that is the region itself, or so many are open.
@@ -106,21 +132,17 @@ impl Chooser<'_> {
         decision: Decision,
         most: usize,
     ) -> Result<Option<Split>, AllocError> {
-        let mut regions = self.splitter().children(self.region, self.facts, decision)?;
+        let regions = self.splitter().children(self.region, self.facts, decision)?;
         if is_vain(self.region, decision, &regions) {
             return Ok(None);
         }
-        regions.reverse();
         let mut split = Split {
             decision,
             children: Vec::new(self.alloc),
             used: self.used(decision),
             live: 0,
         };
-        for _ in 0..regions.len() {
-            let Some(region) = regions.pop() else {
-                break;
-            };
+        for region in regions {
             self.add_child(trail, &mut split, region, most)?;
         }
         trail.set_open(decision, split.live);
@@ -164,9 +186,12 @@ impl Chooser<'_> {
 
     /// A choice that is left, by which runs differ.
     fn choice(&self) -> Option<Decision> {
-        (0..self.field.count)
-            .find(|name| self.has_choices(*name))
-            .map(Decision::Choice)
+        for name in 0..self.field.count {
+            if self.has_choices(name) {
+                return Some(Decision::Choice(name));
+            }
+        }
+        None
     }
 
     /// Two stores of a location of which none is known to be first.

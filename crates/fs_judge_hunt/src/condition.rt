@@ -108,16 +108,28 @@ fn size_of(part: Part, sizes: &mut Vec<usize>) -> usize {
     size.saturating_add(1)
 }
 
+/// Adds the part with its size.
+fn push_node(nodes: &mut Vec<Node>, sizes: &mut Vec<usize>, part: &Part) -> Result<(), AllocError> {
+    let size = size_of(*part, sizes);
+    sizes.push(size)?;
+    nodes.push(Node { part: *part, size })?;
+    Ok(())
+}
+
+/// The parts with their sizes, the last one first.
+fn sized(alloc: Global, parts: &[Part]) -> Result<Vec<Node>, AllocError> {
+    let mut nodes = Vec::new(alloc);
+    let mut sizes = Vec::new(alloc);
+    for place in 0..parts.len() {
+        push_node(&mut nodes, &mut sizes, &parts[parts.len() - 1 - place])?;
+    }
+    Ok(nodes)
+}
+
 /// The condition's parts.
 pub fn nodes(alloc: Global, condition: &Outcome) -> Result<Vec<Node>, AllocError> {
     let parts = parts(alloc, condition)?;
-    let mut nodes = Vec::new(alloc);
-    let mut sizes = Vec::new(alloc);
-    for part in parts.iter().rev() {
-        let size = size_of(*part, &mut sizes);
-        sizes.push(size)?;
-        nodes.push(Node { part: *part, size })?;
-    }
+    let mut nodes = sized(alloc, &parts)?;
     nodes.reverse();
     Ok(nodes)
 }
@@ -127,8 +139,10 @@ pub(crate) fn within(nodes: &[Node], number: usize) -> &[Node] {
     let Some(behind) = nodes.get(number..) else {
         return &[];
     };
-    let size = behind.first().map_or(0, |node| node.size);
-    behind.get(..size).unwrap_or(&[])
+    match behind.first() {
+        Some(node) => behind.get(..node.size).unwrap_or(&[]),
+        None => &[],
+    }
 }
 
 /// The number of the left part, or the only one.
@@ -139,5 +153,8 @@ pub(crate) fn left_of(number: usize) -> usize {
 /// The number of the right part.
 pub(crate) fn right_of(nodes: &[Node], number: usize) -> usize {
     let left = left_of(number);
-    left.saturating_add(nodes.get(left).map_or(1, |node| node.size))
+    match nodes.get(left) {
+        Some(node) => left.saturating_add(node.size),
+        None => left.saturating_add(1),
+    }
 }

@@ -59,7 +59,7 @@ impl<'a> Outlook<'a> {
 
     /// What may be stored last at the location under the name.
     fn add_store(&self, truth: &mut Truth, store: u8, last: LastWord) {
-        let Some(doing) = self.field.hart_of(store).and_then(|hart| hart.doing(store)) else {
+        let Some(doing) = self.field.doing(store) else {
             return;
         };
         let row = self.region.row(self.field.owner(store));
@@ -163,11 +163,18 @@ impl<'a> Outlook<'a> {
     fn may(&self, alloc: Global, wanted: Wanted) -> Result<bool, AllocError> {
         let nodes: &[Node] = within(self.field.nodes, wanted.node);
         let mut stack = Vec::new(alloc);
-        for (place, node) in nodes.iter().enumerate().rev() {
-            self.step(&mut stack, node.part, wanted.node.saturating_add(place))?;
+        for place in 0..nodes.len() {
+            let place = nodes.len() - 1 - place;
+            self.step(
+                &mut stack,
+                nodes[place].part,
+                wanted.node.saturating_add(place),
+            )?;
         }
-        let truth = stack.pop();
-        Ok(truth.is_none_or(|truth| if wanted.truth { truth.yes } else { truth.no }))
+        Ok(match stack.pop() {
+            Some(Truth { yes, no }) => if wanted.truth { yes } else { no },
+            None => true,
+        })
     }
 
     /// May all wanted conditions have their truth values, as far as each by itself tells?

@@ -28,9 +28,9 @@ pub(crate) struct Facts {
 }
 
 fn merge(places: &mut [u8], more: &[u8]) {
-    for (place, other) in places.iter_mut().zip(more) {
-        if *other != NOWHERE {
-            *place = *other;
+    for number in 0..places.len().min(more.len()) {
+        if more[number] != NOWHERE {
+            places[number] = more[number];
         }
     }
 }

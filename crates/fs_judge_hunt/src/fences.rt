@@ -123,13 +123,16 @@ fn wanted(outline: &Outline, first: u8, second: u8) -> u8 {
 /// Does one of the fences order the two operations in runs of this outline?
 fn are_fenced(outline: &Outline, barriers: &[Barrier], first: u8, second: u8) -> bool {
     let wanted = wanted(outline, first, second);
-    wanted != 0
-        && barriers.iter().any(|barrier| {
-            first < barrier.at
-                && barrier.at <= second
-                && barrier.pairs & wanted != 0
-                && outline.executes(barrier.at)
-        })
+    for barrier in barriers {
+        if first < barrier.at
+            && barrier.at <= second
+            && barrier.pairs & wanted != 0
+            && outline.executes(barrier.at)
+        {
+            return true;
+        }
+    }
+    false
 }
 
 /// The runs in which a fence orders the two.

@@ -3,9 +3,9 @@
 
 use crate::facts::Facts;
 use crate::frames::{Hunted, Limits, Search};
-use crate::names::{bit, has};
+use crate::names::{Origin, bit, has};
+use crate::paths::before;
 use crate::region::{Field, Region};
-use crate::rows::is_within;
 use crate::splits::{Decision, Splitter};
 use fs_kinds::MOST_LOCATIONS;
 use std::alloc::{AllocError, Global};
@@ -29,30 +29,51 @@ enum Tried {
     GaveUp,
 }
 
-/// Are the runs of the first region in the other one?
-fn is_in(found: &Region, region: &Region) -> bool {
-    found
-        .left
-        .iter()
-        .zip(region.left.iter())
-        .all(|(one, left)| is_within(&one.row, &left.row))
-}
-
 /// Does the store come before each of the others?
 fn is_first(region: &Region, store: u8, stores: u64) -> bool {
     stores & !region.before.row(store) & !bit(store) == 0
 }
 
-/// Does one of the others come before the store?
-fn is_late(region: &Region, store: u8, stores: u64, count: u8) -> bool {
-    (0..count).any(|other| has(stores, other) && region.before.has(other, store))
+/// The place of the first of the regions in which the found one's runs are.
+fn place_of_runs(regions: &[Region], found: &Region) -> usize {
+    for (place, region) in regions.iter().enumerate() {
+        if found.is_in(region) {
+            return place;
+        }
+    }
+    usize::MAX
+}
+
+/// That of the first in which the load has this source.
+fn place_of_source(regions: &[Region], load: u8, origin: Origin) -> usize {
+    for (place, region) in regions.iter().enumerate() {
+        if region.origin(load) == origin {
+            return place;
+        }
+    }
+    usize::MAX
+}
+
+/// That of the first in which the store comes before the others.
+fn place_of_first(regions: &[Region], store: u8, stores: u64) -> usize {
+    for (place, region) in regions.iter().enumerate() {
+        if is_first(region, store, stores) {
+            return place;
+        }
+    }
+    usize::MAX
 }
 
 impl Narrowing<'_> {
+    fn hunt(&self, region: &Region) -> Result<Hunted, AllocError> {
+        let copy = region.copy(self.alloc)?;
+        let mut search = Search::new(self.alloc, copy)?;
+        search.hunt(self.alloc, self.field, self.limits)
+    }
+
     /// Takes the smaller region, if it shows something.
     fn take(&mut self, smaller: Region) -> Result<Tried, AllocError> {
-        let mut search = Search::new(self.alloc, smaller.copy(self.alloc)?)?;
-        match search.hunt(self.alloc, self.field, self.limits)? {
+        match self.hunt(&smaller)? {
             Hunted::Shown(found) => {
                 self.region = smaller;
                 self.found = found;
@@ -64,12 +85,9 @@ impl Narrowing<'_> {
     }
 
     /// Takes the first of the smaller regions that shows something. What was found is in the one at this place.
-    fn take_first(&mut self, mut regions: Vec<Region>, place: usize) -> Result<Tried, AllocError> {
-        regions.reverse();
-        for number in 0..regions.len() {
-            let Some(smaller) = regions.pop() else {
-                break;
-            };
+    fn take_first(&mut self, regions: Vec<Region>, place: usize) -> Result<Tried, AllocError> {
+        let mut number: usize = 0;
+        for smaller in regions {
             if number == place {
                 self.region = smaller;
                 return Ok(Tried::Shown);
@@ -78,25 +96,25 @@ impl Narrowing<'_> {
             if tried != Tried::Refuted {
                 return Ok(tried);
             }
+            number = number.saturating_add(1);
         }
         Ok(Tried::GaveUp)
     }
 
     fn children(&self, decision: Decision) -> Result<Vec<Region>, AllocError> {
-        let facts = Facts::of(self.field, &self.region);
         let splitter = Splitter {
             alloc: self.alloc,
             field: self.field,
         };
-        splitter.children(&self.region, &facts, decision)
+        splitter.parts(&self.region, decision)
     }
 
     /// The least choice at each name.
     fn narrow_choices(&mut self) -> Result<Tried, AllocError> {
         for name in 0..self.field.count {
             let regions = self.children(Decision::Choice(name))?;
-            let place = regions.iter().position(|region| is_in(&self.found, region));
-            let tried = self.take_first(regions, place.unwrap_or(usize::MAX))?;
+            let place = place_of_runs(&regions, &self.found);
+            let tried = self.take_first(regions, place)?;
             if tried != Tried::Shown {
                 return Ok(tried);
             }
@@ -112,11 +130,8 @@ impl Narrowing<'_> {
                 continue;
             }
             let regions = self.children(Decision::Source(load))?;
-            let origin = self.found.origin(load);
-            let place = regions
-                .iter()
-                .position(|region| region.origin(load) == origin);
-            let tried = self.take_first(regions, place.unwrap_or(usize::MAX))?;
+            let place = place_of_source(&regions, load, self.found.origin(load));
+            let tried = self.take_first(regions, place)?;
             if tried != Tried::Shown {
                 return Ok(tried);
             }
@@ -128,7 +143,8 @@ impl Narrowing<'_> {
     fn by_first(&self, stores: u64) -> Result<Vec<Region>, AllocError> {
         let mut regions = Vec::new(self.alloc);
         for store in 0..self.field.count {
-            if has(stores, store) && !is_late(&self.region, store, stores, self.field.count) {
+            let known = &self.region.before;
+            if has(stores, store) && before(known, stores, store, self.field.count).is_none() {
                 let mut region = self.region.copy(self.alloc)?;
                 region.before.add_all(store, stores & !bit(store));
                 regions.push(region)?;
@@ -146,10 +162,8 @@ impl Narrowing<'_> {
             }
             let regions = self.by_first(left)?;
             let first = self.first_of(&self.found, left);
-            let place = regions
-                .iter()
-                .position(|region| is_first(region, first, left));
-            let tried = self.take_first(regions, place.unwrap_or(usize::MAX))?;
+            let place = place_of_first(&regions, first, left);
+            let tried = self.take_first(regions, place)?;
             if tried != Tried::Shown {
                 return Ok(tried);
             }
@@ -160,9 +174,12 @@ impl Narrowing<'_> {
 
     /// The store that comes before the others.
     fn first_of(&self, region: &Region, stores: u64) -> u8 {
-        (0..self.field.count)
-            .find(|store| has(stores, *store) && is_first(region, *store, stores))
-            .unwrap_or(0)
+        for store in 0..self.field.count {
+            if has(stores, store) && is_first(region, store, stores) {
+                return store;
+            }
+        }
+        0
     }
 
     fn narrow_orders(&mut self) -> Result<Tried, AllocError> {

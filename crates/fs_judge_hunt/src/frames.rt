@@ -10,7 +10,7 @@ use crate::needs::{Need, SlotPairs};
 use crate::region::{Field, Region};
 use crate::splits::{Decision, Splitter};
 use crate::trail::{Dead, Mark, Trail};
-use crate::tree::{Branching, Fresh, Held, Leaf, Node, Tree, are_firm};
+use crate::tree::{Branching, Fresh, Held, Leaf, Node, Tree, are_firm, move_needs};
 use std::alloc::{AllocError, Global};
 use std::sync::Arc;
 
@@ -123,15 +123,32 @@ impl Search {
         used: &mut Relation,
         placed: &SlotPairs,
     ) -> Result<(), AllocError> {
-        for frame in self.path.iter().rev() {
+        for depth in 0..self.path.len() {
+            let frame = &self.path[self.path.len() - 1 - depth];
             if used.is_empty() {
                 break;
             }
             if let Some(branching) = self.tree.branching(frame.node) {
-                branching.move_needs(need, used, placed)?;
+                move_needs(&branching.held, need, used, Some(placed))?;
             }
         }
         Ok(())
+    }
+
+    /// Adds what the step needs, which follows behind these in the region below the path.
+    fn add_step_needs(
+        &self,
+        need: &mut Need,
+        ground: Ground<'_>,
+        region: &Region,
+        step: &Step,
+        held: &[Held],
+    ) -> Result<(), AllocError> {
+        let placed = &ground.field.fences.pairs;
+        let mut used = step.used();
+        step.ending.clash.add_needs(need, ground.field, region)?;
+        move_needs(held, need, &mut used, None)?;
+        self.add_needs_above(need, &mut used, placed)
     }
 
     /// What the steps, which follow in the region below the path, need.
@@ -141,21 +158,10 @@ impl Search {
         region: &Region,
         steps: Vec<Step>,
     ) -> Result<Vec<Held>, AllocError> {
-        let placed = &ground.field.fences.pairs;
-        let mut all: Vec<Held> = Vec::new(ground.alloc);
+        let mut all = Vec::new(ground.alloc);
         for step in steps {
             let mut need = Need::new(ground.alloc);
-            step.ending
-                .clash
-                .add_needs(&mut need, ground.field, region)?;
-            let mut used = step.used();
-            for held in all.iter().rev() {
-                if used.has(held.step.first, held.step.second) {
-                    need.join(&held.need)?;
-                    used.remove(held.step.first, held.step.second);
-                }
-            }
-            self.add_needs_above(&mut need, &mut used, placed)?;
+            self.add_step_needs(&mut need, ground, region, &step, &all)?;
             all.push(Held { step, need })?;
         }
         Ok(all)
@@ -172,18 +178,7 @@ impl Search {
         let known = self.known(self.path.len(), placed);
         let mut need = Need::new(ground.alloc);
         let mut used = dead.ending.used.relation();
-        dead.ending
-            .clash
-            .add_needs(&mut need, ground.field, region)?;
-        for step in dead.steps.iter().rev() {
-            if used.has(step.first, step.second) && !known.has(step.first, step.second) {
-                used.remove(step.first, step.second);
-                used.join(&step.used());
-                step.ending
-                    .clash
-                    .add_needs(&mut need, ground.field, region)?;
-            }
-        }
+        dead.add_needs(&mut need, &mut used, ground.field, region, &known)?;
         self.add_needs_above(&mut need, &mut used, placed)?;
         Ok(need)
     }
@@ -215,12 +210,11 @@ impl Search {
         };
         let mut bare = region;
         bare.before = self.known(depth.saturating_add(1), &SlotPairs::new());
-        let facts = Facts::of(ground.field, &bare);
         let splitter = Splitter {
             alloc: ground.alloc,
             field: ground.field,
         };
-        let mut parts = splitter.children(&bare, &facts, branching.decision)?;
+        let mut parts = splitter.parts(&bare, branching.decision)?;
         if frame.part >= parts.len() {
             return Ok(None);
         }
@@ -285,6 +279,15 @@ impl Search {
             return Ok(None);
         };
         region.before = self.known(self.path.len(), &ground.field.fences.pairs);
+        self.look_at(ground, node, region)
+    }
+
+    fn look_at(
+        &mut self,
+        ground: Ground<'_>,
+        node: usize,
+        region: Region,
+    ) -> Result<Option<(Region, Vec<Step>)>, AllocError> {
         self.trail.looks = self.trail.looks.saturating_add(1);
         match look(ground.alloc, ground.field, region)? {
             Child::Ended(dead, region) => {
@@ -300,12 +303,14 @@ impl Search {
 
     /// Follows with any fences what followed on the path, and this?
     fn is_firm(&self, held: &[Held]) -> bool {
+        for frame in &self.path {
+            if let Some(branching) = self.tree.branching(frame.node) {
+                if !are_firm(&branching.held) {
+                    return false;
+                }
+            }
+        }
         are_firm(held)
-            && self.path.iter().all(|frame| {
-                self.tree
-                    .branching(frame.node)
-                    .is_none_or(|branching| are_firm(&branching.held))
-            })
     }
 
     /// The split that is made of the region of the node below the path.
@@ -327,6 +332,20 @@ impl Search {
         chooser.split(&mut self.trail)
     }
 
+    /// The node of a part into which the path goes at its end.
+    fn node_of(&mut self, ground: Ground<'_>, child: Child) -> Result<Node, AllocError> {
+        match child {
+            Child::Ended(dead, region) => {
+                let leaf = self.leaf(ground, &region, dead)?;
+                Node::ended(ground.alloc, leaf)
+            }
+            Child::Open(region, steps) => {
+                let hunt = self.hunt;
+                Node::of(ground.alloc, region, Some(Fresh { hunt, steps }))
+            }
+        }
+    }
+
     /// Puts the parts of the node at the path's end into the tree.
     fn add_parts(&mut self, ground: Ground<'_>, children: Vec<Child>) -> Result<(), AllocError> {
         let mut part: usize = 0;
@@ -335,20 +354,7 @@ impl Search {
                 frame.part = part;
             }
             part = part.saturating_add(1);
-            let mut node = Node::new(ground.alloc);
-            match child {
-                Child::Ended(dead, region) => {
-                    let leaf = self.leaf(ground, &region, dead)?;
-                    node.add_leaf(leaf)?;
-                }
-                Child::Open(region, steps) => {
-                    node.region = Some(Box::new(ground.alloc, region)?);
-                    node.fresh = Some(Fresh {
-                        hunt: self.hunt,
-                        steps,
-                    });
-                }
-            }
+            let node = self.node_of(ground, child)?;
             self.tree.nodes.push(node)?;
         }
         Ok(())
@@ -376,18 +382,21 @@ impl Search {
             count: split.children.len(),
             shown: 0,
         };
-        if let Some(node) = self.tree.nodes.get_mut(node) {
-            node.region = Some(Box::new(ground.alloc, region)?);
-            node.branching = Some(Box::new(ground.alloc, branching)?);
-        }
+        self.tree.branch(ground.alloc, node, region, branching)?;
+        self.go_down(node, mark)?;
+        self.add_parts(ground, split.children)?;
+        Ok(None)
+    }
+
+    /// Puts the node on the path.
+    fn go_down(&mut self, node: usize, mark: Mark) -> Result<(), AllocError> {
         self.path.push(Frame {
             node,
             taken: 0,
             part: 0,
             mark,
         })?;
-        self.add_parts(ground, split.children)?;
-        Ok(None)
+        Ok(())
     }
 
     /// Looks through the node below the path. Its region where nothing is left to decide.
@@ -401,12 +410,7 @@ impl Search {
         }
         if known.branching.is_some() {
             let mark = self.trail.mark();
-            self.path.push(Frame {
-                node,
-                taken: 0,
-                part: 0,
-                mark,
-            })?;
+            self.go_down(node, mark)?;
             return Ok(None);
         }
         match self.open(ground, node)? {
@@ -428,34 +432,46 @@ impl Search {
         }
         let mut known = self.known(self.path.len().saturating_sub(1), placed);
         branching.add_held(&mut known, placed);
-        branching
-            .known_part(&known)
-            .is_some_and(|part| part != frame.part)
+        match branching.known_part(&known) {
+            Some(part) => part != frame.part,
+            None => false,
+        }
+    }
+
+    /// Takes the next part of the node at the path's end, if it has one left.
+    fn next_part(&mut self) -> Option<usize> {
+        let frame = self.path.last_mut()?;
+        let branching = self.tree.branching(frame.node)?;
+        if frame.taken >= branching.count {
+            return None;
+        }
+        frame.part = branching.part(frame.taken);
+        frame.taken = frame.taken.saturating_add(1);
+        Some(branching.first.saturating_add(frame.part))
     }
 
     /// The next node, if the one at the path's end has a part left; else that one is done.
     fn advance(&mut self, placed: &SlotPairs) -> Option<usize> {
-        let frame = self.path.last_mut()?;
-        let branching = self.tree.branching(frame.node)?;
-        if frame.taken < branching.count {
-            frame.part = branching.part(frame.taken);
-            frame.taken = frame.taken.saturating_add(1);
-            let next = branching.first.saturating_add(frame.part);
-            return if self.is_contrary(placed) {
-                None
-            } else {
-                Some(next)
-            };
+        let next = self.next_part();
+        if next.is_none() {
+            self.go_up();
+        } else if self.is_contrary(placed) {
+            return None;
         }
-        let has_many = self.tree.nodes.len() > MANY_NODES;
-        let frame = self.path.pop()?;
+        next
+    }
+
+    /// The node at the path's end is done.
+    fn go_up(&mut self) {
+        let Some(frame) = self.path.pop() else {
+            return;
+        };
         self.trail.go_back(&frame.mark);
-        if has_many && frame.node != 0 {
+        if self.tree.nodes.len() > MANY_NODES && frame.node != 0 {
             if let Some(node) = self.tree.nodes.get_mut(frame.node) {
                 node.region = None;
             }
         }
-        None
     }
 
     /// Each node of the path keeps in which of its parts something was shown.
@@ -475,6 +491,14 @@ impl Search {
         self.entered.max(made) > limits.regions || self.trail.looks > limits.looks
     }
 
+    fn begin(&mut self, alloc: Global) {
+        self.path = Vec::new(alloc);
+        self.trail = Trail::new(alloc);
+        self.hunt = self.hunt.wrapping_add(1);
+        self.entered = 0;
+        self.before = self.tree.nodes.len();
+    }
+
     /// Looks through the tree, within the limits.
     pub(crate) fn hunt(
         &mut self,
@@ -483,11 +507,7 @@ impl Search {
         limits: Limits,
     ) -> Result<Hunted, AllocError> {
         let ground = Ground { alloc, field };
-        self.path = Vec::new(alloc);
-        self.trail = Trail::new(alloc);
-        self.hunt = self.hunt.wrapping_add(1);
-        self.entered = 0;
-        self.before = self.tree.nodes.len();
+        self.begin(alloc);
         let mut next = Some(0);
         for _ in 0..limits.regions.saturating_mul(4).saturating_add(8) {
             if self.has_passed(limits) {

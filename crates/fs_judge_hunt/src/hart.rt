@@ -25,28 +25,39 @@ pub struct Hart {
 
 /// The most stores to the location in one run of the hart.
 fn most_stores(hart: &Hart, location: u8) -> usize {
-    hart.forms
-        .iter()
-        .map(|form| form.outline.count_stores(location))
-        .max()
-        .unwrap_or(0)
+    let mut most = 0;
+    for form in &hart.forms {
+        most = form.outline.count_stores(location).max(most);
+    }
+    most
+}
+
+/// The sum of these, over the harts.
+fn all_stores(harts: &[Hart], location: u8) -> usize {
+    let mut total: usize = 0;
+    for hart in harts {
+        total = total.saturating_add(most_stores(hart, location));
+    }
+    total
 }
 
 /// May some location get so many stores of the harts?
 pub(crate) fn may_store_often(harts: &[Hart], least: usize) -> bool {
-    (0..MOST_LOCATIONS as u8).any(|location| {
-        let mut total: usize = 0;
-        for hart in harts {
-            total = total.saturating_add(most_stores(hart, location));
+    for location in 0..MOST_LOCATIONS as u8 {
+        if all_stores(harts, location) >= least {
+            return true;
         }
-        total >= least
-    })
+    }
+    false
 }
 
 impl Hart {
     /// The number of the hart's first name.
     pub(crate) fn first(&self) -> u8 {
-        self.names.first().map_or(0, |name| name.number)
+        match self.names.first() {
+            Some(name) => name.number,
+            None => 0,
+        }
     }
 
     /// What its runs do at the name.

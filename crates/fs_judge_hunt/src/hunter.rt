@@ -253,7 +253,16 @@ impl Hunter {
         most: usize,
     ) -> Result<Found, AllocError> {
         let fenced = all_fenced(alloc, &self.runs.harts, placement)?;
-        let field = self.field(&fenced, placement);
+        self.hunt_in(alloc, self.field(&fenced, placement), kept, most)
+    }
+
+    fn hunt_in(
+        &self,
+        alloc: Global,
+        field: Field<'_>,
+        kept: &mut Kept,
+        most: usize,
+    ) -> Result<Found, AllocError> {
         let Some(mut search) = self.search(alloc, field, kept)? else {
             return Ok(Found::Refuted(List::new(Vec::new(alloc))));
         };
@@ -278,7 +287,9 @@ impl Hunter {
         let mut widest = execution;
         let mut borne = placement.copy()?;
         let mut slots = Vec::new(alloc);
-        for entry in placement.as_slice().iter().rev() {
+        let entries = placement.as_slice();
+        for place in 0..entries.len() {
+            let entry = &entries[entries.len() - 1 - place];
             let mut more = borne.copy()?;
             if more.with(entry.slot, Some(Kind::RwRw)).is_err() {
                 continue;
@@ -302,7 +313,15 @@ impl Hunter {
         placement: &Placement,
     ) -> Result<Option<Execution>, AllocError> {
         let fenced = all_fenced(alloc, &self.runs.harts, placement)?;
-        let field = self.field(&fenced, placement);
+        self.glimpse_in(alloc, self.field(&fenced, placement), kept)
+    }
+
+    fn glimpse_in(
+        &self,
+        alloc: Global,
+        field: Field<'_>,
+        kept: &mut Kept,
+    ) -> Result<Option<Execution>, AllocError> {
         let Some(mut search) = self.search(alloc, field, kept)? else {
             return Ok(None);
         };
@@ -325,7 +344,10 @@ impl Hunter {
         most: usize,
     ) -> Result<Found, AllocError> {
         let fenced = all_fenced(alloc, &self.runs.harts, placement)?;
-        let field = self.field(&fenced, placement);
+        self.first_in(alloc, self.field(&fenced, placement), most)
+    }
+
+    fn first_in(&self, alloc: Global, field: Field<'_>, most: usize) -> Result<Found, AllocError> {
         let Some(root) = field.root(alloc, self.condition.truth)? else {
             return Ok(Found::Refuted(List::new(Vec::new(alloc))));
         };

@@ -1,6 +1,6 @@
 //! The inferences of a tree.
 
-use crate::clash::Step;
+use crate::clash::{Clash, Step};
 use crate::names::Relation;
 use crate::needs::SlotPairs;
 use crate::region::Field;
@@ -37,6 +37,17 @@ struct Writer<'a> {
 }
 
 impl Writer<'_> {
+    fn write_clash(&mut self, clash: &Clash) -> Result<(), AllocError> {
+        let inference = clash.inference(self.alloc, self.field)?;
+        self.written.push(inference)?;
+        Ok(())
+    }
+
+    fn write_decision(&mut self, decision: Decision) -> Result<(), AllocError> {
+        self.written.push(decision.inference(self.field))?;
+        Ok(())
+    }
+
     /// Writes the step of a region, if it is used and wasn't known before. Where the other order was known, what ends
     /// that ends the region, in the place of all that was written of it: this rests on that order.
     fn write_step(
@@ -50,20 +61,16 @@ impl Writer<'_> {
         if !used.has(first, second) || before.has(first, second) {
             return Ok(());
         }
-        let inference = step.ending.clash.inference(self.alloc, self.field)?;
         if before.has(second, first) {
             *used = step.ending.used.relation();
             used.add(second, first);
             self.written.truncate(start);
-            self.written.push(inference)?;
-            return Ok(());
+            return self.write_clash(&step.ending.clash);
         }
         used.remove(first, second);
         used.join(&step.used());
-        self.written.push(inference)?;
-        let opposite = Decision::Order(second, first);
-        self.written.push(opposite.inference(self.field))?;
-        Ok(())
+        self.write_clash(&step.ending.clash)?;
+        self.write_decision(Decision::Order(second, first))
     }
 
     /// The region above rests on these too.
@@ -76,11 +83,11 @@ impl Writer<'_> {
     /// Writes a region that has ended.
     fn write_leaf(&mut self, leaf: &Leaf, before: &Relation) -> Result<(), AllocError> {
         let start = self.written.len();
-        let inference = leaf.dead.ending.clash.inference(self.alloc, self.field)?;
-        self.written.push(inference)?;
+        self.write_clash(&leaf.dead.ending.clash)?;
         let mut used = leaf.dead.ending.used.relation();
-        for step in leaf.dead.steps.iter().rev() {
-            self.write_step(step, start, before, &mut used)?;
+        let steps = leaf.dead.steps.as_slice();
+        for place in 0..steps.len() {
+            self.write_step(&steps[steps.len() - 1 - place], start, before, &mut used)?;
         }
         self.hand_up(&used);
         Ok(())
@@ -119,9 +126,10 @@ impl Writer<'_> {
     ) -> Result<(), AllocError> {
         if branching.known_part(&frame.known).is_none() {
             branching.drop_decided(used);
-            self.written.push(branching.decision.inference(self.field))?;
+            self.write_decision(branching.decision)?;
         }
-        for held in branching.held.iter().rev() {
+        for place in 0..branching.held.len() {
+            let held = &branching.held[branching.held.len() - 1 - place];
             if held.need.is_met(&self.placed) {
                 self.write_step(&held.step, frame.start, &frame.above, used)?;
             }
@@ -151,8 +159,9 @@ impl Writer<'_> {
             let part = frame.left;
             let mut known = frame.known;
             if let Some(branching) = tree.branching(frame.node) {
-                if branching.known_part(&known).is_some_and(|one| one != part) {
-                    return Ok(());
+                match branching.known_part(&known) {
+                    Some(one) if one != part => return Ok(()),
+                    _ => {}
                 }
                 branching.add_decided(&mut known, part);
                 let number = branching.first.saturating_add(part);

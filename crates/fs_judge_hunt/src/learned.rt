@@ -2,7 +2,7 @@
 //! is likely to end a region.
 
 use crate::facts::Facts;
-use crate::links::Edge;
+use crate::links::{Edge, edge_after};
 use crate::names::{MOST_NAMES, Origin, has};
 use crate::region::Region;
 use fs_cert_evidence::Cause;
@@ -18,7 +18,7 @@ pub(crate) struct Learned {
 }
 
 /// What a link lacks in a region.
-#[derive(Clone, Copy, PartialEq, Eq)]
+#[derive(Clone, Copy)]
 enum Lack {
     Nothing,
     /// What the load returns from.
@@ -52,8 +52,10 @@ fn lack_of(region: &Region, facts: &Facts, edge: &Edge, next: u8) -> Lack {
 fn lacking(region: &Region, facts: &Facts, edges: &[Edge]) -> Option<u8> {
     let mut found = None;
     for (place, edge) in edges.iter().enumerate() {
-        let next = edges.get(place.saturating_add(1)).or(edges.first());
-        let next = next.map_or(edge.name, |next| next.name);
+        let next = match edge_after(edges, place) {
+            Some(next) => next.name,
+            None => edge.name,
+        };
         match lack_of(region, facts, edge, next) {
             Lack::Nothing => {}
             Lack::Source(load) if found.is_none() || found == Some(load) => found = Some(load),
@@ -71,10 +73,19 @@ impl Learned {
         }
     }
 
+    /// Is the cycle there?
+    fn has(&self, edges: &[Edge]) -> bool {
+        for known in &self.cycles {
+            if are_same(known, edges) {
+                return true;
+            }
+        }
+        false
+    }
+
     /// Keeps the cycle, if it is new and there is room.
     pub(crate) fn add(&mut self, alloc: Global, edges: &[Edge]) -> Result<(), AllocError> {
-        let is_known = self.cycles.iter().any(|known| are_same(known, edges));
-        if !is_known && self.cycles.len() < MOST_CYCLES {
+        if self.cycles.len() < MOST_CYCLES && !self.has(edges) {
             let mut cycle = Vec::new(alloc);
             cycle.extend_from_slice(edges)?;
             self.cycles.push(cycle)?;
@@ -98,5 +109,13 @@ impl Learned {
 
 /// Are the two one cycle, from the same name on?
 fn are_same(known: &[Edge], edges: &[Edge]) -> bool {
-    known.len() == edges.len() && known.iter().zip(edges).all(|(one, other)| *one == *other)
+    if known.len() != edges.len() {
+        return false;
+    }
+    for place in 0..known.len().min(edges.len()) {
+        if known[place] != edges[place] {
+            return false;
+        }
+    }
+    true
 }

@@ -50,23 +50,30 @@ fn has_sources(region: &Region, rule: &Rule) -> bool {
 
 /// The rule among these that puts the one before the other in each run.
 fn rule_in(rules: &[Rule], region: &Region, row: &[u64], first: u8, second: u8) -> Option<Cause> {
-    let rule = rules.iter().find(|rule| {
-        rule.first == first
+    for rule in rules {
+        if rule.first == first
             && rule.second == second
             && has_sources(region, rule)
             && (rule.is_whole || is_within(row, &rule.row))
-    })?;
-    Some(cause_of(rule.number))
+        {
+            return Some(cause_of(rule.number));
+        }
+    }
+    None
 }
 
 /// Does rule 12 do so?
 fn is_forwarded(hart: &Hart, region: &Region, row: &[u64], first: u8, second: u8) -> bool {
-    hart.forwarded.iter().any(|forwarded| {
-        forwarded.first == first
+    for forwarded in &hart.forwarded {
+        if forwarded.first == first
             && forwarded.second == second
             && region.origin(second) == Origin::From(forwarded.store)
             && is_within(row, &forwarded.row)
-    })
+        {
+            return true;
+        }
+    }
+    false
 }
 
 /// Why a rule but 4 puts the one before the other.
@@ -99,6 +106,14 @@ fn cause(field: Field<'_>, region: &Region, facts: &Facts, first: u8, second: u8
     }
 }
 
+/// The edge behind the one of this place, which is the first behind the last.
+pub(crate) fn edge_after(edges: &[Edge], place: usize) -> Option<&Edge> {
+    match edges.get(place.saturating_add(1)) {
+        Some(edge) => Some(edge),
+        None => edges.first(),
+    }
+}
+
 /// Adds what the links of the cycle that rule 4 gives need in the region.
 pub(crate) fn add_needs(
     need: &mut Need,
@@ -107,17 +122,29 @@ pub(crate) fn add_needs(
     edges: &[Edge],
 ) -> Result<(), AllocError> {
     for (place, edge) in edges.iter().enumerate() {
-        let next = edges.get(place.saturating_add(1)).or(edges.first());
-        let (Some(hart), Some(next)) = (field.hart_of(edge.name), next) else {
-            continue;
-        };
         if edge.cause == Cause::Rule4 {
-            let row = region.row(field.owner(edge.name));
-            let (first, second) = (field.name(edge.name), field.name(next.name));
-            add_fences(need, hart, row, field.fences.entries, first, second)?;
+            if let Some(next) = edge_after(edges, place) {
+                add_need(need, field, region, edge.name, next.name)?;
+            }
         }
     }
     Ok(())
+}
+
+/// Adds what rule 4 needs to put the one before the other.
+fn add_need(
+    need: &mut Need,
+    field: Field<'_>,
+    region: &Region,
+    first: u8,
+    second: u8,
+) -> Result<(), AllocError> {
+    let row = region.row(field.owner(first));
+    let (one, other) = (field.name(first), field.name(second));
+    match field.hart_of(first) {
+        Some(hart) => add_fences(need, hart, row, field.fences.entries, one, other),
+        None => Ok(()),
+    }
 }
 
 impl Edge {
@@ -138,11 +165,26 @@ impl Edge {
 
 /// The place of the edge with the least name.
 fn least(edges: &[Edge]) -> usize {
-    let least = edges.iter().map(|edge| edge.name).min();
-    edges
-        .iter()
-        .position(|edge| Some(edge.name) == least)
-        .unwrap_or(0)
+    let mut found = 0;
+    let mut least = u8::MAX;
+    for (place, edge) in edges.iter().enumerate() {
+        if edge.name < least {
+            least = edge.name;
+            found = place;
+        }
+    }
+    found
+}
+
+/// Adds the links of these edges.
+fn push_links(links: &mut Vec<Link>, field: Field<'_>, edges: &[Edge]) -> Result<(), AllocError> {
+    for edge in edges {
+        links.push(Link {
+            operation: field.name(edge.name),
+            cause: edge.cause,
+        })?;
+    }
+    Ok(())
 }
 
 /// The cycle of these edges, from its least name on.
@@ -153,13 +195,7 @@ pub(crate) fn inference_of(
 ) -> Result<Inference, AllocError> {
     let least = least(edges);
     let mut links = Vec::new(alloc);
-    let behind = edges.get(least..).unwrap_or(&[]);
-    let before = edges.get(..least).unwrap_or(&[]);
-    for edge in behind.iter().chain(before.iter()) {
-        links.push(Link {
-            operation: field.name(edge.name),
-            cause: edge.cause,
-        })?;
-    }
+    push_links(&mut links, field, edges.get(least..).unwrap_or(&[]))?;
+    push_links(&mut links, field, edges.get(..least).unwrap_or(&[]))?;
     Ok(Inference::Cycle(List::new(links)))
 }

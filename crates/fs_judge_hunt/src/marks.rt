@@ -5,7 +5,7 @@ use crate::condition::{Node, Part, Wanted, within};
 use crate::endings::{LastWord, Outlook, Truth};
 use crate::hart::Hart;
 use crate::names::has;
-use crate::rows::{Group, Row, both, join, narrow, no_run, without};
+use crate::rows::{Group, Row, both, join, join_both, leave_out, narrow, no_run, without};
 use std::alloc::{AllocError, Global};
 
 /// The runs of a hart with which a condition may be true, and with which it may be false.
@@ -37,41 +37,45 @@ fn join_marks(part: Part, left: &mut Marks, right: &Marks) {
     }
 }
 
-/// Puts into the marks which of the runs store the word, or another one, at the location.
-fn mark_stores(
-    alloc: Global,
-    marks: &mut Marks,
-    row: &[u64],
-    classes: &[Group],
-    last: LastWord,
-) -> Result<(), AllocError> {
-    for class in classes {
-        if location_in(class.key) == last.location {
-            let kept = both(alloc, row, &class.row)?;
-            if word_in(class.key) == last.word {
-                join(&mut marks.yes, &kept);
-            } else {
-                join(&mut marks.no, &kept);
-            }
-        }
+/// Denies what is on top of the stack.
+fn deny(stack: &mut Vec<Marks>) -> Result<(), AllocError> {
+    if let Some(Marks { yes, no }) = stack.pop() {
+        stack.push(Marks { yes: no, no: yes })?;
     }
     Ok(())
 }
 
-/// Drops the runs that store at the location.
-fn drop_stores(
-    alloc: Global,
-    row: &mut Row,
-    places: &[Place],
-    location: u8,
-) -> Result<(), AllocError> {
-    for place in places {
-        if place.location == location {
-            let kept = without(alloc, row, &place.row)?;
-            *row = kept;
+/// Joins the two on top of the stack, the left one first.
+fn join_top(stack: &mut Vec<Marks>, part: Part) -> Result<(), AllocError> {
+    if let Some(mut left) = stack.pop() {
+        if let Some(right) = stack.pop() {
+            join_marks(part, &mut left, &right);
         }
+        stack.push(left)?;
     }
     Ok(())
+}
+
+/// Puts into the marks which of the runs store the word, or another one, at the location.
+fn mark_stores(marks: &mut Marks, row: &[u64], classes: &[Group], last: LastWord) {
+    for class in classes {
+        if location_in(class.key) == last.location {
+            if word_in(class.key) == last.word {
+                join_both(&mut marks.yes, row, &class.row);
+            } else {
+                join_both(&mut marks.no, row, &class.row);
+            }
+        }
+    }
+}
+
+/// Drops the runs that store at the location.
+fn drop_stores(row: &mut [u64], places: &[Place], location: u8) {
+    for place in places {
+        if place.location == location {
+            leave_out(row, &place.row);
+        }
+    }
 }
 
 impl Outlook<'_> {
@@ -105,17 +109,26 @@ impl Outlook<'_> {
 
     /// The runs that leave the location as it begins, where those of the other harts may.
     fn idle(&self, alloc: Global, hart: u8, found: &Hart, location: u8) -> Result<Row, AllocError> {
-        let others = (0..self.field.count).any(|name| has(self.facts.stored(location), name)
-            && self.field.owner(name) != hart);
-        if others {
+        if self.is_stored_by_others(hart, location) {
             return no_run(alloc, found.words);
         }
         let mut row = Vec::new(alloc);
         row.extend_from_slice(self.region.row(hart))?;
         for doing in &found.doings {
-            drop_stores(alloc, &mut row, &doing.stores.places, location)?;
+            drop_stores(&mut row, &doing.stores.places, location);
         }
         Ok(row)
+    }
+
+    /// Must another hart store at the location?
+    fn is_stored_by_others(&self, hart: u8, location: u8) -> bool {
+        let stores = self.facts.stored(location);
+        for name in 0..self.field.count {
+            if has(stores, name) && self.field.owner(name) != hart {
+                return true;
+            }
+        }
+        false
     }
 
     fn location_marks(
@@ -133,15 +146,20 @@ impl Outlook<'_> {
         } else {
             join(&mut marks.no, &idle);
         }
+        self.mark_last(&mut marks, hart, found, last);
+        Ok(marks)
+    }
+
+    /// Puts into the marks what the hart's stores that may be the last ones leave.
+    fn mark_last(&self, marks: &mut Marks, hart: u8, found: &Hart, last: LastWord) {
         let row = self.region.row(hart);
         let mut store = found.first();
         for doing in &found.doings {
             if self.region.before.row(store) == 0 {
-                mark_stores(alloc, &mut marks, row, &doing.stores.classes, last)?;
+                mark_stores(marks, row, &doing.stores.classes, last);
             }
             store = store.saturating_add(1);
         }
-        Ok(marks)
     }
 
     fn atom_marks(
@@ -174,54 +192,49 @@ impl Outlook<'_> {
     ) -> Result<(), AllocError> {
         let (part, number) = node;
         match part {
-            Part::Deny => {
-                if let Some(Marks { yes, no }) = stack.pop() {
-                    stack.push(Marks { yes: no, no: yes })?;
-                }
+            Part::Deny => deny(stack),
+            Part::Both | Part::Either => join_top(stack, part),
+            _ => {
+                let marks = self.atom_marks(alloc, hart, found, part, number)?;
+                stack.push(marks)?;
+                Ok(())
             }
-            Part::Both | Part::Either => {
-                if let Some(mut left) = stack.pop() {
-                    if let Some(right) = stack.pop() {
-                        join_marks(part, &mut left, &right);
-                    }
-                    stack.push(left)?;
-                }
-            }
-            _ => stack.push(self.atom_marks(alloc, hart, found, part, number)?)?,
         }
-        Ok(())
     }
 
-    /// The hart's runs with which the wanted condition may have its truth value.
-    fn may_row(
+    /// Drops from the hart's runs those with which the wanted condition can't have its truth value.
+    fn narrow_by(
         &self,
         alloc: Global,
         hart: u8,
         found: &Hart,
+        row: &mut [u64],
         wanted: Wanted,
-    ) -> Result<Option<Row>, AllocError> {
+    ) -> Result<(), AllocError> {
         let nodes: &[Node] = within(self.field.nodes, wanted.node);
         let mut stack = Vec::new(alloc);
-        for (place, node) in nodes.iter().enumerate().rev() {
-            let number = wanted.node.saturating_add(place);
-            self.step_marks(alloc, hart, found, &mut stack, (node.part, number))?;
+        for place in 0..nodes.len() {
+            let place = nodes.len() - 1 - place;
+            let node = (nodes[place].part, wanted.node.saturating_add(place));
+            self.step_marks(alloc, hart, found, &mut stack, node)?;
         }
-        match stack.pop() {
-            Some(Marks { yes, no }) => Ok(Some(if wanted.truth { yes } else { no })),
-            None => Ok(None),
+        if let Some(Marks { yes, no }) = stack.pop() {
+            if wanted.truth {
+                narrow(row, &yes);
+            } else {
+                narrow(row, &no);
+            }
         }
+        Ok(())
     }
 
     /// The hart's runs with each of which every wanted condition may have its truth value.
     pub(crate) fn showing(&self, alloc: Global, hart: u8) -> Result<Row, AllocError> {
         let mut row = Vec::new(alloc);
         row.extend_from_slice(self.region.row(hart))?;
-        let Some(found) = self.field.harts.get(usize::from(hart)) else {
-            return Ok(row);
-        };
-        for wanted in self.region.wanted.iter() {
-            if let Some(may) = self.may_row(alloc, hart, found, *wanted)? {
-                narrow(&mut row, &may);
+        if let Some(found) = self.field.harts.get(usize::from(hart)) {
+            for wanted in self.region.wanted.iter() {
+                self.narrow_by(alloc, hart, found, &mut row, *wanted)?;
             }
         }
         Ok(row)

@@ -1,5 +1,6 @@
 //! Names of memory instructions as numbers, hart by hart in the order of the code; sets of them as bits, and relations.
 
+use crate::rows::{is_empty, join, leave_out};
 use std::alloc::{AllocError, Global};
 
 /// As many names as a test may have.
@@ -41,7 +42,7 @@ impl Relation {
 
     /// Has it no pair?
     pub(crate) fn is_empty(&self) -> bool {
-        self.rows.iter().all(|row| *row == 0)
+        is_empty(&self.rows)
     }
 
     /// Puts the name before each of these.
@@ -65,16 +66,12 @@ impl Relation {
 
     /// Puts the other's pairs into it.
     pub(crate) fn join(&mut self, other: &Relation) {
-        for (row, more) in self.rows.iter_mut().zip(other.rows.iter()) {
-            *row |= *more;
-        }
+        join(&mut self.rows, &other.rows);
     }
 
     /// Takes the other's pairs out.
     pub(crate) fn leave_out(&mut self, other: &Relation) {
-        for (row, less) in self.rows.iter_mut().zip(other.rows.iter()) {
-            *row &= !*less;
-        }
+        leave_out(&mut self.rows, &other.rows);
     }
 
     /// Its transitive closure, where it is of so many names.

@@ -1,12 +1,13 @@
 //! What inferences need of a placement of fences. Runs, sources and pairs of stores that were decided are the same with
 //! any fences: only rule 4, and what follows from it, needs some.
 
+use crate::rows::{do_meet, is_within};
 use fs_kinds::Entry;
 use std::alloc::{AllocError, Global};
 
 /// Pairs at slots, by their places in the placement: four bits for each of 48, as many as a test may have. Of slots
 /// past these nothing is kept.
-#[derive(Clone, Copy, PartialEq, Eq)]
+#[derive(Clone, Copy)]
 pub(crate) struct SlotPairs {
     words: [u64; 3],
 }
@@ -27,18 +28,12 @@ impl SlotPairs {
 
     /// Have the two a pair at a slot in common?
     fn do_meet(&self, other: &SlotPairs) -> bool {
-        self.words
-            .iter()
-            .zip(other.words.iter())
-            .any(|(word, above)| *word & *above != 0)
+        do_meet(&self.words, &other.words)
     }
 
     /// Has the other one each pair of this one?
     fn is_within(&self, other: &SlotPairs) -> bool {
-        self.words
-            .iter()
-            .zip(other.words.iter())
-            .all(|(word, above)| *word & !*above == 0)
+        is_within(&self.words, &other.words)
     }
 }
 
@@ -69,12 +64,27 @@ impl Need {
 
     /// Is it there where these pairs are placed?
     pub(crate) fn is_met(&self, placed: &SlotPairs) -> bool {
-        self.clauses.iter().all(|clause| clause.do_meet(placed))
+        for clause in &self.clauses {
+            if !clause.do_meet(placed) {
+                return false;
+            }
+        }
+        true
+    }
+
+    /// Has it a clause that says no less than this one?
+    fn says(&self, clause: &SlotPairs) -> bool {
+        for known in &self.clauses {
+            if known.is_within(clause) {
+                return true;
+            }
+        }
+        false
     }
 
     /// Adds that one of these pairs must be there.
     pub(crate) fn add(&mut self, clause: SlotPairs) -> Result<(), AllocError> {
-        if self.clauses.iter().any(|known| known.is_within(&clause)) {
+        if self.says(&clause) {
             return Ok(());
         }
         self.clauses.retain(|known| !clause.is_within(known));

@@ -54,27 +54,34 @@ impl Options {
 impl Chooser<'_> {
     /// Has no load a source?
     pub(crate) fn is_undecided(&self) -> bool {
-        self.region
-            .origins
-            .iter()
-            .all(|origin| *origin == Origin::Unknown)
+        for origin in self.region.origins.iter() {
+            if *origin != Origin::Unknown {
+                return false;
+            }
+        }
+        true
     }
 
     /// Do the runs that are left make several choices there?
     pub(crate) fn has_choices(&self, name: u8) -> bool {
-        let Some(doing) = self.field.hart_of(name).and_then(|hart| hart.doing(name)) else {
+        let Some(doing) = self.field.doing(name) else {
             return false;
         };
         let row = self.region.row(self.field.owner(name));
-        doing.choices.iter().any(|group| do_meet(row, &group.row) && !is_within(row, &group.row))
+        for group in &doing.choices {
+            if do_meet(row, &group.row) && !is_within(row, &group.row) {
+                return true;
+            }
+        }
+        false
     }
 
     /// Is it an sc.w?
     fn may_fail(&self, name: u8) -> bool {
-        self.field
-            .hart_of(name)
-            .and_then(|hart| hart.doing(name))
-            .is_some_and(|doing| doing.takes == Takes::Success)
+        match self.field.doing(name) {
+            Some(doing) => doing.takes == Takes::Success,
+            None => false,
+        }
     }
 
     /// Is the name worth a split by its source?
@@ -143,6 +150,22 @@ impl Chooser<'_> {
         })
     }
 
+    /// Adds the splits by names: how many of them are what cycles ask for?
+    fn add_names(&self, trail: &Trail, choices: &mut Vec<Choice>) -> Result<usize, AllocError> {
+        let votes = self.learned.votes(self.region, self.facts);
+        let harts = self.named_harts();
+        let mut asked: usize = 0;
+        for name in 0..self.field.count {
+            if let Some(choice) = self.choice_at(trail, &votes, harts, name) {
+                if choice.class == Class::Asked {
+                    asked = asked.saturating_add(1);
+                }
+                choices.push(choice)?;
+            }
+        }
+        Ok(asked)
+    }
+
     /// What is tried first: filters, as long as no load has a source, and where they leave the same runs with any
     /// fences; then the sources of loads, and whether an sc.w succeeds: what most cycles ask for, and then what left the
     /// fewest regions open further up.
@@ -152,17 +175,7 @@ impl Chooser<'_> {
             self.add_filters(&mut choices)?;
         }
         let filters = choices.len();
-        let mut asked: usize = 0;
-        let votes = self.learned.votes(self.region, self.facts);
-        let harts = self.named_harts();
-        for name in 0..self.field.count {
-            if let Some(choice) = self.choice_at(trail, &votes, harts, name) {
-                if choice.class == Class::Asked {
-                    asked = asked.saturating_add(1);
-                }
-                choices.push(choice)?;
-            }
-        }
+        let asked = self.add_names(trail, &mut choices)?;
         choices.sort_by_key(|choice| (choice.class, choice.place))?;
         let most = match asked {
             0 => usize::MAX,

@@ -90,6 +90,19 @@ impl Round<'_> {
         })
     }
 
+    /// The first store comes before the second, since the other one would be between the two.
+    fn order_parted(
+        self,
+        looked: &mut Looked,
+        pair: Pair,
+        other: u8,
+        first: u8,
+        second: u8,
+    ) -> Result<(), AllocError> {
+        let ending = self.parted(&looked.region, pair, other)?;
+        looked.order(first, second, ending)
+    }
+
     /// No store of another hart is between the two.
     fn follow_between(self, looked: &mut Looked, pair: Pair, other: u8) -> Result<(), AllocError> {
         let Pair { load, store } = pair;
@@ -101,15 +114,13 @@ impl Round<'_> {
             return Ok(());
         }
         if is_after && !looked.is_before(store, other) {
-            let ending = self.parted(&looked.region, pair, other)?;
-            looked.order(store, other, ending)?;
+            self.order_parted(looked, pair, other, store, other)?;
         }
         if let Origin::From(source) = looked.region.origin(load) {
             let is_open = !looked.is_before(other, source)
                 && self.view.facts.do_meet(other, source);
             if is_ahead && is_open {
-                let ending = self.parted(&looked.region, pair, other)?;
-                looked.order(other, source, ending)?;
+                self.order_parted(looked, pair, other, other, source)?;
             }
         }
         Ok(())

@@ -46,8 +46,13 @@ impl Walk {
 }
 
 /// One of the names that comes right before the last one.
-fn before(relation: &Relation, layer: u64, last: u8, count: u8) -> Option<u8> {
-    (0..count).find(|name| has(layer, *name) && relation.has(*name, last))
+pub(crate) fn before(relation: &Relation, names: u64, last: u8, count: u8) -> Option<u8> {
+    for name in 0..count {
+        if has(names, name) && relation.has(name, last) {
+            return Some(name);
+        }
+    }
+    None
 }
 
 /// The next layer.
@@ -83,12 +88,19 @@ pub(crate) fn way(
     Ok(Vec::new(alloc))
 }
 
+/// The name behind the one of this place in a cycle.
+pub(crate) fn name_after(cycle: &[u8], place: usize) -> u8 {
+    match cycle.get(place.saturating_add(1)) {
+        Some(name) => *name,
+        None => cycle.first().copied().unwrap_or(0),
+    }
+}
+
 /// How many steps of the cycle the relation has.
 fn count_in(relation: &Relation, cycle: &[u8]) -> usize {
     let mut count: usize = 0;
     for (place, name) in cycle.iter().enumerate() {
-        let next = cycle.get(place.saturating_add(1)).or(cycle.first());
-        if next.is_some_and(|next| relation.has(*name, *next)) {
+        if relation.has(*name, name_after(cycle, place)) {
             count = count.saturating_add(1);
         }
     }
@@ -128,9 +140,7 @@ pub(crate) fn sorted(
     let mut order = Vec::new(alloc);
     let mut left = names;
     for _ in 0..count {
-        let next = (0..count).find(|name| has(left, *name)
-            && !is_behind(closure, left, *name, count));
-        let Some(next) = next else {
+        let Some(next) = foremost(closure, left, count) else {
             break;
         };
         order.push(next)?;
@@ -139,7 +149,12 @@ pub(crate) fn sorted(
     Ok(order)
 }
 
-/// Does one of the names come before this one?
-fn is_behind(closure: &Relation, names: u64, last: u8, count: u8) -> bool {
-    (0..count).any(|name| has(names, name) && closure.has(name, last))
+/// The first of the names before which none of them comes.
+fn foremost(closure: &Relation, names: u64, count: u8) -> Option<u8> {
+    for name in 0..count {
+        if has(names, name) && before(closure, names, name, count).is_none() {
+            return Some(name);
+        }
+    }
+    None
 }

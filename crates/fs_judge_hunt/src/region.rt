@@ -1,10 +1,11 @@
 //! Regions: what is known of the candidates that are in one.
 
+use crate::access::Doing;
 use crate::condition::{Node, Wanted};
 use crate::hart::Hart;
 use crate::names::{MOST_NAMES, Origin, Relation};
 use crate::needs::Fences;
-use crate::rows::{Row, are_same, both, is_empty};
+use crate::rows::{Row, are_same, both, is_empty, is_within};
 use crate::rules::Rule;
 use crate::sum::{Left, left_with};
 use fs_kinds::{List, OperationName};
@@ -40,6 +41,19 @@ pub(crate) struct Region {
     pub(crate) wanted: Arc<List<Wanted>>,
 }
 
+/// These runs of the hart.
+fn shared_left(alloc: Global, hart: &Hart, row: Row) -> Result<Arc<Left>, AllocError> {
+    let left = left_with(alloc, hart, row)?;
+    Ok(Arc::new(alloc, left)?)
+}
+
+/// The condition of this truth value, wanted alone.
+fn wanted_root(alloc: Global, truth: bool) -> Result<Arc<List<Wanted>>, AllocError> {
+    let mut wanted = Vec::new(alloc);
+    wanted.push(Wanted { node: 0, truth })?;
+    Ok(Arc::new(alloc, List::new(wanted))?)
+}
+
 impl<'a> Field<'a> {
     /// The number of the name's hart.
     pub(crate) fn owner(&self, name: u8) -> u8 {
@@ -56,6 +70,11 @@ impl<'a> Field<'a> {
 
     pub(crate) fn hart_of(&self, name: u8) -> Option<&'a Hart> {
         self.harts.get(usize::from(self.owner(name)))
+    }
+
+    /// What the runs of its hart do at the name.
+    pub(crate) fn doing(&self, name: u8) -> Option<&'a Doing> {
+        self.hart_of(name)?.doing(name)
     }
 
     /// The rows of rule 4 in this hart.
@@ -76,22 +95,18 @@ impl<'a> Field<'a> {
         let Some(found) = self.harts.get(usize::from(hart)) else {
             return Ok(None);
         };
-        let left = left_with(alloc, found, row)?;
-        Ok(Some(Arc::new(alloc, left)?))
+        Ok(Some(shared_left(alloc, found, row)?))
     }
 
     /// All runs of each hart; nothing where some hart has none.
     fn all_left(&self, alloc: Global) -> Result<Option<Vec<Arc<Left>>>, AllocError> {
         let mut all = Vec::new(alloc);
-        let mut number: u8 = 0;
         for hart in self.harts {
             if is_empty(&hart.all) {
                 return Ok(None);
             }
-            if let Some(left) = self.left(alloc, number, hart.all.clone()?)? {
-                all.push(left)?;
-            }
-            number = number.saturating_add(1);
+            let left = shared_left(alloc, hart, hart.all.clone()?)?;
+            all.push(left)?;
         }
         Ok(Some(all))
     }
@@ -101,13 +116,12 @@ impl<'a> Field<'a> {
         let Some(left) = self.all_left(alloc)? else {
             return Ok(None);
         };
-        let mut wanted = Vec::new(alloc);
-        wanted.push(Wanted { node: 0, truth })?;
+        let wanted = wanted_root(alloc, truth)?;
         Ok(Some(Region {
             left,
             origins: [Origin::Unknown; MOST_NAMES],
             before: Relation::new(),
-            wanted: Arc::new(alloc, List::new(wanted))?,
+            wanted,
         }))
     }
 }
@@ -200,13 +214,18 @@ impl Region {
         Ok(Some(region))
     }
 
+    /// Are its runs among the other's?
+    pub(crate) fn is_in(&self, other: &Region) -> bool {
+        for hart in 0..self.left.len().min(other.left.len()) {
+            if !is_within(&self.left[hart].row, &other.left[hart].row) {
+                return false;
+            }
+        }
+        true
+    }
+
     /// Have the two the same runs and sources?
     pub(crate) fn is_like(&self, other: &Region) -> bool {
-        self.origins == other.origins
-            && self
-                .left
-                .iter()
-                .zip(other.left.iter())
-                .all(|(one, left)| are_same(&one.row, &left.row))
+        self.origins == other.origins && self.is_in(other) && other.is_in(self)
     }
 }

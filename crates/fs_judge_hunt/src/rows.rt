@@ -33,14 +33,22 @@ pub(crate) fn has_run(row: &[u64], run: usize) -> bool {
 
 /// Has it no run?
 pub fn is_empty(row: &[u64]) -> bool {
-    row.iter().all(|word| *word == 0)
+    for word in row {
+        if *word != 0 {
+            return false;
+        }
+    }
+    true
 }
 
 /// Has the other row each run of this one?
 pub(crate) fn is_within(row: &[u64], other: &[u64]) -> bool {
-    row.iter()
-        .zip(other)
-        .all(|(word, above)| *word & !*above == 0)
+    for place in 0..row.len().min(other.len()) {
+        if row[place] & !other[place] != 0 {
+            return false;
+        }
+    }
+    true
 }
 
 /// Has the row each of so many runs?
@@ -54,46 +62,67 @@ pub fn has_all(row: &[u64], runs: usize) -> bool {
 
 /// Have the two a run in common?
 pub fn do_meet(row: &[u64], other: &[u64]) -> bool {
-    row.iter()
-        .zip(other)
-        .any(|(word, above)| *word & *above != 0)
+    for place in 0..row.len().min(other.len()) {
+        if row[place] & other[place] != 0 {
+            return true;
+        }
+    }
+    false
 }
 
 /// Have the two the same runs?
 pub(crate) fn are_same(row: &[u64], other: &[u64]) -> bool {
-    row.iter().zip(other).all(|(word, above)| *word == *above)
+    is_within(row, other) && is_within(other, row)
+}
+
+/// The runs of this one that are among the other's, of which these bits are flipped.
+fn meeting(alloc: Global, row: &[u64], other: &[u64], flipped: u64) -> Result<Row, AllocError> {
+    let mut made = Vec::new(alloc);
+    for place in 0..row.len().min(other.len()) {
+        made.push(row[place] & (other[place] ^ flipped))?;
+    }
+    Ok(made)
 }
 
 /// The runs of both.
 pub fn both(alloc: Global, row: &[u64], other: &[u64]) -> Result<Row, AllocError> {
-    let mut made = Vec::new(alloc);
-    for (word, above) in row.iter().zip(other) {
-        made.push(*word & *above)?;
-    }
-    Ok(made)
+    meeting(alloc, row, other, 0)
 }
 
 /// The runs of this one that the other one hasn't.
 pub(crate) fn without(alloc: Global, row: &[u64], other: &[u64]) -> Result<Row, AllocError> {
-    let mut made = Vec::new(alloc);
-    for (word, above) in row.iter().zip(other) {
-        made.push(*word & !*above)?;
-    }
-    Ok(made)
+    meeting(alloc, row, other, u64::MAX)
 }
 
 /// Puts the other's runs into the row.
 pub fn join(row: &mut [u64], other: &[u64]) {
-    for (word, above) in row.iter_mut().zip(other) {
-        *word |= *above;
+    for place in 0..row.len().min(other.len()) {
+        row[place] |= other[place];
+    }
+}
+
+/// Puts into the row the runs that are in both of the others.
+pub(crate) fn join_both(row: &mut [u64], one: &[u64], other: &[u64]) {
+    for place in 0..row.len().min(one.len()).min(other.len()) {
+        row[place] |= one[place] & other[place];
+    }
+}
+
+/// Leaves in the row what is among the other's runs, of which these bits are flipped.
+fn mask(row: &mut [u64], other: &[u64], flipped: u64) {
+    for place in 0..row.len().min(other.len()) {
+        row[place] &= other[place] ^ flipped;
     }
 }
 
 /// Drops from the row the runs that the other one hasn't.
 pub(crate) fn narrow(row: &mut [u64], other: &[u64]) {
-    for (word, above) in row.iter_mut().zip(other) {
-        *word &= *above;
-    }
+    mask(row, other, 0);
+}
+
+/// Drops from the row the other's runs.
+pub(crate) fn leave_out(row: &mut [u64], other: &[u64]) {
+    mask(row, other, u64::MAX);
 }
 
 /// The number of its first run.

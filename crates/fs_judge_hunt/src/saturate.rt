@@ -5,7 +5,7 @@ use crate::endings::Outlook;
 use crate::facts::Facts;
 use crate::links::Edge;
 use crate::names::{MOST_NAMES, Pairs, Relation, bit, has};
-use crate::paths::{cycle, way};
+use crate::paths::{cycle, name_after, way};
 use crate::region::{Field, Region};
 use crate::uses::of_filter;
 use fs_cert_evidence::Cause;
@@ -32,6 +32,26 @@ pub(crate) struct View {
     pub(crate) closure: Relation,
 }
 
+impl View {
+    fn of(facts: Facts) -> View {
+        View {
+            facts,
+            edges: Relation::new(),
+            fenced: Relation::new(),
+            closure: Relation::new(),
+        }
+    }
+
+    /// Takes the order of stores that is known now.
+    fn renew(&mut self, region: &Region, count: u8) {
+        self.edges = self.facts.plain_edges(region, count);
+        self.fenced = self.facts.fenced;
+        self.fenced.leave_out(&self.edges);
+        self.edges.join(&self.fenced);
+        self.closure = self.edges.closure(count);
+    }
+}
+
 /// What follows in the region.
 pub(crate) fn saturate(
     alloc: Global,
@@ -44,19 +64,9 @@ pub(crate) fn saturate(
         steps: Vec::new(alloc),
         ending: None,
     };
-    let facts = Facts::of(field, &looked.region);
-    let mut view = View {
-        facts,
-        edges: Relation::new(),
-        fenced: Relation::new(),
-        closure: Relation::new(),
-    };
+    let mut view = View::of(Facts::of(field, &looked.region));
     for _ in 0..MOST_ROUNDS {
-        view.edges = view.facts.plain_edges(&looked.region, field.count);
-        view.fenced = view.facts.fenced;
-        view.fenced.leave_out(&view.edges);
-        view.edges.join(&view.fenced);
-        view.closure = view.edges.closure(field.count);
+        view.renew(&looked.region, field.count);
         let round = Round {
             alloc,
             field,
@@ -151,8 +161,7 @@ impl Round<'_> {
         let mut used = Pairs::new(self.alloc);
         for (place, name) in names.iter().enumerate() {
             let is_last = place.saturating_add(1) == names.len();
-            let next = names.get(place.saturating_add(1)).or(names.first());
-            let next = next.copied().unwrap_or(0);
+            let next = name_after(names, place);
             let edge = match closing {
                 Some(cause) if is_last => Edge { name: *name, cause },
                 _ => Edge::found(self.field, region, &self.view.facts, &mut used, *name, next)?,

@@ -1,17 +1,16 @@
 //! How a region is split into smaller ones: those that the check of a tree makes, in its order.
 
-use crate::access::{Access, class_of};
+use crate::access::{Doing, class_of};
 use crate::endings::Outlook;
 use crate::facts::Facts;
-use crate::hart::Hart;
 use crate::names::{Origin, has};
 use crate::region::{Field, Region};
-use crate::rows::{Row, both, do_meet, is_empty, join, no_run, without};
+use crate::rows::{Row, do_meet, is_empty, join_both, no_run, without};
 use fs_cert_evidence::Inference;
 use std::alloc::{AllocError, Global};
 
 /// How a region is split.
-#[derive(Clone, Copy, PartialEq, Eq)]
+#[derive(Clone, Copy)]
 pub(crate) enum Decision {
     Choice(u8),
     Source(u8),
@@ -58,20 +57,24 @@ fn push_some(regions: &mut Vec<Region>, region: Option<Region>) -> Result<(), Al
     Ok(())
 }
 
-/// Puts the class's runs into the rows, where both harts have some left.
-fn add_class(
-    alloc: Global,
-    agreeing: &mut Agreeing,
-    loads: (&[u64], &[u64]),
-    stores: (&[u64], &[u64]),
-) -> Result<(), AllocError> {
-    if do_meet(loads.0, loads.1) && do_meet(stores.0, stores.1) {
-        let loading = both(alloc, loads.0, loads.1)?;
-        join(&mut agreeing.loading, &loading);
-        let storing = both(alloc, stores.0, stores.1)?;
-        join(&mut agreeing.storing, &storing);
+impl Agreeing {
+    /// Adds a class's runs, those of the first row that are in the second, where both harts have some left.
+    fn add_class(&mut self, left: &[u64], loads: &[u64], others: &[u64], stores: &[u64]) {
+        if do_meet(left, loads) && do_meet(others, stores) {
+            join_both(&mut self.loading, left, loads);
+            join_both(&mut self.storing, others, stores);
+        }
     }
-    Ok(())
+}
+
+/// The runs in which the load has the address and the word of the hart's store.
+fn own_row(doing: &Doing, store: u8) -> &[u64] {
+    for own in &doing.own {
+        if own.store == store {
+            return own.row.as_slice();
+        }
+    }
+    &[]
 }
 
 impl Splitter<'_> {
@@ -91,16 +94,37 @@ impl Splitter<'_> {
         }
     }
 
+    /// The same, by what must hold in the region.
+    pub(crate) fn parts(
+        self,
+        region: &Region,
+        decision: Decision,
+    ) -> Result<Vec<Region>, AllocError> {
+        let facts = Facts::of(self.field, region);
+        self.children(region, &facts, decision)
+    }
+
     fn by_choice(self, region: &Region, name: u8) -> Result<Vec<Region>, AllocError> {
         let mut left = Vec::new(self.alloc);
         let hart = self.field.owner(name);
-        if let Some(doing) = self.field.hart_of(name).and_then(|hart| hart.doing(name)) {
+        if let Some(doing) = self.field.doing(name) {
             for group in &doing.choices {
-                let some = region.with_some(self.alloc, self.field, hart, &group.row)?;
-                push_some(&mut left, some)?;
+                self.push_with(&mut left, region, hart, &group.row)?;
             }
         }
         Ok(left)
+    }
+
+    /// Adds the region with only those of the hart's runs that are in the row, if one is.
+    fn push_with(
+        self,
+        left: &mut Vec<Region>,
+        region: &Region,
+        hart: u8,
+        row: &[u64],
+    ) -> Result<(), AllocError> {
+        let some = region.with_some(self.alloc, self.field, hart, row)?;
+        push_some(left, some)
     }
 
     fn by_source(
@@ -110,30 +134,61 @@ impl Splitter<'_> {
         load: u8,
     ) -> Result<Vec<Region>, AllocError> {
         let mut left = Vec::new(self.alloc);
-        let hart = self.field.owner(load);
-        let Some(doing) = self.field.hart_of(load).and_then(|hart| hart.doing(load)) else {
-            return Ok(left);
-        };
-        let idle = without(self.alloc, region.row(hart), &doing.loads.any)?;
-        if !is_empty(&idle) {
-            push_some(
-                &mut left,
-                region.with_some(self.alloc, self.field, hart, &idle)?,
-            )?;
-        }
-        let known = region.origin(load);
-        if known == Origin::Unknown || known == Origin::Initial {
-            let initial = region.with_some(self.alloc, self.field, hart, &doing.initial)?;
-            push_some(&mut left, returning(initial, load, Origin::Initial))?;
-        }
-        for store in 0..self.field.count {
-            let is_left = known == Origin::Unknown || known == Origin::From(store);
-            if is_left && has(facts.may_store, store) {
-                let some = self.from_store(region, load, store)?;
-                push_some(&mut left, returning(some, load, Origin::From(store)))?;
-            }
+        if let Some(doing) = self.field.doing(load) {
+            self.push_idle(&mut left, region, load, doing)?;
+            self.push_initial(&mut left, region, load, doing)?;
+            self.push_stored(&mut left, region, load, facts.may_store)?;
         }
         Ok(left)
+    }
+
+    /// Adds the candidates in which the load isn't executed.
+    fn push_idle(
+        self,
+        left: &mut Vec<Region>,
+        region: &Region,
+        load: u8,
+        doing: &Doing,
+    ) -> Result<(), AllocError> {
+        let hart = self.field.owner(load);
+        let idle = without(self.alloc, region.row(hart), &doing.loads.any)?;
+        self.push_with(left, region, hart, &idle)
+    }
+
+    /// Adds those in which it returns what its location begins with, if they may be left.
+    fn push_initial(
+        self,
+        left: &mut Vec<Region>,
+        region: &Region,
+        load: u8,
+        doing: &Doing,
+    ) -> Result<(), AllocError> {
+        let known = region.origin(load);
+        if known != Origin::Unknown && known != Origin::Initial {
+            return Ok(());
+        }
+        let hart = self.field.owner(load);
+        let initial = region.with_some(self.alloc, self.field, hart, &doing.initial)?;
+        push_some(left, returning(initial, load, Origin::Initial))
+    }
+
+    /// Adds those in which it returns from one of these stores, if they may be left.
+    fn push_stored(
+        self,
+        left: &mut Vec<Region>,
+        region: &Region,
+        load: u8,
+        stores: u64,
+    ) -> Result<(), AllocError> {
+        let known = region.origin(load);
+        for store in 0..self.field.count {
+            let is_left = known == Origin::Unknown || known == Origin::From(store);
+            if is_left && has(stores, store) {
+                let some = self.from_store(region, load, store)?;
+                push_some(left, returning(some, load, Origin::From(store)))?;
+            }
+        }
+        Ok(())
     }
 
     /// The candidates in which the load agrees with the store.
@@ -147,11 +202,8 @@ impl Splitter<'_> {
         if hart != self.field.owner(store) {
             return self.from_another(region, load, store);
         }
-        let Some(doing) = self.field.hart_of(load).and_then(|hart| hart.doing(load)) else {
-            return Ok(None);
-        };
-        match doing.own.iter().find(|own| own.store == store) {
-            Some(own) => region.with_some(self.alloc, self.field, hart, &own.row),
+        match self.field.doing(load) {
+            Some(doing) => region.with_some(self.alloc, self.field, hart, own_row(doing, store)),
             None => Ok(None),
         }
     }
@@ -162,17 +214,43 @@ impl Splitter<'_> {
         load: u8,
         store: u8,
     ) -> Result<Option<Region>, AllocError> {
-        let (Some(reader), Some(writer)) = (self.field.hart_of(load), self.field.hart_of(store))
+        let mut agreeing = self.no_runs(load, store)?;
+        let (Some(loading), Some(storing)) = (self.field.doing(load), self.field.doing(store))
         else {
             return Ok(None);
         };
-        let (Some(loading), Some(storing)) = (reader.doing(load), writer.doing(store)) else {
-            return Ok(None);
-        };
         let (hart, other) = (self.field.owner(load), self.field.owner(store));
-        let mut agreeing = self.no_runs(reader, writer)?;
-        let rows = (region.row(hart), region.row(other));
-        self.agree(&mut agreeing, rows, &loading.loads, &storing.stores)?;
+        let (left, others) = (region.row(hart), region.row(other));
+        for class in &loading.loads.classes {
+            if let Some(stores) = class_of(&storing.stores.classes, class.key) {
+                agreeing.add_class(left, &class.row, others, &stores.row);
+            }
+        }
+        self.with_agreeing(region, hart, other, agreeing)
+    }
+
+    fn no_runs(self, load: u8, store: u8) -> Result<Agreeing, AllocError> {
+        let loading = no_run(self.alloc, self.words(load))?;
+        let storing = no_run(self.alloc, self.words(store))?;
+        Ok(Agreeing { loading, storing })
+    }
+
+    /// How many words the rows of the name's hart have.
+    fn words(self, name: u8) -> usize {
+        match self.field.hart_of(name) {
+            Some(hart) => hart.words,
+            None => 0,
+        }
+    }
+
+    /// The region with only these runs of the two harts, if each has one.
+    fn with_agreeing(
+        self,
+        region: &Region,
+        hart: u8,
+        other: u8,
+        agreeing: Agreeing,
+    ) -> Result<Option<Region>, AllocError> {
         let Agreeing { loading, storing } = agreeing;
         if is_empty(&loading) || is_empty(&storing) {
             return Ok(None);
@@ -183,43 +261,25 @@ impl Splitter<'_> {
         Ok(Some(smaller))
     }
 
-    fn no_runs(self, reader: &Hart, writer: &Hart) -> Result<Agreeing, AllocError> {
-        Ok(Agreeing {
-            loading: no_run(self.alloc, reader.words)?,
-            storing: no_run(self.alloc, writer.words)?,
-        })
-    }
-
-    /// Finds the runs, of those that are left of the two harts, in which the load agrees with the store.
-    fn agree(
-        self,
-        agreeing: &mut Agreeing,
-        rows: (&[u64], &[u64]),
-        loads: &Access,
-        stores: &Access,
-    ) -> Result<(), AllocError> {
-        for class in &loads.classes {
-            if let Some(other) = class_of(&stores.classes, class.key) {
-                add_class(
-                    self.alloc,
-                    agreeing,
-                    (rows.0, &class.row),
-                    (rows.1, &other.row),
-                )?;
-            }
-        }
-        Ok(())
-    }
-
     fn by_order(self, region: &Region, first: u8, second: u8) -> Result<Vec<Region>, AllocError> {
         let mut left = Vec::new(self.alloc);
-        let mut one = region.copy(self.alloc)?;
-        one.before.add(first, second);
-        left.push(one)?;
-        let mut other = region.copy(self.alloc)?;
-        other.before.add(second, first);
-        left.push(other)?;
+        self.push_ordered(&mut left, region, first, second)?;
+        self.push_ordered(&mut left, region, second, first)?;
         Ok(left)
+    }
+
+    /// Adds the region in which the first store comes before the second.
+    fn push_ordered(
+        self,
+        left: &mut Vec<Region>,
+        region: &Region,
+        first: u8,
+        second: u8,
+    ) -> Result<(), AllocError> {
+        let mut ordered = region.copy(self.alloc)?;
+        ordered.before.add(first, second);
+        left.push(ordered)?;
+        Ok(())
     }
 
     fn by_outcome(
@@ -235,10 +295,7 @@ impl Splitter<'_> {
         };
         let row = outlook.showing(self.alloc, hart)?;
         let mut left = Vec::new(self.alloc);
-        push_some(
-            &mut left,
-            region.with_some(self.alloc, self.field, hart, &row)?,
-        )?;
+        self.push_with(&mut left, region, hart, &row)?;
         Ok(left)
     }
 }

@@ -3,8 +3,9 @@
 
 use crate::clash::{Ending, Step};
 use crate::names::{MOST_NAMES, Origin, Relation};
-use crate::region::Region;
-use crate::rows::is_within;
+use crate::needs::Need;
+use crate::region::{Field, Region};
+use crate::rows::{Group, is_within};
 use crate::splits::{Decision, Splitter};
 use std::alloc::{AllocError, Global};
 use std::sync::Arc;
@@ -76,11 +77,36 @@ impl Dead {
         Ok(Dead { steps, ending })
     }
 
+    /// Adds what it needs in the region, in which some pairs are known that need nothing more, and to what it rests on
+    /// what its other steps do.
+    pub(crate) fn add_needs(
+        &self,
+        need: &mut Need,
+        used: &mut Relation,
+        field: Field<'_>,
+        region: &Region,
+        known: &Relation,
+    ) -> Result<(), AllocError> {
+        self.ending.clash.add_needs(need, field, region)?;
+        for place in 0..self.steps.len() {
+            let step = &self.steps[self.steps.len() - 1 - place];
+            if used.has(step.first, step.second) && !known.has(step.first, step.second) {
+                used.remove(step.first, step.second);
+                used.join(&step.used());
+                step.ending.clash.add_needs(need, field, region)?;
+            }
+        }
+        Ok(())
+    }
+
     /// Can it be written in a region with these pairs? What followed in the one that ended isn't the other way round.
     fn fits(&self, before: &Relation) -> bool {
-        self.steps
-            .iter()
-            .all(|step| !before.has(step.second, step.first))
+        for step in &self.steps {
+            if before.has(step.second, step.first) {
+                return false;
+            }
+        }
+        true
     }
 }
 
@@ -95,19 +121,25 @@ impl Decision {
     }
 }
 
+/// The place of the first group that has all of these runs.
+fn place_of(groups: &[Group], row: &[u64]) -> Option<usize> {
+    for (place, group) in groups.iter().enumerate() {
+        if is_within(row, &group.row) {
+            return Some(place);
+        }
+    }
+    None
+}
+
 impl Splitter<'_> {
     /// Which one of the decision's regions this is, where the decision may be tried again below.
     pub(crate) fn branch(self, decision: Decision, region: &Region) -> Option<Branch> {
         match decision {
             Decision::Source(load) => Some(Branch::Source(load, region.origin(load))),
             Decision::Choice(name) => {
-                let doing = self.field.hart_of(name)?.doing(name)?;
+                let doing = self.field.doing(name)?;
                 let row = region.row(self.field.owner(name));
-                let place = doing
-                    .choices
-                    .iter()
-                    .position(|group| is_within(row, &group.row))?;
-                Some(Branch::Choice(name, place))
+                Some(Branch::Choice(name, place_of(&doing.choices, row)?))
             }
             _ => None,
         }
@@ -126,11 +158,12 @@ impl Trail {
 
     /// How the region of the branch, with these pairs, ends, if a look has shown it.
     pub(crate) fn dead(&self, branch: Branch, before: &Relation) -> Option<&Arc<Dead>> {
-        let found = self
-            .ended
-            .iter()
-            .find(|ended| ended.branch == branch && ended.dead.fits(before))?;
-        Some(&found.dead)
+        for ended in &self.ended {
+            if ended.branch == branch && ended.dead.fits(before) {
+                return Some(&ended.dead);
+            }
+        }
+        None
     }
 
     /// The region of the branch ends.

@@ -27,9 +27,42 @@ pub(crate) struct Held {
     pub(crate) need: Need,
 }
 
+impl Held {
+    /// Does it hold with these pairs placed? Always, if none are given.
+    fn is_met(&self, placed: Option<&SlotPairs>) -> bool {
+        match placed {
+            Some(placed) => self.need.is_met(placed),
+            None => true,
+        }
+    }
+}
+
+/// Adds what those of the pairs need that followed so, where they hold with these placed, and takes them out.
+pub(crate) fn move_needs(
+    held: &[Held],
+    need: &mut Need,
+    used: &mut Relation,
+    placed: Option<&SlotPairs>,
+) -> Result<(), AllocError> {
+    for place in 0..held.len() {
+        let one = &held[held.len() - 1 - place];
+        let (first, second) = (one.step.first, one.step.second);
+        if used.has(first, second) && one.is_met(placed) {
+            need.join(&one.need)?;
+            used.remove(first, second);
+        }
+    }
+    Ok(())
+}
+
 /// Needs none of these a fence?
 pub(crate) fn are_firm(held: &[Held]) -> bool {
-    held.iter().all(|one| one.need.is_nothing())
+    for one in held {
+        if !one.need.is_nothing() {
+            return false;
+        }
+    }
+    true
 }
 
 /// How a region is split.
@@ -77,12 +110,37 @@ impl Node {
         }
     }
 
+    /// A region in which this followed, if something did.
+    pub(crate) fn of(
+        alloc: Global,
+        region: Region,
+        fresh: Option<Fresh>,
+    ) -> Result<Node, AllocError> {
+        let region = Box::new(alloc, region)?;
+        Ok(Node {
+            region: Some(region),
+            fresh,
+            leaves: Vec::new(alloc),
+            branching: None,
+        })
+    }
+
+    /// One that has ended.
+    pub(crate) fn ended(alloc: Global, leaf: Leaf) -> Result<Node, AllocError> {
+        let mut node = Node::new(alloc);
+        node.add_leaf(leaf)?;
+        Ok(node)
+    }
+
     /// What ends it with these pairs placed.
     pub(crate) fn leaf(&self, placed: &SlotPairs) -> Option<&Leaf> {
-        self.leaves
-            .iter()
-            .rev()
-            .find(|leaf| leaf.need.is_met(placed))
+        for place in 0..self.leaves.len() {
+            let leaf = &self.leaves[self.leaves.len() - 1 - place];
+            if leaf.need.is_met(placed) {
+                return Some(leaf);
+            }
+        }
+        None
     }
 
     /// Keeps what ends it.
@@ -136,23 +194,6 @@ impl Branching {
         }
     }
 
-    /// Adds what those of the pairs need that followed here, and takes them out.
-    pub(crate) fn move_needs(
-        &self,
-        need: &mut Need,
-        used: &mut Relation,
-        placed: &SlotPairs,
-    ) -> Result<(), AllocError> {
-        for held in self.held.iter().rev() {
-            let (first, second) = (held.step.first, held.step.second);
-            if used.has(first, second) && held.need.is_met(placed) {
-                need.join(&held.need)?;
-                used.remove(first, second);
-            }
-        }
-        Ok(())
-    }
-
     /// The part that is looked through after so many others: the one in which something was shown last comes first.
     pub(crate) fn part(&self, number: usize) -> usize {
         if number == 0 {
@@ -177,11 +218,27 @@ impl Tree {
     /// That of a region.
     pub(crate) fn new(alloc: Global, root: Region) -> Result<Tree, AllocError> {
         let start = root.before;
+        let root = Node::of(alloc, root, None)?;
         let mut nodes = Vec::new(alloc);
-        let mut node = Node::new(alloc);
-        node.region = Some(Box::new(alloc, root)?);
-        nodes.push(node)?;
+        nodes.push(root)?;
         Ok(Tree { nodes, start })
+    }
+
+    /// Puts into the node how its region is split.
+    pub(crate) fn branch(
+        &mut self,
+        alloc: Global,
+        number: usize,
+        region: Region,
+        branching: Branching,
+    ) -> Result<(), AllocError> {
+        let region = Box::new(alloc, region)?;
+        let branching = Box::new(alloc, branching)?;
+        if let Some(node) = self.nodes.get_mut(number) {
+            node.region = Some(region);
+            node.branching = Some(branching);
+        }
+        Ok(())
     }
 
     pub(crate) fn node(&self, number: usize) -> Option<&Node> {

@@ -1,5 +1,6 @@
 //! Which pairs of stores, one earlier in coherence order, an inference rests on.
 
+use crate::access::Place;
 use crate::condition::{Part, Wanted, within};
 use crate::endings::Outlook;
 use crate::facts::Facts;
@@ -53,18 +54,20 @@ fn asked(outlook: &Outlook<'_>) -> u64 {
 /// May the name be one that stores at one of the locations?
 fn may_store_at(outlook: &Outlook<'_>, locations: u64, store: u8) -> bool {
     let facts: &Facts = outlook.facts;
-    if !has(facts.may_store, store) {
-        return false;
-    }
-    match outlook
-        .field
-        .hart_of(store)
-        .and_then(|hart| hart.doing(store))
-    {
-        Some(doing) => doing.stores.places.iter().any(|place| place.location < 64
-            && has(locations, place.location)),
+    match outlook.field.doing(store) {
+        Some(doing) => has(facts.may_store, store) && is_among(&doing.stores.places, locations),
         None => false,
     }
+}
+
+/// Is one of the places at one of these locations?
+fn is_among(places: &[Place], locations: u64) -> bool {
+    for place in places {
+        if place.location < 64 && has(locations, place.location) {
+            return true;
+        }
+    }
+    false
 }
 
 /// The least name of a set.

@@ -11,10 +11,19 @@ use fs_kinds::{List, OperationName};
 use fs_model::Choice;
 use std::alloc::{AllocError, Global};
 
+/// The number of what the run chooses at a name.
+fn key_of(doing: &Doing, run: usize) -> Option<u64> {
+    for group in &doing.choices {
+        if has_run(&group.row, run) {
+            return Some(group.key);
+        }
+    }
+    None
+}
+
 /// What the run chooses at a name, if it chooses something there.
 fn choice(doing: &Doing, run: usize) -> Option<Choice> {
-    let group = doing.choices.iter().find(|group| has_run(&group.row, run))?;
-    match (doing.takes, group.key) {
+    match (doing.takes, key_of(doing, run)?) {
         (Takes::Nothing, _) | (_, 0) => None,
         (Takes::Success, 1) => Some(Choice::Success),
         (Takes::Success, _) => Some(Choice::Failure),
@@ -33,11 +42,27 @@ fn choices_of(alloc: Global, hart: &Hart, run: usize) -> Result<Choices, AllocEr
     Ok(Choices::new(choices))
 }
 
+/// Adds those of the first of these runs.
+fn push_choices(
+    alloc: Global,
+    lists: &mut Vec<Choices>,
+    hart: &Hart,
+    row: &[u64],
+) -> Result<(), AllocError> {
+    let choices = choices_of(alloc, hart, first_run(row).unwrap_or(0))?;
+    lists.push(choices)?;
+    Ok(())
+}
+
 fn choices(alloc: Global, field: Field<'_>, region: &Region) -> Result<ChoiceLists, AllocError> {
     let mut lists = Vec::new(alloc);
-    for (hart, left) in field.harts.iter().zip(region.left.iter()) {
-        let run = first_run(&left.row).unwrap_or(0);
-        lists.push(choices_of(alloc, hart, run)?)?;
+    for hart in 0..field.harts.len().min(region.left.len()) {
+        push_choices(
+            alloc,
+            &mut lists,
+            &field.harts[hart],
+            &region.left[hart].row,
+        )?;
     }
     Ok(ChoiceLists::new(lists))
 }
@@ -51,11 +76,19 @@ fn order(
     let facts = Facts::of(field, region);
     let closure = facts.all_edges(region, field.count).closure(field.count);
     let numbers = sorted(alloc, &closure, facts.loads | facts.stores, field.count)?;
+    Ok(List::new(names_of(alloc, field, &numbers)?))
+}
+
+fn names_of(
+    alloc: Global,
+    field: Field<'_>,
+    numbers: &[u8],
+) -> Result<Vec<OperationName>, AllocError> {
     let mut names = Vec::new(alloc);
-    for number in &numbers {
+    for number in numbers {
         names.push(field.name(*number))?;
     }
-    Ok(List::new(names))
+    Ok(names)
 }
 
 /// An execution, by the choices of each hart and the names of the operations in their order.
