@@ -1,22 +1,17 @@
 -- Parts that are filled, and what shows it of them.
-use Rattle.std.proofs.Common.{◌≡◌, ℕ, zero, suc, Bool, true, false, Option, Some, None, List, [], ◌∷◌, ◌++◌, refl, sym, ap, ap₂, subst, ◌∙◌, inl, inr}
-use Rattle.std.specs.Prelude.{slice_get, is_none, unwrap_or, ◌||◌}
+use Rattle.std.proofs.Common.{◌≡◌, Bool, true, false, Option, Some, None, List, [], ◌∷◌, refl, sym, ap₂, subst, ◌∙◌}
+use Rattle.std.specs.Prelude.{is_none, unwrap_or, ◌||◌}
 use Rattle.std.specs.List.{list_any}
 use Rattle.std.proofs.lemmas.Bool.{false≢true}
 use Rattle.fs_kinds.specs.declared.kind.Kind.{Kind}
 use Rattle.fs_kinds.specs.declared.kind.Kind.TheVariants.{RwRw}
 use Rattle.fs_kinds.specs.declared.placement.Entry.{Entry}
-use Rattle.fs_kinds.specs.declared.slot.Slot.{Slot}
-use Rattle.fs_kinds.specs.Placement.{slots_of, with_kind}
-use Rattle.fs_kinds.proofs.Entries.{slots_of-with_kind}
 use Rattle.fs_model.specs.declared.test.Test.{Test}
 use Rattle.fs_model.specs.Execution.{Execution}
 use Rattle.fs_model.specs.Allows.{Shows}
 use Rattle.fs_cert_evidence.specs.Shown.{IsShownBy}
-use Rattle.fs_board_offers.specs.Parts.{Part, Decision, filled_with, floor, filled, slots_in_part}
-use Rattle.fs_model_laws.proofs.Places.{at-append}
+use Rattle.fs_board_offers.specs.Parts.{Part, Decision, floor, filled}
 use Rattle.fs_cert_evidence.specs.Evidence.{Shown, IsWitnessFor}
-use Rattle.fs_board.specs.Growth.{AreWitnesses}
 
 entry-same : (d : Decision) → is_none d.decided ≡ false → unwrap_or d.decided None ≡ unwrap_or d.decided (Some RwRw)
 entry-same d some = elim d.decided as (λ o. is_none o ≡ false → unwrap_or o None ≡ unwrap_or o (Some RwRw)) [

@@ -8,7 +8,6 @@ ghost use Rattle.fs_board_offers.specs.Offers.{cost};
 ghost use Rattle.fs_board_offers.specs.Questions.{HasTop};
 ghost use Rattle.fs_model.specs.Test.{IsBounded, IsStart};
 ghost use Rattle.fs_model.specs.Slots.{slots};
-ghost use Rattle.fs_model.specs.Allows.{Allows};
 ghost use Rattle.fs_cert_evidence.specs.CandidateFaults.{IsCandidateFault};
 ghost use Rattle.fs_board_offers.specs.Board.{is_finished};
 ghost use Rattle.fs_board_offers.specs.Sizes.{HasNoRunFault};
