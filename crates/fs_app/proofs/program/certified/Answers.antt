@@ -1,5 +1,4 @@
-use Rattle.std.proofs.Common.{◌≡◌, false, refl, rules, string_bytes}
-use Rattle.fs_app_solve.specs.Found.{lines_of}
+use Rattle.std.proofs.Common.{◌≡◌, false, rules}
 use Rattle.fs_app.proofs.Told.{solved_alone}
 use Rattle.fs_app.proofs.program.certified.Goals as goal
 
