@@ -1,6 +1,6 @@
 //! A run of the program: from the words of its command line to what it prints and its exit status.
 
-ghost use Rattle.std.specs.Prelude.{◌≡◌, ◌≤◌, ℕ, List, [], IfOk, IfErr, IsSome, is_some, map, string_bytes};
+ghost use Rattle.std.specs.Prelude.{◌≡◌, ◌≤◌, ℕ, List, [], IfOk, IfErr, IsSome, false, is_some, map, string_bytes};
 ghost use Rattle.std.specs.Arc.{arc_value};
 ghost use Rattle.std.specs.Option.{option_copied};
 ghost use Rattle.fs_app_io.specs.declared.status.Status.TheVariants.{Success, Denied, Failure as Failed};
@@ -25,7 +25,7 @@ use crate::progress::Progress;
 use crate::rows::read_rows;
 use crate::sources::sources;
 use crate::states::{answer_log, answer_states};
-use crate::telling::{answer_why, is_yes, order_why, tests_why, with_below};
+use crate::telling::{answer_why, is_yes, order_why, solve_why, tests_why, with_below};
 use crate::whole::write_whole;
 use clap::error::ErrorKind;
 use fs_app_audit::{run_audit, run_mended};
@@ -473,37 +473,51 @@ fn answer_solve<'a, R: Files + Input + Eprint + AllocGlobal + Clock + Threads + 
     let found = found(rt, solve, papers, &mut progress);
     progress.wipe();
     let found = found?;
-    let output = solved(rt, solve, papers, &found)?;
+    let output = printed(rt.alloc(), &found, solve.json)?;
+    let output = certified(rt, solve, papers, &found, output)?;
     if voice.notes && found.is_free() {
         note_vacuous(rt, &papers.test.bytes)?;
     }
     Ok(output)
 }
 
-/// What is printed of what was found, and told below it, once its certificate is written where one is asked for.
-fn solved<R: Files + AllocGlobal>(
+/// Is a certificate of the answer asked for, or what one tells?
+fn needs_certificate(solve: &Solve<'_>) -> bool
+    ensures { result ≡ false → solve.now.why ≡ false }
+{
+    solve.why || solve.certificate.is_some()
+}
+
+/// The output, with what is told below it, once the certificate is written: both where they are asked for.
+fn certified<R: Files + AllocGlobal>(
     rt: &R,
     solve: &Solve<'_>,
     papers: &Papers<'_>,
     found: &Found,
+    output: Output,
 ) -> Result<Output, Fault>
-    requires { (limit : ℕ) × IsFound papers.now.test.bytes.items papers.now.prices.bytes.items limit
+    requires found { (limit : ℕ) × IsFound papers.now.test.bytes.items papers.now.prices.bytes.items limit
         (arc_value found.now.question) found.now.solved }
+    requires answer { IsSolvedIn solve.now.json papers.now.test.bytes.items papers.now.prices.bytes.items
+        (lines_of found.now.solved.answer) (string_bytes output.text) output.status }
+    requires prints { Prints found.now.solved.answer (lines_of found.now.solved.answer) output.status }
     ensures { IfOk result (IsSolvedAndTold solve.now.json solve.now.why papers.now.test.bytes.items
         papers.now.prices.bytes.items) }
 {
-    let output = printed(rt.alloc(), found, solve.json)?;
-    if !solve.why && solve.certificate.is_none() {
+    if !needs_certificate(solve) {
         return Ok(output);
     }
     let certificate = found.certificate(rt.alloc())?;
-    let test = &papers.test.bytes;
-    let below = answer_why(rt.alloc(), solve.why, test, certificate.as_bytes())?;
-    let told = with_below(output, &below)?;
     if let Some(path) = solve.certificate {
         write_whole(rt, path, certificate.as_bytes())?;
     }
-    Ok(told)
+    solve_why(
+        rt.alloc(),
+        solve.why,
+        output,
+        &papers.test.bytes,
+        certificate.as_bytes(),
+    )
 }
 
 /// What was found, in lines or as an object.

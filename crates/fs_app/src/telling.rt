@@ -1,7 +1,9 @@
 //! What is told below answers, where `--why` asks for it.
 
-ghost use Rattle.std.specs.Prelude.{◌≡◌, ◌++◌, ℕ, List, IfOk, OnOk, codes, map, string_bytes};
+ghost use Rattle.std.specs.Prelude.{◌≡◌, ◌++◌, ℕ, Bool, List, IfOk, OnOk, codes, map, string_bytes};
+ghost use Rattle.fs_app_solve.specs.Solve.{IsCertified};
 ghost use Rattle.fs_app_why.specs.Why.{IsAllowedWhy, IsAnswerWhy, IsOrderWhy};
+ghost use Rattle.fs_app.specs.Answers.{IsSolvedAndTold, IsSolvedIn};
 ghost use Rattle.fs_app.specs.Telling.{AreTold, IsTold, is_yes};
 
 use crate::papers::Papers;
@@ -62,6 +64,24 @@ pub(crate) fn answer_why(
         return Ok(String::new(alloc));
     }
     why_answer(alloc, test, certificate)
+}
+
+/// The output of `solve`, with what is told below it by this certificate of its answer.
+pub(crate) fn solve_why(
+    alloc: Global,
+    why: bool,
+    output: Output,
+    test: &[u8],
+    certificate: &[u8],
+) -> Result<Output, Fault>
+    ensures { (is_json : Bool) (prices lines : List ℕ)
+        → IsSolvedIn is_json test.now prices lines (string_bytes output.text) output.status
+        → IsCertified test.now prices lines output.status certificate.now
+        → IfOk result (IsSolvedAndTold is_json why test.now prices) }
+{
+    let below = answer_why(alloc, why, test, certificate)?;
+    let told = with_below(output, &below)?;
+    Ok(told)
 }
 
 /// Appends the execution below the name.
