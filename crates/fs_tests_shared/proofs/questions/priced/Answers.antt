@@ -1,4 +1,5 @@
 use Rattle.std.proofs.Common.{ap, sym, subst, ◌∙◌}
+use Rattle.std.specs.Arc.{arc_value}
 use Rattle.fs_model.specs.Test.{IsTest}
 use Rattle.fs_board_offers.specs.Questions.{Question, HasTop}
 use Rattle.fs_board_offers.proofs.Priced.{has-top}
@@ -12,4 +13,4 @@ returns-clause-test c =
 pub returns-clause-top : goal.returns-clause-top
 returns-clause-top c =
     let same = c.in_ok-shared.ensures.ok ∙ c.in_ok-question.ensures.ok in
-    subst (λ (q : Question). HasTop q.offers) (sym same) (has-top _ _ c.of-top.ensures.table)
+    subst (λ (q : Question). HasTop q.offers) (sym same) (has-top (arc_value c.in_ok-test.test) c.args.prices.now c.of-top.ensures.table)
