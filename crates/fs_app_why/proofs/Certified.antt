@@ -1,5 +1,5 @@
 -- The witnesses of a certificate, and what is kept of them.
-use Rattle.std.proofs.Common.{◌≡◌, ℕ, zero, suc, List, [], ◌∷◌, ◌++◌, Option, None, Some, Contains, append_assoc, arith, refl, sym, ap, subst, unwrap_or, ◌∙◌, inl, inr}
+use Rattle.std.proofs.Common.{◌≡◌, ℕ, zero, suc, List, [], ◌∷◌, ◌++◌, Option, None, Some, append_assoc, arith, refl, sym, ap, subst, unwrap_or, ◌∙◌, inl, inr}
 use Rattle.std.specs.List.{AllZip}
 use Rattle.std.proofs.lemmas.List.{append-nil}
 use Rattle.std.specs.Prelude.{slice_get}
@@ -12,7 +12,7 @@ use Rattle.fs_model.specs.Witness.{Witness}
 use Rattle.fs_cert_evidence.specs.declared.witness.WitnessFile.{WitnessFile as File}
 use Rattle.fs_cert_evidence.specs.WitnessFile.{KeepsWitness}
 use Rattle.fs_app_why.specs.inner.Told.{NoneShows, SayWitnesses}
-use Rattle.fs_app_why.specs.Why.{NoWitnessShows, TellsEntry, TellsFences, TellsSlot, TellsWithout}
+use Rattle.fs_app_why.specs.Why.{NoWitnessShows, TellsEntry, TellsFences, TellsSlot}
 
 -- the first file that is kept is of the first witness
 pub first_witness : (files : List File) (ws : List Witness) (file : File) → AllZip KeepsWitness files ws → slice_get files 0 ≡ Some file

@@ -1,6 +1,6 @@
 -- What is known of the execution of a witness.
 use Rattle.std.proofs.Common.{◌≡◌, ◌∙◌, ℕ, ◌+◌, List, [], ◌∷◌, ◌++◌, Option, None, Some, Result, Ok, Err, IfOk, IfSome}
-use Rattle.std.proofs.Common.{map, refl, sym, ap, arith}
+use Rattle.std.proofs.Common.{map, sym, ap, arith}
 use Rattle.std.specs.List.{range_with_len}
 use Rattle.std.proofs.lemmas.List.FromFn.{map-range_with_len_more}
 use Rattle.fs_model.specs.Numbers.{numbers_below}

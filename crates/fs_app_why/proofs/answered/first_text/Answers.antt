@@ -1,4 +1,4 @@
-use Rattle.std.proofs.Common.{IfOk, ap, option_copied, rules, string_bytes, subst, sym, ◌∙◌}
+use Rattle.std.proofs.Common.{IfOk, ap, option_copied, string_bytes, subst, sym, ◌∙◌}
 use Rattle.fs_cert_evidence.specs.Certificate.{NoneForbids}
 use Rattle.fs_app_why.specs.Why.{TellsAnswer}
 use Rattle.fs_app_why.proofs.Certified.{first_witness}

@@ -1,4 +1,4 @@
-use Rattle.std.proofs.Common.{◌∙◌, Option, ap, string_bytes}
+use Rattle.std.proofs.Common.{string_bytes}
 use Rattle.std.proofs.lemmas.Result.{IfOk-weaker}
 use Rattle.fs_app_why.proofs.Telling.{marked_early, marked_late}
 use Rattle.fs_app_why.proofs.marks.mark_text.Goals as goal
