@@ -56,7 +56,7 @@ fn given_text(
 
 /// What is told below a yes of `order`, of the same files and words: the execution that the witness gives, in the order
 /// of memory. Nothing where the verdict is a no. The faults are those of `run_order`. The cost is that of `check_order`
-/// of fs_check, and at most cubic in the operations.
+/// of fs_check, and at most quartic in the operations.
 pub fn why_order(
     alloc: Global,
     test: &[u8],

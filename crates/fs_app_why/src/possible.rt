@@ -36,7 +36,7 @@ fn full_fences(alloc: Global, test: &Test) -> Result<Placement, Fault>
 }
 
 /// The execution that the witness gives, below this heading, if it shows the outcome with these fences. In its order
-/// there is as much of program order as can be kept.
+/// there may be more of program order.
 fn told(
     alloc: Global,
     heading: &str,
@@ -59,8 +59,8 @@ fn told(
 }
 
 /// What is told of a test that allows its outcome as it is written: an execution that shows it, in the order of memory.
-/// It has the choices and sources of the one that is given by the choices of each hart and its order, and as much of
-/// program order as can be kept. None where these give no such execution. The faults are those of `read_test` and F19.
+/// It is made of the one that is given by the choices of each hart and its order, with more of program order where that
+/// can be kept. None where these give no such execution. The faults are those of `read_test` and F19.
 /// The cost is at most quartic in the operations.
 pub fn why_allowed(
     alloc: Global,

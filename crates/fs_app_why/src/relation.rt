@@ -9,9 +9,10 @@ use fs_kinds::{Fault, OperationName, Placement, Slot};
 use fs_model::Operation;
 use std::alloc::{AllocError, Global};
 
-/// As many operations as a relation has room for, and as many harts as sides are told of.
+/// As many operations as a relation has room for.
 const MOST_OPERATIONS: usize = 64;
 
+/// As many harts as sides are told of.
 const MOST_HARTS: usize = 8;
 
 /// Is b a store to the word of a that comes later than a, where a stores, and than the source of a, where it loads?
@@ -208,9 +209,9 @@ pub(crate) fn names(
     Ok(names)
 }
 
-/// The operations of the harts in an order with the same sources and coherence orders that keeps as much of program
-/// order as these fences let it keep; what a fence in the slot would order is given up before all else. Each pair of
-/// program order takes what it takes to judge a relation. The error is F19.
+/// The operations of the harts in an order with the same sources and coherence orders that keeps a pair of program order
+/// more wherever those before it and these fences let it; what a fence in the slot would order is given up before all
+/// else. Each pair takes what it takes to judge a relation. The error is F19.
 pub(crate) fn nearer_order(
     alloc: Global,
     placement: &Placement,

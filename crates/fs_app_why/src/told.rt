@@ -24,7 +24,7 @@ pub(crate) struct Told {
     pub(crate) operations: Operations,
     /// Of each its name, if it is a hart's.
     pub(crate) names: List<Option<OperationName>>,
-    /// Of each its source, if it loads.
+    /// Of each its source, if it has one; it is shown of what loads.
     pub(crate) sources: List<Option<u8>>,
     /// The harts' operations, in the order in which they come to memory.
     pub(crate) order: List<u8>,

@@ -35,7 +35,7 @@ fn rows_text(
 
 /// The operations of an execution in the order in which they come to memory, each with its line, its instruction and
 /// what it does; below those that overtake others of their hart, or are overtaken, which these are; and how it ends.
-/// The cost is at most cubic in the operations.
+/// The cost is at most quartic in the operations.
 pub(crate) fn trace_text(
     alloc: Global,
     test: &Test,

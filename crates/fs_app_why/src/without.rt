@@ -30,8 +30,8 @@ fn without(placement: &Placement, slot: Slot) -> Result<Placement, Fault>
     Ok(other)
 }
 
-/// The execution of the first of the witnesses that shows the outcome with these fences, with as much of program order
-/// as can be kept; what a fence in the slot would order is given up before all else.
+/// The execution of the first of the witnesses that shows the outcome with these fences, with more of program order
+/// where that can be kept; what a fence in the slot would order is given up before all else.
 fn first_shown(
     alloc: Global,
     test: &Test,
