@@ -14,7 +14,7 @@ use Rattle.fs_board_offers.proofs.offers.Offers.TheSendSync as offers
 use Rattle.fs_pool.specs.declared.Asked as asked
 use Rattle.fs_pool.specs.contracts.shared.Shared as Shared
 use Rattle.fs_pool.specs.contracts.desk.Desk as Desk
-use Rattle.fs_cert_evidence.specs.contracts.question.Question as Question
+use Rattle.fs_board_offers.specs.contracts.question.Question as Question
 use Rattle.fs_cert_evidence.specs.contracts.evidence.Witness as Witness
 use Rattle.fs_board.specs.contracts.board.Board as Board
 use Rattle.fs_board.proofs.tree.Tree.TheSendSync as tree

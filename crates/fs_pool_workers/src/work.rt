@@ -34,11 +34,17 @@ enum Step {
     Leave,
 }
 
-/// The node that the desk handed out last, where it did. An error where its part can't be shared; the worker holds the
-/// node all the same.
-fn given<A: Asked>(pass: &Pass<A>, slot: Option<Slot>) -> Result<Option<Taken>, AllocError>
+/// The node that the desk of this question handed out last, where it did. An error where its part can't be shared; the
+/// worker holds the node all the same.
+fn given<A: Asked>(
+    pass: &Pass<A>,
+    question: &Question,
+    slot: Option<Slot>,
+) -> Result<Option<Taken>, AllocError>
+    requires { question.now ≡ A.question }
     ensures { IfOk result (λ found. IfSome found (λ t. slots_in_part (arc_value t.part) ≡ slots A.question.test)) }
 {
+    let _asked = question.offers();
     let Some(Reply::Node(node, part)) = pass.reply() else {
         return Ok(None);
     };
@@ -133,6 +139,7 @@ impl<A: Asked, R: Wait, G: Gate> Workplace<'_, A, R, G> {
         hand: &mut Hand,
         children: &mut Vec<Child>,
     ) -> (Pass<A>, Option<Taken>)
+        requires { arc_value self.now.question.now ≡ A.question }
         ensures { IfSome result.1 (λ t. slots_in_part (arc_value t.part) ≡ slots A.question.test) }
     {
         let mut pass = pass;
@@ -145,7 +152,7 @@ impl<A: Asked, R: Wait, G: Gate> Workplace<'_, A, R, G> {
             if !is_made {
                 return (pass, None);
             }
-            let Ok(found) = given(&pass, slot) else {
+            let Ok(found) = given(&pass, self.question, slot) else {
                 return (pass, None);
             };
             if found.is_some() {
@@ -156,7 +163,7 @@ impl<A: Asked, R: Wait, G: Gate> Workplace<'_, A, R, G> {
         if !is_made {
             return (pass, None);
         }
-        let Ok(found) = given(&pass, None) else {
+        let Ok(found) = given(&pass, self.question, None) else {
             return (pass, None);
         };
         (pass, found)
@@ -272,7 +279,8 @@ impl<A: Asked, R: Wait, G: Gate> Workplace<'_, A, R, G> {
 
     /// Takes nodes and is done with each, until there are none or something fails.
     fn rounds(&self, pass: Pass<A>, hand: Hand, scout: Scout) -> Pass<A>
-        requires question { scout ≡ A.question }
+        requires question { arc_value self.now.question.now ≡ A.question }
+        requires scout { scout ≡ A.question }
         requires met { AreWitnesses A.question.test (map arc_value self.now.met.now.items) }
     {
         let mut hand = hand;

@@ -1,7 +1,7 @@
 use denote.Param.{param}
 use Rattle.std.proofs.Crossing.{Arc-sync, Vec-sync, sync}
 use Rattle.fs_cert_evidence.specs.contracts.evidence.Witness as Witness
-use Rattle.fs_cert_evidence.specs.contracts.question.Question as Question
+use Rattle.fs_board_offers.specs.contracts.question.Question as Question
 use Rattle.fs_board_search.proofs.Problems as problem
 use Rattle.fs_pool_workers.proofs.Crosses.{desk_sync, problem_send, problem_sync, question_send, question_sync, witness_send, witness_sync}
 use Rattle.fs_pool_workers.proofs.crew.work_together.Goals as goal
