@@ -5,7 +5,7 @@ ghost use Rattle.std.specs.Prelude.{IfErr, IsOkUnless, IsTrue, true, false};
 ghost use Rattle.std.specs.Arc.{arc_value};
 ghost use Rattle.fs_kinds.specs.Limits.{most_harts, most_instructions};
 ghost use Rattle.fs_kinds.specs.Placement.{slots_of};
-ghost use Rattle.fs_kinds.specs.PriceTable.{IsPriceTable, are_offered, cost as fences_cost};
+ghost use Rattle.fs_kinds.specs.PriceTable.{are_offered, cost as fences_cost};
 ghost use Rattle.fs_model.specs.declared.test.Test.{Test as Tests};
 ghost use Rattle.fs_model.specs.Allows.{Allows, IsCheapest, no_fences};
 ghost use Rattle.fs_model.specs.Slots.{slots};
@@ -13,6 +13,7 @@ ghost use Rattle.fs_model.specs.Test.{IsBounded, IsSame, IsStart, IsTest};
 ghost use Rattle.fs_model.specs.Witness.{Witness as Shown};
 ghost use Rattle.fs_cert_evidence.specs.CandidateFaults.{IsCandidateFault};
 ghost use Rattle.fs_cert_evidence.specs.Sizes.{IsUnanswered};
+ghost use Rattle.fs_board_offers.specs.Questions.{HasTop};
 ghost use Rattle.fs_board_search.specs.Priced.{question_of};
 ghost use Rattle.fs_litmus.specs.Faults.{IsTestFault};
 ghost use Rattle.fs_litmus.specs.Lines.{StandIn};
@@ -280,10 +281,11 @@ fn kept_or_first(
 /// The question at whose slots the prices make the offers.
 fn offered_question(alloc: Global, question: &Priced) -> Result<Arc<Question>, Fault>
     requires bounded { IsBounded question.now.test }
-    requires table { IsPriceTable question.now.prices }
     ensures ok { IfOk result (λ made. arc_value made ≡ question_of question.now.test question.now.prices) }
+    ensures top { IfOk result (λ made. HasTop (arc_value made).offers) }
     ensures err { IsOkUnless result Fault.Memory }
 {
+    let _table = question.prices.of(FenceKind::RwRw);
     let test = Arc::try_clone(&question.test)?;
     let made = Question::priced(alloc, test, &question.prices)?;
     Ok(Arc::new(alloc, made)?)
@@ -298,7 +300,6 @@ fn best(
 ) -> Result<Option<Placement>, Fault>
     requires bounded { IsBounded (arc_value question.now).test }
     requires starts { All IsStart (arc_value question.now).test.starts }
-    requires prices { IsPriceTable (arc_value question.now).prices }
     requires slots { slots_of own.now ≡ slots (arc_value question.now).test }
     requires offered { IsTrue (are_offered (arc_value question.now).prices own.now) }
     requires least { 1 ≤ limit }
@@ -396,7 +397,6 @@ fn find_judged(
     requires test { IsTest (arc_value written.test) }
     requires tested { (why : Items ℕ) × (witness : Option Shown)
         × IsTestedAs (arc_value written.test) written.kind why witness }
-    requires table { IsPriceTable prices }
     requires least { 1 ≤ limit }
     requires most { limit ≤ 1000000 }
     ensures found { IfOk result (λ found. (file : Items ℕ) → ArePricesOf file prices

@@ -1,7 +1,7 @@
 //! What `check` answers.
 
 ghost use Rattle.std.specs.Prelude.{◌≡◌, ◌≢◌, ℕ, List, None, Some, IfOk, IfErr, IsOkUnless, string_bytes};
-ghost use Rattle.fs_kinds.specs.PriceTable.{PriceTable, IsPriceTable};
+ghost use Rattle.fs_kinds.specs.PriceTable.{PriceTable};
 ghost use Rattle.fs_model.specs.declared.test.Test.{Test as Tests};
 ghost use Rattle.fs_model.specs.Test.{IsBounded, IsTest};
 ghost use Rattle.fs_cert_evidence.specs.Certificate.{Certificate as Said};
@@ -51,7 +51,6 @@ fn check_priced(
     prices: &Prices,
     certificate: &[u8],
 ) -> Result<Checked, Fault>
-    requires { IsPriceTable prices.now }
     ensures answer { IfOk result (λ made. (bytes : List ℕ) → ArePricesOf bytes prices.now
         → IsChecked test.now bytes certificate.now (string_bytes made.output.text) made.output.status) }
     ensures object { IfOk result (λ made. AreOneVerdict (string_bytes made.output.text) (string_bytes made.object)) }
@@ -69,8 +68,7 @@ fn check_test(
     prices: &Prices,
     certificate: &[u8],
 ) -> Result<Checked, Fault>
-    requires test { IsTest test }
-    requires table { IsPriceTable prices.now }
+    requires { IsTest test }
     ensures answer { IfOk result (λ made.
         PrintsFileVerdict test prices.now certificate.now (string_bytes made.output.text) made.output.status) }
     ensures object { IfOk result (λ made. AreOneVerdict (string_bytes made.output.text) (string_bytes made.object)) }

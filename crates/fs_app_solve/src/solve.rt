@@ -24,7 +24,7 @@ use fs_board_offers::Question;
 use fs_cert::{from_board, from_least, from_witness};
 use fs_cert_evidence::Forbidden;
 use fs_cert_json::Certificate;
-use fs_kinds::{Fault, Prices, read_prices};
+use fs_kinds::{Fault, Kind, Prices, read_prices};
 use fs_litmus::{Test, read_test};
 use fs_pool_workers::{Answer, Gate, Solved, Watch, solve_alone};
 use fs_report::{fenced_text, fenced_value, json_line, none_text, none_value};
@@ -162,7 +162,6 @@ fn read_question(alloc: Global, test: &[u8], prices: &[u8]) -> Result<Arc<Questi
 
 /// The question that a test file asks at these prices.
 fn read_priced(alloc: Global, test: &[u8], prices: Prices) -> Result<Arc<Question>, Fault>
-    requires table { IsPriceTable prices }
     ensures asked { IfOk result (λ question. (bytes : List ℕ) → ArePricesOf bytes prices
         → IsAskedBy test.now bytes (arc_value question)) }
     ensures fault { IfErr result (λ fault. (bytes : List ℕ) → ArePricesOf bytes prices
@@ -176,10 +175,11 @@ fn read_priced(alloc: Global, test: &[u8], prices: Prices) -> Result<Arc<Questio
 /// The question of this test, at whose slots these prices make the offers.
 fn question_of(alloc: Global, test: Test, prices: Prices) -> Result<Arc<Question>, Fault>
     requires bounded { IsBounded test }
-    requires table { IsPriceTable prices }
     ensures ok { IfOk result (λ question. arc_value question ≡ question_of test prices) }
+    ensures table { IsPriceTable prices }
     ensures err { IsOkUnless result Fault.Memory }
 {
+    let _table = prices.of(Kind::RwRw);
     let test = shared(alloc, test)?;
     let question = Question::priced(alloc, test, &prices)?;
     Ok(Arc::new(alloc, question)?)

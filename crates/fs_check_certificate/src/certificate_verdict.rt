@@ -3,7 +3,7 @@
 ghost use Rattle.std.specs.Prelude.{◌≢◌, All, IfOk, OnOk, IfErr, IsOkUnless};
 ghost use Rattle.std.specs.Arc.{arc_value};
 ghost use Rattle.fs_kinds.specs.declared.fault.Fault.TheVariants.{Memory};
-ghost use Rattle.fs_kinds.specs.PriceTable.{PriceTable, IsPriceTable};
+ghost use Rattle.fs_kinds.specs.PriceTable.{PriceTable};
 ghost use Rattle.fs_model.specs.declared.test.Test.{Test as Tests};
 ghost use Rattle.fs_model.specs.Test.{IsBounded, IsStart};
 ghost use Rattle.fs_model.specs.Slots as its;
@@ -69,7 +69,6 @@ fn judge_certificate(
 ) -> Result<Judgement, Fault>
     requires test { IsBounded (arc_value test) }
     requires starts { All IsStart (arc_value test).starts }
-    requires table { IsPriceTable prices.now }
     ensures ok { (c : Said) → KeepsCertificate certificate.now c
         → IfOk result (IsJudgement (arc_value test) (offers_of (arc_value test) prices.now) c) }
     ensures listable { OnOk result (CanBeListed (arc_value test)) }
@@ -104,7 +103,6 @@ fn check_certificate(
 ) -> Result<CheckVerdict, Fault>
     requires test { IsBounded (arc_value test) }
     requires starts { All IsStart (arc_value test).starts }
-    requires table { IsPriceTable prices.now }
     ensures ok { (c : Said) → KeepsCertificate certificate c
         → IfOk result (IsCheckVerdict (arc_value test) prices.now c) }
     ensures clean { (c : Said) → KeepsCertificate certificate c
@@ -134,7 +132,6 @@ pub fn check(
 ) -> Result<CheckVerdict, Fault>
     requires test { IsBounded (arc_value test) }
     requires starts { All IsStart (arc_value test).starts }
-    requires table { IsPriceTable prices.now }
     ensures ok { IfOk result (IsJudged (arc_value test) prices.now certificate.now) }
     ensures err { IfErr result (λ f. f ≢ Memory → IsCheckFault (arc_value test) certificate.now f) }
 {

@@ -1,6 +1,5 @@
 use Rattle.std.proofs.Common.{◌∙◌, ap, inl, sym, subst}
 use Rattle.std.specs.Prelude.{All}
-use Rattle.fs_kinds.specs.PriceTable.{IsPriceTable}
 use Rattle.fs_model.specs.declared.test.Test.{Test}
 use Rattle.fs_model.specs.Test.{IsBounded, IsStart}
 use Rattle.fs_cert_evidence.specs.CandidateFaults.{IsCandidateFault}
@@ -9,14 +8,11 @@ use Rattle.fs_cert_evidence.specs.Sizes.{HasNoRunFault}
 use Rattle.fs_board_search.specs.Priced.{question_of}
 use Rattle.fs_board_search.proofs.PricedAnswers.{priced-fault}
 use Rattle.fs_app_place_order.proofs.Faults.{IfErr-handed}
-use Rattle.fs_app_audit.proofs.Searched.{asked-test, asked-top, asked-best}
+use Rattle.fs_app_audit.proofs.Searched.{asked-test, asked-best}
 use Rattle.fs_app_audit.proofs.findings.best.Goals as goal
 
 pub offered_question-requires-clause-bounded : goal.offered_question-requires-clause-bounded
 offered_question-requires-clause-bounded c = subst (λ (q : Priced). IsBounded q.test) (sym c.deref.ensures) c.requires.bounded
-
-pub offered_question-requires-clause-table : goal.offered_question-requires-clause-table
-offered_question-requires-clause-table c = subst (λ (q : Question). IsPriceTable q.prices) (sym c.deref.ensures) c.requires.prices
 
 pub returns-in_err-asked-clause-err : goal.returns-in_err-asked-clause-err
 returns-in_err-asked-clause-err c =
@@ -49,11 +45,6 @@ solve_problem-requires-clause-same c = c.in_ok-problem.ensures.same ∙ sym c.in
 pub solve_problem-requires-clause-clean : goal.solve_problem-requires-clause-clean
 solve_problem-requires-clause-clean c =
     subst HasNoRunFault (c.in_ok-problem.ensures.same ∙ sym c.in_ok-shared.ensures) c.in_ok-problem.ensures.clean
-
-pub solve_problem-requires-clause-top : goal.solve_problem-requires-clause-top
-solve_problem-requires-clause-top c =
-    let is = c.in_ok-asked.ensures.ok ∙ ap (λ (q : Priced). question_of q.test q.prices) c.deref.ensures in
-    asked-top _ _ _ is c.requires.prices
 
 pub returns-in_err-solved-clause-err : goal.returns-in_err-solved-clause-err
 returns-in_err-solved-clause-err c =

@@ -11,12 +11,12 @@ pub returns-clause-object : goal.returns-clause-object
 returns-clause-object c =
     let said = of_test_verdict _ _ c.args.prices.now c.args.certificate.now _ c.in_ok-test.ensures.ok c.in_ok-verdict.ensures.ok in
     if_ok _ _ c.verdict_output.result c.verdict_output.ensures.object
-    (λ made shown. shown c.args.test c.args.prices.now said.certificate c.requires.test.bounded said.verdict)
+    (λ made shown. shown c.args.test c.args.prices.now said.certificate c.requires.bounded said.verdict)
 
 pub returns-clause-answer : goal.returns-clause-answer
 returns-clause-answer c =
     let said = of_test_verdict _ _ c.args.prices.now c.args.certificate.now _ c.in_ok-test.ensures.ok c.in_ok-verdict.ensures.ok in
     if_ok _ _ c.verdict_output.result c.verdict_output.ensures.answer
     (λ output shown.
-    let printed = shown c.args.test c.args.prices.now said.certificate c.requires.test.bounded said.verdict in
+    let printed = shown c.args.test c.args.prices.now said.certificate c.requires.bounded said.verdict in
     (said.certificate, said.says, said.clean, printed))

@@ -15,4 +15,4 @@ returns-in_err-question-clause-fault c =
 
 pub returns-clause-asked : goal.returns-clause-asked
 returns-clause-asked c = λ bytes priced.
-    asked-by _ _ _ _ _ c.in_ok-question.ensures.ok c.in_ok-read.ensures.ok priced c.in_ok-read.ensures.test c.requires.table
+    asked-by _ _ _ _ _ c.in_ok-question.ensures.ok c.in_ok-read.ensures.ok priced c.in_ok-read.ensures.test c.question_of.ensures.table
