@@ -44,12 +44,13 @@ loop-slot-preserved c =
     let all = c.args.slots.now in
     let words = map string_bytes c.args.words.now in
     let i = c.loop-slot.slot-index in
-    let at = drop_more all i _ c.loop-slot-test.true in
     elim c.match-kind_at.branch [
       | in-Some+else-not-is_offered+in-Ok w ↦
           let is : w.is_offered.result ≡ true = grind (arith, w.if-not-is_offered.false) in
+          let at = drop_more all i _ c.loop-slot-test.true in
           rw (w.placement-is, w.used-is, w.in-Ok.ensures.changed)
           (put offers all words c.requires.rising c.requires.small i c.loop-slot.used _ c.loop-slot.placement c.loop-slot.invariant at w.in-Some.kind w.in-Some.ensures.named (sym w.is_offered.ensures ∙ is))
       | in_default w ↦ rw (w.placement-is, w.used-is)
-          (skip offers all words c.requires.rising c.requires.small i c.loop-slot.used _ c.loop-slot.placement c.loop-slot.invariant at w.in_default.ensures.none)
+          (skip offers all words c.requires.rising c.requires.small i c.loop-slot.used _ c.loop-slot.placement c.loop-slot.invariant
+          (drop_more all i _ c.loop-slot-test.true) w.in_default.ensures.none)
     ]
