@@ -1,4 +1,4 @@
-use Rattle.std.proofs.Common.{◌≡◌, ◌+◌, ◌<◌, ◌≤◌, ◌∷◌, ◌++◌, [], map, length, sym, ap, subst, ◌∙◌, arith}
+use Rattle.std.proofs.Common.{◌≡◌, ◌<◌, ◌≤◌, ◌∷◌, ◌++◌, [], map, length, sym, ap, subst, ◌∙◌, arith}
 use Rattle.std.specs.List.{AllByRecursion}
 use Rattle.std.proofs.lemmas.List.{map-append}
 use Rattle.fs_board_offers.specs.Offers.{Offers}
@@ -62,7 +62,7 @@ push_children-requires c =
     let status = status_of c.status_at-status.result in
     let ways : c.ways-ways.result ≡ ways_of s.question.offers status =
     c.ways-ways.ensures.value
-    ∙ ap (λ (x : Offers). ways_of x status) (c.offers.ensures.value ∙ ap (λ (q : Question). q.offers) (c.deref.ensures ∙ c.question.ensures)) in
+    ∙ ap (λ (x : Offers). ways_of x status) (c.offers-offers.ensures.value ∙ ap (λ (q : Question). q.offers) (c.deref.ensures ∙ c.question.ensures)) in
     subst (λ n. AreBelow n most_number status) (sym ways)
     (below_most (ways_of s.question.offers status) (length s.board.nodes) status (omega (arith, c.len-count.ensures)) seen.below_all)
 
@@ -76,7 +76,7 @@ loop-node-smaller c =
     let status = status_of c.status_at-status.result in
     let ways : c.ways-ways.result ≡ ways_of s.question.offers status =
     c.ways-ways.ensures.value
-    ∙ ap (λ (x : Offers). ways_of x status) (c.offers.ensures.value ∙ ap (λ (q : Question). q.offers) (c.deref.ensures ∙ c.question.ensures)) in
+    ∙ ap (λ (x : Offers). ways_of x status) (c.offers-offers.ensures.value ∙ ap (λ (q : Question). q.offers) (c.deref.ensures ∙ c.question.ensures)) in
     let few = subst (λ n. n ≤ 11) ways c.ways-ways.ensures.most in
     let lower = lighter s k c.pop.new.self status final all.0 seen few in
     let pushed : c.push_children.new.self ≡ below (ways_of s.question.offers status) status ++ c.pop.new.self =
@@ -95,7 +95,7 @@ loop-node-preserved c =
     let status = status_of c.status_at-status.result in
     let ways : c.ways-ways.result ≡ ways_of s.question.offers status =
     c.ways-ways.ensures.value
-    ∙ ap (λ (x : Offers). ways_of x status) (c.offers.ensures.value ∙ ap (λ (q : Question). q.offers) (c.deref.ensures ∙ c.question.ensures)) in
+    ∙ ap (λ (x : Offers). ways_of x status) (c.offers-offers.ensures.value ∙ ap (λ (q : Question). q.offers) (c.deref.ensures ∙ c.question.ensures)) in
     let pushed : c.push_children.new.self ≡ below (ways_of s.question.offers status) status ++ c.pop.new.self =
     c.in_ok-push_children.ensures ∙ ap (λ n. below n status ++ c.pop.new.self) ways in
     let numbers = c.args.numbers.now in

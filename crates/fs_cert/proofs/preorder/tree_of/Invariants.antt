@@ -1,4 +1,4 @@
-use Rattle.std.proofs.Common.{◌+◌, ◌<◌, map, length}
+use Rattle.std.proofs.Common.{◌<◌, map, length}
 use Rattle.std.specs.List.{AllByRecursion}
 use Rattle.fs_cert_json.specs.Kept.{item_of}
 use Rattle.fs_cert.specs.inner.Items.{AreSayable}
