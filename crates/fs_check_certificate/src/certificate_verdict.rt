@@ -1,6 +1,6 @@
 //! Is a certificate valid?
 
-ghost use Rattle.std.specs.Prelude.{◌≢◌, All, IfOk, OnOk, IfErr, IsOkUnless};
+ghost use Rattle.std.specs.Prelude.{◌≡◌, ◌≢◌, All, IfOk, OnOk, IfErr, IsOkUnless};
 ghost use Rattle.std.specs.Arc.{arc_value};
 ghost use Rattle.fs_kinds.specs.declared.fault.Fault.TheVariants.{Memory};
 ghost use Rattle.fs_kinds.specs.PriceTable.{PriceTable};
