@@ -1,7 +1,6 @@
 use Rattle.std.proofs.Common.{◌≡◌, ap, sym, subst, ◌∙◌, false}
 use Rattle.std.proofs.lemmas.Result.{IfOk-weaker}
 use Rattle.serde_json.specs.Written.{has_float}
-use Rattle.fs_report.specs.Given.{given}
 use Rattle.fs_report.specs.Objects.{json_line}
 use Rattle.fs_report.proofs.Values.{fenced_whole}
 use Rattle.fs_app_check.specs.Check.{yes_value}
