@@ -5,7 +5,8 @@ use Rattle.fs_app_solve.proofs.SolveFaults.{solve-search}
 use Rattle.fs_app_solve.proofs.solve.run_solve.Goals as goal
 
 pub solve-requires-clause-top : goal.solve-requires-clause-top
-solve-requires-clause-top g c = top-asked _ _ _ _ c.in_ok-question.ensures.asked c.in_ok-asked.ensures
+solve-requires-clause-top g c =
+    λ lifetimes outlives. top-asked _ _ _ _ c.in_ok-question.ensures.asked c.in_ok-asked.ensures
 
 pub returns-in_err-question-clause-fault : goal.returns-in_err-question-clause-fault
 returns-in_err-question-clause-fault g c =
