@@ -91,7 +91,8 @@ pub fn from_least(
 /// slot. It is of the fourth version, as nothing is listed. The error is want of memory.
 pub fn from_witness(alloc: Global, witness: &Witness) -> Result<Certificate, AllocError>
     ensures { IfOk result (λ made. (t : Test) (offers : Offers) (e : Execution)
-        → HasNoRunFault t → IsWitnessFor t witness.now e → RefutesAll t e → CertifiesNone t offers witness.now.witness made) }
+        → HasNoRunFault t → IsWitnessFor t witness.now e → RefutesAll t e
+        → CertifiesNone t offers witness.now.witness made) }
 {
     let mut witnesses = Vec::new(alloc);
     witnesses.push(witness_of(alloc, witness)?)?;

@@ -71,8 +71,9 @@ fn fill(
     }
 }
 
-/// The placement whose cost this is, and the words of whose fences in slot order these are: over the slots of the offers,
-/// with offered kinds. None where there is no such placement. The error is `Memory`. It takes time of slots times slots.
+/// The placement whose cost this is, and the words of whose fences in slot order these are: over the slots of the
+/// offers, with offered kinds. None where there is no such placement. The error is `Memory`. It takes time of slots
+/// times slots.
 pub(crate) fn answered_placement(
     alloc: Global,
     offers: &Offers,

@@ -60,6 +60,7 @@ pub fn sizes()
 /// 1, the witness closes the root for the worker that holds it, since it shows the outcome with `rw,rw` in both slots.
 /// In store buffering the loads can't come before the stores with `rw,rw`, so the witness covers too little.
 pub fn witnessed_boards()
-    ensures closed { (p q : Box (Unit {0}) Global) → (board : Board) × IsHistory (mp11 p q) passing_offers 1 closed_root board }
+    ensures closed { (p q : Box (Unit {0}) Global)
+        → (board : Board) × IsHistory (mp11 p q) passing_offers 1 closed_root board }
     ensures held { (p q : Box (Unit {0}) Global) → (board : Board) × IsHistory (sb p q) offers 1 held_root board }
 {}
