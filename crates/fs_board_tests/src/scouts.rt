@@ -17,6 +17,7 @@ fn root(alloc: Global, board: &mut Board) -> Result<Option<Taken>, AllocError>
     ensures { IfOk result (λ found. IfSome found (λ t. slots_in_part (arc_value t.part)
         ≡ slots board.old.question.test)) }
 {
+    let _legal = board.log();
     let reply = board.ask(alloc, 0, &Event::Take)?;
     let Reply::Node(node, part) = reply else {
         return Ok(None);
