@@ -7,3 +7,6 @@ returns g c = record {
   prices_name = search rules;
   answer = search rules;
 }
+
+pub certified-requires-clause-answer : goal.certified-requires-clause-answer
+certified-requires-clause-answer g c = c.in_ok-output.ensures.answer _ _ c.in_ok-found.ensures.0 c.in_ok-found.ensures.1
