@@ -16,14 +16,14 @@ returns g c =
     let prices : List ℕ = c.args.papers.now.prices.bytes.items in
     let lines : List ℕ = lines_of c.args.found.now.solved.answer in
     let certified : IsCertified test prices lines c.args.output.status (string_bytes c.in_ok-certificate.certificate) =
-        c.in_ok-certificate.ensures.certificate test prices lines c.requires.found.0 c.args.output.status
-            c.requires.found.1 c.requires.prints refl in
+    c.in_ok-certificate.ensures.certificate test prices lines c.requires.found.0 c.args.output.status
+    c.requires.found.1 c.requires.prints refl in
     subst (λ (it : List ℕ). IfOk c.solve_why.result
-        (IsSolvedAndTold c.args.solve.now.json c.args.solve.now.why it prices)) c.deref.ensures.value
-        (c.solve_why.ensures c.args.solve.now.json prices lines
-        (subst (λ (it : List ℕ). IsSolvedIn c.args.solve.now.json it prices lines (string_bytes c.args.output.text)
-            c.args.output.status) (sym c.deref.ensures.value) c.requires.answer)
-        (subst (λ (it : List ℕ). IsCertified it prices lines c.args.output.status c.as_bytes-2.result.now)
-            (sym c.deref.ensures.value)
-            (subst (λ (it : List ℕ). IsCertified test prices lines c.args.output.status it)
-                (sym c.as_bytes-2.ensures.value) certified)))
+    (IsSolvedAndTold c.args.solve.now.json c.args.solve.now.why it prices)) c.deref.ensures.value
+    (c.solve_why.ensures c.args.solve.now.json prices lines
+    (subst (λ (it : List ℕ). IsSolvedIn c.args.solve.now.json it prices lines (string_bytes c.args.output.text)
+    c.args.output.status) (sym c.deref.ensures.value) c.requires.answer)
+    (subst (λ (it : List ℕ). IsCertified it prices lines c.args.output.status c.as_bytes-2.result.now)
+    (sym c.deref.ensures.value)
+    (subst (λ (it : List ℕ). IsCertified test prices lines c.args.output.status it)
+    (sym c.as_bytes-2.ensures.value) certified)))
