@@ -1,8 +1,7 @@
 //! What `test` says of files, one after the other or side by side.
 use crate::expecting::Expecting;
-use crate::missing::Missing;
 use crate::papers::{message_of_file, note_of_file, note_or};
-use crate::sources::Source;
+use fs_app_io::{Missing, Source};
 use fs_app_test::{Expected, Line, test_file};
 use fs_kinds::Fault;
 use std::alloc::{AllocError, Global};

@@ -4,22 +4,16 @@
 mod expecting;
 mod failure;
 mod faults;
-mod input;
 mod judging;
 mod kinds;
-mod limits;
-mod lines;
 mod list_error;
-mod missing;
 mod names;
 mod papers;
 mod program;
 mod progress;
 mod rows;
-mod sources;
 mod states;
 mod telling;
-mod whole;
 
 pub use fs_app_audit::{run_audit, run_mended};
 pub use fs_app_check::{Checked, run_check};

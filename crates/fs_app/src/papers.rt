@@ -2,14 +2,11 @@
 
 ghost use Rattle.std.specs.Prelude.{◌≡◌, IfOk, OnOk};
 
-use crate::input::{INPUT_LIMIT, read_file, read_input};
-use crate::missing::Missing;
-use crate::sources::Source;
 use fs_app_error_messages::{
     Located, explain, explain_fences, explain_json, explain_test, explain_unread, locate,
     locate_fences, locate_json, locate_test,
 };
-use fs_app_io::Unread;
+use fs_app_io::{INPUT_LIMIT, Missing, Source, Unread, read_file, read_input};
 use fs_app_test::Note;
 use fs_kinds::Fault;
 use std::alloc::{AllocError, Global};

@@ -6,8 +6,8 @@ ghost use Rattle.fs_app_states_log.specs.Blocks.{pair_now};
 ghost use Rattle.fs_app_states_log.specs.Lines.{cut};
 ghost use Rattle.fs_app.specs.Rows.{kind_named, row_of, read_row, said_by, AreRows};
 
-use crate::lines::{lines_of, says};
 use crate::list_error::ListError;
+use fs_app_io::{lines_of, says};
 use fs_app_test::Kind;
 use std::alloc::Global;
 

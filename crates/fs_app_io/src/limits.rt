@@ -1,5 +1,5 @@
 //! What the system lets a run use: how much files may grow, and how large its stack is.
-use fs_app_io::write_text;
+use crate::bytes::write_text;
 use fs_kinds::Fault;
 use std::alloc::{AllocError, Global};
 use std::fmt::Display;
@@ -36,7 +36,7 @@ fn limit_in(text: &str, name: &str) -> Option<u64> {
 }
 
 /// Whether the stack is large enough for any run.
-pub(crate) fn has_stack<R: Files>(rt: &R) -> bool {
+pub fn has_stack<R: Files>(rt: &R) -> bool {
     match limit(rt, "Max stack size") {
         Some(most) => most >= LEAST_STACK,
         None => true,
@@ -53,7 +53,7 @@ pub(crate) fn room_in<R: Files>(rt: &R, found: &Metadata) -> Option<usize> {
 }
 
 /// The same of the file that is standard output, `/dev/stdout`, or standard error, `/dev/stderr`.
-pub(crate) fn room_of<R: Files>(rt: &R, stream: &str) -> Option<usize> {
+pub fn room_of<R: Files>(rt: &R, stream: &str) -> Option<usize> {
     match metadata(rt, stream) {
         Ok(found) => room_in(rt, &found),
         Err(_) => None,
@@ -62,7 +62,7 @@ pub(crate) fn room_of<R: Files>(rt: &R, stream: &str) -> Option<usize> {
 
 /// Writes the whole text. Of one for which there is no room what fits is written: the first byte behind that would end
 /// the run by a signal, and so it is a `WriteFault`.
-pub(crate) fn write_within<W: Write>(
+pub fn write_within<W: Write>(
     writer: &mut W,
     text: &[u8],
     room: Option<usize>,
@@ -88,7 +88,7 @@ fn lines_within(alloc: Global, text: &str, room: usize) -> Result<String, AllocE
 }
 
 /// Prints on standard error the lines for which there is room. Where that fails the status alone tells.
-pub(crate) fn tell<R: Files + Eprint + AllocGlobal>(rt: &R, said: &impl Display) {
+pub fn tell<R: Files + Eprint + AllocGlobal>(rt: &R, said: &impl Display) {
     let Some(room) = room_of(rt, "/dev/stderr") else {
         let _ = rt.eprint(said);
         return;

@@ -1,11 +1,12 @@
 //! The files that a run reads.
+use crate::bytes::read_bytes;
 use crate::missing::Missing;
-use fs_app_io::{Unread, read_bytes};
+use crate::unread::Unread;
 use std::fs::File;
 use std::rt::Files;
 
 /// Tests, prices and witnesses are read up to this many bytes.
-pub(crate) const INPUT_LIMIT: usize = 1_048_576;
+pub const INPUT_LIMIT: usize = 1_048_576;
 
 /// Is this the name of standard input?
 pub(crate) fn is_standard_input(path: &str) -> bool {
@@ -13,10 +14,7 @@ pub(crate) fn is_standard_input(path: &str) -> bool {
 }
 
 /// The bytes of a test: of standard input where it is called `-` or `stdin`, else of the file.
-pub(crate) fn read_input<R: Files + Input + AllocGlobal>(
-    rt: &R,
-    path: &str,
-) -> Result<Vec<u8>, Missing> {
+pub fn read_input<R: Files + Input + AllocGlobal>(rt: &R, path: &str) -> Result<Vec<u8>, Missing> {
     if is_standard_input(path) {
         return Ok(read_bytes(rt.alloc(), &mut rt.reader(), INPUT_LIMIT)?);
     }
@@ -24,7 +22,7 @@ pub(crate) fn read_input<R: Files + Input + AllocGlobal>(
 }
 
 /// The bytes of the file, where there are at most `limit`.
-pub(crate) fn read_file<R: Files + AllocGlobal>(
+pub fn read_file<R: Files + AllocGlobal>(
     rt: &R,
     path: &str,
     limit: usize,

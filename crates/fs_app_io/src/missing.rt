@@ -1,12 +1,12 @@
 //! Why a FILE word has no bytes.
-use fs_app_io::Unread;
+use crate::unread::Unread;
 use fs_kinds::Fault;
 use std::alloc::{AllocError, AllocFailed};
 use thiserror::Error;
 
 /// Why a file has no bytes, or a folder or a list no files. It reads as what is said of it.
 #[derive(Clone, Copy, Debug, Error)]
-pub(crate) enum Missing {
+pub enum Missing {
     #[error("{0}")]
     Unread(Unread),
     #[error("it names no file")]
@@ -21,7 +21,7 @@ pub(crate) enum Missing {
 
 impl Missing {
     /// The fault of a run that ends by it.
-    pub(crate) fn fault(self) -> Fault {
+    pub fn fault(self) -> Fault {
         match self {
             Missing::Unread(why) => why.fault(),
             _ => Fault::ReadFault,

@@ -33,11 +33,7 @@ struct Beside<F> {
 /// what was there, and of several runs each writes to a file of its own. A device, a pipe and a link are written as
 /// they are, and so is a plain file where nothing can be made beside it. A `WriteFault` where the bytes can't be
 /// written; or F19.
-pub(crate) fn write_whole<R: Files + AllocGlobal>(
-    rt: &R,
-    path: &str,
-    bytes: &[u8],
-) -> Result<(), Fault> {
+pub fn write_whole<R: Files + AllocGlobal>(rt: &R, path: &str, bytes: &[u8]) -> Result<(), Fault> {
     let found = look(rt, path);
     match make_beside(rt, path, &found)? {
         Some(beside) => write_beside(rt, beside, path, bytes),

@@ -1,7 +1,9 @@
 //! The tests that FILE words name: files, those in folders, and those in lists.
+use crate::bytes::read_bytes;
 use crate::input::{INPUT_LIMIT, is_standard_input, read_file, read_input};
 use crate::missing::Missing;
-use fs_app_io::{Unread, paths_in, read_bytes};
+use crate::paths::paths_in;
+use crate::unread::Unread;
 use fs_kinds::Fault;
 use std::alloc::{AllocError, Global};
 use std::fs::{metadata, symlink_metadata};
@@ -18,14 +20,14 @@ const MOST_BYTES: usize = 67_108_864;
 
 /// A file; or a word that names none, and why.
 #[derive(Drop)]
-pub(crate) struct Source {
+pub struct Source {
     pub name: String,
     missing: Option<Missing>,
 }
 
 impl Source {
     /// Its bytes.
-    pub(crate) fn read<R: Files + Input + AllocGlobal>(&self, rt: &R) -> Result<Vec<u8>, Missing> {
+    pub fn read<R: Files + Input + AllocGlobal>(&self, rt: &R) -> Result<Vec<u8>, Missing> {
         match self.missing {
             Some(why) => Err(why),
             None => read_input(rt, self.name.as_str()),
@@ -53,10 +55,7 @@ enum Found {
 /// `*.litmus`. A list, a file whose own name begins with `@`, stands for what it names. What can't be read, a list or
 /// folder that stands in 16 others or comes after 64 MiB of these, and the name after 1,000,000 have no bytes, and neither
 /// has a word that names no file; why is kept. The error is F19.
-pub(crate) fn sources<R: Files + AllocGlobal>(
-    rt: &R,
-    words: &[String],
-) -> Result<Vec<Source>, Fault> {
+pub fn sources<R: Files + AllocGlobal>(rt: &R, words: &[String]) -> Result<Vec<Source>, Fault> {
     let mut found = Vec::new(rt.alloc());
     for word in words {
         let before = found.len();
