@@ -1,7 +1,7 @@
 use Rattle.std.proofs.Common.{ap, ◌∙◌}
 use Rattle.std.proofs.lemmas.Result.{IfOk-weaker}
 use Rattle.fs_model.specs.Slots.{slots}
-use Rattle.fs_judge_tests.proofs.questions.verdict_on.Goals as goal
+use Rattle.fs_tests_shared.proofs.verdicts.verdict_on.Goals as goal
 
 pub verdict-requires : goal.verdict-requires
 verdict-requires c = c.in_ok-placement.ensures ∙ ap slots c.test.ensures.value

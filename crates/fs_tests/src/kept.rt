@@ -1,6 +1,5 @@
 //! Hunts that begin with what earlier ones have kept.
 
-use crate::questions::problem_of;
 use crate::texts::{ALWAYS, CASES, LOCK, LOCK3, WAITERS};
 use fs_judge::{Judge, Verdict};
 use fs_judge_hunt::{Found, Hunter, Kept};
@@ -8,7 +7,7 @@ use fs_judge_runs::hunter_of;
 use fs_kinds::{Fault, Placement};
 use fs_litmus::read_test;
 use fs_region_refutation::Basis;
-use fs_tests_shared::{SB, placement_of};
+use fs_tests_shared::{SB, placement_of, problem_of};
 use std::alloc::Global;
 use std::sync::Arc;
 use std::test::Fail;

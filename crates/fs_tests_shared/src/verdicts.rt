@@ -5,11 +5,11 @@ ghost use Rattle.fs_kinds.specs.declared.placement.Entry.{Entry};
 ghost use Rattle.fs_model.specs.Test.{IsBounded};
 ghost use Rattle.fs_judge.specs.Verdicts.{IsVerdict};
 
+use crate::questions::placement_of;
 use fs_cert_evidence::Cycles;
 use fs_judge::{Problem, Verdict};
 use fs_kinds::Fault;
 use fs_litmus::read_test;
-use fs_tests_shared::placement_of;
 use std::alloc::Global;
 use std::sync::Arc;
 

@@ -1,7 +1,7 @@
 //! Final states of tests whose executions are known by reasoning, at the places that their conditions name.
 
 use crate::places::places_of;
-use crate::texts::{ADDED, ASTRAY, BRANCH, LAST, TRUE, TWICE};
+use crate::states_texts::{ADDED, ASTRAY, BRANCH, LAST, TRUE, TWICE};
 use fs_judge_final_states::{State, states};
 use fs_kinds::Fault;
 use fs_litmus::read_test;

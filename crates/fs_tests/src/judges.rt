@@ -2,11 +2,10 @@
 ghost use Rattle.std.specs.Prelude.{◌≡◌};
 ghost use Rattle.fs_model.specs.Test.{IsBounded};
 
-use crate::questions::{problem_of, verdict_on};
 use fs_judge::{Judge, Problem, Verdict};
 use fs_kinds::Fault;
 use fs_model::Choice;
-use fs_tests_shared::placement_of;
+use fs_tests_shared::{placement_of, problem_of, verdict_on};
 use std::alloc::{AllocError, Global};
 use std::sync::Arc;
 use std::test::Fail;
