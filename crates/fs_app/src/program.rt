@@ -13,14 +13,8 @@ ghost use Rattle.fs_app_test.specs.Status.{report_status};
 ghost use Rattle.fs_app.specs.Answers.{IsSolvedAndTold, IsSolvedIn, offered, in_form, IsAuditFault, IsAuditText, Answers, AnswersTest, AnswersPlace};
 ghost use Rattle.fs_app.specs.Answers.{AnswersLines, AnswersOrder, AnswersSolve, AnswersAudit, AnswersCheck};
 
-use crate::expecting::Expecting;
 use crate::failure::Failure;
-use crate::faults::fault_object;
-use crate::judging::{Judged, Wants, judge_files};
-use crate::list_error::ListError;
-use crate::papers::Papers;
 use crate::progress::Progress;
-use crate::rows::read_rows;
 use crate::states::{answer_log, answer_states};
 use crate::telling::{answer_why, is_yes, order_why, solve_why, tests_why, with_below};
 use clap::error::ErrorKind;
@@ -31,6 +25,9 @@ use fs_app_command_line::{
     completion_script, read_request,
 };
 use fs_app_error_messages::shown_name;
+use fs_app_files::{
+    Expecting, Judged, ListError, Papers, Wants, fault_object, judge_files, read_rows,
+};
 use fs_app_io::{
     INPUT_LIMIT, Output, Status, has_stack, room_of, sources, tell, write_whole, write_within,
 };

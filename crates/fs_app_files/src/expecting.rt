@@ -10,7 +10,7 @@ use std::collections::BTreeSet;
 
 /// What is expected of tests.
 #[derive(Drop)]
-pub(crate) enum Expecting<'a> {
+pub enum Expecting<'a> {
     /// What their comments say, if anything is asked of them.
     Comments,
     /// What a list says.
@@ -19,7 +19,7 @@ pub(crate) enum Expecting<'a> {
 
 /// What a list says, and the names of the tests that were met.
 #[derive(Drop)]
-pub(crate) struct Listed<'a> {
+pub struct Listed<'a> {
     rows: Vec<Row<'a>>,
     kinds: Kinds<'a>,
     met: BTreeSet<String>,
@@ -27,7 +27,7 @@ pub(crate) struct Listed<'a> {
 
 impl<'a> Expecting<'a> {
     /// By the rows of a list. The error is that a name stands in two of them, or want of memory.
-    pub(crate) fn by_list(alloc: Global, rows: Vec<Row<'a>>) -> Result<Self, ListError> {
+    pub fn by_list(alloc: Global, rows: Vec<Row<'a>>) -> Result<Self, ListError> {
         let kinds = kinds_of(alloc, &rows)?;
         Ok(Expecting::List(Listed {
             rows,
@@ -49,7 +49,7 @@ impl<'a> Expecting<'a> {
     }
 
     /// A line for each row whose test wasn't met; none where comments say what is expected.
-    pub(crate) fn not_met(&self, alloc: Global) -> Result<String, AllocError> {
+    pub fn not_met(&self, alloc: Global) -> Result<String, AllocError> {
         match self {
             Expecting::Comments => Ok(String::new(alloc)),
             Expecting::List(listed) => listed.not_met(alloc),

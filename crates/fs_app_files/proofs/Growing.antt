@@ -8,8 +8,8 @@ use Rattle.std.proofs.lemmas.List.{take_more}
 use Rattle.std.proofs.lemmas.List.Sums.{fold-append}
 use Rattle.std.proofs.lemmas.Map.Text.{is_eq-slice_cmp}
 use Rattle.fs_app_test.specs.declared.said.Kind.{Kind}
-use Rattle.fs_app.specs.Rows.{Key, AreKinds, order}
-use Rattle.fs_app.specs.declared.rows.Row.{Row}
+use Rattle.fs_app_files.specs.Rows.{Key, AreKinds, order}
+use Rattle.fs_app_files.specs.declared.rows.Row.{Row}
 
 pub kinds_none : (kinds : BTreeMap Key Kind) → kinds.entries ≡ [] → AreKinds kinds []
 kinds_none kinds empty name = ap (lookup (λ key. is_eq (order name key))) empty

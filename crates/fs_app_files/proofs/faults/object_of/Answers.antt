@@ -1,7 +1,7 @@
 use Rattle.std.proofs.Common.{rules, ◌≡◌, ◌∙◌, ap, Some, [], ◌∷◌, false}
 use Rattle.fs_app_test.specs.declared.said.Line.{Line}
 use Rattle.fs_app_test.specs.Report.{json_text}
-use Rattle.fs_app.proofs.faults.object_of.Goals as goal
+use Rattle.fs_app_files.proofs.faults.object_of.Goals as goal
 
 pub returns : goal.returns
 returns c =

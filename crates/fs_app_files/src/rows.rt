@@ -2,9 +2,8 @@
 
 ghost use Rattle.std.specs.Prelude.{◌≡◌, ◌++◌, Some, map, option_map, IfOk, OnOk};
 ghost use Rattle.std.specs.Str.Lines.{lines};
-ghost use Rattle.fs_app_states_log.specs.Blocks.{pair_now};
-ghost use Rattle.fs_app_states_log.specs.Lines.{cut};
-ghost use Rattle.fs_app.specs.Rows.{kind_named, row_of, read_row, said_by, AreRows};
+ghost use Rattle.fs_app_io.specs.Lines.{cut, pair_now};
+ghost use Rattle.fs_app_files.specs.Rows.{kind_named, row_of, read_row, said_by, AreRows};
 
 use crate::list_error::ListError;
 use fs_app_io::{lines_of, says};

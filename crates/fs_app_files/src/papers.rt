@@ -14,14 +14,14 @@ use std::rt::Files;
 
 /// A file, or standard input: its name as it was given, and its bytes.
 #[derive(Drop)]
-pub(crate) struct Paper<'a> {
+pub struct Paper<'a> {
     pub name: &'a str,
     pub bytes: Vec<u8>,
 }
 
 /// What a run goes by. A file that it wasn't given, or hasn't read yet, has no name.
 #[derive(Drop)]
-pub(crate) struct Papers<'a> {
+pub struct Papers<'a> {
     pub test: Paper<'a>,
     pub prices: Paper<'a>,
     /// The witness or the certificate.
@@ -34,7 +34,7 @@ pub(crate) struct Papers<'a> {
 
 impl<'a> Papers<'a> {
     /// Nothing was read yet.
-    pub(crate) fn new(alloc: Global) -> Self {
+    pub fn new(alloc: Global) -> Self {
         Papers {
             test: no_paper(alloc),
             prices: no_paper(alloc),
@@ -45,7 +45,7 @@ impl<'a> Papers<'a> {
     }
 
     /// Reads the test, from standard input where it is called so.
-    pub(crate) fn read_test<R: Files + Input + AllocGlobal>(
+    pub fn read_test<R: Files + Input + AllocGlobal>(
         &mut self,
         rt: &R,
         name: &'a str,
@@ -59,7 +59,7 @@ impl<'a> Papers<'a> {
     }
 
     /// Reads the test that a FILE word names.
-    pub(crate) fn read_source<R: Files + Input + AllocGlobal>(
+    pub fn read_source<R: Files + Input + AllocGlobal>(
         &mut self,
         rt: &R,
         source: &'a Source,
@@ -69,7 +69,7 @@ impl<'a> Papers<'a> {
     }
 
     /// Reads the prices.
-    pub(crate) fn read_prices<R: Files + AllocGlobal>(
+    pub fn read_prices<R: Files + AllocGlobal>(
         &mut self,
         rt: &R,
         name: &'a str,
@@ -83,7 +83,7 @@ impl<'a> Papers<'a> {
     }
 
     /// Reads the witness or the certificate, which may have so many bytes.
-    pub(crate) fn read_evidence<R: Files + AllocGlobal>(
+    pub fn read_evidence<R: Files + AllocGlobal>(
         &mut self,
         rt: &R,
         name: &'a str,
@@ -123,7 +123,7 @@ impl<'a> Papers<'a> {
 
     /// The message of the fault that ended the run. None where there is no more to say than its line, or no memory for
     /// it.
-    pub(crate) fn message(&self, alloc: Global, fault: Fault) -> Option<String> {
+    pub fn message(&self, alloc: Global, fault: Fault) -> Option<String> {
         self.explained(alloc, fault).unwrap_or(None)
     }
 
@@ -148,7 +148,7 @@ impl<'a> Papers<'a> {
 
 /// What the message of a fault says, and of which file.
 #[derive(Drop)]
-pub(crate) struct Noted<'a> {
+pub struct Noted<'a> {
     pub file: &'a str,
     pub note: Note,
 }
@@ -156,11 +156,7 @@ pub(crate) struct Noted<'a> {
 impl<'a> Papers<'a> {
     /// What the message of the fault that ended the run says, for those who read JSON. None where it has no message. The
     /// error is want of memory.
-    pub(crate) fn noted(
-        &self,
-        alloc: Global,
-        fault: Fault,
-    ) -> Result<Option<Noted<'a>>, AllocError> {
+    pub fn noted(&self, alloc: Global, fault: Fault) -> Result<Option<Noted<'a>>, AllocError> {
         match fault {
             Fault::BadPrices | Fault::NoTop => noted_json(alloc, &self.prices, fault),
             Fault::BadWitness | Fault::BadCertificate => noted_json(alloc, &self.evidence, fault),

@@ -1,8 +1,8 @@
 use Rattle.std.proofs.Common.{◌∙◌, ap, sym, flat_map, arith}
 use Rattle.std.proofs.lemmas.List.{take_all}
 use Rattle.std.proofs.lemmas.List.Folds.{flat_map-map}
-use Rattle.fs_app.specs.Rows.{said_by}
-use Rattle.fs_app.proofs.rows.rows_of.Goals as goal
+use Rattle.fs_app_files.specs.Rows.{said_by}
+use Rattle.fs_app_files.proofs.rows.rows_of.Goals as goal
 
 pub returns : goal.returns
 returns c =

@@ -3,7 +3,7 @@
 ghost use Rattle.std.specs.Prelude.{◌≡◌, IfOk, IfSome, IsNone, string_bytes};
 ghost use Rattle.fs_kinds.specs.declared.fault.Fault.{Fault};
 ghost use Rattle.fs_litmus.specs.Faults.{IsTestFault};
-ghost use Rattle.fs_app.specs.Rows.{IsNameOf};
+ghost use Rattle.fs_app_files.specs.Rows.{IsNameOf};
 
 use fs_kinds::Fault;
 use fs_litmus::read_test;

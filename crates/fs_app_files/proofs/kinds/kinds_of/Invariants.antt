@@ -1,6 +1,6 @@
 use Rattle.std.proofs.Common.{take}
-use Rattle.fs_app.specs.Rows.{AreKinds}
-use Rattle.fs_app.proofs.kinds.kinds_of.Given as goal
+use Rattle.fs_app_files.specs.Rows.{AreKinds}
+use Rattle.fs_app_files.proofs.kinds.kinds_of.Given as goal
 
 -- of the rows so far
 abbrev pub invariant-loop-row : goal.invariant-loop-row

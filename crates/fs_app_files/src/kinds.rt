@@ -2,7 +2,7 @@
 
 ghost use Rattle.std.specs.Prelude.{◌≡◌, Some, IfOk, OnOk};
 ghost use Rattle.std.specs.BTreeMap.{Updates, get};
-ghost use Rattle.fs_app.specs.Rows.{order, AreKinds};
+ghost use Rattle.fs_app_files.specs.Rows.{order, AreKinds};
 
 use crate::list_error::ListError;
 use crate::rows::Row;

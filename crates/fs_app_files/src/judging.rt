@@ -22,7 +22,7 @@ struct Taken<'a> {
 
 /// What is wanted beside lines: of faults messages and notes, and tests.
 #[derive(Clone, Copy)]
-pub(crate) struct Wants {
+pub struct Wants {
     /// Messages for people.
     pub messages: bool,
     /// Notes for those who read JSON.
@@ -33,7 +33,7 @@ pub(crate) struct Wants {
 
 /// What is said of files, in their order: a line of each, and messages of those that aren't tests, or weren't read.
 #[derive(Drop)]
-pub(crate) struct Judged {
+pub struct Judged {
     pub lines: Vec<Line>,
     pub messages: Vec<String>,
     /// Where tests are kept the bytes of those that have lines, or nothing of one that doesn't allow its outcome.
@@ -125,7 +125,7 @@ impl Judged {
 /// Judges the files, in their order, and explains their faults where that is asked for. With more than one job so many
 /// threads judge files side by side, which changes nothing of what is said: files are read here alone, in their order.
 /// Of up to eight files for each job the bytes are kept at once.
-pub(crate) fn judge_files<R: Files + Input + AllocGlobal + Threads + Sync>(
+pub fn judge_files<R: Files + Input + AllocGlobal + Threads + Sync>(
     rt: &R,
     files: &[Source],
     jobs: u8,

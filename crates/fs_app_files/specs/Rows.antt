@@ -11,9 +11,8 @@ use Rattle.fs_model.specs.declared.test.Test.{Test}
 use Rattle.fs_litmus.specs.Reads.{Reads}
 use Rattle.fs_app_test.specs.declared.said.Kind.{Kind}
 use Rattle.fs_app_test.specs.declared.said.Kind.TheVariants as kind
-use Rattle.fs_app_states_log.specs.Lines.{cut}
-use Rattle.fs_app_io.specs.Lines.{says}
-use Rattle.fs_app.specs.declared.rows.Row.{Row as Rows}
+use Rattle.fs_app_io.specs.Lines.{cut, says}
+use Rattle.fs_app_files.specs.declared.rows.Row.{Row as Rows}
 
 -- the name of a test, and what it is expected to be
 abbrev pub Named : Type 0

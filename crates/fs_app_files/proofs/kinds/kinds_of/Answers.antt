@@ -1,6 +1,6 @@
 use Rattle.std.proofs.Common.{arith}
-use Rattle.fs_app.proofs.Growing.{kinds_next, kinds_none}
-use Rattle.fs_app.proofs.kinds.kinds_of.Goals as goal
+use Rattle.fs_app_files.proofs.Growing.{kinds_next, kinds_none}
+use Rattle.fs_app_files.proofs.kinds.kinds_of.Goals as goal
 
 pub loop-row-init : goal.loop-row-init
 loop-row-init c = kinds_none c.new-kinds.result c.new-kinds.ensures.empty

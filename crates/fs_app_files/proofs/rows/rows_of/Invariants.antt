@@ -1,6 +1,6 @@
 use Rattle.std.proofs.Common.{◌≡◌, flat_map, map, take, Some}
-use Rattle.fs_app.specs.Rows.{read_row, said_by}
-use Rattle.fs_app.proofs.rows.rows_of.Given as goal
+use Rattle.fs_app_files.specs.Rows.{read_row, said_by}
+use Rattle.fs_app_files.proofs.rows.rows_of.Given as goal
 
 -- the rows of the lines so far
 abbrev pub invariant-loop-index : goal.invariant-loop-index

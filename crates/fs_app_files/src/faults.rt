@@ -1,7 +1,7 @@
 //! Faults as JSON.
 
 ghost use Rattle.std.specs.Prelude.{IfOk, IfSome, string_bytes};
-ghost use Rattle.fs_app.specs.Answers.{IsFaultObject};
+ghost use Rattle.fs_app_files.specs.FaultObjects.{IsFaultObject};
 
 use crate::papers::Papers;
 use fs_app_test::{Note, test_file, test_objects};
@@ -10,7 +10,7 @@ use std::alloc::Global;
 
 /// The object of a fault that ended the run, in a line, as `test` has it of a file. None where the fault has no message.
 /// The error is F19.
-pub(crate) fn fault_object(
+pub fn fault_object(
     alloc: Global,
     fault: Fault,
     papers: &Papers<'_>,
