@@ -1,7 +1,7 @@
 """All checks, in the order of the lines at the end of a run of all."""
 from checks import (answers, certificate_rows, compare_audit, compare_check, compare_solve, compare_states,
                     compare_test, devices, from_c, hostile, launcher, limits, program, refused_memory)
-from checks.registry import GATE, NOTHING, Check
+from checks.registry import BUILT, GATE, NOTHING, Check
 from running import TOP
 
 SCRIPTS = f"{TOP}/scripts"
@@ -28,6 +28,6 @@ CHECKS = [
     Check("compare-test", 150, compare_test.check, words=MADE),
     Check("compare-audit", 450, compare_audit.check, words=MADE),
     Check("compare-states", 180, compare_states.check, words={**MADE, "count": 100}),
-    Check("refused-memory", 300, refused_memory.check, words={"--quick": False}, quick=("--quick",)),
+    Check("refused-memory", 300, refused_memory.check, needs=BUILT, words={"--quick": False}, quick=("--quick",)),
     Check("hostile", 500, hostile.check, words={"--huge": False}),
 ]
