@@ -29,19 +29,20 @@ use Rattle.fs_app_solve.specs.Found.{IsAskedBy, IsFound, IsFoundFor, Prints, lin
 use Rattle.fs_app_solve.specs.inner.Made.{CertifiesAnswer, HasWitness, SaysAnswer}
 use Rattle.fs_litmus.specs.Reads.{Reads}
 use Rattle.fs_app_place_order.specs.Place.{ArePricesOf}
-use Rattle.fs_board_offers.specs.Questions.{Question, HasTop}
+use Rattle.fs_board_offers.specs.Questions.{Question, HasTop, IsAtSlots}
 use Rattle.fs_board_offers.specs.Offers.{Offers, offers_of}
 use Rattle.fs_board_offers.specs.Valid.{IsValid}
-use Rattle.fs_board_offers.proofs.Priced.{has-top}
+use Rattle.fs_board_offers.proofs.Priced.{has-top, same-slots}
 use Rattle.fs_board_search.specs.Priced.{IsPricedAnswer, question_of}
 use Rattle.fs_board_search.proofs.PricedAnswers.{priced-answer}
 
 -- what was answered to a copy of the question
-pub found-for : (q asked given : Question) (limit : ℕ) (s : Solved) → asked ≡ q → given ≡ asked → IsBounded q.test
+pub found-for : (q asked given : Question) (limit : ℕ) (s : Solved) → asked ≡ q → given ≡ asked → IsAtSlots given → IsBounded q.test
     → HasNoRunFault given.test → IsAnswer given.test given.offers s.answer → Rests given limit s → IsFoundFor q limit asked s
-found-for q asked given limit s same copied bounded listed is rests =
+found-for q asked given limit s same copied over bounded listed is rests =
     subst (λ (x : Question). IsFoundFor q limit x s) copied (record {
       question = copied ∙ same;
+      at_slots = over;
       bounded = subst (λ (x : Question). IsBounded x.test) (sym (copied ∙ same)) bounded;
       listed = listed;
       answer = is;
@@ -66,6 +67,11 @@ pub top-asked : (test prices : List ℕ) (asked given : Question) → IsAskedBy 
 top-asked test prices asked given by copied =
     subst (λ (x : Question). HasTop x.offers) (sym (copied ∙ by.asked_is)) (has-top asked.test by.table by.is_table)
 
+-- they are for the slots of the test
+pub slots-asked : (test prices : List ℕ) (asked given : Question) → IsAskedBy test prices asked → given ≡ asked → IsAtSlots given
+slots-asked test prices asked given by copied =
+    subst IsAtSlots (sym (copied ∙ by.asked_is)) (record { slots = same-slots asked.test by.table })
+
 -- what was answered to a copy of the question that the bytes ask
 pub found-asked : (test prices : List ℕ) (asked given : Question) (limit : ℕ) (s : Solved) → IsAskedBy test prices asked → given ≡ asked
     → HasNoRunFault given.test → IsAnswer given.test given.offers s.answer → Rests given limit s → IsFound test prices limit asked s
@@ -74,7 +80,8 @@ found-asked test prices asked given limit s by copied listed is rests = record {
   table = by.table;
   reads = by.reads;
   priced = by.priced;
-  found = found-for (question_of asked.test by.table) asked given limit s by.asked_is copied by.is_test.bounded listed is rests;
+  found = found-for (question_of asked.test by.table) asked given limit s by.asked_is copied
+      (slots-asked test prices asked given by copied) by.is_test.bounded listed is rests;
 }
 
 -- the answer that was found, in the words of prices

@@ -7,7 +7,7 @@ use Rattle.fs_litmus.specs.Reads.{Reads}
 use Rattle.fs_cert_evidence.specs.Sizes.{HasNoRunFault}
 use Rattle.fs_cert_evidence.specs.Evidence.{placement_in}
 use Rattle.fs_cert_evidence.specs.Texts.{fenced_lines, none_lines}
-use Rattle.fs_board_offers.specs.Questions.{Question}
+use Rattle.fs_board_offers.specs.Questions.{Question, IsAtSlots}
 use Rattle.fs_board_search.specs.Priced.{IsPricedAnswer, question_of}
 use Rattle.fs_pool_workers.specs.Answers.{Answer, Solved, IsAnswer, Rests, placement_of}
 use Rattle.fs_pool_workers.specs.Forms as answer
@@ -29,6 +29,7 @@ pub record IsAskedBy (test prices : List ℕ) (asked : Question) : Type 0 where
 -- the answer to this question, with what it rests on
 pub record IsFoundFor (q : Question) (limit : ℕ) (asked : Question) (s : Solved) : Type 0 where
   pub question : asked ≡ q
+  pub at_slots : IsAtSlots asked
   pub bounded : IsBounded asked.test
   pub listed : HasNoRunFault asked.test
   pub answer : IsAnswer asked.test asked.offers s.answer

@@ -10,9 +10,8 @@ use Rattle.fs_kinds.specs.declared.kind.Kind.{Kind}
 use Rattle.fs_kinds.specs.declared.placement.Entry.{Entry}
 use Rattle.fs_kinds.specs.Kind.{is_subset}
 use Rattle.fs_kinds.specs.Placement.{pairs_kept}
-use Rattle.fs_board_offers.specs.Offers.{Offers}
+use Rattle.fs_board_offers.specs.Offers.{Offers, slots}
 use Rattle.fs_model.specs.declared.test.Test.{Test}
-use Rattle.fs_model.specs.Slots.{slots}
 use Rattle.fs_model.specs.Execution.{Execution, IsExecution}
 use Rattle.fs_model.specs.Allows.{Shows}
 use Rattle.fs_board_offers.specs.Parts.{Part, floor, filled_with, slots_in_part}
@@ -22,12 +21,12 @@ use Rattle.fs_cert_evidence.specs.Widths.{Width, width, is_within_width}
 use Rattle.fs_board_offers.proofs.Bounded.{rising-filled}
 use Rattle.fs_model_laws.proofs.ExactWidths.{exact}
 use Rattle.fs_model_laws.proofs.Weakening.{shows-weaker}
-use Rattle.fs_cert_evidence.specs.Evidence.{Shown, IsWitnessFor, witness_in, widths_of}
+use Rattle.fs_cert_evidence.specs.Evidence.{Shown, witness_in, widths_of}
+use Rattle.fs_witness_widths.specs.Witnesses.{IsWitnessAt}
 use Rattle.fs_board.specs.Growth.{AreWitnesses}
 use Rattle.fs_board_offers.specs.Breaks.{is_kept}
 use Rattle.fs_board.specs.inner.Breaks.{widths_in, is_bounded}
 use Rattle.fs_board.proofs.Pruned.{same_pruned}
-use Rattle.fs_model.proofs.Rising.{rising-slots_from}
 use Rattle.fs_kinds.specs.Slot.{is_rising}
 
 kept_within : (w : Width) (kind : Option Kind) (part : Part)
@@ -35,18 +34,16 @@ kept_within : (w : Width) (kind : Option Kind) (part : Part)
 kept_within w kind [] = refl
 kept_within w kind (d ∷ part) = ap (λ b. is_subset (pairs_kept (unwrap_or d.decided kind)) (w d.slot) && b) (kept_within w kind part)
 
-module _ (t : Test) (part : Part) (same : slots_in_part part ≡ slots t) where
-  rises : is_rising (slots_in_part part) ≡ true
-  rises = ap is_rising same ∙ rising-slots_from 0 t.codes
-
-  its_widths : (w : Shown) (e : Execution) → IsWitnessFor t w e → w.widths ≡ widths_of (width t e) (slots_in_part part)
+module _ (t : Test) (offers : Offers) (part : Part) (rises : is_rising (slots_in_part part) ≡ true)
+    (same : slots_in_part part ≡ slots offers) where
+  its_widths : (w : Shown) (e : Execution) → IsWitnessAt t (slots offers) w e → w.widths ≡ widths_of (width t e) (slots_in_part part)
   its_widths w e is = is.widths ∙ ap (widths_of (width t e)) (sym same)
 
-  within : (kind : Option Kind) (w : Shown) (e : Execution) → IsWitnessFor t w e → is_kept kind part w.widths ≡ is_within_width t e (filled_with kind part)
+  within : (kind : Option Kind) (w : Shown) (e : Execution) → IsWitnessAt t (slots offers) w e → is_kept kind part w.widths ≡ is_within_width t e (filled_with kind part)
   within kind w e is = ap (is_kept kind part) (its_widths w e is) ∙ kept_within (width t e) kind part
 
   -- what is within the widths is shown
-  pub shows_kept : (kind : Option Kind) (w : Shown) (e : Execution) → IsWitnessFor t w e → is_kept kind part w.widths ≡ true
+  pub shows_kept : (kind : Option Kind) (w : Shown) (e : Execution) → IsWitnessAt t (slots offers) w e → is_kept kind part w.widths ≡ true
       → ShowsAs t (filled_with kind part) w.witness e
   shows_kept kind w e is kept = (
     is.shows.0,
@@ -57,7 +54,7 @@ module _ (t : Test) (part : Part) (same : slots_in_part part ≡ slots t) where
   )
 
   -- and what is shown is within them
-  pub kept_shown : (kind : Option Kind) (w : Shown) (e : Execution) → IsWitnessFor t w e → IsShownBy t (filled_with kind part) w.witness
+  pub kept_shown : (kind : Option Kind) (w : Shown) (e : Execution) → IsWitnessAt t (slots offers) w e → IsShownBy t (filled_with kind part) w.witness
       → is_kept kind part w.widths ≡ true
   kept_shown kind w e is (other, shown) =
       let p = filled_with kind part in
@@ -71,7 +68,7 @@ module _ (t : Test) (part : Part) (same : slots_in_part part ≡ slots t) where
   abbrev pub each_kept : {A : Type 0} → List (Arc Shown A) → Bool
   each_kept ws = list_all (λ w. is_kept None part (widths_in w)) ws
 
-  pub all_kept : {A : Type 0} (ws : List (Arc Shown A)) → AreWitnesses t (map arc_value ws) → All (IsShownBy t (floor part)) (map witness_in ws)
+  pub all_kept : {A : Type 0} (ws : List (Arc Shown A)) → AreWitnesses t (slots offers) (map arc_value ws) → All (IsShownBy t (floor part)) (map witness_in ws)
       → each_kept ws ≡ true
   all_kept [] are all = refl
   all_kept (w ∷ ws) are all =
@@ -85,7 +82,7 @@ module _ (t : Test) (part : Part) (same : slots_in_part part ≡ slots t) where
     pub shown : AllZip (ShowsAs t (floor part)) (map witness_in ws) executions
     pub widths : map widths_in ws ≡ map (λ w. widths_of w (slots_in_part part)) (map (width t) executions)
 
-  pub all_shown : {A : Type 0} (ws : List (Arc Shown A)) → AreWitnesses t (map arc_value ws) → each_kept ws ≡ true → ShowsAll ws
+  pub all_shown : {A : Type 0} (ws : List (Arc Shown A)) → AreWitnesses t (slots offers) (map arc_value ws) → each_kept ws ≡ true → ShowsAll ws
   all_shown [] are kept = record { executions = []; shown = tt; widths = refl }
   all_shown (w ∷ ws) are kept =
       let first = are 0 (arc_value w) refl in
@@ -98,9 +95,9 @@ module _ (t : Test) (part : Part) (same : slots_in_part part ≡ slots t) where
       }
 
   -- and whether they bound the part
-  pub bounds : {A : Type 0} (offers : Offers) (bound : Option (List Entry)) (b : Bool) (ws : List (Arc Shown A)) → AreWitnesses t (map arc_value ws) → each_kept ws ≡ true
+  pub bounds : {A : Type 0} (bound : Option (List Entry)) (b : Bool) (ws : List (Arc Shown A)) → AreWitnesses t (slots offers) (map arc_value ws) → each_kept ws ≡ true
       → is_bounded offers bound part (map widths_in ws) ≡ b
       → (es : List Execution) × AllZip (ShowsAs t (floor part)) (map witness_in ws) es × (is_pruned offers bound part (map (width t) es) ≡ b)
-  bounds offers bound b ws are kept is =
+  bounds bound b ws are kept is =
       let all = all_shown ws are kept in
       (all.executions, all.shown, sym (same_pruned offers bound part (map (width t) all.executions)) ∙ (ap (is_bounded offers bound part) (sym all.widths) ∙ is))

@@ -5,13 +5,15 @@ use Rattle.std.specs.declared.sync.Arc.{Arc}
 use Rattle.std.specs.Arc.{arc_value}
 use Rattle.std.proofs.lemmas.Bool.{false≢true}
 use Rattle.fs_kinds.specs.declared.kind.Kind.TheVariants.{RwRw}
-use Rattle.fs_model.specs.Slots.{slots}
+use Rattle.fs_kinds.specs.Slot.{is_rising}
 use Rattle.fs_model.specs.Execution.{Execution}
 use Rattle.fs_model.specs.Witness.{Witness}
+use Rattle.fs_board_offers.specs.Offers.{slots}
 use Rattle.fs_board_offers.specs.Parts.{Part, slots_in_part}
 use Rattle.fs_board_offers.specs.Board.{Node, Status, Witnessed, Bounded, Event, CutWitness, CutBound, Closed, NotCovered, Cheaper, is_held_by, part_at}
 use Rattle.fs_board_offers.specs.Histories.{with_witnesses}
-use Rattle.fs_cert_evidence.specs.Evidence.{Shown, IsWitnessFor, witness_in}
+use Rattle.fs_cert_evidence.specs.Evidence.{Shown, witness_in}
+use Rattle.fs_witness_widths.specs.Witnesses.{IsWitnessAt}
 use Rattle.fs_board_offers.proofs.Leaves.{history-parts}
 use Rattle.fs_board.specs.Growth.{AreWitnesses}
 use Rattle.fs_board.specs.View.{Search, IsReplay}
@@ -32,40 +34,42 @@ module _ (s : Search) (w k : ℕ) (part : Part) (was : IsReplay s) (held : Holds
   node : (n : Node) × (slice_get s.board.nodes k ≡ Some n) × (n.part ≡ part)
   node = node_with (is_held_by w) s.board k part held
 
-  pub its_slots : slots_in_part part ≡ slots s.question.test
-  its_slots = subst (λ p. slots_in_part p ≡ slots s.question.test) node.2
-      ((history-parts s.question.test s.question.offers s.board.limit s.log s.board was.history k node.0 node.1).slots
-      ∙ was.asked.slots)
+  its_slots : slots_in_part part ≡ slots s.question.offers
+  its_slots = subst (λ p. slots_in_part p ≡ slots s.question.offers) node.2
+      (history-parts s.question.test s.question.offers s.board.limit s.log s.board was.history k node.0 node.1).slots
+
+  pub rises : is_rising (slots_in_part part) ≡ true
+  rises = ap is_rising its_slots ∙ was.offers.rising
 
   may_close : (e : Event) (z : Status) (ws : List Witness) → StepsFrom s w e Closed (with_witnesses z k part ws s.board) → MayClose s w k e z ws
   may_close e z ws step = (node.0, node.1, subst (λ p. StepsFrom s w e Closed (with_witnesses z k p ws s.board)) (sym node.2) step)
 
   -- ---- one witness
 
-  pub uncovered : (x : Shown) → (e : Execution) × IsWitnessFor s.question.test x e → is_kept (Some RwRw) part x.widths ≡ false
+  pub uncovered : (x : Shown) → (e : Execution) × IsWitnessAt s.question.test (slots s.question.offers) x e → is_kept (Some RwRw) part x.widths ≡ false
       → StepsFrom s w (CutWitness k x.witness) NotCovered s.board
   uncovered x is kept =
-      (part, held, (λ shown. absurd (false≢true (sym kept ∙ kept_shown s.question.test part its_slots (Some RwRw) x is.0 is.1 shown))), refl)
+      (part, held, (λ shown. absurd (false≢true (sym kept ∙ kept_shown s.question.test s.question.offers part rises its_slots (Some RwRw) x is.0 is.1 shown))), refl)
 
-  pub may_witness : (x : Shown) → (e : Execution) × IsWitnessFor s.question.test x e → is_kept (Some RwRw) part x.widths ≡ true
+  pub may_witness : (x : Shown) → (e : Execution) × IsWitnessAt s.question.test (slots s.question.offers) x e → is_kept (Some RwRw) part x.widths ≡ true
       → (z : Status) (ws : List Witness) → z ≡ Witnessed (length s.board.witnesses) → ws ≡ x.witness ∷ [] → MayClose s w k (CutWitness k x.witness) z ws
   may_witness x is kept z ws status same =
       subst (λ y. MayClose s w k (CutWitness k x.witness) y ws) (sym status)
       (subst (λ vs. MayClose s w k (CutWitness k x.witness) (Witnessed (length s.board.witnesses)) vs) (sym same)
       (may_close (CutWitness k x.witness) (Witnessed (length s.board.witnesses)) (x.witness ∷ [])
-      (part, held, (is.0, shows_kept s.question.test part its_slots (Some RwRw) x is.0 is.1 kept), refl)))
+      (part, held, (is.0, shows_kept s.question.test s.question.offers part rises its_slots (Some RwRw) x is.0 is.1 kept), refl)))
 
   -- ---- a list of them
 
-  module _ {A : Type 0} (ws : List (Arc Shown A)) (are : AreWitnesses s.question.test (map arc_value ws)) where
-    pub all_uncovered : each_kept s.question.test part its_slots ws ≡ false → StepsFrom s w (CutBound k (map witness_in ws)) NotCovered s.board
-    all_uncovered kept = (part, held, (λ shown. absurd (false≢true (sym kept ∙ all_kept s.question.test part its_slots ws are shown))), refl)
+  module _ {A : Type 0} (ws : List (Arc Shown A)) (are : AreWitnesses s.question.test (slots s.question.offers) (map arc_value ws)) where
+    pub all_uncovered : each_kept s.question.test s.question.offers part rises its_slots ws ≡ false → StepsFrom s w (CutBound k (map witness_in ws)) NotCovered s.board
+    all_uncovered kept = (part, held, (λ shown. absurd (false≢true (sym kept ∙ all_kept s.question.test s.question.offers part rises its_slots ws are shown))), refl)
 
-    pub all_cheaper : each_kept s.question.test part its_slots ws ≡ true → is_bounded s.question.offers s.board.bound part (map widths_in ws) ≡ false
+    pub all_cheaper : each_kept s.question.test s.question.offers part rises its_slots ws ≡ true → is_bounded s.question.offers s.board.bound part (map widths_in ws) ≡ false
         → StepsFrom s w (CutBound k (map witness_in ws)) Cheaper s.board
-    all_cheaper kept cheap = (part, held, bounds s.question.test part its_slots s.question.offers s.board.bound false ws are kept cheap, refl)
+    all_cheaper kept cheap = (part, held, bounds s.question.test s.question.offers part rises its_slots s.board.bound false ws are kept cheap, refl)
 
-    pub may_bound : each_kept s.question.test part its_slots ws ≡ true → is_bounded s.question.offers s.board.bound part (map widths_in ws) ≡ true
+    pub may_bound : each_kept s.question.test s.question.offers part rises its_slots ws ≡ true → is_bounded s.question.offers s.board.bound part (map widths_in ws) ≡ true
         → (z : Status) (vs : List Witness) → z ≡ Bounded (length s.board.witnesses) (length ws) → vs ≡ map witness_in ws
         → MayClose s w k (CutBound k (map witness_in ws)) z vs
     may_bound kept dear z vs status same =
@@ -74,4 +78,4 @@ module _ (s : Search) (w k : ℕ) (part : Part) (was : IsReplay s) (held : Holds
         subst (λ y. MayClose s w k (CutBound k (map witness_in ws)) y vs) (sym count)
         (subst (λ us. MayClose s w k (CutBound k (map witness_in ws)) z' us) (sym same)
         (may_close (CutBound k (map witness_in ws)) z' (map witness_in ws)
-        (part, held, bounds s.question.test part its_slots s.question.offers s.board.bound true ws are kept dear, refl)))
+        (part, held, bounds s.question.test s.question.offers part rises its_slots s.board.bound true ws are kept dear, refl)))

@@ -22,7 +22,7 @@ with_log s board log = record { question = s.question; board = board; log = log 
 pub replays : (s : Search) (new : Board) (log : List LogEntry) (w : ℕ) (e : Event) (r : Reply) → IsReplay s → StepsFrom s w e r new
     → new.limit ≡ s.board.limit → length new.nodes ≤ s.board.limit + 1 → log ≡ s.log ++ entry_of w e r ∷ [] → IsReplay (with_log s new log)
 replays s new log w e r was step same room is = record {
-  asked = was.asked;
+  offers = was.offers;
   history =
       let more = lead_more s.question.test s.question.offers (opening s.question.offers s.board.limit) s.log s.board (entry_of w e r) new was.history step in
       let to_log = subst (λ l. Lead s.question.test s.question.offers (opening s.question.offers s.board.limit) l new) (sym is) more in

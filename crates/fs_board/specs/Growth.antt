@@ -1,10 +1,12 @@
 -- The tree with all that backs it, and what closing, splitting and posting make of it.
 use Rattle.std.specs.Prelude.{◌≡◌, ℕ, Option, Some, option_map, IfSome, List, ◌++◌, map, slice_get, slice_set}
+use Rattle.fs_kinds.specs.declared.slot.Slot.{Slot}
 use Rattle.fs_model.specs.declared.test.Test.{Test}
 use Rattle.fs_model.specs.Execution.{Execution}
 use Rattle.fs_board_offers.specs.Parts.{Part}
 use Rattle.fs_board_offers.specs.Board.{Board, Node, Status, Open}
-use Rattle.fs_cert_evidence.specs.Evidence.{Shown, Refuted, IsWitnessFor, ShowsForbidden}
+use Rattle.fs_cert_evidence.specs.Evidence.{Shown, Refuted, ShowsForbidden}
+use Rattle.fs_witness_widths.specs.Witnesses.{IsWitnessAt}
 
 -- the nodes, the bound with its cycles, the witnesses with their widths, and the greatest number that a node may have
 pub record Tree : Type 0 where
@@ -22,14 +24,14 @@ board_of t = record {
   limit = t.limit;
 }
 
--- each of them is the witness of an execution, with its widths
-abbrev pub AreWitnesses : Test → List Shown → Type 0
-AreWitnesses t shown = (k : ℕ) (w : Shown) → slice_get shown k ≡ Some w → (e : Execution) × IsWitnessFor t w e
+-- each of them is the witness of an execution, with its widths at these slots
+abbrev pub AreWitnesses : Test → List Slot → List Shown → Type 0
+AreWitnesses t ss shown = (k : ℕ) (w : Shown) → slice_get shown k ≡ Some w → (e : Execution) × IsWitnessAt t ss w e
 
 -- the bound and the witnesses are what they are taken for
-pub record IsBacked (t : Test) (best : Option Refuted) (shown : List Shown) : Type 0 where
+pub record IsBacked (t : Test) (ss : List Slot) (best : Option Refuted) (shown : List Shown) : Type 0 where
   pub bound : IfSome best (ShowsForbidden t)
-  pub witnesses : AreWitnesses t shown
+  pub witnesses : AreWitnesses t ss shown
 
 abbrev pub open_node : Part → Node
 open_node part = record { part = part; status = Open }

@@ -9,7 +9,8 @@ use Rattle.fs_board.specs.declared.event.Event.TheVariants as event
 use Rattle.fs_board.specs.declared.event.Reply.{Reply as CodeReply}
 use Rattle.fs_board.specs.declared.event.Reply.TheVariants as reply
 use Rattle.fs_cert_evidence.specs.Evidence.{placement_in, witness_in}
-use Rattle.fs_board_offers.specs.Questions.{Question, IsQuestion}
+use Rattle.fs_board_offers.specs.Offers.{AreOffers, slots}
+use Rattle.fs_board_offers.specs.Questions.{Question}
 use Rattle.fs_board.specs.Growth.{Tree, board_of, IsBacked}
 
 abbrev pub status_of : CodeStatus → Status
@@ -66,7 +67,7 @@ pub record Answers (old new : Search) (worker : ℕ) (event : Event) (reply : Re
 
 -- the log is a legal history that leads to the board, and no node's number passes the limit
 pub record IsReplay (s : Search) : Type 0 where
-  pub asked : IsQuestion s.question
+  pub offers : AreOffers s.question.offers
   pub history : IsHistory s.question.test s.question.offers s.board.limit s.log s.board
   pub room : length s.board.nodes ≤ s.board.limit + 1
   pub limit : s.board.limit ≤ 1000000
@@ -74,4 +75,4 @@ pub record IsReplay (s : Search) : Type 0 where
 -- and the tree is backed
 pub record IsSound (question : Question) (tree : Tree) (log : List LogEntry) : Type 0 where
   pub replay : IsReplay (record { question = question; board = board_of tree; log = log })
-  pub backed : IsBacked question.test tree.bound tree.witnesses
+  pub backed : IsBacked question.test (slots question.offers) tree.bound tree.witnesses

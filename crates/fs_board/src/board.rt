@@ -14,9 +14,10 @@ ghost use Rattle.fs_board_offers.specs.Board.{Seen, Closed, Held, is_open, is_he
 ghost use Rattle.fs_board_offers.specs.Board.{with_status};
 ghost use Rattle.fs_board_offers.specs.Histories.{Steps, IsHistory, with_witnesses};
 ghost use Rattle.fs_board.specs.Counts.{count_of};
-ghost use Rattle.fs_cert_evidence.specs.Evidence.{Shown, IsWitnessFor, ShowsForbidden, witness_in, placement_in};
+ghost use Rattle.fs_cert_evidence.specs.Evidence.{Shown, ShowsForbidden, witness_in, placement_in};
+ghost use Rattle.fs_witness_widths.specs.Witnesses.{IsWitnessAt};
 ghost use Rattle.fs_board_offers.specs.Bests.{is_best};
-ghost use Rattle.fs_board_offers.specs.Questions.{IsQuestion};
+ghost use Rattle.fs_board_offers.specs.Offers.{AreOffers, slots};
 ghost use Rattle.fs_board.specs.Growth.{AreWitnesses};
 ghost use Rattle.fs_board.specs.View.{Answers, status_of, event_of, reply_of};
 ghost use Rattle.fs_board.specs.Asking.{IsMade, Tells};
@@ -36,7 +37,7 @@ use std::sync::Arc;
 
 /// The nodes of a search, with the log of all events. The log is a legal history, and leads to the nodes as they are.
 /// The bound has what shows that it forbids the outcome, and each witness is one of an execution of the test, with its
-/// widths.
+/// widths at the slots of the offers.
 #[derive(Drop)]
 pub struct Board {
     question: Arc<Question>,
@@ -144,7 +145,7 @@ impl Board {
     /// What closed nodes, in order, each with its execution's widths.
     pub fn witnesses(&self) -> &[Arc<Witness>]
         ensures value { map witness_in result.now ≡ self.now.board.witnesses }
-        ensures widths { AreWitnesses self.now.question.test (map arc_value result.now) }
+        ensures widths { AreWitnesses self.now.question.test (slots self.now.question.offers) (map arc_value result.now) }
     {
         self.tree.witnesses()
     }
@@ -159,7 +160,7 @@ impl Board {
     /// All events with their replies, in order: a legal history that leads to the board.
     pub fn log(&self) -> &[LogEntry]
         ensures value { result.now ≡ self.now.log }
-        ensures asked { IsQuestion self.now.question }
+        ensures offers { AreOffers self.now.question.offers }
         ensures legal { IsHistory self.now.question.test self.now.question.offers self.now.board.limit self.now.log
             self.now.board }
     {
@@ -238,7 +239,8 @@ impl Board {
         witnesses: Vec<Arc<Witness>>,
     ) -> Result<Reply, AllocError>
         requires closed { is_open (status_of status) ≡ false }
-        requires widths { AreWitnesses self.old.question.test (map arc_value witnesses.items) }
+        requires widths { AreWitnesses self.old.question.test (slots self.old.question.offers)
+            (map arc_value witnesses.items) }
         requires may { (n : NodeValue) × (slice_get self.old.board.nodes node ≡ Some n)
             × Steps self.old.question.test self.old.question.offers self.old.board worker (event_of
             event) Closed (with_witnesses (status_of status) node n.part (map witness_in
@@ -347,7 +349,7 @@ impl Board {
 
     /// Closes a node by a witness that shows the outcome with `rw,rw` at each undecided slot, and so under each
     /// placement below the node. `NotYours`; `NotCovered` where it doesn't. The witness must be one of the test, with
-    /// its widths. It takes time of slots.
+    /// its widths at the slots of the offers. It takes time of slots.
     pub fn cut_witness(
         &mut self,
         alloc: Global,
@@ -355,7 +357,8 @@ impl Board {
         node: usize,
         witness: Arc<Witness>,
     ) -> Result<Reply, AllocError>
-        requires { (e : Execution) × IsWitnessFor self.old.question.test (arc_value witness) e }
+        requires { (e : Execution)
+            × IsWitnessAt self.old.question.test (slots self.old.question.offers) (arc_value witness) e }
         ensures step { IfOk result
             (λ r. Answers self.old self.new worker (CutWitness node (witness_in witness)) (reply_of r)) }
         ensures err { OnErr result (self.new ≡ self.old) }
@@ -378,7 +381,7 @@ impl Board {
     /// node costs no less than that placement and breaking each of them, which is no better than the bound. `NotYours`;
     /// `NotCovered` where one of them doesn't show it; `Cheaper` where two of them can be broken at one slot, or
     /// something under the node may be better than the bound. The witnesses must be ones of the test, with their
-    /// widths. It takes time of slots times kinds times witnesses.
+    /// widths at the slots of the offers. It takes time of slots times kinds times witnesses.
     pub fn cut_bound(
         &mut self,
         alloc: Global,
@@ -387,7 +390,7 @@ impl Board {
         witnesses: &[Arc<Witness>],
     ) -> Result<Reply, AllocError>
         requires { (k : ℕ) (w : Shown) → slice_get (map arc_value witnesses.now) k ≡ Some w → (e : Execution)
-            × IsWitnessFor self.old.question.test w e }
+            × IsWitnessAt self.old.question.test (slots self.old.question.offers) w e }
         ensures step { IfOk result
             (λ r. Answers self.old self.new worker (CutBound node (map witness_in witnesses.now)) (reply_of r)) }
         ensures err { OnErr result (self.new ≡ self.old) }
@@ -404,7 +407,7 @@ impl Board {
         node: usize,
         witnesses: List<Arc<Witness>>,
     ) -> Result<Reply, AllocError>
-        requires { AreWitnesses self.old.question.test (map arc_value witnesses) }
+        requires { AreWitnesses self.old.question.test (slots self.old.question.offers) (map arc_value witnesses) }
         ensures step { IfOk result
             (λ r. Answers self.old self.new worker (CutBound node (map witness_in witnesses)) (reply_of r)) }
         ensures err { OnErr result (self.new ≡ self.old) }

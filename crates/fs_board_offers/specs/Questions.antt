@@ -6,13 +6,13 @@ use Rattle.fs_model.specs.declared.test.Test.{Test}
 use Rattle.fs_model.specs.Slots as test
 use Rattle.fs_board_offers.specs.Offers.{Offers, slots, are_offered}
 
--- a test, whose outcome is to be ruled out, and what may stand at its slots
+-- a test, whose outcome is to be ruled out, and what may stand where
 pub record Question : Type 0 where
   pub test : Test
   pub offers : Offers
 
--- the offers are for the slots of the test
-pub record IsQuestion (q : Question) : Type 0 where
+-- the offers are for the slots of the test, as those are that prices make
+pub record IsAtSlots (q : Question) : Type 0 where
   pub slots : slots q.offers ≡ test.slots q.test
 
 -- rw,rw is offered at each slot

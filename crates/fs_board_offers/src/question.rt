@@ -3,9 +3,7 @@
 ghost use Rattle.std.specs.Prelude.{◌≡◌, IfOk, IsOkUnless};
 ghost use Rattle.std.specs.Arc.{arc_value};
 ghost use Rattle.fs_model.specs.Test.{IsBounded};
-ghost use Rattle.fs_model.specs.Slots as its;
-ghost use Rattle.fs_board_offers.specs.Offers.{slots, offers_of, AreOffers};
-ghost use Rattle.fs_board_offers.specs.Questions.{IsQuestion};
+ghost use Rattle.fs_board_offers.specs.Offers.{offers_of, AreOffers};
 
 use crate::Offers;
 use fs_kinds::{Fault, Prices};
@@ -14,7 +12,8 @@ use std::alloc::Global;
 use std::marker::Model;
 use std::sync::Arc;
 
-/// A test, whose outcome is to be ruled out, and what may stand at its slots.
+/// A test, whose outcome is to be ruled out, and what may stand where: before any instructions, which needn't be the
+/// test's slots.
 #[derive(Drop)]
 pub struct Question {
     test: Arc<Test>,
@@ -25,21 +24,18 @@ impl Model for Question {
     ghost use Rattle.std.specs.Arc.{arc_value};
     ghost use Rattle.std.specs.Coded.{codes};
     ghost use Rattle.fs_model.specs.contracts.outcome.Outcome as outcome;
-    ghost use Rattle.fs_board_offers.specs.Questions.{Question as Asked, IsQuestion};
+    ghost use Rattle.fs_board_offers.specs.Questions.{Question as Asked};
 
     ghost Value = { Asked };
 
     ghost view = { λ q. record { test = arc_value q.test; offers = q.offers } };
 
     ghost coded = { Prim.hlevel (codes, outcome.the_row.coded) };
-
-    ghost invariant = { λ q. IsQuestion (record { test = arc_value q.test; offers = q.offers }) };
 }
 
 impl Question {
-    /// The test with these offers, which are for its slots.
+    /// The test with these offers.
     pub fn new(test: Arc<Test>, offers: Offers) -> Question
-        requires { slots offers ≡ its.slots (arc_value test) }
         ensures { result ≡ record { test = arc_value test; offers = offers } }
     {
         Question { test, offers }
@@ -63,11 +59,12 @@ impl Question {
         &self.test
     }
 
-    /// What may stand at its slots.
+    /// What may stand where.
     pub fn offers(&self) -> &Offers
         ensures value { result.now ≡ self.now.offers }
-        ensures asked { IsQuestion self.now }
+        ensures are { AreOffers self.now.offers }
     {
+        let _are = self.offers.as_slice();
         &self.offers
     }
 }

@@ -10,7 +10,8 @@ use Rattle.fs_model.specs.declared.test.Test.{Test}
 use Rattle.fs_model.specs.Execution.{Execution}
 use Rattle.fs_board_offers.specs.Parts.{Part, filled_with, floor, slots_in_part}
 use Rattle.fs_model_laws.proofs.Places.{at-append}
-use Rattle.fs_cert_evidence.specs.Evidence.{Shown, IsWitnessFor}
+use Rattle.fs_cert_evidence.specs.Evidence.{Shown}
+use Rattle.fs_witness_widths.specs.Witnesses.{IsWitnessAt}
 use Rattle.fs_board.specs.Growth.{AreWitnesses}
 
 pub slots-filled : (kind : Option Kind) (part : Part) → slots_of (filled_with kind part) ≡ slots_in_part part
@@ -29,18 +30,18 @@ at-last : (w v : Shown) (k : ℕ) → slice_get (w ∷ []) k ≡ Some v → w �
 at-last w v zero at = cc
 at-last w v (suc k) at = absurd (cc)
 
-pub no-witnesses : (t : Test) → AreWitnesses t []
-no-witnesses t k w at = absurd (cc)
+pub no-witnesses : (t : Test) (ss : List Slot) → AreWitnesses t ss []
+no-witnesses t ss k w at = absurd (cc)
 
-pub one-more : (t : Test) (ws : List Shown) (w : Shown) (more : List Shown) → more ≡ ws ++ w ∷ [] → AreWitnesses t ws
-    → (e : Execution) × IsWitnessFor t w e → AreWitnesses t more
-one-more t ws w more is each new = λ k v at.
+pub one-more : (t : Test) (ss : List Slot) (ws : List Shown) (w : Shown) (more : List Shown) → more ≡ ws ++ w ∷ [] → AreWitnesses t ss ws
+    → (e : Execution) × IsWitnessAt t ss w e → AreWitnesses t ss more
+one-more t ss ws w more is each new = λ k v at.
     elim (at-append ws (w ∷ []) k v (ap (λ l. slice_get l k) (sym is) ∙ at)) [
       | inl old ↦ each k v old
-      | inr last ↦ subst (λ (x : Shown). (e : Execution) × IsWitnessFor t x e) (at-last w v last.0 last.1) new
+      | inr last ↦ subst (λ (x : Shown). (e : Execution) × IsWitnessAt t ss x e) (at-last w v last.0 last.1) new
     ]
 
 -- a witness of the list once more in another list
-pub picked-more : (t : Test) (ws vs more : List Shown) (w : Shown) (k : ℕ) → more ≡ vs ++ w ∷ [] → slice_get ws k ≡ Some w
-    → AreWitnesses t ws → AreWitnesses t vs → AreWitnesses t more
-picked-more t ws vs more w k is at all each = one-more t vs w more is each (all k w at)
+pub picked-more : (t : Test) (ss : List Slot) (ws vs more : List Shown) (w : Shown) (k : ℕ) → more ≡ vs ++ w ∷ [] → slice_get ws k ≡ Some w
+    → AreWitnesses t ss ws → AreWitnesses t ss vs → AreWitnesses t ss more
+picked-more t ss ws vs more w k is at all each = one-more t ss vs w more is each (all k w at)

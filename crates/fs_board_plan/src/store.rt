@@ -1,7 +1,8 @@
 //! The witnesses that a search has met, and which of them it tries at a node.
 
-ghost use Rattle.std.specs.Prelude.{ℕ, ◌≡◌, ◌++◌, ◌∷◌, [], Some, IfOk, IfSome, OnOk, OnErr, slice_get, map};
+ghost use Rattle.std.specs.Prelude.{ℕ, ◌≡◌, ◌++◌, ◌∷◌, [], List, Some, IfOk, IfSome, OnOk, OnErr, slice_get, map};
 ghost use Rattle.std.specs.Arc.{arc_value};
+ghost use Rattle.fs_kinds.specs.declared.slot.Slot.{Slot as SlotValue};
 ghost use Rattle.fs_model.specs.declared.test.Test.{Test};
 ghost use Rattle.fs_board.specs.Growth.{AreWitnesses};
 
@@ -217,8 +218,8 @@ impl Store {
         sum: &mut Sum,
         found: &Unbroken,
     ) -> Result<(), AllocError>
-        ensures { (t : Test) → AreWitnesses t self.now → AreWitnesses t (map arc_value picked.old.items)
-            → AreWitnesses t (map arc_value picked.new.items) }
+        ensures { (t : Test) (ss : List SlotValue) → AreWitnesses t ss self.now
+            → AreWitnesses t ss (map arc_value picked.old.items) → AreWitnesses t ss (map arc_value picked.new.items) }
     {
         if !sum.is_apart(found) {
             return Ok(());
@@ -259,8 +260,8 @@ impl Store {
         bound: Option<&Arc<Forbidden>>,
         part: &Part,
     ) -> Result<Vec<Arc<Witness>>, AllocError>
-        ensures { IfOk result (λ picked. (t : Test) → AreWitnesses t self.now
-            → AreWitnesses t (map arc_value picked.items)) }
+        ensures { IfOk result (λ picked. (t : Test) (ss : List SlotValue) → AreWitnesses t ss self.now
+            → AreWitnesses t ss (map arc_value picked.items)) }
     {
         let decisions = part.as_slice();
         let unbroken = self.unbroken(alloc, &Codes::of_floor(decisions), decisions)?;

@@ -8,12 +8,15 @@ use Rattle.fs_kinds.specs.declared.kind.Kind.TheVariants.{RwRw}
 use Rattle.fs_kinds.specs.declared.placement.Entry.{Entry}
 use Rattle.fs_kinds.specs.declared.slot.Slot.{Slot}
 use Rattle.fs_kinds.specs.Placement.{slots_of, all_with}
-use Rattle.fs_board_offers.specs.Offers.{Offers, are_offered, IsCheapest, is_better, slots}
+use Rattle.fs_board_offers.specs.Offers.{Offers, AreOffers, are_offered, IsCheapest, IsPlacement, is_better, slots}
 use Rattle.fs_kinds.proofs.Entries.{slots_of-all_with}
 use Rattle.fs_model.specs.declared.test.Test.{Test}
 use Rattle.fs_model.specs.Slots as test
-use Rattle.fs_model.proofs.Rising.{rising-slots_from}
-use Rattle.fs_model.specs.Allows.{Allows}
+use Rattle.fs_model.specs.Execution.{Execution}
+use Rattle.fs_model.specs.Allows.{Allows, RefutesAll, full_fences}
+use Rattle.fs_cert_evidence.specs.Evidence.{Shown, IsWitnessFor, widths_of}
+use Rattle.fs_cert_evidence.specs.Widths.{width}
+use Rattle.fs_judge.specs.Verdicts.{IsShownWith}
 use Rattle.fs_cert_evidence.specs.CandidateFaults.{IsCandidateFault}
 use Rattle.fs_board_offers.specs.Parts.{floor, undecided}
 use Rattle.fs_board_offers.specs.Board.{is_finished}
@@ -21,13 +24,12 @@ use Rattle.fs_board_offers.specs.Histories.{IsHistory}
 use Rattle.fs_board_offers.specs.Sizes.{HasNoRunFault, whole_tree}
 use Rattle.fs_board_offers.proofs.PartsOfTests.{under-root}
 use Rattle.fs_board_offers.proofs.Floors.{floor-best}
-use Rattle.fs_board_offers.specs.Questions.{Question, IsQuestion, HasTop}
+use Rattle.fs_board_offers.specs.Questions.{Question, IsAtSlots, HasTop}
 use Rattle.fs_board.specs.View.{Search}
 pub use Rattle.fs_board_search.proofs.Handed.{handed}
 use Rattle.fs_board_search.specs.Answers.{IsEndFault, IsSearchFault, IsSolveFault}
 use Rattle.fs_board_search.specs.Histories.{GoesOn}
 use Rattle.fs_board_offers.proofs.Final.{cheapest, none-forbid}
-use Rattle.fs_kinds.specs.Slot.{is_rising}
 
 -- ---- no fence at all
 
@@ -59,29 +61,46 @@ none-cheapest t offers p over is forbids =
 
 -- ---- a finished board
 
--- the slots that something is offered at rise
-pub rising-offers : (q : Question) → IsQuestion q → is_rising (slots q.offers) ≡ true
-rising-offers q asked = ap is_rising asked.slots ∙ rising-slots_from 0 q.test.codes
-
 -- the bound is the answer
-pub bound-cheapest : (s : Search) (p : List Entry) → IsQuestion s.question
+pub bound-cheapest : (s : Search) (p : List Entry) → AreOffers s.question.offers
     → IsHistory s.question.test s.question.offers s.board.limit s.log s.board → is_finished s.board ≡ true → Some p ≡ s.board.bound
     → IsCheapest s.question.test s.question.offers p
-bound-cheapest s p asked history finished is =
-    cheapest s.question.test s.question.offers s.board.limit s.log s.board (rising-offers s.question asked) history finished p (sym is)
+bound-cheapest s p are history finished is =
+    cheapest s.question.test s.question.offers s.board.limit s.log s.board are.rising history finished p (sym is)
+
+-- where some placement forbids the outcome there is one
+pub some-bound : (s : Search) → AreOffers s.question.offers
+    → IsHistory s.question.test s.question.offers s.board.limit s.log s.board → is_finished s.board ≡ true → None ≡ s.board.bound
+    → (p : List Entry) × IsPlacement s.question.offers p × (Allows s.question.test p → ⊥) → ⊥
+some-bound s are history finished is some =
+    some.2 (none-forbid s.question.test s.question.offers s.board.limit s.log s.board are.rising history finished (sym is) some.0 some.1)
 
 -- with no bound rw,rw in every slot allows the outcome
-pub all-allowed : (s : Search) (t : Test) → s.question.test ≡ t → IsQuestion s.question → HasTop s.question.offers
+pub all-allowed : (s : Search) (t : Test) → s.question.test ≡ t → AreOffers s.question.offers → IsAtSlots s.question → HasTop s.question.offers
     → IsHistory s.question.test s.question.offers s.board.limit s.log s.board → is_finished s.board ≡ true → None ≡ s.board.bound
     → Allows t (all_with (Some RwRw) (test.slots t))
-all-allowed s t same asked top history finished is =
+all-allowed s t same are at top history finished is =
     let full : Allows s.question.test (all_with (Some RwRw) (slots s.question.offers)) =
-    none-forbid s.question.test s.question.offers s.board.limit s.log s.board (rising-offers s.question asked) history finished (sym is)
+    none-forbid s.question.test s.question.offers s.board.limit s.log s.board are.rising history finished (sym is)
     (all_with (Some RwRw) (slots s.question.offers))
     (record { slots = slots_of-all_with (Some RwRw) (slots s.question.offers); offered = top }) in
     let shown : Allows s.question.test (all_with (Some RwRw) (test.slots s.question.test)) =
-    subst (λ ss. Allows s.question.test (all_with (Some RwRw) ss)) asked.slots full in
+    subst (λ ss. Allows s.question.test (all_with (Some RwRw) ss)) at.slots full in
     subst (λ (u : Test). Allows u (all_with (Some RwRw) (test.slots u))) same shown
+
+-- a witness of the verdict on rw,rw in every slot is one with its widths at the test's slots
+pub all-shown : (t : Test) (w : Shown) → IsShownWith t (full_fences t) w → (e : Execution) × IsWitnessFor t w e × RefutesAll t e
+all-shown t w shown = (
+  shown.0,
+  (
+    record {
+      shows = shown.1.shows;
+      only = shown.1.only;
+      widths = shown.1.widths ∙ ap (widths_of (width t shown.0)) (slots_of-all_with (Some RwRw) (test.slots t));
+    },
+    shown.2,
+  ),
+)
 
 -- ---- faults
 
@@ -148,11 +167,11 @@ limit-fault q t limit f same clean large fault = elim fault [
 ]
 
 -- no fence at all, which forbids the outcome, with its cost
-pub none-answer : (t : Test) (p : List Entry) (q : Question) → q.test ≡ t → IsQuestion q → p ≡ all_with None (test.slots t)
+pub none-answer : (t : Test) (p : List Entry) (q : Question) → q.test ≡ t → IsAtSlots q → p ≡ all_with None (test.slots t)
     → (Allows t (all_with None (test.slots t)) → ⊥) → IsCheapest t q.offers p
-none-answer t p q same asked is forbids =
+none-answer t p q same at is forbids =
     let denied : Allows t p → ⊥ = λ shown. forbids (subst (Allows t) is shown) in
-    none-cheapest t q.offers p (asked.slots ∙ ap (λ (u : Test). test.slots u) same) is denied
+    none-cheapest t q.offers p (at.slots ∙ ap (λ (u : Test). test.slots u) same) is denied
 
 pub limit-not-memory : (f : Fault) → f ≡ NodeLimit → f ≢ Memory
 limit-not-memory f is other = let e : NodeLimit ≡ Memory = sym is ∙ other in absurd (cc)

@@ -14,7 +14,6 @@ use Rattle.fs_board.proofs.Telling.{limit-kept}
 use Rattle.fs_board.proofs.Counts.{one, count_append, count_set, count_le}
 use Rattle.fs_board_search.specs.Histories.{GoesOn}
 use Rattle.fs_board_search.specs.inner.Steps.{is_done, done, MovesOn, Stays, IsTried, IsTaken}
-use Rattle.fs_board_offers.specs.Questions.{IsQuestion}
 
 -- ---- how a search goes on
 
@@ -154,14 +153,14 @@ count-less p (x ∷ xs) (suc k) n at fails =
     omega arith
 
 pub taken-node : (s : Search) (k : ℕ) (part : Part) → HoldsNode s.board 0 k part
-    → IsHistory s.question.test s.question.offers s.board.limit s.log s.board → IsQuestion s.question → IsTaken s k part
-taken-node s k part found history asked =
+    → IsHistory s.question.test s.question.offers s.board.limit s.log s.board → IsTaken s k part
+taken-node s k part found history =
     let has = status-at (is_held_by 0) s.board k part found in
     let parts = history-parts s.question.test s.question.offers s.board.limit s.log s.board history k (node_of part has.status) has.at in
     let less = count-less is_done s.board.nodes k (node_of part has.status) has.at (undone-by 0 has.status has.passes) in
     let within = history-within s.question.offers s.question.test s.board.limit s.log s.board history in
     let nodes = within.nodes in
-    record { holds = found; slots = parts.slots ∙ asked.slots; room = omega arith }
+    record { holds = found; slots = parts.slots; room = omega arith }
 
 pub goes-same : (a b : Search) → b ≡ a → GoesOn a b
 goes-same a b same = subst (GoesOn a) (sym same) (goes-nowhere a)

@@ -15,8 +15,7 @@ use Rattle.fs_board.specs.View.{Search, Answers, event_of}
 use Rattle.fs_board_search.specs.Tries.{is_try, IsLast}
 use Rattle.fs_board_search.specs.inner.Steps.{Stays, IsTried, is_end, is_given}
 use Rattle.fs_board_search.proofs.Goes.{goes-on, done-now, done-more, IsHandedOut, handed-open, handed-held}
-use Rattle.fs_board_offers.specs.Questions.{IsQuestion}
-use Rattle.fs_board_search.proofs.Ends.{rising-offers}
+use Rattle.fs_board_offers.specs.Offers.{AreOffers}
 
 module _ (old new : Search) where
   -- ---- closing and splitting
@@ -66,33 +65,33 @@ module _ (old new : Search) where
 
   -- the last try ends it, but for a split where the tree is too large
   pub last-large : (k : ℕ) (part : Part) (e : CodeEvent) (r : Reply) → HoldsNode old.board 0 k part → IsLast old.question.test k part e
-      → IsHistory old.question.test old.question.offers old.board.limit old.log old.board → IsQuestion old.question
+      → IsHistory old.question.test old.question.offers old.board.limit old.log old.board → AreOffers old.question.offers
       → Answers old new 0 (event_of e) r → is_end r ≡ false
       → old.board.limit < whole_tree old.question.offers
-  last-large k part (event.Split j slot) NotYours held last history asked a is =
+  last-large k part (event.Split j slot) NotYours held last history are a is =
       let e : Some part ≡ None = sym held ∙ (ap (part_at (is_held_by 0) old.board) (sym last.0) ∙ a.step.0) in absurd (cc)
-  last-large k part (event.Split j slot) Decided held last history asked a is =
+  last-large k part (event.Split j slot) Decided held last history are a is =
       let same = same-part k part a.step.0 held (at-node j k a.step.0 last.0 a.step.1) in
       absurd (false≢true (sym a.step.2 ∙ (ap (is_undecided slot) same ∙ last.1)))
-  last-large k part (event.Split j slot) Full held last history asked a is =
-      full-large old.question.offers old.question.test old.board.limit old.log old.board 0 j slot new.board (rising-offers old.question asked) history a.step
-  last-large k part (event.CutWitness j w) NotYours held last history asked a is =
+  last-large k part (event.Split j slot) Full held last history are a is =
+      full-large old.question.offers old.question.test old.board.limit old.log old.board 0 j slot new.board are.rising history a.step
+  last-large k part (event.CutWitness j w) NotYours held last history are a is =
       let e : Some part ≡ None = sym held ∙ (ap (part_at (is_held_by 0) old.board) (sym last.0) ∙ a.step.0) in absurd (cc)
-  last-large k part (event.CutWitness j w) NotCovered held last history asked a is =
+  last-large k part (event.CutWitness j w) NotCovered held last history are a is =
       let same = same-part k part a.step.0 held (at-node j k a.step.0 last.0 a.step.1) in
       absurd (a.step.2 (subst (λ (x : Part). IsShownBy old.question.test (filled x) (witness_in w)) (sym same) last.1))
-  last-large k part (event.Post j f) NotYours held last history asked a is =
+  last-large k part (event.Post j f) NotYours held last history are a is =
       let e : Some part ≡ None = sym held ∙ (ap (part_at (is_held_by 0) old.board) (sym last.0) ∙ a.step.0) in absurd (cc)
-  last-large k part (event.Post j f) Other held last history asked a is =
+  last-large k part (event.Post j f) Other held last history are a is =
       let same = same-part k part a.step.0 held (at-node j k a.step.0 last.0 a.step.1) in
       absurd (a.step.2 (last.1 ∙ ap floor (sym same)))
-  last-large k part (event.Split j slot) (Children first count) held last history asked a is = absurd (false≢true (sym is))
-  last-large k part (event.CutWitness j w) Closed held last history asked a is = absurd (false≢true (sym is))
-  last-large k part (event.Post j f) Closed held last history asked a is = absurd (false≢true (sym is))
-  last-large k part (event.Split j slot) r held last history asked a is = absurd a.step
-  last-large k part (event.CutWitness j w) r held last history asked a is = absurd a.step
-  last-large k part (event.Post j f) r held last history asked a is = absurd a.step
-  last-large k part e r held last history asked a is = absurd last
+  last-large k part (event.Split j slot) (Children first count) held last history are a is = absurd (false≢true (sym is))
+  last-large k part (event.CutWitness j w) Closed held last history are a is = absurd (false≢true (sym is))
+  last-large k part (event.Post j f) Closed held last history are a is = absurd (false≢true (sym is))
+  last-large k part (event.Split j slot) r held last history are a is = absurd a.step
+  last-large k part (event.CutWitness j w) r held last history are a is = absurd a.step
+  last-large k part (event.Post j f) r held last history are a is = absurd a.step
+  last-large k part e r held last history are a is = absurd last
 
   -- ---- taking
 

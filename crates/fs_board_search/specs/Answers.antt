@@ -56,11 +56,14 @@ Rests q limit s = MatchOption s.board (IsAtLimit q limit s.answer) (IsBoardOf q 
 abbrev pub IsSolveFault : Question → (limit : ℕ) → Fault → Type 0
 IsSolveFault q limit f = IsUnanswered q.test q.offers limit f
 
--- the fault of the search of a board: its limit, where the tree of all placements may have more nodes below its root, or
--- that of the candidates
+-- the fault of a search with this limit: the limit, where the tree of all placements may have more nodes below its root,
+-- or that of the candidates
+abbrev pub IsLimitFault : Question → (limit : ℕ) → Fault → Type 0
+IsLimitFault q limit f = ((f ≡ NodeLimit) × (limit < whole_tree q.offers)) ⊎ IsCandidateFault q.test f
+
+-- and of that of a board
 abbrev pub IsSearchFault : Search → Fault → Type 0
-IsSearchFault s f = ((f ≡ NodeLimit) × (s.board.limit < whole_tree s.question.offers))
-    ⊎ IsCandidateFault s.question.test f
+IsSearchFault s f = IsLimitFault s.question s.board.limit f
 
 -- the fault where the answer is looked for at an end: it is at none, or the candidates can't be listed
 abbrev pub IsEndFault : Test → Fault → Type 0

@@ -2,7 +2,7 @@
 
 ghost use Rattle.std.specs.Prelude.{◌≡◌, ◌≢◌, IfOk, IfErr, OnOk};
 ghost use Rattle.std.specs.Arc.{arc_value};
-ghost use Rattle.fs_model.specs.Slots.{slots};
+ghost use Rattle.fs_board_offers.specs.Offers.{slots};
 ghost use Rattle.fs_cert_evidence.specs.CandidateFaults.{IsCandidateFault};
 ghost use Rattle.fs_board_offers.specs.Parts.{slots_in_part};
 ghost use Rattle.fs_board.specs.View.{reply_of};
@@ -32,7 +32,7 @@ pub(crate) fn try_way(
     taken: &Taken,
 ) -> Result<bool, Fault>
     requires same { board.old.question ≡ scout.old }
-    requires slots { slots_in_part (arc_value taken.now.part) ≡ slots scout.old.test }
+    requires slots { slots_in_part (arc_value taken.now.part) ≡ slots scout.old.offers }
     ensures scout { scout.new ≡ scout.old }
     ensures ok { IfOk result (λ ended. IsTried board.old board.new ended) }
     ensures goes { GoesOn board.old board.new }

@@ -5,12 +5,12 @@ ghost use Rattle.std.specs.Prelude.{◌≡◌, ◌≢◌, ℕ, List, Some, IfOk,
 ghost use Rattle.std.specs.Arc.{arc_value};
 ghost use Rattle.fs_kinds.specs.declared.placement.Entry.{Entry};
 ghost use Rattle.fs_model.specs.declared.test.Test.{Test};
-ghost use Rattle.fs_model.specs.Slots.{slots};
+ghost use Rattle.fs_kinds.specs.Placement.{slots_of};
 ghost use Rattle.fs_model.specs.Execution.{Execution};
 ghost use Rattle.fs_cert_evidence.specs.CandidateFaults.{IsCandidateFault};
 ghost use Rattle.fs_board_offers.specs.Parts.{slots_in_part};
 ghost use Rattle.fs_board.specs.Growth.{AreWitnesses};
-ghost use Rattle.fs_cert_evidence.specs.Evidence.{IsWitnessFor};
+ghost use Rattle.fs_witness_widths.specs.Witnesses.{IsWitnessAt};
 ghost use Rattle.fs_judge.specs.Verdicts.{IsVerdict};
 ghost use Rattle.fs_board_search.specs.Tries.{IsPostable};
 
@@ -69,10 +69,11 @@ pub(crate) fn look_at_filled(
     store: &mut Store,
     part: &Part,
 ) -> Result<Option<Arc<Witness>>, Fault>
-    requires { AreWitnesses judge.old store.old }
+    requires { AreWitnesses judge.old (slots_in_part part.now) store.old }
     ensures judge { judge.new ≡ judge.old }
-    ensures known { AreWitnesses judge.old store.new }
-    ensures ok { IfOk result (λ found. IfSome found (λ w. (e : Execution) × IsWitnessFor judge.old (arc_value w) e)) }
+    ensures known { AreWitnesses judge.old (slots_in_part part.now) store.new }
+    ensures ok { IfOk result (λ found. IfSome found
+        (λ w. (e : Execution) × IsWitnessAt judge.old (slots_in_part part.now) (arc_value w) e)) }
     ensures err { IsOkUnless result Fault.Memory }
 {
     let filled = part.filled(alloc)?;
@@ -94,8 +95,8 @@ pub(crate) fn forbidden_or_stored(
     part: &Part,
     verdict: Verdict,
 ) -> Result<Option<Forbidden>, AllocError>
-    ensures known { (t : Test) (p : List Entry) → IsVerdict t p verdict → AreWitnesses t store.old
-        → AreWitnesses t store.new }
+    ensures known { (t : Test) (p : List Entry) → IsVerdict t p verdict → AreWitnesses t (slots_of p) store.old
+        → AreWitnesses t (slots_of p) store.new }
     ensures ok { (t : Test) (p : List Entry) → IsVerdict t p verdict
         → IfOk result (λ found. IfSome found (IsPostable t)) }
 {
@@ -127,10 +128,9 @@ pub(crate) fn judge_floor(
     store: &mut Store,
     part: &Part,
 ) -> Result<Option<Forbidden>, Fault>
-    requires known { AreWitnesses judge.old store.old }
-    requires slots { slots_in_part part.now ≡ slots judge.old }
+    requires { AreWitnesses judge.old (slots_in_part part.now) store.old }
     ensures judge { judge.new ≡ judge.old }
-    ensures known { AreWitnesses judge.old store.new }
+    ensures known { AreWitnesses judge.old (slots_in_part part.now) store.new }
     ensures ok { IfOk result (λ found. IfSome found (IsPostable judge.old)) }
     ensures err { IfErr result (λ f. f ≢ Fault.Memory → IsCandidateFault judge.old f) }
 {

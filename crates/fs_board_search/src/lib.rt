@@ -15,7 +15,7 @@ mod watch;
 pub use answer::{Answer, Solved};
 pub use fs_judge::Problem;
 pub use scout::{Scout, TRIES, Way};
-pub use solving::{conclude, problem_of, solve, solve_problem};
+pub use solving::{cheapest, conclude, problem_of, solve, solve_problem};
 pub use sweep::{search, search_alone};
 pub use taken::{Child, Taken};
 pub use watch::{Unwatched, Watch};

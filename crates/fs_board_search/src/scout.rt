@@ -1,15 +1,17 @@
 //! What a searcher knows, and what it tries at a node. It asks nothing of the board, so it needs no lock.
 
-ghost use Rattle.std.specs.Prelude.{◌≡◌, ◌≢◌, IfOk, IfErr, IfSome, IfNone, IsOkUnless, is_none, map, true, false};
+ghost use Rattle.std.specs.Prelude.{◌≡◌, ◌≢◌, List, IfOk, IfErr, IfSome, IfNone, IsOkUnless, is_none, map, true, false};
 ghost use Rattle.std.specs.List.{list_any};
 ghost use Rattle.std.specs.Arc.{arc_value};
-ghost use Rattle.fs_model.specs.Slots.{slots};
+ghost use Rattle.fs_kinds.specs.declared.slot.Slot.{Slot as SlotValue};
 ghost use Rattle.fs_model.specs.declared.test.Test.{Test};
 ghost use Rattle.fs_cert_evidence.specs.CandidateFaults.{IsCandidateFault};
+ghost use Rattle.fs_board_offers.specs.Offers.{slots};
 ghost use Rattle.fs_board_offers.specs.Parts.{floor, is_undecided};
 ghost use Rattle.fs_board_offers.specs.Parts.{slots_in_part};
 ghost use Rattle.fs_model.specs.Execution.{Execution};
-ghost use Rattle.fs_cert_evidence.specs.Evidence.{IsWitnessFor, placement_in};
+ghost use Rattle.fs_cert_evidence.specs.Evidence.{placement_in};
+ghost use Rattle.fs_witness_widths.specs.Witnesses.{IsWitnessAt};
 ghost use Rattle.fs_board.specs.Growth.{AreWitnesses};
 ghost use Rattle.fs_board.specs.Asking.{Tells};
 ghost use Rattle.fs_board_search.specs.Tries.{IsPostable, IsTry, IsLast};
@@ -95,6 +97,7 @@ impl Model for Scout {
     ghost use Rattle.fs_board_offers.specs.Questions.{Question as Asked};
     ghost use Rattle.std.specs.Prelude.{◌≡◌, IfSome};
     ghost use Rattle.std.specs.Arc.{arc_value};
+    ghost use Rattle.fs_board_offers.specs.Offers.{slots};
     ghost use Rattle.fs_board.specs.Growth.{AreWitnesses};
     ghost use Rattle.fs_board_search.specs.Tries.{IsPostable};
 
@@ -104,7 +107,8 @@ impl Model for Scout {
 
     ghost coded = { Prim.hlevel (codes, outcome.the_row.coded) };
 
-    ghost invariant = { λ s. (s.judge ≡ (arc_value s.question).test) × AreWitnesses (arc_value s.question).test s.store
+    ghost invariant = { λ s. (s.judge ≡ (arc_value s.question).test)
+        × AreWitnesses (arc_value s.question).test (slots (arc_value s.question).offers) s.store
         × IfSome s.planned (λ f. IsPostable (arc_value s.question).test (arc_value f)) };
 }
 
@@ -116,8 +120,8 @@ fn keep_new(
     decisions: &[Decision],
     witness: &Arc<Witness>,
 ) -> Result<(), AllocError>
-    ensures { (t : Test) → ((e : Execution) × IsWitnessFor t (arc_value witness.now) e) → AreWitnesses t store.old
-        → AreWitnesses t store.new }
+    ensures { (t : Test) (ss : List SlotValue) → ((e : Execution) × IsWitnessAt t ss (arc_value witness.now) e)
+        → AreWitnesses t ss store.old → AreWitnesses t ss store.new }
 {
     if store.has_widths(witness) {
         return Ok(());
@@ -135,8 +139,8 @@ fn keep_all(
     decisions: &[Decision],
     witnesses: &[Arc<Witness>],
 ) -> Result<(), AllocError>
-    ensures { (t : Test) → AreWitnesses t (map arc_value witnesses.now) → AreWitnesses t store.old
-        → AreWitnesses t store.new }
+    ensures { (t : Test) (ss : List SlotValue) → AreWitnesses t ss (map arc_value witnesses.now)
+        → AreWitnesses t ss store.old → AreWitnesses t ss store.new }
 {
     for witness in witnesses {
         keep_new(alloc, store, offers, decisions, witness)?;
@@ -214,7 +218,7 @@ impl Scout {
         taken: &Taken,
         watch: &mut W,
     ) -> Result<(), Fault>
-        requires { slots_in_part (arc_value taken.now.part) ≡ slots self.old.test }
+        requires { slots_in_part (arc_value taken.now.part) ≡ slots self.old.offers }
         ensures value { self.new ≡ self.old }
         ensures err { IfErr result (λ f. f ≢ Fault.Memory → IsCandidateFault self.old.test f) }
     {
@@ -230,7 +234,7 @@ impl Scout {
 
     /// One round of what `prepare` does, where the plan is still to be made.
     fn plan(&mut self, alloc: Global, taken: &Taken) -> Result<(), Fault>
-        requires { slots_in_part (arc_value taken.now.part) ≡ slots self.old.test }
+        requires { slots_in_part (arc_value taken.now.part) ≡ slots self.old.offers }
         ensures value { self.new ≡ self.old }
         ensures err { IfErr result (λ f. f ≢ Fault.Memory → IsCandidateFault self.old.test f) }
     {
@@ -248,7 +252,7 @@ impl Scout {
 
     /// Judges the cheapest placement that breaks all stored witnesses. True where the plan needs no other round.
     fn judge_cheapest(&mut self, alloc: Global, part: &Part) -> Result<bool, Fault>
-        requires { slots_in_part part.now ≡ slots self.old.test }
+        requires { slots_in_part part.now ≡ slots self.old.offers }
         ensures value { self.new ≡ self.old }
         ensures err { IfErr result (λ f. f ≢ Fault.Memory → IsCandidateFault self.old.test f) }
     {
@@ -322,7 +326,7 @@ impl Scout {
 
     /// The witnesses that were met, for others who search.
     pub fn witnesses(&self, alloc: Global) -> Result<Vec<Arc<Witness>>, AllocError>
-        ensures { IfOk result (λ all. AreWitnesses self.now.test (map arc_value all.items)) }
+        ensures { IfOk result (λ all. AreWitnesses self.now.test (slots self.now.offers) (map arc_value all.items)) }
     {
         self.store.witnesses(alloc)
     }
@@ -334,7 +338,7 @@ impl Scout {
         decisions: &[Decision],
         witnesses: &[Arc<Witness>],
     ) -> Result<(), AllocError>
-        requires { AreWitnesses self.old.test (map arc_value witnesses.now) }
+        requires { AreWitnesses self.old.test (slots self.old.offers) (map arc_value witnesses.now) }
         ensures { self.new ≡ self.old }
     {
         let offers = self.question.offers();
@@ -390,6 +394,7 @@ impl Scout {
 
     /// A new witness that closes the node.
     fn looked(&mut self, alloc: Global, taken: &Taken) -> Result<Option<Event>, Fault>
+        requires { slots_in_part (arc_value taken.now.part) ≡ slots self.old.offers }
         ensures value { self.new ≡ self.old }
         ensures made { IfOk result (λ found. IfSome found (IsTry self.old)) }
         ensures err { IsOkUnless result Fault.Memory }
@@ -409,7 +414,7 @@ impl Scout {
 
     /// The node's least placement, where it forbids the outcome.
     fn judged(&mut self, alloc: Global, taken: &Taken) -> Result<Option<Event>, Fault>
-        requires { slots_in_part (arc_value taken.now.part) ≡ slots self.old.test }
+        requires { slots_in_part (arc_value taken.now.part) ≡ slots self.old.offers }
         ensures value { self.new ≡ self.old }
         ensures made { IfOk result (λ found. IfSome found (IsTry self.old)) }
         ensures err { IfErr result (λ f. f ≢ Fault.Memory → IsCandidateFault self.old.test f) }
@@ -452,7 +457,7 @@ impl Scout {
     /// What is left to try: a split, or a verdict on the one placement. It is done with the node, whoever holds it,
     /// unless there is no room for the children.
     pub fn last(&mut self, alloc: Global, taken: &Taken) -> Result<Event, Fault>
-        requires { slots_in_part (arc_value taken.now.part) ≡ slots self.old.test }
+        requires { slots_in_part (arc_value taken.now.part) ≡ slots self.old.offers }
         ensures value { self.new ≡ self.old }
         ensures made { IfOk result (IsTry self.old) }
         ensures last { IfOk result (IsLast self.old.test taken.now.node (arc_value taken.now.part)) }
@@ -466,7 +471,7 @@ impl Scout {
 
     /// The verdict on the one placement of a node that has no undecided slot, as what it asks of the board.
     fn last_verdict(&mut self, alloc: Global, taken: &Taken) -> Result<Event, Fault>
-        requires slots { slots_in_part (arc_value taken.now.part) ≡ slots self.old.test }
+        requires slots { slots_in_part (arc_value taken.now.part) ≡ slots self.old.offers }
         requires whole { list_any (λ d. is_none d.decided) (arc_value taken.now.part) ≡ false }
         ensures value { self.new ≡ self.old }
         ensures made { IfOk result (IsTry self.old) }
@@ -495,7 +500,7 @@ impl Scout {
         way: Way,
         taken: &Taken,
     ) -> Result<Option<Event>, Fault>
-        requires { slots_in_part (arc_value taken.now.part) ≡ slots self.old.test }
+        requires { slots_in_part (arc_value taken.now.part) ≡ slots self.old.offers }
         ensures value { self.new ≡ self.old }
         ensures made { IfOk result (λ found. IfSome found (IsTry self.old)) }
         ensures err { IfErr result (λ f. f ≢ Fault.Memory → IsCandidateFault self.old.test f) }

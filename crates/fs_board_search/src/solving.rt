@@ -1,19 +1,22 @@
 //! The answer to a question.
 
 ghost use Rattle.std.specs.Prelude.{◌≡◌, ◌≢◌, ◌≤◌, IfOk, IfErr, IfSome, MatchOption, OnOk, IsOkUnless, All};
-ghost use Rattle.std.specs.Prelude.{Some, None, true};
+ghost use Rattle.std.specs.Prelude.{Some, None, true, List};
 ghost use Rattle.std.specs.Arc.{arc_value};
+ghost use Rattle.fs_kinds.specs.declared.placement.Entry.{Entry};
 ghost use Rattle.fs_kinds.specs.Placement.{all_with};
-ghost use Rattle.fs_board_offers.specs.Offers.{cost};
-ghost use Rattle.fs_board_offers.specs.Questions.{HasTop};
+ghost use Rattle.fs_board_offers.specs.Offers.{cost, IsPlacement, IsCheapest};
+ghost use Rattle.fs_board_offers.specs.Questions.{HasTop, IsAtSlots};
 ghost use Rattle.fs_model.specs.Test.{IsBounded, IsStart};
 ghost use Rattle.fs_model.specs.Slots.{slots};
+ghost use Rattle.fs_model.specs.Allows.{Allows};
 ghost use Rattle.fs_cert_evidence.specs.CandidateFaults.{IsCandidateFault};
 ghost use Rattle.fs_board_offers.specs.Board.{is_finished};
 ghost use Rattle.fs_board_offers.specs.Sizes.{HasNoRunFault};
-ghost use Rattle.fs_cert_evidence.specs.Evidence.{placement_in};
+ghost use Rattle.fs_cert_evidence.specs.Evidence.{ShowsForbidden, placement_in};
 ghost use Rattle.fs_judge.specs.Verdicts.{IsVerdict};
-ghost use Rattle.fs_board_search.specs.Answers.{IsAnswer, IsAtAnEnd, IsEndFault, IsSolveFault, Rests, placement_of};
+ghost use Rattle.fs_board_search.specs.Answers.{IsAnswer, IsAtAnEnd, IsEndFault, IsLimitFault, IsSolveFault, Rests};
+ghost use Rattle.fs_board_search.specs.Answers.{placement_of};
 ghost use Rattle.fs_board_search.specs.Histories.{GoesOn};
 
 use crate::Watch;
@@ -78,6 +81,7 @@ fn posted_answer(board: &Board) -> Result<Option<Answer>, Fault>
 /// problem's own, and not that of a judge, so that it is the same whatever was searched before.
 fn answer_of(alloc: Global, problem: &Problem, board: &Board) -> Result<Answer, Fault>
     requires bounded { IsBounded problem.now }
+    requires slots { IsAtSlots board.now.question }
     requires top { HasTop board.now.question.offers }
     requires same { board.now.question.test ≡ problem.now }
     requires finished { is_finished board.now.board ≡ true }
@@ -100,6 +104,7 @@ fn answer_of(alloc: Global, problem: &Problem, board: &Board) -> Result<Answer, 
 /// needed. Else F16, or the fault of a verdict. As in `answer_of` the witness of none is the problem's own.
 fn answer_by_ends(alloc: Global, problem: &Problem, board: &Board) -> Result<Solved, Fault>
     requires bounded { IsBounded problem.now }
+    requires slots { IsAtSlots board.now.question }
     requires same { board.now.question.test ≡ problem.now }
     ensures ok { IfOk result (λ s. IsAnswer problem.now board.now.question.offers s.answer) }
     ensures board { IfOk result (λ s. s.board ≡ None) }
@@ -141,6 +146,7 @@ pub fn conclude<W: Watch>(
     watch: &mut W,
 ) -> Result<Solved, Fault>
     requires bounded { IsBounded (arc_value problem) }
+    requires slots { IsAtSlots board.question }
     requires top { HasTop board.question.offers }
     requires same { board.question.test ≡ arc_value problem }
     requires clean { HasNoRunFault (arc_value problem) }
@@ -180,8 +186,8 @@ pub fn problem_of(alloc: Global, question: &Arc<Question>) -> Result<Arc<Problem
     Ok(problem)
 }
 
-/// The answer to a question: the cheapest placement that forbids the outcome, of several the first, or a witness that
-/// none does. No node of the search has a number above the limit. F16 comes only where fences are needed, `rw,rw` in
+/// The answer to a question at the test's slots: the cheapest placement that forbids the outcome, of several the first,
+/// or a witness that none does. No node of the search has a number above the limit. F16 comes only where fences are needed, `rw,rw` in
 /// every slot is enough, and the tree of all placements may have more nodes below its root than the limit. F13 to F15
 /// come where the candidates can't be listed; or F19.
 ///
@@ -199,6 +205,7 @@ pub fn solve<W: Watch>(
 ) -> Result<Solved, Fault>
     requires test { IsBounded (arc_value question).test }
     requires starts { All IsStart (arc_value question).test.starts }
+    requires slots { IsAtSlots (arc_value question) }
     requires top { HasTop (arc_value question).offers }
     requires some { 1 ≤ limit }
     requires limit { limit ≤ 1000000 }
@@ -223,6 +230,7 @@ pub fn solve_problem<W: Watch>(
     requires bounded { IsBounded (arc_value problem) }
     requires same { (arc_value question).test ≡ arc_value problem }
     requires clean { HasNoRunFault (arc_value problem) }
+    requires slots { IsAtSlots (arc_value question) }
     requires top { HasTop (arc_value question).offers }
     requires limit { limit ≤ 1000000 }
     ensures ok { IfOk result (λ s. IsAnswer (arc_value question).test (arc_value question).offers s.answer) }
@@ -232,4 +240,50 @@ pub fn solve_problem<W: Watch>(
     let board = Board::new(alloc, question, limit)?;
     let solved = conclude(alloc, problem, board, watch)?;
     Ok(solved)
+}
+
+/// The bound of a finished board, where some placement that the offers allow forbids the outcome.
+fn posted_bound(board: &Board) -> Result<Arc<Forbidden>, Fault>
+    requires finished { is_finished board.now.board ≡ true }
+    requires some { (p : List Entry) × IsPlacement board.now.question.offers p
+        × (Allows board.now.question.test p → ⊥) }
+    ensures ok { IfOk result
+        (λ f. IsCheapest board.now.question.test board.now.question.offers (placement_in f)) }
+    ensures shown { IfOk result (λ f. ShowsForbidden board.now.question.test (arc_value f)) }
+    ensures err { IsOkUnless result Fault.Memory }
+{
+    let _legal = board.log();
+    match board.bound() {
+        Some(best) => Ok(Arc::try_clone(best)?),
+        None => unreachable!(),
+    }
+}
+
+/// The cheapest of the placements that the offers allow and that forbid the outcome, where one of them does, with what
+/// shows that. The offers may be for any instructions, and `rw,rw` needn't be among them. Of several that cost the same
+/// it is the first: the first place at which two differ decides, and there the written kind comes first where it costs
+/// something, then none, then the kinds in table order.
+///
+/// F16 comes only where the tree of all placements may have more nodes below its root than the limit, F15 where a
+/// verdict can't be made for the candidates; or F19. It takes what `search` takes.
+pub fn cheapest<W: Watch>(
+    alloc: Global,
+    question: Arc<Question>,
+    problem: Arc<Problem>,
+    limit: usize,
+    watch: &mut W,
+) -> Result<Arc<Forbidden>, Fault>
+    requires bounded { IsBounded (arc_value problem) }
+    requires same { (arc_value question).test ≡ arc_value problem }
+    requires clean { HasNoRunFault (arc_value problem) }
+    requires limit { limit ≤ 1000000 }
+    requires some { (p : List Entry) × IsPlacement (arc_value question).offers p
+        × (Allows (arc_value question).test p → ⊥) }
+    ensures ok { IfOk result (λ f. IsCheapest (arc_value question).test (arc_value question).offers (placement_in f)) }
+    ensures shown { IfOk result (λ f. ShowsForbidden (arc_value question).test (arc_value f)) }
+    ensures err { IfErr result (λ f. f ≢ Fault.Memory → IsLimitFault (arc_value question) limit f) }
+{
+    let mut board = Board::new(alloc, question, limit)?;
+    search(alloc, problem, &mut board, watch)?;
+    posted_bound(&board)
 }

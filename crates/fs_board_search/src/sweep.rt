@@ -4,6 +4,7 @@ ghost use Rattle.std.specs.Prelude.{◌≡◌, ◌≢◌, IfOk, IfErr, IfSome, I
 ghost use Rattle.std.specs.Arc.{arc_value};
 ghost use Rattle.fs_board.specs.Growth.{AreWitnesses};
 ghost use Rattle.fs_board_offers.specs.Board.{is_finished};
+ghost use Rattle.fs_board_offers.specs.Offers.{slots};
 ghost use Rattle.fs_board_search.specs.Answers.{IsSearchFault};
 ghost use Rattle.fs_board_search.specs.Histories.{GoesOn};
 ghost use Rattle.fs_board_search.specs.inner.Steps.{MovesOn, IsTaken};
@@ -133,7 +134,8 @@ pub fn search_alone<W: Watch>(
     requires { board.old.question.test ≡ arc_value problem }
     ensures goes { GoesOn board.old board.new }
     ensures met { IfOk result
-        (λ found. IfSome found (λ met. AreWitnesses (arc_value problem) (map arc_value met.items))) }
+        (λ found. IfSome found
+        (λ met. AreWitnesses board.old.question.test (slots board.old.question.offers) (map arc_value met.items))) }
     ensures finished { IfOk result (λ found. IfNone found (is_finished board.new.board ≡ true)) }
     ensures err { IfErr result (λ f. f ≢ Fault.Memory → IsSearchFault board.old f) }
 {

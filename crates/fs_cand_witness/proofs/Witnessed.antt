@@ -6,8 +6,8 @@ use Rattle.std.proofs.lemmas.List.{get_or-map, length-map}
 use Rattle.fs_kinds.specs.declared.placement.Entry.{Entry}
 use Rattle.fs_kinds.specs.declared.slot.Slot.{Slot}
 use Rattle.fs_kinds.specs.Kind.{Pair, ReadRead, ReadWrite, WriteRead, WriteWrite}
+use Rattle.fs_kinds.specs.Placement.{slots_of}
 use Rattle.fs_model.specs.declared.test.Test.{Test}
-use Rattle.fs_model.specs.Slots.{slots}
 use Rattle.fs_model.specs.Test.{IsBounded}
 use Rattle.fs_model.specs.Choices.{choices_of}
 use Rattle.fs_model.specs.Numbers.{between, numbers_below, stands_before}
@@ -37,7 +37,8 @@ use Rattle.fs_cand_witness.specs.Fencing.{is_fenced, orders_at}
 use Rattle.fs_cand_witness.proofs.Joined.{among, joined}
 use Rattle.fs_cand_witness.specs.Edges.{has_edge}
 use Rattle.fs_cand_witness.specs.Orders.{IsOrderBelow}
-use Rattle.fs_cert_evidence.specs.Evidence.{IsWitnessFor, Shown, pairs_at, widths_of}
+use Rattle.fs_cert_evidence.specs.Evidence.{Shown, pairs_at, widths_of}
+use Rattle.fs_witness_widths.specs.Witnesses.{IsWitnessAt}
 use Rattle.fs_cand_witness.specs.inner.Keeping.{width_in}
 use Rattle.fs_cand_witness.specs.Naming.{name_at}
 use Rattle.fs_cand_witness.specs.inner.Reading.{IsReadOff, chosen}
@@ -66,7 +67,7 @@ module _ (t : Test) (p : List Entry) (candidate : Candidate) (rows wider numbers
     (judged : (a b : ℕ) → has_edge rows a b ≡ is_judged (runs_of t (candidate_of candidate)) p (candidate_of candidate) a b)
     (kept : (a b : ℕ) → has_edge rows a b ≡ true → has_edge wider a b ≡ true)
     (is : IsOrderBelow (has_edge wider) (length candidate.operations) numbers)
-    (read : IsReadOff t candidate numbers w) where
+    (read : IsReadOff (slots_of p) candidate numbers w) where
   abbrev c : Rattle.fs_cert_evidence.specs.Candidates.Candidate
   c = candidate_of candidate
 
@@ -193,16 +194,16 @@ module _ (t : Test) (p : List Entry) (candidate : Candidate) (rows wider numbers
                 (fenced slot pair a b ∙ and_from (po x a b) (placed (single slot pair) a b) parts.0 q))
           ]
 
-  widths : w.widths ≡ widths_of (width t e) (slots t)
+  widths : w.widths ≡ widths_of (width t e) (slots_of p)
   widths = read.widths ∙ same_widths (width_in read.order read.sides) (width t e)
-      (λ slot pair. same_truth _ _ (kept_width slot pair) (width_kept slot pair)) (slots t)
+      (λ slot pair. same_truth _ _ (kept_width slot pair) (width_kept slot pair)) (slots_of p)
 
-  is_witness : IsWitnessFor t w e
+  is_witness : IsWitnessAt t (slots_of p) w e
   is_witness = record {
     shows = (of, bare);
     only = λ other shown. one_execution t w.witness other e bounded shown.0 of;
     widths = widths;
   }
 
-  pub witnessed : (e : Execution) × IsWitnessFor t w e × Shows t p e
+  pub witnessed : (e : Execution) × IsWitnessAt t (slots_of p) w e × Shows t p e
   witnessed = (e, is_witness, shows)

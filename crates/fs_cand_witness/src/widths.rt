@@ -1,18 +1,15 @@
 //! The widths of an order.
 
-ghost use Rattle.std.specs.Prelude.{◌≡◌, IfOk, IsOkUnless};
+ghost use Rattle.std.specs.Prelude.{◌≡◌, IfOk};
 ghost use Rattle.std.specs.List.{list_all};
-ghost use Rattle.fs_kinds.specs.declared.fault.Fault.TheVariants.{Memory};
-ghost use Rattle.fs_model.specs.Slots.{slots};
-ghost use Rattle.fs_model.specs.Test.{IsBounded};
+ghost use Rattle.fs_kinds.specs.Placement.{slots_of};
 ghost use Rattle.fs_cert_evidence.specs.Evidence.{pairs_at, widths_of};
 ghost use Rattle.fs_cand_witness.specs.inner.Keeping.{are_ordered, before_in, after_in, is_kept, keeps_all, width_in};
 
 use crate::Sides;
 use crate::rows::Rows;
 use fs_cert_evidence::Pairs;
-use fs_kinds::{Fault, List, Slot};
-use fs_model::{Test, slots};
+use fs_kinds::{List, Placement, Slot};
 use std::alloc::{AllocError, Global};
 
 // Operations that load, or those that store.
@@ -101,17 +98,26 @@ fn pairs_at_each(
         .collect(alloc)
 }
 
-/// The pairs that the order, as rows, keeps at each slot of the test. The slots times the sides.
+/// The slots of the placement.
+fn slots_of(alloc: Global, placement: &Placement) -> Result<Vec<Slot>, AllocError>
+    ensures { IfOk result (λ slots. slots.items ≡ slots_of placement.now) }
+{
+    placement
+        .as_slice()
+        .iter()
+        .map(|entry| entry.slot)
+        .collect(alloc)
+}
+
+/// The pairs that the order, as rows, keeps at each slot of the placement. The slots times the sides.
 pub(crate) fn widths(
     alloc: Global,
-    test: &Test,
+    placement: &Placement,
     order: &Rows,
     sides: &[Sides],
-) -> Result<List<Pairs>, Fault>
-    requires { IsBounded test.now }
-    ensures ok { IfOk result (λ widths. widths ≡ widths_of (width_in order.now sides.now) (slots test.now)) }
-    ensures err { IsOkUnless result Memory }
+) -> Result<List<Pairs>, AllocError>
+    ensures { IfOk result (λ widths. widths ≡ widths_of (width_in order.now sides.now) (slots_of placement.now)) }
 {
-    let slots = slots(alloc, test)?;
+    let slots = slots_of(alloc, placement)?;
     Ok(List::new(pairs_at_each(alloc, order, sides, &slots)?))
 }

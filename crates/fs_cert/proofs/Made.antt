@@ -10,7 +10,6 @@ use Rattle.fs_kinds.specs.Placement.{slots_of, all_with}
 use Rattle.fs_board_offers.specs.Offers.{Offers, cost, are_offered, IsPlacement, is_better, slots}
 use Rattle.fs_kinds.proofs.Entries.{slots_of-all_with}
 use Rattle.fs_model.specs.declared.test.Test.{Test}
-use Rattle.fs_model.specs.Slots as test
 use Rattle.fs_model.specs.Allows.{RefutesAll}
 use Rattle.fs_model.specs.Execution.{Execution}
 use Rattle.fs_model.specs.Witness.{Witness, IsOfWitness}
@@ -29,7 +28,7 @@ use Rattle.fs_cert_evidence.specs.WitnessFile.{KeepsWitness}
 use Rattle.fs_board_offers.proofs.Floors.{cost-alone}
 use Rattle.fs_board_offers.proofs.Ranked.{better-irreflexive}
 use Rattle.fs_cert_evidence.specs.Evidence.{Refuted, ShowsForbidden}
-use Rattle.fs_board_offers.specs.Questions.{Question, IsQuestion}
+use Rattle.fs_board_offers.specs.Questions.{Question}
 use Rattle.fs_board_offers.specs.Sizes.{HasNoRunFault}
 use Rattle.fs_cert.specs.Certified.{Certifies, CertifiesNone}
 use Rattle.fs_cert.specs.Cycles.{version_for}
@@ -121,9 +120,6 @@ offered-none offers (s ∷ ss) = and_from _ _ refl (offered-none offers ss)
 floor-undecided : (ss : List Slot) → floor (map (λ slot. record { slot = slot; decided = None }) ss) ≡ all_with None ss
 floor-undecided [] = refl
 floor-undecided (s ∷ ss) = ap (λ (p : List Entry). record { slot = s; kind = None } ∷ p) (floor-undecided ss)
-
-pub least-placement : (q : Question) (p : List Entry) → IsQuestion q → p ≡ all_with None (test.slots q.test) → p ≡ all_with None (slots q.offers)
-least-placement q p asked is = is ∙ ap (all_with None) (sym asked.slots)
 
 pub least-offered : (offers : Offers) (p : List Entry) → p ≡ all_with None (slots offers) → IsPlacement offers p
 least-offered offers p is = record {

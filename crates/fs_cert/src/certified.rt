@@ -2,9 +2,8 @@
 
 ghost use Rattle.std.specs.Prelude.{◌≡◌, IfOk, IsOkUnless, None, Some, List, true};
 ghost use Rattle.fs_kinds.specs.Placement.{all_with};
-ghost use Rattle.fs_board_offers.specs.Offers.{Offers};
+ghost use Rattle.fs_board_offers.specs.Offers.{Offers, slots};
 ghost use Rattle.fs_model.specs.declared.test.Test.{Test};
-ghost use Rattle.fs_model.specs.Slots.{slots};
 ghost use Rattle.fs_model.specs.Allows.{RefutesAll};
 ghost use Rattle.fs_model.specs.Execution.{Execution};
 ghost use Rattle.fs_cert_evidence.specs.Evidence.{IsWitnessFor, ShowsForbidden};
@@ -71,11 +70,10 @@ pub fn from_least(
     question: &Question,
     forbidden: &Forbidden,
 ) -> Result<Certificate, AllocError>
-    requires least { forbidden.now.placement ≡ all_with None (slots question.now.test) }
+    requires least { forbidden.now.placement ≡ all_with None (slots question.now.offers) }
     requires cycles { ShowsForbidden question.now.test forbidden.now }
     ensures { IfOk result (Certifies question.now.test question.now.offers (Some forbidden.now.placement)) }
 {
-    let _asked = question.offers();
     let mut tree = Vec::new(alloc);
     tree.push(Item::Costly)?;
     fenced(

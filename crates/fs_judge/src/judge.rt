@@ -3,8 +3,6 @@
 ghost use Rattle.std.specs.Prelude.{◌≡◌, ◌≢◌, All, IfOk, IfErr, IfSome, IsOkUnless};
 ghost use Rattle.std.specs.Arc.{arc_value};
 ghost use Rattle.fs_kinds.specs.declared.fault.Fault.TheVariants.{Memory};
-ghost use Rattle.fs_kinds.specs.Placement.{slots_of};
-ghost use Rattle.fs_model.specs.Slots.{slots};
 ghost use Rattle.fs_model.specs.Test.{IsBounded};
 ghost use Rattle.fs_cert_evidence.specs.CandidateFaults.{IsCandidateFault};
 ghost use Rattle.fs_judge.specs.Verdicts.{IsShownWith, IsVerdict};
@@ -119,7 +117,7 @@ impl Judge {
         witness_among(alloc, self.problem.test(), &self.known, placement, first)
     }
 
-    /// Whether the placement, one of the test's slots, forbids the outcome: the executions that were found before are
+    /// Whether the placement forbids the outcome, wherever its fences stand: the executions that were found before are
     /// tried first, and then a hunt, which begins with what earlier ones have kept, finds a refutation or a new
     /// execution. Where it gives up, after 1,000,000 inferences, all candidates are judged in turn, and F15 comes where
     /// they are too many; else the error is F19. The cost is that of `look`, of the hunt, and of checking what it
@@ -130,7 +128,6 @@ impl Judge {
         placement: &Placement,
         first: &[Slot],
     ) -> Result<Verdict, Fault>
-        requires { slots_of placement.now ≡ slots self.old }
         ensures value { self.new ≡ self.old }
         ensures ok { IfOk result (IsVerdict self.old placement.now) }
         ensures err { IfErr result (λ f. f ≢ Memory → IsCandidateFault self.old f) }

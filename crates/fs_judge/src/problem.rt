@@ -4,8 +4,6 @@ ghost use Rattle.std.specs.Prelude.{◌≡◌, ◌≢◌, All, IfOk, OnOk, IfErr
 ghost use Rattle.std.specs.Arc.{arc_value};
 ghost use Rattle.fs_kinds.specs.declared.fault.Fault.{Fault};
 ghost use Rattle.fs_kinds.specs.declared.fault.Fault.TheVariants.{Memory};
-ghost use Rattle.fs_kinds.specs.Placement.{slots_of};
-ghost use Rattle.fs_model.specs.Slots.{slots};
 ghost use Rattle.fs_model.specs.OfTests.{program_of};
 ghost use Rattle.fs_model.specs.Test.{IsBounded, IsStart};
 ghost use Rattle.fs_model.specs.TooMany.{IsRunFault};
@@ -240,7 +238,6 @@ impl Problem {
         placement: &Placement,
         first: &[Slot],
     ) -> Result<Verdict, Fault>
-        requires { slots_of placement.now ≡ slots self.now }
         ensures ok { IfOk result (IsVerdict self.now placement.now) }
         ensures err { IfErr result (λ f. f ≢ Memory → IsCandidateFault self.now f) }
     {
@@ -251,7 +248,7 @@ impl Problem {
         }
     }
 
-    /// Whether the placement, one of the test's slots, forbids the outcome. A hunt finds a refutation, or of the
+    /// Whether the placement forbids the outcome, wherever its fences stand. A hunt finds a refutation, or of the
     /// executions that show the outcome the one whose candidate comes first, whose witness is widened at the first
     /// slots before the others. What is answered doesn't depend on earlier calls, unlike what a `Judge` answers. Where
     /// the hunt gives up, after 1,000,000 inferences, all candidates are judged in turn, and F15 comes where they are
@@ -263,7 +260,6 @@ impl Problem {
         placement: &Placement,
         first: &[Slot],
     ) -> Result<Verdict, Fault>
-        requires { slots_of placement.now ≡ slots self.now }
         ensures ok { IfOk result (IsVerdict self.now placement.now) }
         ensures err { IfErr result (λ f. f ≢ Memory → IsCandidateFault self.now f) }
     {

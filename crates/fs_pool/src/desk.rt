@@ -8,7 +8,9 @@ ghost use Rattle.fs_kinds.specs.declared.fault.Fault.TheVariants.{Memory};
 ghost use Rattle.fs_model.specs.Allows.{Allows};
 ghost use Rattle.fs_model.specs.Execution.{Execution};
 ghost use Rattle.fs_board_offers.specs.Board.{Take, Claim, Adopt, SplitAt, CutCost, CutWitness, CutBound, Post, Peek};
-ghost use Rattle.fs_cert_evidence.specs.Evidence.{Shown, IsWitnessFor, ShowsForbidden, witness_in, placement_in};
+ghost use Rattle.fs_cert_evidence.specs.Evidence.{Shown, ShowsForbidden, witness_in, placement_in};
+ghost use Rattle.fs_witness_widths.specs.Witnesses.{IsWitnessAt};
+ghost use Rattle.fs_board_offers.specs.Offers.{slots};
 ghost use Rattle.fs_board.specs.Growth.{AreWitnesses};
 ghost use Rattle.fs_board.specs.View.{event_of, reply_of};
 ghost use Rattle.fs_board.specs.Asking.{IsMade, Tells};
@@ -209,7 +211,7 @@ impl<A: Asked> Desk<A> {
         self.call(rt, alloc, pass, Event::CutCost(node))
     }
 
-    /// Closes a node by a witness of the question's test, as `Board::cut_witness` does.
+    /// Closes a node by a witness of the question's test, with its widths at the slots of the offers, as `Board::cut_witness` does.
     pub fn cut_witness<R: Wait>(
         &self,
         rt: &R,
@@ -218,14 +220,14 @@ impl<A: Asked> Desk<A> {
         node: usize,
         witness: Arc<Witness>,
     ) -> Result<Pass<A>, (Pass<A>, Fault)>
-        requires { (e : Execution) × IsWitnessFor A.question.test (arc_value witness) e }
+        requires { (e : Execution) × IsWitnessAt A.question.test (slots A.question.offers) (arc_value witness) e }
         ensures ok { IfOk result (λ p. IsReceived pass p (CutWitness node (witness_in witness))) }
         ensures err { IfErr result (λ e. (e.0 ≡ pass) × (e.1 ≡ Memory)) }
     {
         self.call(rt, alloc, pass, Event::CutWitness(node, witness))
     }
 
-    /// Closes a node by a list of witnesses of the question's test, as `Board::cut_bound` does.
+    /// Closes a node by a list of such witnesses, as `Board::cut_bound` does.
     pub fn cut_bound<R: Wait>(
         &self,
         rt: &R,
@@ -234,7 +236,7 @@ impl<A: Asked> Desk<A> {
         node: usize,
         witnesses: List<Arc<Witness>>,
     ) -> Result<Pass<A>, (Pass<A>, Fault)>
-        requires { AreWitnesses A.question.test (map arc_value witnesses) }
+        requires { AreWitnesses A.question.test (slots A.question.offers) (map arc_value witnesses) }
         ensures ok { IfOk result (λ p. IsReceived pass p (CutBound node (map witness_in witnesses))) }
         ensures err { IfErr result (λ e. (e.0 ≡ pass) × (e.1 ≡ Memory)) }
     {

@@ -2,7 +2,8 @@
 
 ghost use Rattle.std.specs.Prelude.{◌≡◌, ◌≢◌, ◌≤◌, [], IfOk, IfErr, IfSome, IsOkUnless, OnOk, All, drop, map};
 ghost use Rattle.std.specs.Arc.{arc_value};
-ghost use Rattle.fs_board_offers.specs.Questions.{HasTop};
+ghost use Rattle.fs_board_offers.specs.Offers.{slots};
+ghost use Rattle.fs_board_offers.specs.Questions.{HasTop, IsAtSlots};
 ghost use Rattle.fs_model.specs.Test.{IsBounded, IsStart};
 ghost use Rattle.fs_board_offers.specs.Receipts.{IsAgreed};
 ghost use Rattle.fs_board_offers.specs.Sizes.{HasNoRunFault};
@@ -63,7 +64,7 @@ fn work_together<A: Asked + Send + Sync, R: Threads + Wait + Sync, G: Gate + Syn
 ) -> Result<Vec<Pass<A>>, Fault>
     requires question { arc_value place.now.question.now ≡ A.question }
     requires problem { arc_value problem.now ≡ A.question.test }
-    requires met { AreWitnesses A.question.test (map arc_value place.now.met.now.items) }
+    requires met { AreWitnesses A.question.test (slots A.question.offers) (map arc_value place.now.met.now.items) }
     requires some { 1 ≤ workers }
     ensures { IsOkUnless result Fault.Memory }
 {
@@ -114,6 +115,7 @@ fn concluded<A: Asked, G: Gate>(
     gate: &G,
 ) -> Result<Option<Solved>, Fault>
     requires test { IsBounded A.question.test }
+    requires slots { IsAtSlots A.question }
     requires top { HasTop A.question.offers }
     requires same { arc_value problem.now ≡ A.question.test }
     requires clean { HasNoRunFault (arc_value problem.now) }
@@ -145,10 +147,11 @@ fn search_together<A: Asked + Send + Sync, R: Threads + Wait + Sync, G: Gate + S
 ) -> Result<Option<Solved>, Fault>
     requires asked { IsAsked begun.board A.question A.limit }
     requires test { IsBounded A.question.test }
+    requires slots { IsAtSlots A.question }
     requires top { HasTop A.question.offers }
     requires same { arc_value problem.now ≡ A.question.test }
     requires clean { HasNoRunFault (arc_value problem.now) }
-    requires met { AreWitnesses A.question.test (map arc_value begun.met.items) }
+    requires met { AreWitnesses A.question.test (slots A.question.offers) (map arc_value begun.met.items) }
     requires some { 1 ≤ workers }
     requires few { workers ≤ 16 }
     ensures ok { IfOk result (λ found. IfSome found (λ s. IsAnswer A.question.test A.question.offers s.answer)) }
@@ -193,7 +196,8 @@ fn begin<G: Gate>(
     requires { board.old.question.test ≡ arc_value problem.now }
     ensures goes { GoesOn board.old board.new }
     ensures met { IfOk result
-        (λ found. IfSome found (λ met. AreWitnesses (arc_value problem.now) (map arc_value met.items))) }
+        (λ found. IfSome found (λ met. AreWitnesses board.old.question.test (slots board.old.question.offers)
+        (map arc_value met.items))) }
     ensures err { IfErr result (λ f. f ≢ Fault.Memory → IsSolveFault board.old.question board.old.board.limit f) }
 {
     let shared = Arc::try_clone(problem)?;
@@ -220,6 +224,7 @@ pub fn solve<R: Threads + Wait + Sync, G: Gate + Sync>(
 ) -> Result<Solved, Fault>
     requires test { IsBounded (arc_value question).test }
     requires starts { All IsStart (arc_value question).test.starts }
+    requires slots { IsAtSlots (arc_value question) }
     requires top { HasTop (arc_value question).offers }
     requires some { 1 ≤ workers }
     requires few { workers ≤ 16 }

@@ -3,7 +3,7 @@
 
 ghost use Rattle.std.specs.Prelude.{◌≡◌, IfOk, IfSome, map};
 ghost use Rattle.std.specs.Arc.{arc_value};
-ghost use Rattle.fs_model.specs.Slots.{slots};
+ghost use Rattle.fs_board_offers.specs.Offers.{slots};
 ghost use Rattle.fs_board_offers.specs.Parts.{slots_in_part};
 ghost use Rattle.fs_board.specs.Asking.{IsMade};
 ghost use Rattle.fs_board.specs.Growth.{AreWitnesses};
@@ -42,7 +42,7 @@ fn given<A: Asked>(
     slot: Option<Slot>,
 ) -> Result<Option<Taken>, AllocError>
     requires { question.now ≡ A.question }
-    ensures { IfOk result (λ found. IfSome found (λ t. slots_in_part (arc_value t.part) ≡ slots A.question.test)) }
+    ensures { IfOk result (λ found. IfSome found (λ t. slots_in_part (arc_value t.part) ≡ slots A.question.offers)) }
 {
     let _asked = question.offers();
     let Some(Reply::Node(node, part)) = pass.reply() else {
@@ -140,7 +140,7 @@ impl<A: Asked, R: Wait, G: Gate> Workplace<'_, A, R, G> {
         children: &mut Vec<Child>,
     ) -> (Pass<A>, Option<Taken>)
         requires { arc_value self.now.question.now ≡ A.question }
-        ensures { IfSome result.1 (λ t. slots_in_part (arc_value t.part) ≡ slots A.question.test) }
+        ensures { IfSome result.1 (λ t. slots_in_part (arc_value t.part) ≡ slots A.question.offers) }
     {
         let mut pass = pass;
         for _ in 0..MOST_CLAIMS {
@@ -173,7 +173,7 @@ impl<A: Asked, R: Wait, G: Gate> Workplace<'_, A, R, G> {
     /// isn't asked.
     fn try_way(&self, pass: Pass<A>, scout: &mut Scout, way: Way, taken: &Taken) -> (Pass<A>, Step)
         requires question { scout.old ≡ A.question }
-        requires slots { slots_in_part (arc_value taken.now.part) ≡ slots A.question.test }
+        requires slots { slots_in_part (arc_value taken.now.part) ≡ slots A.question.offers }
         ensures value { scout.new ≡ scout.old }
     {
         if matches!(way, Way::Cost) && !scout.has_bound() {
@@ -200,7 +200,7 @@ impl<A: Asked, R: Wait, G: Gate> Workplace<'_, A, R, G> {
     /// Is done with a node in the first way that serves. Where none does, the worker leaves.
     fn settle(&self, pass: Pass<A>, scout: &mut Scout, taken: &Taken) -> (Pass<A>, Step)
         requires question { scout.old ≡ A.question }
-        requires slots { slots_in_part (arc_value taken.now.part) ≡ slots A.question.test }
+        requires slots { slots_in_part (arc_value taken.now.part) ≡ slots A.question.offers }
         ensures value { scout.new ≡ scout.old }
     {
         let mut pass = pass;
@@ -234,7 +234,7 @@ impl<A: Asked, R: Wait, G: Gate> Workplace<'_, A, R, G> {
     /// False where memory lacks.
     fn look_first(&self, pass: Pass<A>, scout: &mut Scout, part: &Part) -> (Pass<A>, bool)
         requires question { scout.old ≡ A.question }
-        requires met { AreWitnesses A.question.test (map arc_value self.now.met.now.items) }
+        requires met { AreWitnesses A.question.test (slots A.question.offers) (map arc_value self.now.met.now.items) }
         ensures value { scout.new ≡ scout.old }
     {
         if scout.has_looked() {
@@ -259,8 +259,8 @@ impl<A: Asked, R: Wait, G: Gate> Workplace<'_, A, R, G> {
         taken: &Taken,
     ) -> (Pass<A>, bool)
         requires question { scout.old ≡ A.question }
-        requires slots { slots_in_part (arc_value taken.now.part) ≡ slots A.question.test }
-        requires met { AreWitnesses A.question.test (map arc_value self.now.met.now.items) }
+        requires slots { slots_in_part (arc_value taken.now.part) ≡ slots A.question.offers }
+        requires met { AreWitnesses A.question.test (slots A.question.offers) (map arc_value self.now.met.now.items) }
         ensures value { scout.new ≡ scout.old }
     {
         let (pass, is_learned) = self.look_first(pass, scout, &taken.part);
@@ -281,7 +281,7 @@ impl<A: Asked, R: Wait, G: Gate> Workplace<'_, A, R, G> {
     fn rounds(&self, pass: Pass<A>, hand: Hand, scout: Scout) -> Pass<A>
         requires question { arc_value self.now.question.now ≡ A.question }
         requires scout { scout ≡ A.question }
-        requires met { AreWitnesses A.question.test (map arc_value self.now.met.now.items) }
+        requires met { AreWitnesses A.question.test (slots A.question.offers) (map arc_value self.now.met.now.items) }
     {
         let mut hand = hand;
         let mut scout = scout;
@@ -318,7 +318,7 @@ impl<A: Asked, R: Wait, G: Gate> Workplace<'_, A, R, G> {
     pub(crate) fn work(&self, pass: Pass<A>, hand: Hand, problem: &Arc<Problem>) -> Pass<A>
         requires question { arc_value self.now.question.now ≡ A.question }
         requires problem { arc_value problem.now ≡ A.question.test }
-        requires met { AreWitnesses A.question.test (map arc_value self.now.met.now.items) }
+        requires met { AreWitnesses A.question.test (slots A.question.offers) (map arc_value self.now.met.now.items) }
     {
         let pass = match self.scout(problem) {
             Ok(scout) => self.rounds(pass, hand, scout),

@@ -1,7 +1,7 @@
 //! What a scout of the search says of itself: when others may help it.
 ghost use Rattle.std.specs.Prelude.{◌≡◌, IfOk, IfSome};
 ghost use Rattle.std.specs.Arc.{arc_value};
-ghost use Rattle.fs_model.specs.Slots.{slots};
+ghost use Rattle.fs_board_offers.specs.Offers.{slots};
 ghost use Rattle.fs_board_offers.specs.Parts.{slots_in_part};
 
 use fs_board::{Board, Event, Reply};
@@ -15,7 +15,7 @@ use std::test::Fail;
 /// The root of a new board.
 fn root(alloc: Global, board: &mut Board) -> Result<Option<Taken>, AllocError>
     ensures { IfOk result (λ found. IfSome found (λ t. slots_in_part (arc_value t.part)
-        ≡ slots board.old.question.test)) }
+        ≡ slots board.old.question.offers)) }
 {
     let _legal = board.log();
     let reply = board.ask(alloc, 0, &Event::Take)?;

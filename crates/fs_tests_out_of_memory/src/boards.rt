@@ -2,6 +2,7 @@
 ghost use Rattle.std.specs.Prelude.{◌≡◌, ◌≤◌, IfOk};
 ghost use Rattle.std.specs.Arc.{arc_value};
 ghost use Rattle.fs_model.specs.Test.{IsBounded, IsTest};
+ghost use Rattle.fs_board_offers.specs.Questions.{IsAtSlots};
 
 use crate::printing::{print_fences, print_reply, say_refused};
 use crate::questions::{Request, forbidden_on, problem_of, witness_on, witnesses_on};
@@ -57,6 +58,7 @@ fn ask(
 ) -> Result<Reply, Fault>
     requires test { IsBounded problem.now }
     requires same { board.old.question.test ≡ problem.now }
+    requires slots { IsAtSlots board.old.question }
     ensures same { board.new.question ≡ board.old.question }
 {
     match request {
@@ -92,6 +94,7 @@ fn ask_again<R: Print>(
 ) -> Result<Reply, Fault>
     requires test { IsBounded problem.now }
     requires same { board.old.question.test ≡ problem.now }
+    requires slots { IsAtSlots board.old.question }
     ensures same { board.new.question ≡ board.old.question }
 {
     let before = State::of(board);
@@ -131,6 +134,7 @@ fn ask_all<R: Print>(
 ) -> Result<(), Fault>
     requires test { IsBounded problem.now }
     requires same { board.old.question.test ≡ problem.now }
+    requires slots { IsAtSlots board.old.question }
 {
     for (worker, request) in asks {
         let reply = ask_again(rt, alloc, problem, board, *worker, *request)?;
@@ -159,6 +163,7 @@ fn ask_board<R: Print>(
 ) -> Result<(), Fault>
     requires test { IsTest (arc_value question.now).test }
     requires same { problem.now ≡ (arc_value question.now).test }
+    requires slots { IsAtSlots (arc_value question.now) }
     requires limit { limit ≤ 1000000 }
 {
     let _ = println!(rt; "a board with limit {limit}");

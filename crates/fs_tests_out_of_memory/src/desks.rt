@@ -2,6 +2,7 @@
 ghost use Rattle.std.specs.Prelude.{◌≡◌, ◌≤◌};
 ghost use Rattle.std.specs.Arc.{arc_value};
 ghost use Rattle.fs_model.specs.Test.{IsBounded, IsTest};
+ghost use Rattle.fs_board_offers.specs.Questions.{IsAtSlots};
 
 use crate::printing::{print_reply, say_refused};
 use crate::questions::{Request, forbidden_on, problem_of, witness_on, witnesses_on};
@@ -26,6 +27,7 @@ fn ask<A: Asked, R: Wait>(
 ) -> Result<Pass<A>, (Pass<A>, Fault)>
     requires test { IsBounded problem.now }
     requires same { problem.now ≡ A.question.test }
+    requires slots { IsAtSlots A.question }
 {
     match request {
         Request::Take => desk.take(rt, alloc, pass),
@@ -60,6 +62,7 @@ fn ask_again<A: Asked, R: Print + Wait>(
 ) -> Result<Pass<A>, Fault>
     requires test { IsBounded problem.now }
     requires same { problem.now ≡ A.question.test }
+    requires slots { IsAtSlots A.question }
 {
     let worker = pass.worker();
     let receipts = pass.receipts().len();
@@ -99,6 +102,7 @@ fn ask_all<A: Asked, R: Print + Wait>(
 ) -> Result<(), Fault>
     requires test { IsBounded problem.now }
     requires same { problem.now ≡ A.question.test }
+    requires slots { IsAtSlots A.question }
 {
     for (worker, request) in requests {
         if *worker < passes.len() {
@@ -151,6 +155,7 @@ fn ask_desk<A: Asked, R: Print + Wait>(
     requires test { IsTest (arc_value question.now).test }
     requires question { arc_value question.now ≡ A.question }
     requires same { problem.now ≡ A.question.test }
+    requires slots { IsAtSlots A.question }
     requires limit { A.limit ≡ 14 }
 {
     let _ = println!(rt; "a desk of 2 workers");
@@ -171,6 +176,7 @@ fn make_desk<A: Asked, R: Print + Wait>(
 ) -> Result<(), Fault>
     requires test { IsTest (arc_value question.now).test }
     requires question { arc_value question.now ≡ A.question }
+    requires slots { IsAtSlots A.question }
     requires limit { A.limit ≡ 14 }
 {
     let problem = problem_of(alloc, question)?;
@@ -187,6 +193,7 @@ fn make_left<A: Asked, R: Print + Wait>(
     requires test { IsTest (arc_value question.now).test }
     requires question { arc_value question.now ≡ A.question }
     requires same { problem.now ≡ A.question.test }
+    requires slots { IsAtSlots A.question }
     requires limit { A.limit ≡ 14 }
 {
     let _ = rt.println("a desk that a worker leaves");
@@ -236,6 +243,7 @@ fn make_desks<A: Asked, R: Print + Wait>(
 ) -> Result<(), Fault>
     requires test { IsTest (arc_value question.now).test }
     requires question { arc_value question.now ≡ A.question }
+    requires slots { IsAtSlots A.question }
     requires limit { A.limit ≡ 14 }
 {
     let first = Slot { hart: 0, at: 2 };

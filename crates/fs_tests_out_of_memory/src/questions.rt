@@ -4,7 +4,9 @@ ghost use Rattle.std.specs.Arc.{arc_value};
 ghost use Rattle.fs_model.specs.Test.{IsBounded, IsTest};
 ghost use Rattle.fs_model.specs.Allows.{Allows};
 ghost use Rattle.fs_model.specs.Execution.{Execution};
-ghost use Rattle.fs_cert_evidence.specs.Evidence.{IsWitnessFor, ShowsForbidden, placement_in};
+ghost use Rattle.fs_model.specs.Slots.{slots};
+ghost use Rattle.fs_cert_evidence.specs.Evidence.{ShowsForbidden, placement_in};
+ghost use Rattle.fs_witness_widths.specs.Witnesses.{IsWitnessAt};
 ghost use Rattle.fs_board.specs.Growth.{AreWitnesses};
 
 use fs_board_offers::Question;
@@ -47,7 +49,7 @@ pub(crate) fn witness_on(
     words: &str,
 ) -> Result<Arc<Witness>, Fault>
     requires { IsBounded problem.now }
-    ensures { IfOk result (λ w. (e : Execution) × IsWitnessFor problem.now (arc_value w) e) }
+    ensures { IfOk result (λ w. (e : Execution) × IsWitnessAt problem.now (slots problem.now) (arc_value w) e) }
 {
     match verdict_on(alloc, problem, words)? {
         Verdict::Allowed(witness) => Ok(Arc::new(alloc, witness)?),
@@ -62,7 +64,7 @@ pub(crate) fn witnesses_on(
     words: &str,
 ) -> Result<List<Arc<Witness>>, Fault>
     requires { IsBounded problem.now }
-    ensures { IfOk result (λ ws. AreWitnesses problem.now (map arc_value ws)) }
+    ensures { IfOk result (λ ws. AreWitnesses problem.now (slots problem.now) (map arc_value ws)) }
 {
     let witness = witness_on(alloc, problem, words)?;
     let mut witnesses = Vec::new(alloc);

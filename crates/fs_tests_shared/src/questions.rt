@@ -4,7 +4,7 @@ ghost use Rattle.std.specs.Arc.{arc_value};
 ghost use Rattle.fs_kinds.specs.Placement.{slots_of};
 ghost use Rattle.fs_model.specs.Slots.{slots};
 ghost use Rattle.fs_model.specs.Test.{IsBounded, IsTest};
-ghost use Rattle.fs_board_offers.specs.Questions.{HasTop};
+ghost use Rattle.fs_board_offers.specs.Questions.{HasTop, IsAtSlots};
 
 use fs_board_offers::Question;
 use fs_kinds::{Fault, Kind, Placement, Prices, read_prices};
@@ -19,6 +19,7 @@ pub const PRICES: &str = r#"{"r,r":3,"r,w":3,"w,w":2,"w,r":9,"tso":5,"rw,rw":10}
 fn priced(alloc: Global, test: Test, prices: &Prices) -> Result<Arc<Question>, Fault>
     requires { IsTest test }
     ensures test { IfOk result (λ question. IsTest (arc_value question).test) }
+    ensures slots { IfOk result (λ question. IsAtSlots (arc_value question)) }
     ensures top { IfOk result (λ question. HasTop (arc_value question).offers) }
 {
     let _top = prices.of(Kind::RwRw);
@@ -31,6 +32,7 @@ fn priced(alloc: Global, test: Test, prices: &Prices) -> Result<Arc<Question>, F
 /// The question of the test that this text holds, with what the prices in the other one offer.
 pub fn question_of(alloc: Global, text: &str, prices: &str) -> Result<Arc<Question>, Fault>
     ensures test { IfOk result (λ question. IsTest (arc_value question).test) }
+    ensures slots { IfOk result (λ question. IsAtSlots (arc_value question)) }
     ensures top { IfOk result (λ question. HasTop (arc_value question).offers) }
 {
     let prices = read_prices(alloc, prices.as_bytes())?;

@@ -1,7 +1,9 @@
 //! Verdicts on placements, from texts: for the tests of refused memory too.
-ghost use Rattle.std.specs.Prelude.{List, IfOk};
+ghost use Rattle.std.specs.Prelude.{◌≡◌, List, IfOk};
 ghost use Rattle.std.specs.Arc.{arc_value};
 ghost use Rattle.fs_kinds.specs.declared.placement.Entry.{Entry};
+ghost use Rattle.fs_kinds.specs.Placement.{slots_of};
+ghost use Rattle.fs_model.specs.Slots.{slots};
 ghost use Rattle.fs_model.specs.Test.{IsBounded};
 ghost use Rattle.fs_judge.specs.Verdicts.{IsVerdict};
 
@@ -24,7 +26,8 @@ pub fn problem_of(alloc: Global, text: &str) -> Result<Arc<Problem>, Fault>
 /// The verdict on the placement that the words name.
 pub fn verdict_on(alloc: Global, problem: &Problem, words: &str) -> Result<Verdict, Fault>
     requires { IsBounded problem.now }
-    ensures ok { IfOk result (λ verdict. (p : List Entry) × IsVerdict problem.now p verdict) }
+    ensures ok { IfOk result
+        (λ verdict. (p : List Entry) × (slots_of p ≡ slots problem.now) × IsVerdict problem.now p verdict) }
 {
     let placement = placement_of(alloc, problem.test(), words)?;
     problem.verdict(alloc, &placement, &[])

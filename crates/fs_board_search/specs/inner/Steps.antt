@@ -1,6 +1,6 @@
 -- What one step of a search does to its board: it tries to close a node, or it is done with one.
 use Rattle.std.specs.Prelude.{◌≡◌, ℕ, ◌<◌, ◌≤◌, Bool, true, false, ◌&&◌, not}
-use Rattle.fs_model.specs.Slots.{slots}
+use Rattle.fs_board_offers.specs.Offers.{slots}
 use Rattle.fs_board_offers.specs.Parts.{Part, slots_in_part}
 use Rattle.fs_board_offers.specs.Board.{Board, Status, Reply, Closed, Given, Children, is_open, is_held}
 use Rattle.fs_board_offers.specs.Histories.{HoldsNode}
@@ -40,8 +40,8 @@ abbrev pub IsTried : Search → Search → (ended : Bool) → Type 0
 IsTried old new true = MovesOn old new
 IsTried old new false = Stays old new
 
--- worker 0 holds the node, whose part has the test's slots, and fewer nodes are done than there may be
+-- worker 0 holds the node, whose part has the offers' slots, and fewer nodes are done than there may be
 pub record IsTaken (s : Search) (k : ℕ) (part : Part) : Type 0 where
   pub holds : HoldsNode s.board 0 k part
-  pub slots : slots_in_part part ≡ slots s.question.test
+  pub slots : slots_in_part part ≡ slots s.question.offers
   pub room : done s.board ≤ s.board.limit

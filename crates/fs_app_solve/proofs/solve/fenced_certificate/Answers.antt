@@ -1,4 +1,5 @@
-use Rattle.std.proofs.Common.{subst, sym, ◌∙◌}
+use Rattle.std.proofs.Common.{None, ap, subst, sym, ◌∙◌}
+use Rattle.fs_kinds.specs.Placement.{all_with}
 use Rattle.fs_cert_evidence.specs.Evidence.{ShowsForbidden}
 use Rattle.fs_app_solve.proofs.Founding.{board-there, least-there}
 use Rattle.fs_app_solve.proofs.solve.fenced_certificate.Goals as goal
@@ -24,3 +25,4 @@ pub from_least-requires-clause-least : goal.from_least-requires-clause-least
 from_least-requires-clause-least c =
     let found = c.requires.found in
     least-there c.args.question.now found.1 c.args.solved.now c.args.forbidden.now.placement c.in-None.ensures c.requires.placed found.2.rests
+    ∙ ap (all_with None) (sym found.2.at_slots.slots)

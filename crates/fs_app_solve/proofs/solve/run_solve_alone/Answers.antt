@@ -1,8 +1,11 @@
 use Rattle.fs_app_place_order.proofs.Faults.{IfErr-handed}
 use Rattle.fs_app_solve.specs.Solve.{of_memory}
-use Rattle.fs_app_solve.proofs.Founding.{found-asked, top-asked}
+use Rattle.fs_app_solve.proofs.Founding.{found-asked, slots-asked, top-asked}
 use Rattle.fs_app_solve.proofs.SolveFaults.{solve-search}
 use Rattle.fs_app_solve.proofs.solve.run_solve_alone.Goals as goal
+
+pub solve-requires-clause-slots : goal.solve-requires-clause-slots
+solve-requires-clause-slots g c = slots-asked _ _ _ _ c.in_ok-question.ensures.asked c.in_ok-asked.ensures
 
 pub solve-requires-clause-top : goal.solve-requires-clause-top
 solve-requires-clause-top g c = top-asked _ _ _ _ c.in_ok-question.ensures.asked c.in_ok-asked.ensures

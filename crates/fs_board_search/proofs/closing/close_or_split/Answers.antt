@@ -14,7 +14,7 @@ returns-then-not-is_end-clause-err c = λ other.
     let event = c.in_ok-event.event in
     let last = subst (λ (q : Question). IsLast q.test node part event) (sym c.requires.same) c.in_ok-event.ensures.last in inl (
       refl,
-      last-large c.args.board.now c.ask.new.self node part event (reply_of c.in_ok-reply.reply) c.requires.taken.holds last c.log-legal.ensures.legal c.log-legal.ensures.asked
+      last-large c.args.board.now c.ask.new.self node part event (reply_of c.in_ok-reply.reply) c.requires.taken.holds last c.log-legal.ensures.legal c.log-legal.ensures.offers
           c.in_ok-reply.ensures.step (sym c.is_end.ensures ∙ c.if-not-is_end.true),
     )
 

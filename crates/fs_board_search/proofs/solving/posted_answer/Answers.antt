@@ -12,7 +12,7 @@ returns-clause-ok c =
     let placement = placement_in c.in_ok-forbidden.forbidden in
     let placed : placement ≡ placement_in c.in-Some.best.now = ap (λ (f : Refuted). f.placement) c.in_ok-forbidden.ensures in
     let posted : Some placement ≡ s.board.bound = ap (λ p. Some p) placed ∙ c.in-Some.ensures.value in
-    let cheapest = bound-cheapest s placement c.log-legal.ensures.asked c.log-legal.ensures.legal c.requires.finished posted in
+    let cheapest = bound-cheapest s placement c.log-legal.ensures.offers c.log-legal.ensures.legal c.requires.finished posted in
     let offers : c.offers.result.now ≡ s.question.offers =
     c.offers.ensures.value ∙ ap (λ (q : Question). q.offers) (c.deref.ensures ∙ c.question.ensures) in
     let shows = subst (ShowsForbidden s.question.test) (sym c.in_ok-forbidden.ensures) c.in-Some.ensures.cycles in (

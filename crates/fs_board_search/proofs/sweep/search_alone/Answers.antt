@@ -1,6 +1,6 @@
-use Rattle.std.proofs.Common.{◌∙◌, ap, map, subst}
+use Rattle.std.proofs.Common.{◌∙◌, map, subst}
 use Rattle.std.specs.Arc.{arc_value}
-use Rattle.fs_model.specs.declared.test.Test.{Test}
+use Rattle.fs_board_offers.specs.Offers.{slots}
 use Rattle.fs_board_offers.specs.Questions.{Question}
 use Rattle.fs_board.specs.Growth.{AreWitnesses}
 use Rattle.fs_board_search.proofs.Ends.{handed}
@@ -12,5 +12,5 @@ returns-in_err-sweep-clause-err g c = handed c.from_residual-in_err-sweep.result
 pub returns-clause-met : goal.returns-clause-met
 returns-clause-met g c =
     let same = c.in_ok-question.ensures ∙ c.question.ensures in
-    subst (λ (t : Test). AreWitnesses t (map arc_value c.in_ok-witnesses.field-0.items))
-    (ap (λ (q : Question). q.test) (c.in_ok-sweep.ensures.scout ∙ (c.planner-scout.ensures ∙ same)) ∙ c.requires) c.in_ok-witnesses.ensures
+    subst (λ (q : Question). AreWitnesses q.test (slots q.offers) (map arc_value c.in_ok-witnesses.field-0.items))
+    (c.in_ok-sweep.ensures.scout ∙ (c.planner-scout.ensures ∙ same)) c.in_ok-witnesses.ensures

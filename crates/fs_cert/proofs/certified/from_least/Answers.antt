@@ -8,7 +8,7 @@ use Rattle.fs_cert.specs.Certified.{Certifies}
 use Rattle.fs_cert.specs.inner.Copies.{AreCopiedWitnesses}
 use Rattle.fs_cert.specs.inner.Fenced.{IsFenced}
 use Rattle.fs_cert.specs.inner.Items.{AreSayable}
-use Rattle.fs_cert.proofs.Made.{fenced_certifies, least-placement, least-offered, least-covers}
+use Rattle.fs_cert.proofs.Made.{fenced_certifies, least-offered, least-covers}
 use Rattle.fs_cert.proofs.certified.from_least.Goals as goal
 
 pub returns : goal.returns
@@ -19,7 +19,7 @@ returns c =
     let files = c.new-3.result in
     let only : tree ≡ item.Costly ∷ [] = c.new.ensures ∙ (c.in_ok-push.ensures.items ∙ ap (λ l. l ++ item.Costly ∷ []) c.new-tree.ensures.items) in
     let none : files ≡ [] = c.new-3.ensures ∙ c.new-2.ensures.items in
-    let least = least-placement q f.placement c.offers-asked.ensures.asked c.requires.least in
+    let least = c.requires.least in
     IfOk-weaker c.fenced.result (IsFenced q f tree files) (Certifies q.test q.offers (Some f.placement))
     (λ made is. fenced_certifies q f tree files made [] is (subst (λ l. AreCopiedWitnesses l []) (sym none) tt) c.requires.cycles
     (least-offered q.offers f.placement least)

@@ -1,9 +1,9 @@
-use Rattle.std.proofs.Common.{◌∙◌, ap, inl, map, sym, subst}
+use Rattle.std.proofs.Common.{◌∙◌, inl, map, sym, subst}
 use Rattle.std.specs.Prelude.{IfSome}
 use Rattle.std.specs.Arc.{arc_value}
-use Rattle.fs_model.specs.declared.test.Test.{Test}
+use Rattle.fs_board_offers.specs.Offers.{slots}
 use Rattle.fs_board_offers.specs.Sizes.{HasNoRunFault}
-use Rattle.fs_board_offers.specs.Questions.{Question}
+use Rattle.fs_board_offers.specs.Questions.{Question, IsAtSlots}
 use Rattle.fs_board.specs.Growth.{AreWitnesses}
 use Rattle.fs_board_search.proofs.Ends.{handed}
 use Rattle.fs_pool_workers.proofs.Faults.{same-fault}
@@ -15,10 +15,13 @@ returns-in_err-problem-clause-err g c =
 
 pub search_together-requires-clause-met : goal.search_together-requires-clause-met
 search_together-requires-clause-met g c κs within =
-    let same = c.in_ok-met.ensures.goes.question ∙ c.in_ok-board.ensures.asked.question in
-    subst (λ (t : Test). AreWitnesses t (map arc_value c.in-Some.met.items))
-    (sym c.in_ok-problem.ensures.same ∙ sym (ap (λ (q : Question). q.test) same))
-    (subst (λ found. IfSome found (λ met. AreWitnesses c.in_ok-problem.problem.value (map arc_value met.items))) c.in-Some.is c.in_ok-met.ensures.met)
+    let q = c.in_ok-board.board.question in
+    subst (λ (q : Question). AreWitnesses q.test (slots q.offers) (map arc_value c.in-Some.met.items)) (sym c.in_ok-met.ensures.goes.question)
+    (subst (λ found. IfSome found (λ met. AreWitnesses q.test (slots q.offers) (map arc_value met.items))) c.in-Some.is c.in_ok-met.ensures.met)
+
+pub search_together-requires-clause-slots : goal.search_together-requires-clause-slots
+search_together-requires-clause-slots g c κs within =
+    subst IsAtSlots (sym (c.in_ok-met.ensures.goes.question ∙ c.in_ok-board.ensures.asked.question)) c.requires.slots
 
 pub search_together-requires-clause-clean : goal.search_together-requires-clause-clean
 search_together-requires-clause-clean g c κs within = subst HasNoRunFault c.in_ok-problem.ensures.same c.in_ok-problem.ensures.clean

@@ -2,6 +2,7 @@ use Rattle.std.proofs.Common.{◌≡◌, true, false, None, map, sym, ◌∙◌,
 use Rattle.std.specs.Arc.{arc_value}
 use Rattle.std.specs.List.{list_all}
 use Rattle.fs_board_offers.specs.Parts.{Part}
+use Rattle.fs_board_offers.specs.Offers.{slots}
 use Rattle.fs_board_offers.specs.Board.{CutBound, NotCovered, Cheaper, Bounded}
 use Rattle.fs_cert_evidence.specs.Evidence.{Shown, witness_in}
 use Rattle.fs_board.specs.Growth.{AreWitnesses, board_of}
@@ -21,7 +22,7 @@ refuse-requires-then-not-are_kept-clause-step c =
     let decisions : c.as_slice.result.now ≡ part = c.as_slice.ensures.value ∙ c.deref.ensures in
     let ws = c.args.witnesses in
     let listed : c.as_slice-2.result.now ≡ ws = c.as_slice-2.ensures in
-    let are : AreWitnesses s.question.test (map arc_value ws) = subst (λ (y : Search). AreWitnesses y.question.test (map arc_value ws)) (sym c.self.view_is) c.requires in
+    let are : AreWitnesses s.question.test (slots s.question.offers) (map arc_value ws) = subst (λ (y : Search). AreWitnesses y.question.test (slots y.question.offers) (map arc_value ws)) (sym c.self.view_is) c.requires in
     let kept : list_all (λ w. is_kept None part (widths_in w)) ws ≡ false =
     ap₂ (λ p us. list_all (λ w. is_kept None p (widths_in w)) us) (sym decisions) (sym listed) ∙ (sym c.are_kept.ensures ∙ c.if-not-are_kept.true) in
     subst (λ (y : Search). StepsFrom y c.args.worker (CutBound c.args.node (map witness_in ws)) NotCovered y.board) c.self.view_is
@@ -35,7 +36,7 @@ refuse-requires-then-not-is_bounded-clause-step c =
     let decisions : c.as_slice.result.now ≡ part = c.as_slice.ensures.value ∙ c.deref.ensures in
     let ws = c.args.witnesses in
     let listed : c.as_slice-2.result.now ≡ ws = c.as_slice-2.ensures in
-    let are : AreWitnesses s.question.test (map arc_value ws) = subst (λ (y : Search). AreWitnesses y.question.test (map arc_value ws)) (sym c.self.view_is) c.requires in
+    let are : AreWitnesses s.question.test (slots s.question.offers) (map arc_value ws) = subst (λ (y : Search). AreWitnesses y.question.test (slots y.question.offers) (map arc_value ws)) (sym c.self.view_is) c.requires in
     let kept : list_all (λ w. is_kept None part (widths_in w)) ws ≡ true =
     ap₂ (λ p us. list_all (λ w. is_kept None p (widths_in w)) us) (sym decisions) (sym listed) ∙ (sym c.are_kept.ensures ∙ c.if-not-are_kept.false) in
     let same : c.as_slice-3.result.now ≡ part = c.as_slice-3.ensures.value ∙ c.deref-2.ensures in
@@ -55,7 +56,7 @@ cover-requires-clause-may c =
     let decisions : c.as_slice.result.now ≡ part = c.as_slice.ensures.value ∙ c.deref.ensures in
     let ws = c.args.witnesses in
     let listed : c.as_slice-2.result.now ≡ ws = c.as_slice-2.ensures in
-    let are : AreWitnesses s.question.test (map arc_value ws) = subst (λ (y : Search). AreWitnesses y.question.test (map arc_value ws)) (sym c.self.view_is) c.requires in
+    let are : AreWitnesses s.question.test (slots s.question.offers) (map arc_value ws) = subst (λ (y : Search). AreWitnesses y.question.test (slots y.question.offers) (map arc_value ws)) (sym c.self.view_is) c.requires in
     let kept : list_all (λ w. is_kept None part (widths_in w)) ws ≡ true =
     ap₂ (λ p us. list_all (λ w. is_kept None p (widths_in w)) us) (sym decisions) (sym listed) ∙ (sym c.are_kept.ensures ∙ c.if-not-are_kept.false) in
     let same : c.as_slice-3.result.now ≡ part = c.as_slice-3.ensures.value ∙ c.deref-2.ensures in

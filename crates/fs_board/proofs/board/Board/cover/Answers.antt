@@ -2,6 +2,7 @@ use Rattle.std.proofs.Common.{◌≡◌, ◌++◌, ◌∷◌, [], Some, map, ref
 use Rattle.std.specs.Prelude.{slice_get}
 use Rattle.std.proofs.lemmas.Option.{slice_get_within}
 use Rattle.std.specs.Arc.{arc_value}
+use Rattle.fs_board_offers.specs.Offers.{slots}
 use Rattle.fs_board_offers.specs.Board.{Board, Node, Status, Closed, with_status}
 use Rattle.fs_board_offers.specs.Histories.{with_witnesses}
 use Rattle.fs_cert_evidence.specs.Evidence.{witness_in}
@@ -31,10 +32,10 @@ invariant_of-self-2 c =
     let closed : c.cover.new.self ≡ now = c.in_ok-cover.ensures.ok n there in
     let made : board_of now ≡ new =
     ap (λ l. let x : Board = record (with_status z c.args.node n.part s.board) { witnesses = l } in x) (more_witnesses tree.witnesses ws) in
-    let widths : AreWitnesses s.question.test (map arc_value ws) = subst (λ (x : Search). AreWitnesses x.question.test (map arc_value ws)) (sym c.self.view_is) c.requires.widths in
+    let widths : AreWitnesses s.question.test (slots s.question.offers) (map arc_value ws) = subst (λ (x : Search). AreWitnesses x.question.test (slots x.question.offers) (map arc_value ws)) (sym c.self.view_is) c.requires.widths in
     rw closed (record {
       replay = subst (λ (b : Board). IsReplay (with_log s b c.push_within.new.list.items)) (sym made) (replays s new c.push_within.new.list.items c.args.worker e Closed was step refl (room_marked s z c.args.node n.part was) log);
-      backed = backed_more s.question.test tree.bound tree.witnesses (map arc_value ws) widths c.self.invariant.backed;
+      backed = backed_more s.question.test (slots s.question.offers) tree.bound tree.witnesses (map arc_value ws) widths c.self.invariant.backed;
     })
 
 pub returns-clause-step : goal.returns-clause-step

@@ -1,6 +1,7 @@
 use Rattle.std.proofs.Common.{◌≡◌, map, sym, ◌∙◌, ap, subst}
 use Rattle.std.specs.Prelude.{IfOk}
 use Rattle.std.specs.Arc.{arc_value}
+use Rattle.fs_board_offers.specs.Offers.{slots}
 use Rattle.fs_board_offers.specs.Board.{CutBound}
 use Rattle.fs_cert_evidence.specs.Evidence.{Shown, witness_in}
 use Rattle.fs_board.specs.Growth.{AreWitnesses}
@@ -11,7 +12,7 @@ use Rattle.fs_board.proofs.board.Board.cut_bound.Goals as goal
 pub bound_by-requires : goal.bound_by-requires
 bound_by-requires c =
     let same : map arc_value c.new-listed.result ≡ map arc_value c.args.witnesses.now = ap (map arc_value) c.new-listed.ensures ∙ c.in_ok-share.ensures in
-    subst (AreWitnesses c.args.self.now.question.test) (sym same) c.requires
+    subst (AreWitnesses c.args.self.now.question.test (slots c.args.self.now.question.offers)) (sym same) c.requires
 
 pub returns-clause-step : goal.returns-clause-step
 returns-clause-step c =

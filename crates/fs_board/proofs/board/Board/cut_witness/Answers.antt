@@ -2,8 +2,10 @@ use Rattle.std.proofs.Common.{◌≡◌, true, false, [], ◌∷◌, Some, map, 
 use Rattle.fs_kinds.specs.declared.kind.Kind.TheVariants.{RwRw}
 use Rattle.fs_model.specs.Execution.{Execution}
 use Rattle.fs_board_offers.specs.Parts.{Part}
+use Rattle.fs_board_offers.specs.Offers.{slots}
 use Rattle.fs_board_offers.specs.Board.{CutWitness, NotCovered, Witnessed}
-use Rattle.fs_cert_evidence.specs.Evidence.{Shown, IsWitnessFor, witness_in}
+use Rattle.fs_cert_evidence.specs.Evidence.{Shown, witness_in}
+use Rattle.fs_witness_widths.specs.Witnesses.{IsWitnessAt}
 use Rattle.fs_board.specs.Growth.{board_of}
 use Rattle.fs_board.specs.View.{Search}
 use Rattle.fs_board_offers.specs.Breaks.{is_kept}
@@ -22,7 +24,7 @@ refuse-requires-then-not-is_kept-clause-step c =
     let widths : c.deref-3.result.now ≡ x.widths = c.deref-3.ensures ∙ ap (λ (y : Shown). y.widths) (c.behind-witness.view_is ∙ c.deref-2.ensures) in
     let kept : is_kept (Some RwRw) part x.widths ≡ false =
     ap₂ (is_kept (Some RwRw)) (sym decisions) (sym widths) ∙ (sym c.is_kept.ensures ∙ c.if-not-is_kept.true) in
-    let is : (e : Execution) × IsWitnessFor s.question.test x e = subst (λ (y : Search). (e : Execution) × IsWitnessFor y.question.test x e) (sym c.self.view_is) c.requires in
+    let is : (e : Execution) × IsWitnessAt s.question.test (slots s.question.offers) x e = subst (λ (y : Search). (e : Execution) × IsWitnessAt y.question.test (slots y.question.offers) x e) (sym c.self.view_is) c.requires in
     subst (λ (y : Search). StepsFrom y c.args.worker (CutWitness c.args.node x.witness) NotCovered y.board) c.self.view_is
     (uncovered s c.args.worker c.args.node part c.self.invariant.replay held x is kept)
 
@@ -36,7 +38,7 @@ cover-requires-clause-may c =
     let widths : c.deref-3.result.now ≡ x.widths = c.deref-3.ensures ∙ ap (λ (y : Shown). y.widths) (c.behind-witness.view_is ∙ c.deref-2.ensures) in
     let kept : is_kept (Some RwRw) part x.widths ≡ true =
     ap₂ (is_kept (Some RwRw)) (sym decisions) (sym widths) ∙ (sym c.is_kept.ensures ∙ c.if-not-is_kept.false) in
-    let is : (e : Execution) × IsWitnessFor s.question.test x e = subst (λ (y : Search). (e : Execution) × IsWitnessFor y.question.test x e) (sym c.self.view_is) c.requires in
+    let is : (e : Execution) × IsWitnessAt s.question.test (slots s.question.offers) x e = subst (λ (y : Search). (e : Execution) × IsWitnessAt y.question.test (slots y.question.offers) x e) (sym c.self.view_is) c.requires in
     let one : map witness_in c.in_ok-one.one.items ≡ x.witness ∷ [] = sym (plain_witnesses c.in_ok-one.one.items) ∙ ap (map (λ (y : Shown). y.witness)) c.in_ok-one.ensures in
     subst (λ (y : Search). MayClose y c.args.worker c.args.node (CutWitness c.args.node x.witness) (Witnessed c.witness_count.result) (map witness_in c.in_ok-one.one.items)) c.self.view_is
     (may_witness s c.args.worker c.args.node part c.self.invariant.replay held x is kept (Witnessed c.witness_count.result) (map witness_in c.in_ok-one.one.items) (ap Witnessed c.witness_count.ensures) one)

@@ -3,6 +3,7 @@ use Rattle.std.specs.Prelude.{if◌then◌else◌}
 use Rattle.std.proofs.lemmas.Option.{slice_get_within}
 use Rattle.fs_model.specs.Allows.{Allows}
 use Rattle.fs_board_offers.specs.Parts.{Part, floor}
+use Rattle.fs_board_offers.specs.Offers.{slots}
 use Rattle.fs_board_offers.specs.Board.{Board, Posted, Post, Closed, is_held_by, part_at, better_of, with_status}
 use Rattle.fs_cert_evidence.specs.Evidence.{Refuted, ShowsForbidden}
 use Rattle.fs_board_offers.specs.Bests.{is_best}
@@ -45,7 +46,7 @@ invariant_of-self-2 c =
     let cycles : ShowsForbidden s.question.test f = subst (λ (x : Search). ShowsForbidden x.question.test f) (sym c.self.view_is) c.requires.cycles in
     rw posted (record {
       replay = subst (λ (b : Board). IsReplay (with_log s b c.push_within.new.list.items)) (sym made) (replays s new c.push_within.new.list.items c.args.worker (Post c.args.node p) Closed was step refl (room_marked s Posted c.args.node part was) log);
-      backed = backed_bound s.question.test f tree.bound tree.witnesses better cycles c.self.invariant.backed;
+      backed = backed_bound s.question.test (slots s.question.offers) f tree.bound tree.witnesses better cycles c.self.invariant.backed;
     })
 
 pub returns-clause-step : goal.returns-clause-step

@@ -5,7 +5,7 @@ use Rattle.fs_board_plan.proofs.Parts.{picked-more}
 use Rattle.fs_board_plan.proofs.store.Store.take.Goals as goal
 
 pub returns : goal.returns
-returns c = λ t all each.
-    picked-more t c.args.self.now (map arc_value c.args.picked.now.items) (map arc_value c.push.new.self.items) c.in_ok-shared.shared.value c.in-Some.ensures.0
+returns c = λ t ss all each.
+    picked-more t ss c.args.self.now (map arc_value c.args.picked.now.items) (map arc_value c.push.new.self.items) c.in_ok-shared.shared.value c.in-Some.ensures.0
     (ap (map arc_value) c.in_ok-push.ensures.items ∙ map-append arc_value c.args.picked.now.items _)
     (c.in-Some.ensures.1 ∙ ap (λ w. Some w) (sym c.in_ok-shared.ensures)) all each

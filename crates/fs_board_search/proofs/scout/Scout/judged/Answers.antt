@@ -1,15 +1,17 @@
-use Rattle.std.proofs.Common.{◌∙◌, ap, sym, subst}
+use Rattle.std.proofs.Common.{◌∙◌, ap, sym}
 use Rattle.std.specs.Arc.{arc_value}
-use Rattle.fs_model.specs.declared.test.Test.{Test}
+use Rattle.fs_board_offers.specs.Offers.{slots}
+use Rattle.fs_board_offers.specs.Parts.{slots_in_part}
 use Rattle.fs_board_offers.specs.Questions.{Question}
-use Rattle.fs_board.specs.Growth.{AreWitnesses}
 use Rattle.fs_board_search.proofs.Handed.{candidates-handed}
-use Rattle.fs_board_search.proofs.Scouts.{known-still}
+use Rattle.fs_board_search.proofs.Scouts.{known-at, known-still}
 use Rattle.fs_board_search.proofs.scout.Scout.judged.Goals as goal
 
-pub judge_floor-requires-clause-known : goal.judge_floor-requires-clause-known
-judge_floor-requires-clause-known c =
-    subst (λ (t : Test). AreWitnesses t c.self.inside.store) (sym c.self.invariant.0) c.self.invariant.1
+pub judge_floor-requires : goal.judge_floor-requires
+judge_floor-requires c =
+    let q = arc_value c.self.inside.question in
+    let over = ap slots_in_part c.deref-4.ensures ∙ (c.requires ∙ ap (λ (q : Question). slots q.offers) (sym c.self.view_is)) in
+    known-at c.self.inside.judge (slots_in_part c.deref-4.result.now) q c.self.inside.store c.self.invariant.0 over c.self.invariant.1
 
 pub returns-in_err-found-clause-err : goal.returns-in_err-found-clause-err
 returns-in_err-found-clause-err c =
@@ -19,10 +21,14 @@ returns-in_err-found-clause-err c =
 
 pub invariant_of-self-in_err-new : goal.invariant_of-self-in_err-new
 invariant_of-self-in_err-new c =
-    known-still c.judge_floor.new.judge c.self.inside.judge (arc_value c.self.inside.question).test c.judge_floor.new.store c.self.inside.planned
-    c.in_ok-found.ensures.judge c.self.invariant.0 c.in_ok-found.ensures.known c.self.invariant.2
+    let q = arc_value c.self.inside.question in
+    let over = ap slots_in_part c.deref-4.ensures ∙ (c.requires ∙ ap (λ (q : Question). slots q.offers) (sym c.self.view_is)) in
+    known-still c.judge_floor.new.judge c.self.inside.judge (slots_in_part c.deref-4.result.now) q c.judge_floor.new.store c.self.inside.planned
+    c.in_ok-found.ensures.judge c.self.invariant.0 over c.in_ok-found.ensures.known c.self.invariant.2
 
 pub invariant_of-self-2 : goal.invariant_of-self-2
 invariant_of-self-2 c =
-    known-still c.judge_floor.new.judge c.self.inside.judge (arc_value c.self.inside.question).test c.judge_floor.new.store c.self.inside.planned
-    c.in_ok-found.ensures.judge c.self.invariant.0 c.in_ok-found.ensures.known c.self.invariant.2
+    let q = arc_value c.self.inside.question in
+    let over = ap slots_in_part c.deref-4.ensures ∙ (c.requires ∙ ap (λ (q : Question). slots q.offers) (sym c.self.view_is)) in
+    known-still c.judge_floor.new.judge c.self.inside.judge (slots_in_part c.deref-4.result.now) q c.judge_floor.new.store c.self.inside.planned
+    c.in_ok-found.ensures.judge c.self.invariant.0 over c.in_ok-found.ensures.known c.self.invariant.2
