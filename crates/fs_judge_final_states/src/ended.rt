@@ -130,8 +130,9 @@ pub(crate) fn ended(
     let Witness {
         choices,
         order,
-        widths: _,
+        widths,
     } = witness;
+    drop(widths);
     let names = Names::new(all_named(alloc, order.as_slice())?);
     let file = WitnessFile {
         choices,

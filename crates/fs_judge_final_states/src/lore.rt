@@ -60,14 +60,14 @@ pub(crate) fn no_lore(alloc: Global, test: &Test, places: &[Place]) -> Result<Lo
 }
 
 /// Was the place never asked of so many words? From now on it was.
-fn is_untried(tried: &mut [usize], index: usize, words: usize) -> bool {
-    match tried.get_mut(index) {
-        Some(most) if *most < words => {
+fn is_untried(tried: &mut Vec<usize>, index: usize, words: usize) -> bool {
+    if let Some(most) = tried.get_mut(index) {
+        if *most < words {
             *most = words;
-            true
+            return true;
         }
-        _ => false,
     }
+    false
 }
 
 /// The part has no states: keeps what it says of its last place alone, if a short hunt shows that this has none either.
@@ -90,7 +90,7 @@ fn learn(
         return Ok(());
     };
     let own = said_at(alloc, part, last.index)?;
-    if !is_untried(lore.tried.as_mut_slice(), last.index, own.len()) {
+    if !is_untried(&mut lore.tried, last.index, own.len()) {
         return Ok(());
     }
     if has_none(alloc, problem, placement, places, own.as_slice())? {

@@ -50,7 +50,12 @@ fn shown_state(
 }
 
 /// The test, asking for a state in the part. Linear in the test and the part. The error is F19.
-pub(crate) fn asking(alloc: Global, test: &Test, places: &[Place], part: &[Atom]) -> Result<Arc<Test>, Fault>
+pub(crate) fn asking(
+    alloc: Global,
+    test: &Test,
+    places: &[Place],
+    part: &[Atom],
+) -> Result<Arc<Test>, Fault>
     requires bounded { IsBounded test.now }
     requires places { ArePlacesOf test.now places.now }
     requires part { IsPartOf (length places.now) part.now }
