@@ -1,9 +1,10 @@
 //! A test that is ready to be judged.
 
-ghost use Rattle.std.specs.Prelude.{◌≡◌, ◌≢◌, All, IfOk, OnOk, IfErr, IfSome, IsOkUnless};
+ghost use Rattle.std.specs.Prelude.{◌≡◌, ◌≢◌, true, All, IfOk, OnOk, IfErr, IfSome, IsOkUnless};
 ghost use Rattle.std.specs.Arc.{arc_value};
 ghost use Rattle.fs_kinds.specs.declared.fault.Fault.{Fault};
 ghost use Rattle.fs_kinds.specs.declared.fault.Fault.TheVariants.{Memory};
+ghost use Rattle.fs_model.specs.Allows.{Allows};
 ghost use Rattle.fs_model.specs.OfTests.{program_of};
 ghost use Rattle.fs_model.specs.Test.{IsBounded, IsStart};
 ghost use Rattle.fs_model.specs.TooMany.{IsRunFault};
@@ -14,7 +15,7 @@ ghost use Rattle.fs_judge.specs.inner.Findings.{IsSought};
 
 use crate::known::Known;
 use crate::listed::verdict_by_list;
-use crate::sought::{Sought, checked};
+use crate::sought::{Sought, checked, refuted};
 use crate::verdict::{Verdict, forbidden};
 use fs_cand_listing::check_number;
 use fs_cert_evidence::{Cycles, Inference};
@@ -268,6 +269,27 @@ impl Problem {
             Sought::Refuted(inferences) => self.refuted(placement, inferences),
             Sought::Shown(known) => self.shown(alloc, &known, placement, first),
             Sought::Nothing => self.by_list(alloc, placement, first),
+        }
+    }
+
+    /// Does a hunt of at most so many inferences refute the test under the placement? If so the placement forbids the
+    /// outcome; else nothing is said. The cost is that of the hunt, and of `reason_against`. The error is F19.
+    pub fn is_refuted_within(
+        &self,
+        alloc: Global,
+        placement: &Placement,
+        most: usize,
+    ) -> Result<bool, Fault>
+        ensures ok { IfOk result (λ yes. yes ≡ true → Allows self.now placement.now → ⊥) }
+        ensures err { IsOkUnless result Memory }
+    {
+        let found = self.hunter.hunt(alloc, &mut Kept::new(), placement, most)?;
+        let Found::Refuted(inferences) = found else {
+            return Ok(false);
+        };
+        match refuted(alloc, &self.basis, placement, inferences)? {
+            Sought::Refuted(_) => Ok(true),
+            _ => Ok(false),
         }
     }
 }

@@ -28,7 +28,7 @@ pub(crate) enum Sought {
 }
 
 /// The inferences, where they refute the test.
-fn refuted(
+pub(crate) fn refuted(
     alloc: Global,
     basis: &Basis,
     placement: &Placement,
