@@ -10,7 +10,7 @@ ghost use Rattle.fs_model.specs.Execution.{Execution};
 ghost use Rattle.fs_cert_evidence.specs.CandidateFaults.{IsCandidateFault};
 ghost use Rattle.fs_board_offers.specs.Parts.{slots_in_part};
 ghost use Rattle.fs_board.specs.Growth.{AreWitnesses};
-ghost use Rattle.fs_witness_widths.specs.Witnesses.{IsWitnessAt};
+ghost use Rattle.fs_cand_widths.specs.Witnesses.{IsWitnessAt};
 ghost use Rattle.fs_judge.specs.Verdicts.{IsVerdict};
 ghost use Rattle.fs_board_search.specs.Tries.{IsPostable};
 

@@ -11,7 +11,7 @@ ghost use Rattle.fs_board_offers.specs.Parts.{floor, is_undecided};
 ghost use Rattle.fs_board_offers.specs.Parts.{slots_in_part};
 ghost use Rattle.fs_model.specs.Execution.{Execution};
 ghost use Rattle.fs_cert_evidence.specs.Evidence.{placement_in};
-ghost use Rattle.fs_witness_widths.specs.Witnesses.{IsWitnessAt};
+ghost use Rattle.fs_cand_widths.specs.Witnesses.{IsWitnessAt};
 ghost use Rattle.fs_board.specs.Growth.{AreWitnesses};
 ghost use Rattle.fs_board.specs.Asking.{Tells};
 ghost use Rattle.fs_board_search.specs.Tries.{IsPostable, IsTry, IsLast};

@@ -9,7 +9,7 @@ ghost use Rattle.fs_model.specs.Allows.{Allows};
 ghost use Rattle.fs_model.specs.Execution.{Execution};
 ghost use Rattle.fs_board_offers.specs.Board.{Take, Claim, Adopt, SplitAt, CutCost, CutWitness, CutBound, Post, Peek};
 ghost use Rattle.fs_cert_evidence.specs.Evidence.{Shown, ShowsForbidden, witness_in, placement_in};
-ghost use Rattle.fs_witness_widths.specs.Witnesses.{IsWitnessAt};
+ghost use Rattle.fs_cand_widths.specs.Witnesses.{IsWitnessAt};
 ghost use Rattle.fs_board_offers.specs.Offers.{slots};
 ghost use Rattle.fs_board.specs.Growth.{AreWitnesses};
 ghost use Rattle.fs_board.specs.View.{event_of, reply_of};
