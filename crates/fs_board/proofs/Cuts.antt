@@ -34,7 +34,7 @@ module _ (s : Search) (w k : ℕ) (part : Part) (was : IsReplay s) (held : Holds
   node : (n : Node) × (slice_get s.board.nodes k ≡ Some n) × (n.part ≡ part)
   node = node_with (is_held_by w) s.board k part held
 
-  its_slots : slots_in_part part ≡ slots s.question.offers
+  pub its_slots : slots_in_part part ≡ slots s.question.offers
   its_slots = subst (λ p. slots_in_part p ≡ slots s.question.offers) node.2
       (history-parts s.question.test s.question.offers s.board.limit s.log s.board was.history k node.0 node.1).slots
 
