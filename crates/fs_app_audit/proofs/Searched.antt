@@ -4,8 +4,8 @@ use Rattle.fs_kinds.specs.PriceTable.{PriceTable, IsPriceTable, cost}
 use Rattle.fs_model.specs.declared.test.Test.{Test}
 use Rattle.fs_model.specs.Allows.{IsCheapest}
 use Rattle.fs_cert_evidence.specs.Evidence.{Refuted}
-use Rattle.fs_board_offers.specs.Questions.{Question, HasTop}
-use Rattle.fs_board_offers.proofs.Priced.{has-top}
+use Rattle.fs_board_offers.specs.Questions.{Question, HasTop, IsAtSlots}
+use Rattle.fs_board_offers.proofs.Priced.{has-top, same-slots}
 use Rattle.fs_board_search.specs.Answers.{IsAnswer}
 use Rattle.fs_board_search.specs.Priced.{IsPricedAnswer, question_of}
 use Rattle.fs_board_search.specs.declared.answer.Answer.{Answer}
@@ -15,6 +15,9 @@ use Rattle.fs_board_search.proofs.PricedAnswers.{priced-answer}
 module _ (t : Test) (prices : PriceTable) (asked : Question) (is : asked ≡ question_of t prices) where
   pub asked-test : asked.test ≡ t
   asked-test = ap (λ (q : Question). q.test) is
+
+  pub asked-slots : IsAtSlots asked
+  asked-slots = subst IsAtSlots (sym is) (record { slots = same-slots t prices })
 
   pub asked-top : IsPriceTable prices → HasTop asked.offers
   asked-top table = subst (λ (q : Question). HasTop q.offers) (sym is) (has-top t prices table)

@@ -4,7 +4,9 @@ use Rattle.std.specs.Arc.{arc_value}
 use Rattle.std.specs.declared.sync.Arc.{Arc}
 use Rattle.fs_kinds.specs.declared.slot.Slot.{Slot}
 use Rattle.fs_model.specs.declared.test.Test.{Test}
+use Rattle.fs_model.specs.Execution.{Execution}
 use Rattle.fs_cert_evidence.specs.Evidence.{Refuted, Shown}
+use Rattle.fs_witness_widths.specs.Witnesses.{IsWitnessAt}
 use Rattle.fs_board_offers.specs.Offers.{slots}
 use Rattle.fs_board_offers.specs.Questions.{Question}
 use Rattle.fs_board.specs.declared.event.Reply.{Reply}
@@ -33,3 +35,10 @@ known-still new old ss q store planned still same over known plan = (
   subst (λ (us : List Slot). AreWitnesses q.test us store) over (subst (λ (x : Test). AreWitnesses x ss store) same known),
   plan,
 )
+
+-- a witness that its judge has found is one of the question
+pub found-for : (t : Test) (ss : List Slot) (q : Question) (w : Shown) → t ≡ q.test → ss ≡ slots q.offers
+    → (e : Execution) × IsWitnessAt t ss w e → (e : Execution) × IsWitnessAt q.test (slots q.offers) w e
+found-for t ss q w same over found =
+    subst (λ (us : List Slot). (e : Execution) × IsWitnessAt q.test us w e) over
+    (subst (λ (x : Test). (e : Execution) × IsWitnessAt x ss w e) same found)

@@ -7,6 +7,8 @@ mod gates;
 #[cfg(test)]
 mod long;
 #[cfg(test)]
+mod places;
+#[cfg(test)]
 mod rings;
 #[cfg(test)]
 mod scouts;

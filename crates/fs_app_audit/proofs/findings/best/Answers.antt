@@ -8,7 +8,7 @@ use Rattle.fs_cert_evidence.specs.Sizes.{HasNoRunFault}
 use Rattle.fs_board_search.specs.Priced.{question_of}
 use Rattle.fs_board_search.proofs.PricedAnswers.{priced-fault}
 use Rattle.fs_app_place_order.proofs.Faults.{IfErr-handed}
-use Rattle.fs_app_audit.proofs.Searched.{asked-test, asked-best}
+use Rattle.fs_app_audit.proofs.Searched.{asked-best, asked-slots, asked-test}
 use Rattle.fs_app_audit.proofs.findings.best.Goals as goal
 
 pub offered_question-requires : goal.offered_question-requires
@@ -45,6 +45,11 @@ solve_problem-requires-clause-bounded c =
 
 pub solve_problem-requires-clause-same : goal.solve_problem-requires-clause-same
 solve_problem-requires-clause-same c = c.in_ok-problem.ensures.same ∙ sym c.in_ok-shared.ensures
+
+pub solve_problem-requires-clause-slots : goal.solve_problem-requires-clause-slots
+solve_problem-requires-clause-slots c =
+    let of : Priced = c.args.question.now.value in
+    asked-slots of.test of.prices _ (c.in_ok-asked.ensures.ok ∙ ap (λ (q : Priced). question_of q.test q.prices) c.deref.ensures)
 
 pub solve_problem-requires-clause-clean : goal.solve_problem-requires-clause-clean
 solve_problem-requires-clause-clean c =
