@@ -1,10 +1,7 @@
-use Rattle.std.proofs.Common.{◌≡◌, ◌≢◌, ◌∙◌, None, IfErr, ap, sym, subst}
+use Rattle.std.proofs.Common.{◌≡◌, ◌≢◌, ◌∙◌, IfErr, subst}
 use Rattle.std.specs.Arc.{arc_value}
 use Rattle.fs_kinds.specs.declared.fault.Fault.TheVariants.{Memory}
-use Rattle.fs_kinds.specs.Placement.{slots_of}
-use Rattle.fs_kinds.proofs.Entries.{slots_of-all_with}
 use Rattle.fs_model.specs.declared.test.Test.{Test}
-use Rattle.fs_model.specs.Slots.{slots}
 use Rattle.fs_cert_evidence.specs.CandidateFaults.{IsCandidateFault}
 use Rattle.fs_app_place_order.proofs.Faults.{IfErr-handed}
 use Rattle.fs_app_test.proofs.judged.verdict.Goals as goal
@@ -14,14 +11,6 @@ returns-in_err-problem-clause-err c =
     let fault = c.in_err-problem.field-0.0 in
     IfErr-handed c.from_residual-in_err-problem.result _ _ c.from_residual-in_err-problem.ensures.1
     (subst (λ (t : Test). fault ≢ Memory → IsCandidateFault t fault) c.in_ok-try_clone.ensures c.in_err-problem.ensures.err)
-
-pub verdict-requires : goal.verdict-requires
-verdict-requires c =
-    let asked : c.new-judge.result ≡ arc_value c.args.test.now =
-    c.new-judge.ensures ∙ c.in_ok-new.ensures.ok ∙ c.in_ok-problem.ensures.value ∙ c.in_ok-try_clone.ensures in
-    ap slots_of c.in_ok-placement.ensures.ok
-    ∙ slots_of-all_with None (slots c.deref.result.now)
-    ∙ ap slots (c.deref.ensures ∙ sym asked)
 
 pub returns-clause-err : goal.returns-clause-err
 returns-clause-err c =
