@@ -3,5 +3,5 @@ mod Kept
 pub mod Balanced
 pub mod Asking
 pub mod Covered
-mod Barren
+mod Learning
 mod Many

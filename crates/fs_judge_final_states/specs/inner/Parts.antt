@@ -114,8 +114,8 @@ AreBarren t p places parts = (s : List ℕ) → IsState t p places s → IsLeft 
 -- what is learned: the test that asks for any state, and parts that have none
 pub record IsLore (t : Test) (p : List Entry) (places : List Place) (whole : Test) (barren : List (List Atom)) : Type 0
   where
-    pub whole : AsksFor t places [] whole
-    pub barren : AreBarren t p places barren
+    pub asks : AsksFor t places [] whole
+    pub none : AreBarren t p places barren
 
 -- what follows when a part is split by a state in it: its states are this one, or left
 pub record SplitsBy (part : List Atom) (state : List ℕ) (old new : List (List Atom)) : Type 0 where

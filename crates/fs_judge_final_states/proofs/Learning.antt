@@ -48,12 +48,12 @@ left_within barren i d part s low within inside =
 
 module _ (t : Test) (p : List Entry) (places : List Place) (whole : Test) where
   pub no_lore : AsksFor t places [] whole → IsLore t p places whole []
-  no_lore asks = record { whole = asks; barren = λ s is left. absurd (false≢true left) }
+  no_lore asks = record { asks = asks; none = λ s is left. absurd (false≢true left) }
 
   pub learned : (barren : List (List Atom)) (own : List Atom) → IsLore t p places whole barren
       → ((s : List ℕ) → IsState t p places s → is_in own s ≡ true → ⊥) → IsLore t p places whole (barren ++ own ∷ [])
-  learned barren own lore none = record {
-    whole = lore.whole;
-    barren =
-        λ s is left. elim (left_cases barren own s left) [ inl before ↦ lore.barren s is before | inr inside ↦ none s is inside ];
+  learned barren own lore empty = record {
+    asks = lore.asks;
+    none =
+        λ s is left. elim (left_cases barren own s left) [ inl before ↦ lore.none s is before | inr inside ↦ empty s is inside ];
   }
