@@ -92,14 +92,12 @@ all-allowed s t same are at top history finished is =
 pub all-shown : (t : Test) (w : Shown) → IsShownWith t (full_fences t) w → (e : Execution) × IsWitnessFor t w e × RefutesAll t e
 all-shown t w shown = (
   shown.0,
-  (
-    record {
-      shows = shown.1.shows;
-      only = shown.1.only;
-      widths = shown.1.widths ∙ ap (widths_of (width t shown.0)) (slots_of-all_with (Some RwRw) (test.slots t));
-    },
-    shown.2,
-  ),
+  record {
+    shows = shown.1.shows;
+    only = shown.1.only;
+    widths = shown.1.widths ∙ ap (widths_of (width t shown.0)) (slots_of-all_with (Some RwRw) (test.slots t));
+  },
+  shown.2,
 )
 
 -- ---- faults

@@ -94,10 +94,10 @@ fn answer_of(alloc: Global, problem: &Problem, board: &Board) -> Result<Answer, 
         return Ok(answer);
     }
     let verdict = verdict_on_all(alloc, problem)?;
-    match verdict {
-        Verdict::Allowed(witness) => Ok(Answer::None { witness }),
-        Verdict::Forbids(_) => unreachable!(),
-    }
+    let Verdict::Allowed(witness) = verdict else {
+        unreachable!()
+    };
+    Ok(Answer::None { witness })
 }
 
 /// The answer where the search came to its limit: none where `rw,rw` in every slot isn't enough, no fence where none is
@@ -253,10 +253,10 @@ fn posted_bound(board: &Board) -> Result<Arc<Forbidden>, Fault>
     ensures err { IsOkUnless result Fault.Memory }
 {
     let _legal = board.log();
-    match board.bound() {
-        Some(best) => Ok(Arc::try_clone(best)?),
-        None => unreachable!(),
-    }
+    let Some(best) = board.bound() else {
+        unreachable!()
+    };
+    Ok(Arc::try_clone(best)?)
 }
 
 /// The cheapest of the placements that the offers allow and that forbid the outcome, where one of them does, with what

@@ -14,14 +14,14 @@ pub unreachable-requires : goal.unreachable-requires
 unreachable-requires c =
     let t = c.args.problem.now in
     let s = c.args.board.now in
-    let refuted = subst (IsVerdict t (all_with (Some RwRw) (slots t))) c.in-Forbids.is c.in_ok-verdict.ensures.ok in
+    let refuted = subst (IsVerdict t (all_with (Some RwRw) (slots t))) c.in_default-verdict.is c.in_ok-verdict.ensures.ok in
     let nothing : s.board.bound ≡ None =
     subst (λ (found : Option Answer). MatchOption found (s.board.bound ≡ None) (λ a. IsAnswer s.question.test s.question.offers a × (s.board.bound ≡ placement_of a)))
     c.in_default.is c.in_ok-answer.ensures.ok in
     refuted.2 (all-allowed s t c.requires.same c.log-legal.ensures.offers c.requires.slots c.requires.top c.log-legal.ensures.legal c.requires.finished (sym nothing))
 
-pub returns-in-Allowed-clause-ok : goal.returns-in-Allowed-clause-ok
-returns-in-Allowed-clause-ok c =
+pub returns-clause-ok : goal.returns-clause-ok
+returns-clause-ok c =
     let t = c.args.problem.now in
     let w = c.in-Allowed.witness in
     subst (λ (u : Test). IsAnswer u c.args.board.now.question.offers (answer.None w)) (sym c.requires.same)

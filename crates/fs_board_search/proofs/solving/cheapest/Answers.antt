@@ -8,7 +8,7 @@ use Rattle.fs_board_offers.specs.Questions.{Question}
 use Rattle.fs_board.specs.View.{Search}
 use Rattle.fs_cert_evidence.specs.Evidence.{ShowsForbidden, placement_in}
 use Rattle.fs_board_search.specs.Answers.{IsLimitFault}
-use Rattle.fs_board_search.proofs.Ends.{handed}
+use Rattle.fs_board_search.proofs.Ends.{handed, if-err}
 use Rattle.fs_board_search.proofs.solving.cheapest.Goals as goal
 
 -- a fault of what is equal
@@ -38,3 +38,6 @@ pub returns-clause-shown : goal.returns-clause-shown
 returns-clause-shown g c =
     let same = c.in_ok-search.ensures.goes.question ∙ ap (λ (s : Search). s.question) c.in_ok-board.ensures.ok in
     subst (λ (q : Question). IfOk c.posted_bound.result (λ f. ShowsForbidden q.test (arc_value f))) same c.posted_bound.ensures.shown
+
+pub returns-clause-err : goal.returns-clause-err
+returns-clause-err g c = if-err c.posted_bound.result _ _ c.posted_bound.ensures.err (λ f is other. absurd (other is))

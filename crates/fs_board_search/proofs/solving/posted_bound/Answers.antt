@@ -7,11 +7,11 @@ use Rattle.fs_board_search.proofs.solving.posted_bound.Goals as goal
 pub unreachable-requires : goal.unreachable-requires
 unreachable-requires c =
     let s = c.args.board.now in
-    let nothing : None ≡ s.board.bound = sym (ap (option_map (λ f. placement_in f.now)) c.in-None.is) ∙ c.bound.ensures.value in
+    let nothing : None ≡ s.board.bound = sym (ap (option_map (λ f. placement_in f.now)) c.in_default.is) ∙ c.bound.ensures.value in
     some-bound s c.log-legal.ensures.offers c.log-legal.ensures.legal c.requires.finished nothing c.requires.some
 
-pub returns-in-Some-clause-ok : goal.returns-in-Some-clause-ok
-returns-in-Some-clause-ok c =
+pub returns-clause-ok : goal.returns-clause-ok
+returns-clause-ok c =
     let s = c.args.board.now in
     let placement = placement_in c.in_ok-try_clone.field-0 in
     let placed : placement ≡ placement_in c.in-Some.best.now = ap (λ (f : Refuted). f.placement) c.in_ok-try_clone.ensures in
