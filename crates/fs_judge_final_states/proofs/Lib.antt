@@ -3,5 +3,4 @@ mod Kept
 pub mod Balanced
 pub mod Asking
 pub mod Covered
-mod Learning
 mod Many

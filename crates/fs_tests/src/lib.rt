@@ -4,8 +4,6 @@
 #![tactic(auto)]
 
 #[cfg(test)]
-mod anywhere;
-#[cfg(test)]
 mod condition;
 #[cfg(test)]
 mod executions;
