@@ -59,16 +59,10 @@ ESCAPE = re.compile('%s%s|(?P<half>%s)|%s' % (HALF % '89abAB', HALF % 'c-fC-F', 
 """An escape of a JSON text: both halves of a surrogate pair, half of one by itself, or another."""
 
 
-TEXT_OR_BRACKET = re.compile(r'"(?:[^"\\]|\\.)*"|[][{}]', re.DOTALL)
-
-
 def depth_of(text):
     """How many lists and objects stand in one another in a JSON text."""
-    depth = most = 0
-    for found in TEXT_OR_BRACKET.finditer(text):
-        depth += {'[': 1, '{': 1, ']': -1, '}': -1}.get(found[0], 0)
-        most = max(most, depth)
-    return most
+    brackets = re.sub(r'"(?:[^"\\]|\\.)*"|[^][{}"]+|"', '', text, flags=re.DOTALL)
+    return max(itertools.accumulate(1 if bracket in '[{' else -1 for bracket in brackets), default=0)
 
 
 def json_of(data):
@@ -86,19 +80,17 @@ def is_whole(value, below=2 ** 64):
     return type(value) is int and value < below
 
 
-def is_text(value):
-    return type(value) is str
-
-
 def has_form(value, form):
-    """Is this an object with these keys, a list of such entries, a list with an entry for each of these, this very
-    value, or what a function says?"""
+    """Is this an object with these keys, a list of such entries, a list with an entry for each of these, a value of
+    this type, this very value, or what a function says?"""
     if type(form) is dict:
         return type(value) is dict and value.keys() == form.keys() and all(has_form(value[it], form[it]) for it in form)
     if type(form) is list:
         return type(value) is list and all(has_form(entry, form[0]) for entry in value)
     if type(form) is tuple:
         return type(value) is list and len(value) == len(form) and all(map(has_form, value, form))
+    if type(form) is type:
+        return type(value) is form
     return form(value) if callable(form) else type(value) is type(form) and value == form
 
 
@@ -117,11 +109,11 @@ ALL_PAIRS = ['RR', 'RW', 'WR', 'WW']
 
 # --- Tests (FORMAT 1, 2, 9 and 10) -------------------------------------------------------------------------------
 
-REGISTER_NAMES = ['zero', 'ra', 'sp', 'gp', 'tp', 't0', 't1', 't2', 's0', 's1'] + ['a%d' % n for n in range(8)] \
-    + ['s%d' % n for n in range(2, 12)] + ['t%d' % n for n in range(3, 7)]
-REGISTERS = {name: number for number, name in enumerate(REGISTER_NAMES)}
-REGISTERS.update({'x%d' % number: number for number in range(32)})
-REGISTERS['fp'] = 8
+REGISTER_NAMES = ('zero ra sp gp tp t0 t1 t2 s0 s1 a0 a1 a2 a3 a4 a5 a6 a7 '
+                  's2 s3 s4 s5 s6 s7 s8 s9 s10 s11 t3 t4 t5 t6').split()
+REGISTERS = {'fp': 8}
+for _number, _name in enumerate(REGISTER_NAMES):
+    REGISTERS.update({_name: _number, 'x%d' % _number: _number})
 
 
 def signed(word):
@@ -136,15 +128,8 @@ COMPUTES = {
     'swap': lambda a, b: b,
     'min': lambda a, b: min(a, b, key=signed), 'max': lambda a, b: max(a, b, key=signed), 'minu': min, 'maxu': max,
 }
-BRANCHES = {
-    'beq': lambda a, b: a == b, 'bne': lambda a, b: a != b,
-    'blt': lambda a, b: signed(a) < signed(b), 'bge': lambda a, b: signed(a) >= signed(b),
-    'bltu': lambda a, b: a < b, 'bgeu': lambda a, b: a >= b,
-}
-RANGES = {'i': (-2048, 2047), 'm': (-2048, 2047), 'n': (0, 31), 'u': (0, 2 ** 20 - 1), 'c': (-2 ** 31, WORDS - 1)}
-RANGES['o'] = 0, 0
-ANNOTATIONS = {'': (False, False), '.aq': (True, False), '.rl': (False, True)}
-ANNOTATIONS.update({'.aqrl': (True, True), '.aq.rl': (True, True)})
+RANGES = {'i': (-2048, 2047), 'm': (-2048, 2047), 'n': (0, 31), 'u': (0, 2 ** 20 - 1), 'c': (-2 ** 31, WORDS - 1),
+          'o': (0, 0)}
 
 FORMS = {
     'lui': ('d,u', 'compute', COMPUTES['add']), 'li': ('d,c', 'compute', COMPUTES['add']),
@@ -155,6 +140,9 @@ FORMS = {
     'sgtz': ('d,s', 'compute', lambda a, b: int(signed(a) > 0)),
     'neg': ('d,s', 'compute', lambda a, b: -a), 'not': ('d,s', 'compute', lambda a, b: ~a),
     'sext.w': ('d,s', 'compute', COMPUTES['add']),
+    'beq': ('s,s,l', 'branch', lambda a, b: a == b), 'bne': ('s,s,l', 'branch', lambda a, b: a != b),
+    'blt': ('s,s,l', 'branch', lambda a, b: signed(a) < signed(b)), 'bltu': ('s,s,l', 'branch', lambda a, b: a < b),
+    'bge': ('s,s,l', 'branch', lambda a, b: signed(a) >= signed(b)), 'bgeu': ('s,s,l', 'branch', lambda a, b: a >= b),
     'beqz': ('s,l', 'branch', lambda a, b: a == 0), 'bnez': ('s,l', 'branch', lambda a, b: a != 0),
     'blez': ('s,l', 'branch', lambda a, b: signed(a) <= 0), 'bgez': ('s,l', 'branch', lambda a, b: signed(a) >= 0),
     'bltz': ('s,l', 'branch', lambda a, b: signed(a) < 0), 'bgtz': ('s,l', 'branch', lambda a, b: signed(a) > 0),
@@ -171,8 +159,7 @@ for _name in ['add', 'sub', 'xor', 'or', 'and', 'sll', 'srl', 'sra', 'slt', 'slt
 for _name in ['add', 'xor', 'or', 'and', 'slt', 'sll', 'srl', 'sra']:
     FORMS[_name + 'i'] = ('d,s,n' if _name in ('sll', 'srl', 'sra') else 'd,s,i', 'compute', COMPUTES[_name])
 FORMS['sltiu'] = ('d,s,i', 'compute', COMPUTES['sltu'])
-FORMS.update({_name: ('s,s,l', 'branch', _jumps) for _name, _jumps in BRANCHES.items()})
-for _bits in ANNOTATIONS:
+for _bits in ['', '.aq', '.rl', '.aqrl', '.aq.rl']:
     FORMS['lr.w' + _bits] = ('d,o(a)', 'lr', None)
     FORMS['sc.w' + _bits] = ('d,v,o(a)', 'sc', None)
     for _name in ['swap', 'add', 'xor', 'and', 'or', 'min', 'max', 'minu', 'maxu']:
@@ -212,75 +199,54 @@ class Test:
         self.outcome = ('constant', True)
         self.wanted = (self.outcome, True)      # the condition, and the truth value that it has where the outcome is
 
+    def memory_instructions(self):
+        """Hart and instruction of each memory instruction."""
+        return [(hart, position) for hart, code in enumerate(self.code)
+                for position, instruction in enumerate(code) if instruction.is_memory()]
+
     def slots(self):
         """Hart and instruction of each slot: before a memory instruction whose hart has an earlier one (FORMAT 3)."""
-        found = []
-        for hart, code in enumerate(self.code):
-            memory = [position for position, instruction in enumerate(code) if instruction.is_memory()]
-            found += [(hart, position) for position in memory[1:]]
-        return found
+        return [after for before, after in itertools.pairwise(self.memory_instructions()) if before[0] == after[0]]
 
 
-TOKEN = re.compile(r'[A-Za-z0-9_.]+|/\\|\\/|[^ \t\r\n]')
-COMMENT_SIGN = re.compile(r'\(\*|\*\)')
+TOKEN = re.compile(r'(\(\*|\*\))|([A-Za-z0-9_.]+|/\\|\\/|[^ \t\r])')
+"""A sign of a comment; or a token, or a line end."""
 SIGNS = {*'{};|,:=()[]~-*&<>!', '/\\', '\\/'}
 CONNECTIVES = {'/\\': 'and', '\\/': 'or'}
 FAULTS = {3: 'Syntax', 4: 'UnknownInstr', 5: 'BadAnnotation', 6: 'BadLabel', 7: 'BadInit'}
 
 
+# Is this token a number, any word, a name?
+is_number = re.compile('0x[0-9A-Fa-f]+|[0-9]+').fullmatch
+is_word = re.compile('[A-Za-z0-9_.]').match
+is_name = re.compile('[A-Za-z_][A-Za-z0-9_]*').fullmatch
+
+
 def number_of(token):
-    """The number that this word is, or None. One of many digits is in no range."""
-    match = re.fullmatch('0x([0-9A-Fa-f]+)|([0-9]+)', token)
-    if not match:
-        return None
-    digits = match[match.lastindex].lstrip('0') or '0'
-    return int(digits, 16 if match[1] else 10) if len(digits) <= 20 else 10 ** 20
-
-
-def is_number(token):
-    return number_of(token) is not None
-
-
-def is_word(token):
-    return re.match('[A-Za-z0-9_.]', token) is not None
-
-
-def is_name(token):
-    return re.fullmatch('[A-Za-z_][A-Za-z0-9_]*', token) is not None
-
-
-def end_of_comment(text, place):
-    """Where the comment that begins here ends, or None where it doesn't. Comments nest."""
-    depth = 0
-    for sign in COMMENT_SIGN.finditer(text, place):
-        depth += 1 if sign[0] == '(*' else -1
-        if depth == 0:
-            return sign.end()
-    return None
+    """The number that this token is. One of many digits is in no range."""
+    base = 16 if token.startswith('0x') else 10
+    digits = token.removeprefix('0x').lstrip('0') or '0'
+    return int(digits, base) if len(digits) <= 20 else 10 ** 20
 
 
 class Tokens:
-    """The tokens of a text with their lines, and a place among them. `last` is the line where the text ends."""
+    """The tokens of a text with their lines, and a place among them; comments nest. `last` is the line where the text
+    ends, and `is_closed` says whether each comment does."""
 
     def __init__(self, text, line, last):
         self.words, self.lines = [], []
-        self.at, self.last, self.is_closed = 0, last, True
-        place = 0
-        while place < len(text):
-            if text.startswith('(*', place):
-                end = end_of_comment(text, place)
-                self.is_closed = end is not None
-                end = end if self.is_closed else len(text)
-                line += text.count('\n', place, end)
-                place = end
-            elif text[place] in ' \t\r\n':
-                line += text[place] == '\n'
-                place += 1
-            else:
-                word = TOKEN.match(text, place)[0]
-                self.words.append(word)
-                self.lines.append(line)
-                place += len(word)
+        self.at, self.last = 0, last
+        depth = 0
+        for sign, token in (found.groups() for found in TOKEN.finditer(text)):
+            if token == '\n':
+                line += 1
+            elif sign == '(*' or sign and depth:
+                depth += 1 if sign == '(*' else -1
+            elif not depth:
+                words = [token] if token else ['*', ')']        # which is no sign outside of comments
+                self.words += words
+                self.lines += [line] * len(words)
+        self.is_closed = depth == 0
 
     def peek(self, ahead=0):
         """The token here, or the empty text at the end."""
@@ -300,6 +266,12 @@ class Tokens:
     def expect(self, *wanted):
         return self.next(lambda token: token in wanted)
 
+    def accept(self, wanted):
+        """Takes the token here, where it is this one. Is it?"""
+        is_here = self.peek() == wanted
+        self.at += is_here
+        return is_here
+
     def skip_to(self, *ends):
         """Goes on to the first of these tokens."""
         while self.peek() not in ends:
@@ -315,9 +287,10 @@ def take_operand(operand, words, made):
     del words[:is_negative + 1]
     if operand in RANGES:
         least, greatest = RANGES[operand]
-        number = -(number_of(word) or 0) if is_negative else number_of(word) or 0
+        number = number_of(word) if is_number(word) else math.inf       # which is in no range
+        number = -number if is_negative else number
         made.number = (number * 4096 if operand == 'u' else number) % WORDS
-        return is_number(word) and least <= number <= greatest
+        return least <= number <= greatest
     if operand in 'dsvaz':
         register = REGISTERS.get(word)
         if operand == 's':
@@ -343,7 +316,8 @@ def instruction_of(name, words):
     if not all(take_operand(operand, words, made) for operand in operands) or words:
         return None
     if form in ('lr', 'sc', 'amo'):
-        made.aq, made.rl = ANNOTATIONS[name.partition('.w')[2]]
+        bits = name.partition('.w')[2]
+        made.aq, made.rl = 'aq' in bits, 'rl' in bits
     if form == 'fence':
         made.pairs = product_of(*made.letters) if made.letters else TSO if name == 'fence.tso' else frozenset()
     return made
@@ -417,9 +391,8 @@ class TestReader(Tokens):
             hart = number_of(self.next(is_number))
             self.expect(':')
             return hart, REGISTERS.get(self.next(is_word))
-        if self.peek() != '[':
+        if not self.accept('['):
             return self.location()
-        self.expect('[')
         address = self.location()
         self.expect(']')
         return address
@@ -428,33 +401,28 @@ class TestReader(Tokens):
         """A word, or None where the number is out of range."""
         if is_name(self.peek()):
             return self.location()
-        sign = -1 if self.peek() == '-' and self.expect('-') else 1
+        sign = -1 if self.accept('-') else 1
         number = sign * number_of(self.next(is_number))
         return number % WORDS if -2 ** 31 <= number < WORDS else None
-
-    def initial(self):
-        """The word behind `=`."""
-        self.expect('=')
-        return self.location() if self.peek() == '&' and self.expect('&') else self.value()
 
     def skip_type(self):
         """Goes past the names of a type, each with `*` behind it or without."""
         while is_name(self.peek()) and (is_word(self.peek(1)) or self.peek(1) in ('[', '*')):
             self.next(is_name)
-            if self.peek() == '*':
-                self.expect('*')
+            self.accept('*')
 
     def entries(self):
         """The entries of the init block: line, target and value of each."""
         found = []
         self.expect('{')
-        while self.peek() != '}':
+        while not self.accept('}'):
             self.skip_type()
-            line, target = self.line(), self.target()
-            found.append((line, target, self.initial() if self.peek() == '=' else 0))
+            line, target, word = self.line(), self.target(), 0
+            if self.accept('='):
+                word = self.location() if self.accept('&') else self.value()
+            found.append((line, target, word))
             if self.peek() != '}':
                 self.expect(';')
-        self.expect('}')
         return found
 
     def header(self):
@@ -525,8 +493,7 @@ class TestReader(Tokens):
         test, entries = self.test, self.entries()
         columns = self.rows(self.header())
         test.registers = [[0] * 32 for _ in columns]
-        if self.peek() == 'locations':
-            self.expect('locations')
+        if self.accept('locations'):
             self.expect('[')
             self.skip_to(']')
             self.expect(']')
@@ -675,9 +642,15 @@ class Step:
         self.address = self.loaded = self.stored = None
         self.origins = {}
 
-    def depends(self, register, step):
-        """Does this step depend on that one (a number in the run) through this source?"""
-        return step in self.origins.get(register, ())
+    def depends(self, step, *registers):
+        """Does this step depend on that one (a number in the run) through one of these sources?"""
+        return any(step in self.origins.get(register, ()) for register in registers)
+
+    def address_depends(self, step):
+        return self.depends(step, self.instruction.address)
+
+    def data_depends(self, step):
+        return self.depends(step, self.instruction.data)
 
 
 class Run:
@@ -934,33 +907,27 @@ class Preserved:
         """a is paired with b."""
         return any(lr is a and sc is b for lr, sc in self.operations.pairs)
 
-    def address_dependency(self, a, step):
-        return step.depends(step.instruction.address, a.at)
-
-    def data_dependency(self, a, step):
-        return step.depends(step.instruction.data, a.at)
-
     def rule_9(self, a, b):
-        return self.address_dependency(a, b.step)
+        return b.step.address_depends(a.at)
 
     def rule_10(self, a, b):
-        return self.data_dependency(a, b.step)
+        return b.step.data_depends(a.at)
 
     def rule_11(self, a, b):
         """b is a store, and a conditional branch between them depends on a."""
-        return b.stores() and any(step.instruction.form == 'branch' and step.depends(register, a.at)
-                                  for step in self.steps_between(a, b) for register in step.instruction.plain)
+        return b.stores() and any(step.instruction.form == 'branch' and step.depends(a.at, *step.instruction.plain)
+                                  for step in self.steps_between(a, b))
 
     def rule_12(self, a, b):
         """b returns what a store m between them stored, and m depends on a by its address or data."""
         if not b.loads():
             return False
         m = self.rf[b.number]
-        return po(a, m) and po(m, b) and (self.address_dependency(a, m.step) or self.data_dependency(a, m.step))
+        return po(a, m) and po(m, b) and (m.step.address_depends(a.at) or m.step.data_depends(a.at))
 
     def rule_13(self, a, b):
         """b is a store, and the address of an instruction between them depends on a."""
-        return b.stores() and any(self.address_dependency(a, step) for step in self.steps_between(a, b))
+        return b.stores() and any(step.address_depends(a.at) for step in self.steps_between(a, b))
 
 
 # --- Candidates that show the outcome (MODEL 15) -----------------------------------------------------------------
@@ -1089,7 +1056,7 @@ CAUSES = ['p%d' % rule for rule in range(1, 14)] + ['rf', 'co', 'fr']
 
 
 def is_name_of_operation(value):
-    return is_text(value) and NAME.fullmatch(value) is not None
+    return type(value) is str and NAME.fullmatch(value) is not None
 
 
 def is_byte_name(value):
@@ -1098,7 +1065,7 @@ def is_byte_name(value):
 
 
 def is_answer(value):
-    return value == 'none' or has_form(value, {'cost': is_whole, 'fences': [is_text]})
+    return value == 'none' or has_form(value, {'cost': is_whole, 'fences': [str]})
 
 
 def is_cycle(value):
@@ -1112,22 +1079,18 @@ def begins_at_least(cycle):
     return names[0] == min(names)
 
 
-def is_leaf_of_1(value):
-    return value == 'c' or has_form(value, ('w', is_whole))
+def is_item_of_1(value):
+    """A split, or a leaf that needs no bound."""
+    return is_whole(value) or value == 'c' or has_form(value, ('w', is_whole))
 
 
 def is_item(value):
-    """A split, or a leaf."""
-    return is_whole(value) or is_leaf_of_1(value) or has_form(value, ('b', [is_whole])) and value[1] != []
-
-
-def is_hart(value):
-    return is_whole(value, 256)
+    return is_item_of_1(value) or has_form(value, ('b', [is_whole])) and value[1] != []
 
 
 INFERENCES = [('c', is_byte_name), ('s', is_byte_name), ('o', is_byte_name, is_byte_name), ('d', is_whole),
-              ('f', is_hart), ('l', is_byte_name, is_byte_name), ('a', is_byte_name, is_byte_name),
-              ('a', is_byte_name, is_byte_name, is_byte_name)]
+              ('f', lambda hart: is_whole(hart, 256)), ('l', is_byte_name, is_byte_name),
+              ('a', is_byte_name, is_byte_name), ('a', is_byte_name, is_byte_name, is_byte_name)]
 
 
 def is_inference(value):
@@ -1145,7 +1108,7 @@ def is_witness(value):
 
 
 FILES = {version: {'version': version, 'answer': is_answer, 'cycles': [is_inference if version == 4 else is_cycle],
-                   'tree': [is_item if version > 1 else lambda item: is_whole(item) or is_leaf_of_1(item)],
+                   'tree': [is_item if version > 1 else is_item_of_1],
                    'witnesses': [is_witness]} for version in (1, 2, 4)}
 
 
@@ -1155,19 +1118,15 @@ def certificate_of(data):
         value = json_of(data)
     except (ValueError, RecursionError):
         raise NotACertificate()
-    if not any(has_form(value, form) for form in FILES.values()):
-        raise NotACertificate()
-    return value
+    if any(has_form(value, form) for form in FILES.values()):
+        return value
+    raise NotACertificate()
 
 
 # --- Refutations (REFUTATIONS 1 to 4) ----------------------------------------------------------------------------
 
-INITIAL = 'the initial store'
-"""As the source of a load: the initial store of its location, which has no name."""
-
-
-NOWHERE = (-1, -1)
-"""Stands for each name of no memory instruction."""
+INITIAL = 'the initial store'       # as the source of a load: that of its location, which has no name
+NOWHERE = (-1, -1)                  # stands for each name of no memory instruction
 
 
 class OnlyRun:
@@ -1243,8 +1202,7 @@ class Refutation:
         self.test = test
         self.runs = [[OnlyRun(test, run, slots, placement) for run in runs]
                      for runs in all_runs_over(test, value_sets(test))]
-        self.names = [(hart, position) for hart, code in enumerate(test.code)
-                      for position, instruction in enumerate(code) if instruction.is_memory()]
+        self.names = test.memory_instructions()
         self.named = {'P%d:%d' % name: name for name in self.names}
 
     def root(self):
@@ -1267,14 +1225,13 @@ class Refutation:
     def after(self, region, inference):
         """The regions that are left to refute after the inference; None where it can't be drawn."""
         letter, *rest = inference
-        if not is_text(letter):
+        if type(letter) is not str:
             return [] if self.is_cycle(region, inference) else None
-        parts = [self.named.get(part, NOWHERE) if is_text(part) else part for part in rest]
+        parts = [self.named.get(part, NOWHERE) if type(part) is str else part for part in rest]
         ends = {'l': self.is_stale, 'a': self.is_split_pair}
         if letter in ends:
             return [] if ends[letter](region, *parts) else None
-        splits = {'c': self.by_choice, 's': self.by_source, 'o': self.by_order, 'd': self.by_cases,
-                  'f': self.by_outcome}
+        splits = {'c': self.by_choice, 's': self.by_source, 'o': self.by_order, 'd': self.by_cases, 'f': self.by_outcome}
         children = splits[letter](region, *parts)
         return None if children is None else [child for child in children if child.is_open()]
 

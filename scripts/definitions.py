@@ -10,6 +10,7 @@ import re
 import sys
 
 from documents import TOP, text_of
+from stored import rows
 
 IMPORT = re.compile(r"^(pub |ghost )?use Rattle\.(\w+)\.specs\.([\w.'-]+?)(?:\.\{([^}]*)\}| as (\w+))?;?$", re.M)
 ITEM = re.compile(r"^( *)(?:abbrev|unfoldable|pub record|pub data|record|data) (?:pub )?([^\s:]+)", re.M)
@@ -23,10 +24,9 @@ PLAIN_TYPES = {"Option", "Box", "Vec", "String", "List", "Self", "Arc"}
 
 
 def listed(group):
-    """What scripts/contracts.table has in a group: by their names parts of lines."""
+    """What scripts/transcripts/contracts.table has in a group: by their names parts of lines."""
     found = {}
-    for line in text_of("scripts/contracts.table").partition(f"\n## {group}\n")[2].partition("\n\n")[0].splitlines():
-        name, *parts = line.split(" | ")
+    for name, *parts in (row.split(" | ") for row in rows("contracts", group)):
         found.setdefault(name, []).append(parts)
     return found
 

@@ -6,12 +6,12 @@ import concurrent.futures
 import contextlib
 import functools
 import os
-import pty
 import resource
+import shlex
 import signal
 import subprocess
 import sys
-import threading
+import tempfile
 
 TOP = os.path.dirname(os.path.dirname(os.path.realpath(__file__)))
 EXAMPLES = f"{TOP}/examples"
@@ -36,17 +36,13 @@ def program():
     return os.path.realpath(found.stdout.strip())
 
 
-def ran(command, stdin=None, seconds=LONGEST, limits=None, **options):
+def ran(command, stdin=subprocess.DEVNULL, seconds=LONGEST, **options):
     """What a run of this command says. Standard input is text, bytes, a file, or empty; it may take so many seconds of
-    processor time, or for None any; `limits` has what else the run may use, by the resource, as
-    `{resource.RLIMIT_AS: 400_000_000}`; all else is for `subprocess.Popen`."""
+    processor time, or for None any; all else is for `subprocess.Popen`."""
     data = None
     if isinstance(stdin, (str, bytes)):
-        data, stdin = stdin if isinstance(stdin, bytes) else encoded(stdin), subprocess.PIPE
-    if limits:
-        options["preexec_fn"] = functools.partial(limit, limits)
-    options = {"stdin": subprocess.DEVNULL if stdin is None else stdin, "stdout": subprocess.PIPE,
-               "stderr": subprocess.PIPE, **options}
+        data, stdin = encoded(stdin), subprocess.PIPE
+    options = {"stdin": stdin, "stdout": subprocess.PIPE, "stderr": subprocess.PIPE, **options}
     with subprocess.Popen(command, **options) as run:
         try:
             out, err = run.communicate(data, waited_for(run.pid, seconds))
@@ -72,21 +68,9 @@ def waited_for(process, seconds):
 
 def ran_on_terminal(command):
     """What a run of this command says whose standard error is a terminal."""
-    terminal, end = pty.openpty()
-    with subprocess.Popen(command, stdin=subprocess.DEVNULL, stdout=subprocess.PIPE, stderr=end) as run:
-        os.close(end)
-        timer = threading.Timer(waited_for(run.pid, LONGEST), run.kill)
-        timer.start()
-        said = bytearray()
-        try:
-            while more := os.read(terminal, 4096):
-                said += more
-        except OSError:                 # no process has the other end any more
-            pass
-        out = run.stdout.read()
-        timer.cancel()
-    os.close(terminal)
-    return Said(decoded(out), decoded(said), run.returncode)
+    with tempfile.NamedTemporaryFile() as out:
+        said = ran(["script", "-qec", f"exec {shlex.join(command)} </dev/null >{out.name}", os.devnull])
+        return Said(decoded(read(out.name)), said.out, said.status)
 
 
 def compiled(source, folder, *words):
@@ -101,14 +85,9 @@ def rvfence(*words, **options):
     return ran([program(), *words], **options)
 
 
-def limit(limits):
-    """Limits what this process may use."""
-    for which, most in limits.items():
-        resource.setrlimit(which, (most, most))
-
-
 def encoded(text):
-    return text.encode("utf-8", "surrogateescape")
+    """The bytes of a text; bytes stay as they are."""
+    return text if isinstance(text, bytes) else text.encode("utf-8", "surrogateescape")
 
 
 def decoded(data):
@@ -134,7 +113,7 @@ def read(path):
 def written(path, data):
     """Writes bytes or text to a file, and gives its path."""
     with open(path, "wb") as file:
-        file.write(data if isinstance(data, bytes) else encoded(data))
+        file.write(encoded(data))
     return path
 
 

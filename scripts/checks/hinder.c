@@ -38,17 +38,28 @@ static int is_failing(const char *call, const char *path) {
     return 1;
 }
 
-static int is_failing_at(const char *call, int file) {
-    char link[64], path[PATH_MAX];
+/* The name of an open file. */
+static const char *name_of(int file) {
+    static _Thread_local char link[64], path[PATH_MAX];
     snprintf(link, sizeof link, "/proc/self/fd/%d", file);
     ssize_t length = readlink(link, path, sizeof path - 1);
     path[length < 0 ? 0 : length] = 0;
-    return is_failing(call, path);
+    return path;
 }
 
-int statx(int folder, const char *restrict path, int flags, unsigned mask, struct statx *restrict found) {
-    return is_failing("statx", path) ? -1 : (int)syscall(SYS_statx, folder, path, flags, mask, found);
-}
+// A function of the C library, which fails where the call at this path does, and else asks the kernel.
+#define HINDERED(result, call, parameters, path, ...) \
+    result call parameters { return is_failing(#call, path) ? -1 : (result)syscall(SYS_##call, __VA_ARGS__); }
+
+HINDERED(int, fchmod, (int file, mode_t mode), name_of(file), file, mode)
+HINDERED(ssize_t, read, (int file, void *bytes, size_t count), name_of(file), file, bytes, count)
+HINDERED(ssize_t, write, (int file, const void *bytes, size_t count), name_of(file), file, bytes, count)
+HINDERED(int, rename, (const char *from, const char *to), from, from, to)
+HINDERED(int, unlink, (const char *path), path, path)
+HINDERED(int, statx, (int folder, const char *path, int flags, unsigned mask, struct statx *found), path, folder, path,
+         flags, mask, found)
+
+ssize_t __write(int file, const void *bytes, size_t count) { return write(file, bytes, count); }
 
 int open(const char *path, int flags, ...) {
     va_list more;
@@ -56,28 +67,4 @@ int open(const char *path, int flags, ...) {
     int mode = flags & O_CREAT ? va_arg(more, int) : 0;
     va_end(more);
     return is_failing("open", path) ? -1 : (int)syscall(SYS_openat, AT_FDCWD, path, flags, mode);
-}
-
-int fchmod(int file, mode_t mode) {
-    return is_failing_at("fchmod", file) ? -1 : (int)syscall(SYS_fchmod, file, mode);
-}
-
-ssize_t read(int file, void *bytes, size_t count) {
-    return is_failing_at("read", file) ? -1 : syscall(SYS_read, file, bytes, count);
-}
-
-ssize_t write(int file, const void *bytes, size_t count) {
-    return is_failing_at("write", file) ? -1 : syscall(SYS_write, file, bytes, count);
-}
-
-ssize_t __write(int file, const void *bytes, size_t count) {
-    return write(file, bytes, count);
-}
-
-int rename(const char *from, const char *to) {
-    return is_failing("rename", from) ? -1 : (int)syscall(SYS_rename, from, to);
-}
-
-int unlink(const char *path) {
-    return is_failing("unlink", path) ? -1 : (int)syscall(SYS_unlink, path);
 }
