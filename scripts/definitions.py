@@ -5,11 +5,13 @@ A name counts wherever it stands in a definition, also as that of a variable or 
 is to be believed. Definitions of the standard library and of the ported crates are left out."""
 
 import functools
+import itertools
 import os
 import re
 import sys
 
-from documents import TOP, text_of
+from documents import text_of
+from running import TOP, reached
 from stored import rows
 
 IMPORT = re.compile(r"^(pub |ghost )?use Rattle\.(\w+)\.specs\.([\w.'-]+?)(?:\.\{([^}]*)\}| as (\w+))?;?$", re.M)
@@ -33,11 +35,6 @@ def listed(group):
 
 CONTRACTS, PROGRAMS, ANSWERS = map(listed, ["contracts", "programs", "answers"])
 MEANINGS = {**PROGRAMS, **ANSWERS}
-
-
-def spec_file(crate, path):
-    """The file of the definitions of this module."""
-    return f"crates/{crate}/specs/{path.replace('.', '/')}.antt"
 
 
 @functools.cache
@@ -83,7 +80,7 @@ def node_of(crate, path, name):
     if path.startswith("declared."):
         module, _, owner = path.removeprefix("declared.").removesuffix(".TheVariants").rpartition(".")
         return f"crates/{crate}/src/{module.replace('.', '/')}.rt", owner
-    file = spec_file(crate, path)
+    file = f"crates/{crate}/specs/{path.replace('.', '/')}.antt"
     owners, _ = items_of(file)
     if name in owners:
         return file, owners[name]
@@ -135,17 +132,6 @@ def rests_on(node):
     return set(filter(None, named_in(file, "\n".join(items_of(file)[1][name]))))
 
 
-def reached(roots):
-    """All that these rest on, themselves too."""
-    found, left = set(), list(roots)
-    while left:
-        node = left.pop()
-        if node not in found:
-            found.add(node)
-            left += rests_on(node)
-    return found
-
-
 def contract_of(path, function):
     """What the contract of the first function of this name in the file below crates/ names."""
     file = f"crates/{path}"
@@ -164,8 +150,8 @@ def needed_by(name):
     """All definitions and types that the contracts of this name rest on, or the definitions in `MEANINGS`."""
     if name in MEANINGS:
         nodes = {it[0]: node_of(*it[0].split()) for it in MEANINGS[name]}
-        return reached(nodes[it] or sys.exit(f"definitions: there is no {it}") for it in nodes)
-    return reached(it for words, in CONTRACTS[name] for it in contract_of(*words.split()))
+        return reached((nodes[it] or sys.exit(f"definitions: there is no {it}") for it in nodes), rests_on)
+    return reached((it for words, in CONTRACTS[name] for it in contract_of(*words.split())), rests_on)
 
 
 def all_needed(names):
@@ -180,7 +166,5 @@ def size_of(nodes):
 
 def lines_by_file(nodes):
     """For each file, how many lines the definitions or types in it have that are among these."""
-    found = {}
-    for node in sorted(nodes):
-        found[node[0]] = found.get(node[0], 0) + size(node)
-    return found
+    by_file = itertools.groupby(sorted(nodes), key=lambda node: node[0])
+    return {file: size_of(here) for file, here in by_file}

@@ -4,7 +4,8 @@ import glob
 import os
 import re
 
-TOP = os.path.dirname(os.path.dirname(os.path.abspath(__file__)))
+from running import TOP, decoded, read
+
 OF_CRATE = re.compile(r"((?:`[\w:]+`(?:,| and| or)? )+)of (fs_\w+)")
 HEADER = re.compile(r'(?:#![^\n]*\n)?(?:"""(.*?)(?:\n\n|""")|/\*(.*?)\*/|((?:(?:#(?!!)|//!|--)[^\n]*\n)+))', re.S)
 
@@ -12,17 +13,13 @@ HEADER = re.compile(r'(?:#![^\n]*\n)?(?:"""(.*?)(?:\n\n|""")|/\*(.*?)\*/|((?:(?:
 @functools.cache
 def text_of(file):
     """The text of a file by its path in the repository; none where there is no such file."""
-    if not os.path.isfile(f"{TOP}/{file}"):
-        return ""
-    with open(f"{TOP}/{file}", encoding="utf-8") as opened:
-        return opened.read()
+    return decoded(read(f"{TOP}/{file}")) if os.path.isfile(f"{TOP}/{file}") else ""
 
 
 @functools.cache
 def files(pattern):
     """The files of this pattern, by their paths in the repository."""
-    found = glob.glob(f"{TOP}/{pattern}", recursive=True)
-    return sorted(os.path.relpath(it, TOP) for it in found if os.path.isfile(it))
+    return sorted(it for it in glob.glob(pattern, root_dir=TOP, recursive=True) if os.path.isfile(f"{TOP}/{it}"))
 
 
 def beginning(text):

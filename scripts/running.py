@@ -123,6 +123,17 @@ def crates():
     return {names.split()[0]: uses.split() for names, colon, uses in lines if colon}
 
 
+def reached(roots, steps):
+    """All that comes of these by steps, where `steps` gives what comes of one; themselves too."""
+    found, left = set(), list(roots)
+    while left:
+        node = left.pop()
+        if node not in found:
+            found.add(node)
+            left += steps(node)
+    return found
+
+
 def here(*names):
     """The path of a file of examples/ or of scripts/transcripts/files/ that has one of these names."""
     folders = [EXAMPLES, f"{TOP}/scripts/transcripts/files"]
