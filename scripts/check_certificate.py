@@ -782,13 +782,8 @@ class Operation:
         self.loaded = step.loaded if step else None
         self.stored = step.stored if step else stored
         self.name = 'P%d:%d' % (hart, step.position) if step else None
-        self.classes = ('R' if self.loads() else '') + ('W' if self.stores() else '')
-
-    def loads(self):
-        return self.loaded is not None
-
-    def stores(self):
-        return self.stored is not None
+        self.loads, self.stores = self.loaded is not None, self.stored is not None
+        self.classes = 'R' * self.loads + 'W' * self.stores
 
     def is_acquire(self):
         """An AMO or lr.w with aq, or any of the three with both bits."""
@@ -815,14 +810,14 @@ class Operations:
             self.initial[address] = Operation(len(self.all), address, stored=word)
             self.all.append(self.initial[address])
         self.named = {operation.name: operation for operation in self.of_harts}
-        self.loads = [operation for operation in self.of_harts if operation.loads()]
+        self.loads = [operation for operation in self.of_harts if operation.loads]
         at_step = {(operation.hart, operation.at): operation for operation in self.of_harts}
         self.pairs = [(at_step[hart, first], at_step[hart, second])
                       for hart, run in enumerate(runs) for first, second in run.pairs]
 
     def stores_to(self, address):
         """The harts' stores to this word, by number."""
-        return [operation for operation in self.of_harts if operation.stores() and operation.address == address]
+        return [operation for operation in self.of_harts if operation.stores and operation.address == address]
 
     def between(self, first, second):
         """The harts' operations between these two in program order."""
@@ -836,10 +831,6 @@ class Operations:
 def po(a, b):
     """Program order."""
     return a.hart is not None and a.hart == b.hart and a.at < b.at
-
-
-def same_word(a, b):
-    return a.address == b.address
 
 
 # --- Preserved program order (MODEL 5 and 7) ---------------------------------------------------------------------
@@ -874,16 +865,16 @@ class Preserved:
 
     def rule_1(self, a, b):
         """Overlapping addresses: a store comes after what accesses its word before."""
-        return b.stores() and same_word(a, b)
+        return b.stores and a.address == b.address
 
     def rule_2(self, a, b):
         """Two loads of a word, no store to it between them, from different sources."""
-        return (a.loads() and b.loads() and same_word(a, b) and self.rf[a.number] is not self.rf[b.number]
-                and not any(m.stores() and same_word(m, a) for m in self.operations.between(a, b)))
+        return (a.loads and b.loads and a.address == b.address and self.rf[a.number] is not self.rf[b.number]
+                and not any(m.stores and m.address == a.address for m in self.operations.between(a, b)))
 
     def rule_3(self, a, b):
         """A load returns what an AMO or sc.w stored."""
-        return a.step.instruction.form in ('amo', 'sc') and b.loads() and self.rf[b.number] is a
+        return a.step.instruction.form in ('amo', 'sc') and b.loads and self.rf[b.number] is a
 
     def rule_4(self, a, b):
         """A fence between them: a written one, or a placed one."""
@@ -915,19 +906,19 @@ class Preserved:
 
     def rule_11(self, a, b):
         """b is a store, and a conditional branch between them depends on a."""
-        return b.stores() and any(step.instruction.form == 'branch' and step.depends(a.at, *step.instruction.plain)
+        return b.stores and any(step.instruction.form == 'branch' and step.depends(a.at, *step.instruction.plain)
                                   for step in self.steps_between(a, b))
 
     def rule_12(self, a, b):
         """b returns what a store m between them stored, and m depends on a by its address or data."""
-        if not b.loads():
+        if not b.loads:
             return False
         m = self.rf[b.number]
         return po(a, m) and po(m, b) and (m.step.address_depends(a.at) or m.step.data_depends(a.at))
 
     def rule_13(self, a, b):
         """b is a store, and the address of an instruction between them depends on a."""
-        return b.stores() and any(step.address_depends(a.at) for step in self.steps_between(a, b))
+        return b.stores and any(step.address_depends(a.at) for step in self.steps_between(a, b))
 
 
 # --- Candidates that show the outcome (MODEL 15) -----------------------------------------------------------------
@@ -940,13 +931,13 @@ class Candidate:
         self.place = {store.number: place for order in co.values() for place, store in enumerate(order)}
 
     def co(self, a, b):
-        return a.stores() and b.stores() and same_word(a, b) and self.place[a.number] < self.place[b.number]
+        return a.stores and b.stores and a.address == b.address and self.place[a.number] < self.place[b.number]
 
     def rfe(self, a, b):
-        return b.loads() and self.rf[b.number] is a and a.hart != b.hart
+        return b.loads and self.rf[b.number] is a and a.hart != b.hart
 
     def fr(self, a, b):
-        return a.loads() and b is not a and self.co(self.rf[a.number], b)
+        return a.loads and b is not a and self.co(self.rf[a.number], b)
 
     def is_edge(self, preserved, a, cause, b):
         """Is a before b in the judged relation, for this cause?"""
@@ -1010,7 +1001,7 @@ class Execution:
 
     def source(self, load):
         """The latest among the stores to its word that precede the load in the order or in program order."""
-        may_be = [store for store in self.gmo if store.stores() and same_word(store, load) and store is not load
+        may_be = [store for store in self.gmo if store.stores and store.address == load.address and store is not load
                   and (self.before(store, load) or po(store, load))]
         return may_be[-1]
 
@@ -1020,11 +1011,11 @@ class Execution:
         preserved = Preserved(operations, self.rf, slots, placement)
         return (all(self.before(a, b) for a in operations.of_harts for b in operations.of_harts if preserved.ppo(a, b))
                 and all(self.rf[load.number].stored == load.loaded for load in operations.loads)
-                and all(keeps_atomicity([store for store in self.gmo if store.stores() and same_word(store, sc)],
+                and all(keeps_atomicity([store for store in self.gmo if store.stores and store.address == sc.address],
                                         self.rf[lr.number], sc) for lr, sc in operations.pairs))
 
     def has_outcome(self):
-        return self.operations.have_outcome({store.address: store.stored for store in self.gmo if store.stores()})
+        return self.operations.have_outcome({store.address: store.stored for store in self.gmo if store.stores})
 
     def width(self, slot):
         """The pairs that a fence at this slot may have and order no two operations against this execution."""
@@ -1070,13 +1061,6 @@ def is_answer(value):
 
 def is_cycle(value):
     return has_form(value, [(is_name_of_operation, lambda cause: cause in CAUSES)]) and 1 <= len(value) <= 64
-
-
-def begins_at_least(cycle):
-    """Does the cycle begin at its least operation, by hart and then by instruction? So does each that the program
-    writes; a valid one may begin anywhere, and no check below asks this."""
-    names = [tuple(int(part) for part in name[1:].split(':')) for name, cause in cycle]
-    return names[0] == min(names)
 
 
 def is_item_of_1(value):
@@ -1140,17 +1124,16 @@ class OnlyRun:
         self.steps = {step.position: step for step in run.steps}
         self.operations = {operation.step.position: operation for operation in operations.of_harts}
         self.preserved = Preserved(operations, {}, slots, placement)
-        self.pairs = [(lr.step.position, sc.step.position) for lr, sc in operations.pairs]
         self.rules = {}             # what was found of rules that ask for no source
 
     def loads(self, at):
         """The address and the word that the operation there loads; None where it is none that loads."""
         operation = self.operations.get(at)
-        return (operation.address, operation.loaded) if operation and operation.loads() else None
+        return (operation.address, operation.loaded) if operation and operation.loads else None
 
     def stores(self, at):
         operation = self.operations.get(at)
-        return (operation.address, operation.stored) if operation and operation.stores() else None
+        return (operation.address, operation.stored) if operation and operation.stores else None
 
     def choice(self, at):
         """What the run chooses there, as a number: first those that don't execute it; then, as in choice order, words
@@ -1188,9 +1171,6 @@ class Region(typing.NamedTuple):
         left = [run for run in self.runs[hart] if passes(run)]
         return self._replace(runs=[*self.runs[:hart], left, *self.runs[hart + 1:]])
 
-    def with_order(self, first, second):
-        return self._replace(before=self.before | {(first, second)})
-
     def is_open(self):
         return all(self.runs)
 
@@ -1205,13 +1185,9 @@ class Refutation:
         self.names = test.memory_instructions()
         self.named = {'P%d:%d' % name: name for name in self.names}
 
-    def root(self):
-        """All candidates that have the outcome, in a list of one region."""
-        root = Region(self.runs, {}, frozenset(), [self.test.wanted])
-        return [root] if root.is_open() else []
-
     def check(self, inferences):
-        regions = self.root()           # those that are still to be refuted, the next one last
+        root = Region(self.runs, {}, frozenset(), [self.test.wanted])       # all candidates that have the outcome
+        regions = [root] if root.is_open() else []                          # still to be refuted, the next one last
         for number, inference in enumerate(inferences):
             if not regions:
                 raise Refused('cycles')
@@ -1231,7 +1207,8 @@ class Refutation:
         ends = {'l': self.is_stale, 'a': self.is_split_pair}
         if letter in ends:
             return [] if ends[letter](region, *parts) else None
-        splits = {'c': self.by_choice, 's': self.by_source, 'o': self.by_order, 'd': self.by_cases, 'f': self.by_outcome}
+        splits = {'c': self.by_choice, 's': self.by_source, 'o': self.by_order, 'd': self.by_cases,
+                  'f': self.by_outcome}
         children = splits[letter](region, *parts)
         return None if children is None else [child for child in children if child.is_open()]
 
@@ -1270,7 +1247,7 @@ class Refutation:
         if not may or self.place(region, a, OnlyRun.stores) != self.place(region, b, OnlyRun.stores) \
                 or (a, b) in region.before or (b, a) in region.before:
             return None
-        return [region.with_order(a, b), region.with_order(b, a)]
+        return [region._replace(before=region.before | {pair}) for pair in ((a, b), (b, a))]
 
     def by_cases(self, region, number):
         """The wanted condition of this number gives way to its parts."""
@@ -1434,18 +1411,12 @@ class Checker:
 
     def check_answer(self):
         """The fences are a placement of offered kinds, in slot order, and cost what is said."""
-        placement = [None] * len(self.slots)
-        last = -1
-        for text in self.certificate['answer']['fences']:
-            name, _, kind = text.partition('=')
-            names = ['P%d:%d' % slot for slot in self.slots]
-            if name not in names or names.index(name) <= last or kind not in self.prices.offered:
-                raise Refused('answer')
-            last = names.index(name)
-            placement[last] = kind
-        self.answer = tuple(placement)
-        self.cost = self.certificate['answer']['cost']
-        if self.prices.cost(self.slots, self.answer) != self.cost:
+        claim = self.certificate['answer']
+        kinds = dict(text.partition('=')[::2] for text in claim['fences'])
+        self.answer, self.cost = tuple(kinds.get('P%d:%d' % slot) for slot in self.slots), claim['cost']
+        fences = ['P%d:%d=%s' % (*slot, kind) for slot, kind in zip(self.slots, self.answer) if kind is not None]
+        if fences != claim['fences'] or not {*kinds.values()} <= {*self.prices.offered} \
+                or self.prices.cost(self.slots, self.answer) != self.cost:
             raise Refused('answer')
 
     def check_cycles(self):

@@ -10,6 +10,7 @@ this is one. Of the faults of runs and candidates it knows F13, F14 and F15.
 """
 
 import collections
+import graphlib
 import itertools
 import json
 import math
@@ -59,17 +60,11 @@ def accesses_of(run):
 
 def raw_candidates(test, accesses):
     """How many raw candidates these accesses give: the sources of each load times the orders of each word's stores."""
-    stores = collections.Counter()
-    for address, _, stored in accesses:
-        if stored is not None:
-            stores[address, stored] += 1
-    count = 1
-    for address, loaded, stored in accesses:
-        if loaded is not None:
-            count *= stores[address, loaded] + (test.words[address] == loaded) - (stored == loaded)
-    for address in test.words:
-        count *= math.factorial(sum(number for (place, _), number in stores.items() if place == address))
-    return count
+    stores = collections.Counter((address, stored) for address, _, stored in accesses if stored is not None)
+    sources = [stores[address, loaded] + (test.words[address] == loaded) - (stored == loaded)
+               for address, loaded, stored in accesses if loaded is not None]
+    numbers = collections.Counter(address for address, _ in stores.elements())
+    return math.prod(sources) * math.prod(map(math.factorial, numbers.values()))
 
 
 def count_candidates(test, all_runs, most=MOST_CANDIDATES):
@@ -106,11 +101,8 @@ def has_cycle(rows):
 
 def order_of(rows):
     """An order of the numbers that goes the way of each edge. There must be no cycle."""
-    found = []
-    while len(found) < len(rows):
-        left = [number for number in range(len(rows)) if number not in found]
-        found.append(next(b for b in left if not any(rows[a] >> b & 1 for a in left)))
-    return found
+    numbers = range(len(rows))
+    return graphlib.TopologicalSorter({b: [a for a in numbers if rows[a] >> b & 1] for b in numbers}).static_order()
 
 
 def rows_where(operations, is_edge):
@@ -137,7 +129,11 @@ class Fences:
             own = [operation for operation in operations.of_harts if operation.hart == hart]
             if (hart, run.choices) not in known:
                 known[hart, run.choices] = self.of_run(operations, own, slots)
-            self.put(own, *known[hart, run.choices])
+            rows, at_slots = known[hart, run.choices]
+            for index, operation in enumerate(own):
+                self.rows[operation.number] = rows[index] << own[0].number
+                for (at, pair), fenced in at_slots.items():
+                    self.at[at][pair][operation.number] = fenced[index] << own[0].number
 
     @staticmethod
     def of_run(operations, own, slots):
@@ -151,13 +147,6 @@ class Fences:
         rows = rows_where(own, lambda a, b: any(preserved.rule(number, a, b) for number in OTHER_RULES))
         return rows, {(at, pair): rows_where(own, lambda a, b: is_fenced(slot, pair, a, b))
                       for at, slot in enumerate(slots) for pair in model.ALL_PAIRS}
-
-    def put(self, own, rows, at_slots):
-        """Puts the rows of a hart's operations in their place."""
-        for index, operation in enumerate(own):
-            self.rows[operation.number] = rows[index] << own[0].number
-            for (at, pair), fenced in at_slots.items():
-                self.at[at][pair][operation.number] = fenced[index] << own[0].number
 
 
 class Live:
@@ -210,8 +199,7 @@ class Problem:
 
     def list_candidates(self):
         """Goes through all showing candidates, and keeps those without a cycle."""
-        operations = None
-        known = {}
+        operations, known = None, {}
         for candidate in model.candidates(self.test):
             self.candidates += 1
             if operations is not candidate.operations:
@@ -291,8 +279,7 @@ class Breaks:
     def least(self, start, left):
         """A cost that it takes at least to break these executions at slots from this number on; None where that can't
         be. Executions that are broken at different slots are paid for each."""
-        found = 0
-        taken = set()
+        found, taken = 0, set()
         for breaks in left:
             slots = [at for at in range(start, len(breaks)) if breaks[at]]
             if not slots:

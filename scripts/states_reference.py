@@ -48,7 +48,7 @@ class Shown:
         execution = execution_of(self.test, text, placement)
         if execution is None:
             return False
-        last = {store.address: store.stored for store in execution.gmo if store.stores()}
+        last = {store.address: store.stored for store in execution.gmo if store.stores}
         registers = [run.registers for run in execution.operations.runs]
         found = [last[place] if type(place) is int else registers[place[0]][place[1]] for place in self.places]
         return self.line_of(found) == line

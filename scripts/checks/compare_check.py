@@ -11,7 +11,6 @@ import json
 import os
 import random
 
-import check_certificate as model
 from running import EXAMPLES, PRICE_LISTS, Said, here, read, rvfence, tests_of_examples, written
 from verdicts import Judge
 
@@ -25,6 +24,12 @@ def places_in(value):
     for key in keys:
         yield value, key
         yield from places_in(value[key])
+
+
+def begins_at_least(cycle):
+    """Does the cycle begin at its least operation, by hart and then by instruction?"""
+    names = [tuple(map(int, name[1:].split(':'))) for name, _ in cycle]
+    return names[0] == min(names)
 
 
 def kind_of(value):
@@ -86,7 +91,7 @@ def certified(run):
         judge_both(run, what, (test, prices, path), judge, wanted)
         cert = json.loads(read(path))
         cycles = [item for item in cert['cycles'] if type(item[0]) is list]
-        late = [cycle for cycle in cycles if not model.begins_at_least(cycle)]
+        late = [cycle for cycle in cycles if not begins_at_least(cycle)]
         run.expect(f'cycles that begin after their least operation, {what}', [], late)
         found.append((what, test, prices, judge, cert))
         if name == 'prices.json':

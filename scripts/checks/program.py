@@ -114,8 +114,8 @@ def done_by(test, operation):
     names = {address: name for name, address in test.addresses.items()}
     loaded, stored = (f"&{names[it]}" if it in names else str(it) for it in (operation.loaded, operation.stored))
     at = names[operation.address]
-    if operation.loads():
-        return f"reads {at}={loaded}" + (f", stores {stored}" if operation.stores() else "")
+    if operation.loads:
+        return f"reads {at}={loaded}" + (f", stores {stored}" if operation.stores else "")
     return f"stores {at}={stored}"
 
 
