@@ -5,6 +5,7 @@ import collections
 import concurrent.futures
 import contextlib
 import functools
+import json
 import os
 import resource
 import shlex
@@ -70,7 +71,7 @@ def ran_on_terminal(command):
     """What a run of this command says whose standard error is a terminal."""
     with tempfile.NamedTemporaryFile() as out:
         said = ran(["script", "-qec", f"exec {shlex.join(command)} </dev/null >{out.name}", os.devnull])
-        return Said(decoded(read(out.name)), said.out, said.status)
+        return Said(text_of(out.name), said.out, said.status)
 
 
 def compiled(source, folder, *words):
@@ -110,6 +111,16 @@ def read(path):
         return file.read()
 
 
+def text_of(path):
+    """The text of a file."""
+    return decoded(read(path))
+
+
+def compact(value):
+    """A value as a text of JSON without blanks."""
+    return json.dumps(value, separators=(",", ":"))
+
+
 def written(path, data):
     """Writes bytes or text to a file, and gives its path."""
     with open(path, "wb") as file:
@@ -119,7 +130,7 @@ def written(path, data):
 
 def crates():
     """The crates of crates.txt, with what its line says that each stands on."""
-    lines = [line.partition("#")[0].partition(":") for line in decoded(read(f"{TOP}/crates.txt")).splitlines()]
+    lines = [line.partition("#")[0].partition(":") for line in text_of(f"{TOP}/crates.txt").splitlines()]
     return {names.split()[0]: uses.split() for names, colon, uses in lines if colon}
 
 
@@ -154,5 +165,5 @@ def transcript(said):
 
 def stored_answers(command):
     """The transcripts of examples/answers/ of this command, by the words behind it."""
-    blocks = decoded(read(f"{EXAMPLES}/answers/{command}.transcripts")).split(f"$ rvfence {command} ")[1:]
+    blocks = text_of(f"{EXAMPLES}/answers/{command}.transcripts").split(f"$ rvfence {command} ")[1:]
     return {tuple(words.split()): rest for words, rest in (it.removesuffix("\n\n").split("\n", 1) for it in blocks)}

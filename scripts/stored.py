@@ -1,12 +1,12 @@
 """Tables that are stored in scripts/transcripts/."""
 import re
 
-from running import TOP, decoded, read
+from running import TOP, text_of
 
 
 def rows(name, group=""):
     """The lines of a table, or of a group of it, but for empty ones and comments."""
-    text = decoded(read(f"{TOP}/scripts/transcripts/{name}.table"))
+    text = text_of(f"{TOP}/scripts/transcripts/{name}.table")
     if group:
         text = text.partition(f"\n## {group}\n")[2].partition("\n\n")[0]
     return [line for line in text.split("\n") if line and not line.startswith("#")]

@@ -18,7 +18,7 @@ import tempfile
 
 import check_certificate as model
 import solve_reference as reference
-from running import (EXAMPLES, PRICE_LISTS, TOP, Said, decoded, read, rvfence, stored_answers, tests_of_examples,
+from running import (EXAMPLES, PRICE_LISTS, TOP, Said, read, rvfence, stored_answers, tests_of_examples, text_of,
                      transcript, written)
 from states_reference import Listing, Shown
 from verdicts import Judge, is_listed, is_same
@@ -104,7 +104,7 @@ def table(answers):
 
 def table_of_guide():
     """The guide's lines before its table, those of the table, and those after it."""
-    lines = decoded(read(GUIDE)).split('\n')
+    lines = text_of(GUIDE).split('\n')
     start = lines.index(HEADER)
     end = next(at for at in range(start, len(lines)) if not lines[at].startswith('|'))
     return lines[:start], lines[start:end], lines[end:]

@@ -7,7 +7,7 @@ ones go through the command; the others are judged in this process, which takes 
 import json
 import sys
 
-from running import PRICES, TOP, Said, encoded, here, ran, read, rvfence, written
+from running import PRICES, TOP, Said, compact, encoded, here, ran, read, rvfence, written
 from stored import expanded, rows
 from verdicts import Judge
 
@@ -68,7 +68,7 @@ def check(run):
         wanted = FAULT if wanted == "F18" else wanted.replace(" / ", "\n")
         judge(run, what, here(f"{test}.litmus"), changed(stored(name), json.loads(expanded(changes))), wanted,
               here(prices or "prices.json"), fault)
-    whole = json.dumps(stored("CoRR"), separators=(",", ":")).encode()
+    whole = compact(stored("CoRR")).encode()
     for count in range(len(whole) + 1):
         wanted = FAULT if count < len(whole) else "yes"
         judge(run, f"coherent reads: the first {count} bytes", here("CoRR.litmus"), whole[:count], wanted)

@@ -24,7 +24,7 @@ import termios
 import time
 
 from checks import transcripts
-from running import EXAMPLES, LONGEST, PRICES, Said, compiled, decoded, program, ran, read, waited_for, written
+from running import EXAMPLES, LONGEST, PRICES, Said, compiled, program, ran, read, text_of, waited_for, written
 
 MISSING, FOLDER, UNREAD = "there is no such file", "it is a folder", "it can't be opened or read"
 UNWRITTEN = Said("", "fault F21 WriteFault\n", 2)
@@ -32,7 +32,7 @@ OLD = b"old"
 NOBODY = 65534
 STREAMS = [[0], [1], [2], [0, 1], [0, 2], [1, 2], [0, 1, 2]]
 # Store buffering in the printed form, an execution of it, and its answer.
-SB = decoded(read(f"{transcripts.FOLDER}/files/printed.litmus"))
+SB = text_of(f"{transcripts.FOLDER}/files/printed.litmus")
 SB_WITNESS = '{"choices":[[0],[0]],"order":["P0:1","P1:1","P0:0","P1:0"]}'
 SB_ANSWER = Said("fenced 18\nfence P0 1 w,r\nfence P1 1 w,r\n", "", 0)
 
@@ -194,7 +194,7 @@ def check_outputs(checks):
                 limits = before(size=size + len(old), is_ignored=is_ignored)
                 found = checks.run(words, stdout=file, preexec_fn=limits)
             wanted = answer if size == len(answer.out) else UNWRITTEN._replace(out=answer.out[:size])
-            found = found._replace(out=decoded(read(path)).removeprefix(old))
+            found = found._replace(out=text_of(path).removeprefix(old))
             name = f"{command}: standard output takes {size} bytes behind {old!r}"
             checks.expect(name + ("" if is_ignored else ", or a signal comes"), wanted, found)
 
@@ -208,7 +208,7 @@ def check_errors(checks):
         with open(path, "wb") as file:
             found = checks.run(missing, stderr=file, preexec_fn=before(size=size, is_ignored=is_ignored))
         wanted = "".join(it for it in line.splitlines(keepends=True) if line.index(it) + len(it) <= size)
-        is_right = found.status == 2 and decoded(read(path)) == wanted
+        is_right = found.status == 2 and text_of(path) == wanted
         checks.check(f"standard error takes {size} bytes, ignored: {is_ignored}", is_right, (found, wanted))
 
 

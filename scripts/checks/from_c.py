@@ -6,7 +6,7 @@ import os
 import random
 import re
 
-from running import EXAMPLES, TOP, decoded, ran, read, rvfence, side_by_side, written
+from running import EXAMPLES, TOP, ran, read, rvfence, side_by_side, text_of, written
 from stored import expanded, rows
 
 FOLDER = f"{EXAMPLES}/c"
@@ -17,7 +17,7 @@ HEAD = "C T\n{}\nP0(int *x, atomic_t *a, spinlock_t *s) {"
 
 def check_verdict(run, name):
     """One of the examples."""
-    text = decoded(read(f"{FOLDER}/{name}"))
+    text = text_of(f"{FOLDER}/{name}")
     result, here = re.search(r"Result: (\w+)", text), re.search(r"RISC-V: (\w+)", text)
     for lock in ["swap", "lrsc", "ticket"] if "spin_lock" in text else ["swap"]:
         for sites in ([], ["--sites"]):

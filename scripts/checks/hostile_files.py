@@ -2,7 +2,6 @@
 what the command says. The answers are those of docs/FORMAT.md, and none is taken from the program: they are derived
 where the file is made, and for files that are changed or composed by a second reader of the formats. Those that a line
 describes are in scripts/transcripts/hostile.table."""
-import functools
 import itertools
 import json
 import os
@@ -10,7 +9,7 @@ import random
 import re
 
 from check_certificate import prices_of
-from running import EXAMPLES, read
+from running import EXAMPLES, compact, read
 from stored import expanded, rows
 from verdicts import READ, Judge, fault_of, is_witness
 
@@ -32,11 +31,6 @@ LOGGED = re.compile(r"(?s)SB: .*|error: log line \d+: expected .*")
 
 def syntax(line):
     return f"fault F3 Syntax line {line}"
-
-
-def compact(value):
-    """A value as bytes of JSON without blanks."""
-    return json.dumps(value, separators=(",", ":")).encode()
 
 
 def last_line(text):
@@ -296,7 +290,7 @@ def prices():
 def prices_changed():
     """A price list with each byte replaced by each telling one, and with each of its values replaced by others."""
     value = {"w,w": 2, "tso": 1000000, "rw,rw": 10, "weights": {"P0:3": 3, "P255:255": 1000}}
-    whole = compact(value)
+    whole = compact(value).encode()
     yield from bytes_replaced("prices", whole, TELLING, lambda text: fault_of(text, prices_of))
     for name, text in values_changed(value):
         yield f"prices with {name}", text, fault_of(text, prices_of)
@@ -307,7 +301,7 @@ def values_changed(whole):
     object left out or put in twice, an object's under another key."""
     mark = "@"
     for place, changed in parts_changed(whole, mark):
-        text = compact(changed).decode()
+        text = compact(changed)
         if f'"{mark}"' not in text:
             yield place, text.encode()
             continue
@@ -374,20 +368,18 @@ def witnesses():
 
 # --- Certificates ------------------------------------------------------------------------------------------------
 
+JUDGE = Judge(f"{EXAMPLES}/SB.litmus", f"{EXAMPLES}/prices.json")
+
+
 def checked(text):
     """What `check` answers to a certificate of SB, by scripts/check_certificate.py."""
-    said = judge().verdict(text)
+    said = JUDGE.verdict(text)
     return (said.out or said.err).rstrip("\n")
-
-
-@functools.cache
-def judge():
-    return Judge(f"{EXAMPLES}/SB.litmus", f"{EXAMPLES}/prices.json")
 
 
 def stored(name):
     """A certificate of SB as text."""
-    return compact(json.loads(read(f"{EXAMPLES}/certificates/{name}.json"))).decode()
+    return compact(json.loads(read(f"{EXAMPLES}/certificates/{name}.json")))
 
 
 def changed_certificates(what, name, telling):

@@ -6,7 +6,7 @@ milliseconds of processor time and its mebibytes at the peak."""
 import os
 
 from checks.transcripts import FOLDER, Transcripts, blocks_of
-from running import compiled, decoded, program, read, written
+from running import compiled, program, text_of, written
 
 LONGEST = 600                       # seconds of processor time
 # Runs the program in place of itself, and notes its nanoseconds, its bytes, its status and its words, but for those of
@@ -19,7 +19,7 @@ exec "{program}" "$@"
 
 def show(notes):
     """Prints what the runs took that were large, and notes anew."""
-    for line in decoded(read(notes)).splitlines():
+    for line in text_of(notes).splitlines():
         nanoseconds, peak, _, words = line.split(" ", 3)
         if int(nanoseconds) > 20_000_000 or int(peak) > 8_000_000:
             print(f"{words[:120]}: {int(nanoseconds) / 1e6:.0f} ms, {int(peak) / 2 ** 20:.0f} MiB", flush=True)

@@ -17,7 +17,7 @@ import re
 import subprocess
 import tempfile
 
-from running import EXAMPLES, TOP, Said, compiled, decoded, program, ran, read, rvfence, side_by_side
+from running import EXAMPLES, TOP, Said, compiled, program, ran, read, rvfence, side_by_side, text_of
 from stored import rows
 
 CRATE = f"{TOP}/crates/fs_tests_out_of_memory"
@@ -147,4 +147,4 @@ def check(run):
     if not are_built():
         subprocess.run(["rt", "run"], cwd=CRATE, stdout=subprocess.DEVNULL, check=True)
     whole = [line for part in PARTS for line in try_part(run.check, library, part)]
-    run.expect("what the calls print with ample memory", decoded(read(f"{CRATE}/stdout")).splitlines(), whole)
+    run.expect("what the calls print with ample memory", text_of(f"{CRATE}/stdout").splitlines(), whole)

@@ -3,14 +3,14 @@ import os
 import re
 import tempfile
 
-from running import EXAMPLES, LONGEST, TOP, decoded, program, ran, read
+from running import EXAMPLES, LONGEST, TOP, program, ran, text_of
 
 FOLDER = f"{TOP}/scripts/transcripts"
 
 
 def blocks_of(path):
     """The blocks of a transcript: of each its name, its command and what is printed."""
-    text = re.sub("(?m)^## .*\n", "", decoded(read(path))).strip("\n")
+    text = re.sub("(?m)^## .*\n", "", text_of(path)).strip("\n")
     for block in text.split("\n\n"):
         name, command, wanted = block.split("\n", 2)
         yield name.removeprefix("# "), command.removeprefix("$ "), wanted
