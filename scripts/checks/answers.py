@@ -2,8 +2,8 @@
 examples/answers/solve.transcripts and states.transcripts. `--write` writes that file anew, and with the answers of
 `solve` the table of docs/ANSWERS.md.
 
-What stands there is found by scripts/solve_reference.py and scripts/states_reference.py. These list candidates, so they
-are asked only of tests with at most 100,000 lists of runs and as many candidates, and of states with at most 2,000. The
+What stands there is found by scripts/solve_reference.py and scripts/verdicts.py. These list candidates, so they are
+asked only of tests with at most 100,000 lists of runs and as many candidates, and of states with at most 2,000. The
 other answers are the program's. Those of `solve` stand there where scripts/check_certificate.py says yes to the
 certificate that `solve --cert` writes: it shows that the fences are enough and that nothing better is. Those of
 `states` do where each of the executions that it prints is one and ends in the state above it; that no state is missing
@@ -20,8 +20,7 @@ import check_certificate as model
 import solve_reference as reference
 from running import (EXAMPLES, PRICE_LISTS, TOP, Said, read, rvfence, stored_answers, tests_of_examples, text_of,
                      transcript, written)
-from states_reference import Listing, Shown
-from verdicts import Judge, is_listed, is_same
+from verdicts import Judge, Listing, Shown, is_listed, is_same
 
 GUIDE = f'{TOP}/docs/ANSWERS.md'
 IN_TABLE = PRICE_LISTS[:2]

@@ -10,7 +10,7 @@ import check_certificate as model
 import solve_reference as reference
 from litmus import Maker
 from running import compact, read, rvfence, written
-from states_reference import Listing
+from verdicts import Listing
 
 
 def object_of(lines):
