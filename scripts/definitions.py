@@ -155,12 +155,10 @@ def needed_by(name):
 
 
 def all_needed(names):
-    """All that these rest on."""
     return {it for name in names for it in needed_by(name)}
 
 
 def size_of(nodes):
-    """How many lines these have together."""
     return sum(map(size, nodes))
 
 

@@ -114,7 +114,6 @@ class Maker:
         return [Code(self.chance, locations).make(self.chance.randint(min(2, most), most)) for _ in range(harts)]
 
     def text(self, codes, condition):
-        """The test as a file has it."""
         registers = sorted(LOCATIONS.items()) + sorted(WORDS.items())
         entries = [f'{hart}:{register}={value};' for hart in range(len(codes)) for register, value in registers]
         return text_of(f'made{self.number}', entries + self.words, codes, condition)

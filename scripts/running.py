@@ -106,13 +106,11 @@ def side_by_side(function, items):
 
 
 def read(path):
-    """The bytes of a file."""
     with open(path, "rb") as file:
         return file.read()
 
 
 def text_of(path):
-    """The text of a file."""
     return decoded(read(path))
 
 

@@ -308,7 +308,6 @@ def solved(problem):
 # --- What is printed -------------------------------------------------------------------------------------------------
 
 def lines_of(problem, placement):
-    """What is printed of an answer."""
     if placement is None:
         full = ('rw,rw',) * len(problem.slots)
         return ['none', json.dumps(problem.survivor(full).witness(full), separators=(',', ':'))]

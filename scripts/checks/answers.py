@@ -120,7 +120,6 @@ def write(command):
 
 
 def compare(run, command, answer, questions):
-    """Compares answers with the file."""
     answers = stored_answers(command)
     for words in questions:
         said = answer(command, *words)

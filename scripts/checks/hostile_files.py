@@ -44,7 +44,6 @@ def litmus(init="0:x6=x;", cell="lw x5,0(x6)", condition="0:x5=0"):
 
 
 def examples():
-    """The examples, each with its name."""
     for name in sorted(os.listdir(EXAMPLES)):
         if name.endswith(".litmus"):
             yield name, read(f"{EXAMPLES}/{name}")
@@ -204,7 +203,6 @@ def composed(chance):
 
 
 def tests_composed():
-    """Tests made of parts, the same ones each time."""
     chance = random.Random(2)
     for number in range(TESTS_COMPOSED):
         text = composed(chance).encode("ascii")

@@ -49,7 +49,6 @@ class Run(Counts):
         return range(self.options.first, self.options.first + self.options.count)
 
     def path(self, name):
-        """The path of a file in its folder."""
         return f"{self.folder}/{name}"
 
 

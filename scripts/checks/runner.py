@@ -155,7 +155,6 @@ def run_all(checks, is_quick):
 
 
 def show(checks):
-    """Prints a line for each check."""
     for check in checks:
         taken = " ".join([name if name.startswith("-") else f"[{name.upper()}]" for name in check.words])
         print(f"{' '.join([check.name, taken]).strip()} (needs {check.needs}): {check.about()}")
