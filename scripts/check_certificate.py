@@ -635,15 +635,29 @@ class ChoicesEnd(NoRun):
 
 
 class Step:
-    """One executed instruction and its access. `origins` has for each of its sources the steps on which it depends."""
+    """One executed instruction, and its access, where it makes one: then it is an operation (MODEL 2), a load, a store
+    or both. An initial store is one of no hart. `origins` has for each of its sources the steps on which it depends."""
 
-    def __init__(self, position, instruction):
-        self.position, self.instruction = position, instruction
-        self.address = self.loaded = self.stored = None
+    def __init__(self, hart=None, position=None, instruction=None, address=None, stored=None):
+        self.hart, self.position, self.instruction = hart, position, instruction
+        self.name = None if hart is None else 'P%d:%d' % (hart, position)
         self.origins = {}
+        self.accesses(address, stored=stored)
+
+    def accesses(self, address, loaded=None, stored=None):
+        self.address, self.loaded, self.stored = address, loaded, stored
+        self.loads, self.stores = loaded is not None, stored is not None
+        self.classes = 'R' * self.loads + 'W' * self.stores
+
+    def is_acquire(self):
+        """An AMO or lr.w with aq, or any of the three with both bits."""
+        return self.instruction.aq and (self.instruction.form != 'sc' or self.instruction.rl)
+
+    def is_release(self):
+        return self.instruction.rl and (self.instruction.form != 'lr' or self.instruction.aq)
 
     def depends(self, step, *registers):
-        """Does this step depend on that one (a number in the run) through one of these sources?"""
+        """Does this step depend on that one through one of these sources?"""
         return any(step in self.origins.get(register, ()) for register in registers)
 
     def address_depends(self, step):
@@ -659,11 +673,11 @@ class Run:
     def __init__(self, test, hart, choices):
         self.test, self.hart, self.choices = test, hart, choices
         self.steps = []
-        self.pairs = []             # lr.w and sc.w, as numbers of steps
+        self.pairs = []             # lr.w and sc.w
         self.registers = list(test.registers[hart])
         self.origins = [frozenset()] * 32
         self.used = 0
-        self.reserving = None       # the lr.w with which an sc.w here would be paired, as the number of its step
+        self.reserving = None       # the lr.w with which an sc.w here would be paired
         position = 0
         while position < len(test.code[hart]):
             position = self.execute(position)
@@ -673,7 +687,7 @@ class Run:
     def execute(self, position):
         """Makes one step, and gives the position of the next one."""
         instruction = self.test.code[self.hart][position]
-        step = Step(position, instruction)
+        step = Step(self.hart, position, instruction)
         step.origins = {register: self.origins[register] for register in instruction.sources()}
         result = None
         goes_to = position + 1
@@ -685,45 +699,42 @@ class Run:
             goes_to = instruction.label
         elif instruction.is_memory():
             result = self.access(step, instruction)
-        number = len(self.steps)
         self.steps.append(step)
         if result is not None and instruction.rd != 0:
             self.registers[instruction.rd] = result
             carried = step.origins.values() if instruction.form == 'compute' else ()
-            self.origins[instruction.rd] = frozenset([number]).union(*carried)
+            self.origins[instruction.rd] = frozenset([step]).union(*carried)
         return goes_to
 
     def access(self, step, instruction):
         """Accesses memory, and gives the word for rd, if there is one."""
-        number = len(self.steps)
         address = (self.registers[instruction.address] + instruction.number) % WORDS
         data = self.registers[instruction.data] if instruction.data is not None else None
         if instruction.form == 'sc':
-            return self.store_conditional(step, number, address, data)
+            return self.store_conditional(step, address, data)
         if address not in self.test.words:
             raise GoesAstray(step.position)
-        step.address = address
         if instruction.form == 'store':
-            step.stored = data
+            step.accesses(address, stored=data)
             return None
-        step.loaded = self.choose(address, ())
-        if type(step.loaded) is not int:
+        loaded = self.choose(address, ())
+        if type(loaded) is not int:
             raise NoRun()
-        if instruction.form == 'amo':
-            step.stored = instruction.function(step.loaded, data) % WORDS
+        stored = instruction.function(loaded, data) % WORDS if instruction.form == 'amo' else None
+        step.accesses(address, loaded, stored)
         if instruction.form == 'lr':
-            self.reserving = number
-        return step.loaded
+            self.reserving = step
+        return loaded
 
-    def store_conditional(self, step, number, address, data):
+    def store_conditional(self, step, address, data):
         """An sc.w succeeds only where it is paired with an lr.w of its address, and may always fail."""
-        can_succeed = self.reserving is not None and self.steps[self.reserving].address == address
+        can_succeed = self.reserving is not None and self.reserving.address == address
         succeeds = self.choose(None, (True, False) if can_succeed else (False,))
         if type(succeeds) is not bool or succeeds and not can_succeed:
             raise NoRun()
         if succeeds:
-            step.address, step.stored = address, data
-            self.pairs.append((self.reserving, number))
+            step.accesses(address, stored=data)
+            self.pairs.append((self.reserving, step))
         self.reserving = None
         return 0 if succeeds else 1
 
@@ -773,50 +784,19 @@ def value_sets(test, runs_over=all_runs_over):
 
 # --- Operations (MODEL 2) ----------------------------------------------------------------------------------------
 
-class Operation:
-    """A load, a store or both; of no hart where it is an initial store."""
-
-    def __init__(self, number, address, hart=None, at=None, step=None, stored=None):
-        self.number, self.address, self.hart, self.step = number, address, hart, step
-        self.at = at                # the number of its step in the run
-        self.loaded = step.loaded if step else None
-        self.stored = step.stored if step else stored
-        self.name = 'P%d:%d' % (hart, step.position) if step else None
-        self.loads, self.stores = self.loaded is not None, self.stored is not None
-        self.classes = 'R' * self.loads + 'W' * self.stores
-
-    def is_acquire(self):
-        """An AMO or lr.w with aq, or any of the three with both bits."""
-        instruction = self.step.instruction
-        return instruction.aq and (instruction.form != 'sc' or instruction.rl)
-
-    def is_release(self):
-        instruction = self.step.instruction
-        return instruction.rl and (instruction.form != 'lr' or instruction.aq)
-
-
 class Operations:
-    """All operations of the runs by number, and after them the initial stores by location."""
+    """The operations of runs, and of each location the initial store, by its address."""
 
     def __init__(self, test, runs):
-        self.test, self.runs, self.all = test, runs, []
-        for hart, run in enumerate(runs):
-            for at, step in enumerate(run.steps):
-                if step.loaded is not None or step.stored is not None:
-                    self.all.append(Operation(len(self.all), step.address, hart, at, step))
-        self.of_harts = list(self.all)
-        self.initial = {}
-        for address, word in test.words.items():
-            self.initial[address] = Operation(len(self.all), address, stored=word)
-            self.all.append(self.initial[address])
+        self.test, self.runs = test, runs
+        self.of_harts = [step for run in runs for step in run.steps if step.address is not None]
+        self.initial = {address: Step(address=address, stored=word) for address, word in test.words.items()}
         self.named = {operation.name: operation for operation in self.of_harts}
         self.loads = [operation for operation in self.of_harts if operation.loads]
-        at_step = {(operation.hart, operation.at): operation for operation in self.of_harts}
-        self.pairs = [(at_step[hart, first], at_step[hart, second])
-                      for hart, run in enumerate(runs) for first, second in run.pairs]
+        self.pairs = [pair for run in runs for pair in run.pairs]
 
     def stores_to(self, address):
-        """The harts' stores to this word, by number."""
+        """The harts' stores to this word."""
         return [operation for operation in self.of_harts if operation.stores and operation.address == address]
 
     def between(self, first, second):
@@ -829,8 +809,8 @@ class Operations:
 
 
 def po(a, b):
-    """Program order."""
-    return a.hart is not None and a.hart == b.hart and a.at < b.at
+    """Program order. All branches go forward, so no run comes to an instruction twice."""
+    return a.hart is not None and a.hart == b.hart and a.position < b.position
 
 
 # --- Preserved program order (MODEL 5 and 7) ---------------------------------------------------------------------
@@ -842,11 +822,12 @@ def orders(pairs, a, b):
 
 def runs_slot_between(run, slot, a, b):
     """Does the run of their hart execute the slot's instruction after a and up to b, b included?"""
-    return a.hart == slot[0] and any(run.steps[at].position == slot[1] for at in range(a.at + 1, b.at + 1))
+    return a.hart == slot[0] and any(a.position < step.position <= b.position and step.position == slot[1]
+                                     for step in run.steps)
 
 
 class Preserved:
-    """The thirteen rules, for these operations, a source for each load (`rf`, by number) and a placement."""
+    """The thirteen rules, for these operations, a source for each load (`rf`) and a placement."""
 
     def __init__(self, operations, rf, slots, placement):
         self.operations, self.rf = operations, rf
@@ -861,7 +842,7 @@ class Preserved:
         return po(a, b) and any(rule(a, b) for rule in self.rules)
 
     def steps_between(self, a, b):
-        return self.operations.runs[a.hart].steps[a.at + 1:b.at]
+        return [step for step in self.operations.runs[a.hart].steps if po(a, step) and po(step, b)]
 
     def rule_1(self, a, b):
         """Overlapping addresses: a store comes after what accesses its word before."""
@@ -869,12 +850,12 @@ class Preserved:
 
     def rule_2(self, a, b):
         """Two loads of a word, no store to it between them, from different sources."""
-        return (a.loads and b.loads and a.address == b.address and self.rf[a.number] is not self.rf[b.number]
+        return (a.loads and b.loads and a.address == b.address and self.rf[a] is not self.rf[b]
                 and not any(m.stores and m.address == a.address for m in self.operations.between(a, b)))
 
     def rule_3(self, a, b):
         """A load returns what an AMO or sc.w stored."""
-        return a.step.instruction.form in ('amo', 'sc') and b.loads and self.rf[b.number] is a
+        return a.instruction.form in ('amo', 'sc') and b.loads and self.rf[b] is a
 
     def rule_4(self, a, b):
         """A fence between them: a written one, or a placed one."""
@@ -899,26 +880,26 @@ class Preserved:
         return any(lr is a and sc is b for lr, sc in self.operations.pairs)
 
     def rule_9(self, a, b):
-        return b.step.address_depends(a.at)
+        return b.address_depends(a)
 
     def rule_10(self, a, b):
-        return b.step.data_depends(a.at)
+        return b.data_depends(a)
 
     def rule_11(self, a, b):
         """b is a store, and a conditional branch between them depends on a."""
-        return b.stores and any(step.instruction.form == 'branch' and step.depends(a.at, *step.instruction.plain)
+        return b.stores and any(step.instruction.form == 'branch' and step.depends(a, *step.instruction.plain)
                                   for step in self.steps_between(a, b))
 
     def rule_12(self, a, b):
         """b returns what a store m between them stored, and m depends on a by its address or data."""
         if not b.loads:
             return False
-        m = self.rf[b.number]
-        return po(a, m) and po(m, b) and (m.step.address_depends(a.at) or m.step.data_depends(a.at))
+        m = self.rf[b]
+        return po(a, m) and po(m, b) and (m.address_depends(a) or m.data_depends(a))
 
     def rule_13(self, a, b):
         """b is a store, and the address of an instruction between them depends on a."""
-        return b.stores and any(step.address_depends(a.at) for step in self.steps_between(a, b))
+        return b.stores and any(step.address_depends(a) for step in self.steps_between(a, b))
 
 
 # --- Candidates that show the outcome (MODEL 15) -----------------------------------------------------------------
@@ -928,16 +909,16 @@ class Candidate:
 
     def __init__(self, operations, rf, co):
         self.operations, self.rf = operations, rf
-        self.place = {store.number: place for order in co.values() for place, store in enumerate(order)}
+        self.place = {store: place for order in co.values() for place, store in enumerate(order)}
 
     def co(self, a, b):
-        return a.stores and b.stores and a.address == b.address and self.place[a.number] < self.place[b.number]
+        return a.stores and b.stores and a.address == b.address and self.place[a] < self.place[b]
 
     def rfe(self, a, b):
-        return b.loads and self.rf[b.number] is a and a.hart != b.hart
+        return b.loads and self.rf[b] is a and a.hart != b.hart
 
     def fr(self, a, b):
-        return a.loads and b is not a and self.co(self.rf[a.number], b)
+        return a.loads and b is not a and self.co(self.rf[a], b)
 
     def is_edge(self, preserved, a, cause, b):
         """Is a before b in the judged relation, for this cause?"""
@@ -957,11 +938,9 @@ def coherence_orders(operations, rf, address):
     """The orders of a location's stores, the initial one first, that keep `latest` and `atomic`."""
     for order in itertools.permutations(operations.stores_to(address)):
         order = (operations.initial[address],) + order
-        place = {store.number: at for at, store in enumerate(order)}
-        latest = all(place[store.number] <= place[rf[load.number].number]
+        latest = all(order.index(store) <= order.index(rf[load])
                      for load in operations.loads if load.address == address for store in order if po(store, load))
-        pairs = [(lr, sc) for lr, sc in operations.pairs if sc.address == address]
-        if latest and all(keeps_atomicity(order, rf[lr.number], sc) for lr, sc in pairs):
+        if latest and all(keeps_atomicity(order, rf[lr], sc) for lr, sc in operations.pairs if sc.address == address):
             yield order
 
 
@@ -978,7 +957,7 @@ def candidates(test):
         if operations.have_outcome({}) is False:
             continue
         for sources in itertools.product(*[sources_of(operations, load) for load in operations.loads]):
-            rf = {load.number: source for load, source in zip(operations.loads, sources)}
+            rf = dict(zip(operations.loads, sources))
             each = [list(coherence_orders(operations, rf, address)) for address in test.words]
             for found in itertools.product(*each):
                 if operations.have_outcome({order[-1].address: order[-1].stored for order in found}):
@@ -993,11 +972,11 @@ class Execution:
     def __init__(self, operations, order):
         self.operations = operations
         self.gmo = list(operations.initial.values()) + order
-        self.place = {operation.number: at for at, operation in enumerate(self.gmo)}
-        self.rf = {load.number: self.source(load) for load in operations.loads}
+        self.place = {operation: at for at, operation in enumerate(self.gmo)}
+        self.rf = {load: self.source(load) for load in operations.loads}
 
     def before(self, a, b):
-        return self.place[a.number] < self.place[b.number]
+        return self.place[a] < self.place[b]
 
     def source(self, load):
         """The latest among the stores to its word that precede the load in the order or in program order."""
@@ -1010,9 +989,9 @@ class Execution:
         operations = self.operations
         preserved = Preserved(operations, self.rf, slots, placement)
         return (all(self.before(a, b) for a in operations.of_harts for b in operations.of_harts if preserved.ppo(a, b))
-                and all(self.rf[load.number].stored == load.loaded for load in operations.loads)
+                and all(self.rf[load].stored == load.loaded for load in operations.loads)
                 and all(keeps_atomicity([store for store in self.gmo if store.stores and store.address == sc.address],
-                                        self.rf[lr.number], sc) for lr, sc in operations.pairs))
+                                        self.rf[lr], sc) for lr, sc in operations.pairs))
 
     def has_outcome(self):
         return self.operations.have_outcome({store.address: store.stored for store in self.gmo if store.stores})
@@ -1122,7 +1101,7 @@ class OnlyRun:
         operations = Operations(test, runs)
         self.registers = run.registers
         self.steps = {step.position: step for step in run.steps}
-        self.operations = {operation.step.position: operation for operation in operations.of_harts}
+        self.operations = {operation.position: operation for operation in operations.of_harts}
         self.preserved = Preserved(operations, {}, slots, placement)
         self.rules = {}             # what was found of rules that ask for no source
 
@@ -1153,7 +1132,7 @@ class OnlyRun:
             if (number, a, b) not in self.rules:
                 self.rules[number, a, b] = self.preserved.rule(number, self.operations[a], self.operations[b])
             return self.rules[number, a, b]
-        self.preserved.rf = {operation.number: source(at) for at, operation in self.operations.items()}
+        self.preserved.rf = {operation: source(at) for at, operation in self.operations.items()}
         return self.preserved.rule(number, self.operations[a], self.operations[b])
 
 
@@ -1333,7 +1312,7 @@ class Refutation:
                 known = region.sources.get((a[0], at))
                 if type(known) is tuple and known[0] == a[0] and known[1] in run.operations:
                     return run.operations[known[1]]
-                return others.setdefault(known, Operation(-1, None))
+                return others.setdefault(known, Step())
             return source
 
         return all(run.has_rule(number, a[1], b[1], sources_in(run)) for run in region.runs[a[0]])

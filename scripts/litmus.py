@@ -184,4 +184,4 @@ def state_of(candidate):
 def last_word(candidate, address):
     """The word that the last store to this address wrote."""
     stores = [candidate.operations.initial[address]] + candidate.operations.stores_to(address)
-    return max(stores, key=lambda store: candidate.place[store.number]).stored
+    return max(stores, key=lambda store: candidate.place[store]).stored

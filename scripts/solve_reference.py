@@ -125,15 +125,17 @@ class Fences:
         size = len(operations.of_harts)
         self.rows = [0] * size
         self.at = [{pair: [0] * size for pair in model.ALL_PAIRS} for _ in slots]
+        first = 0                       # the number of the hart's first operation
         for hart, run in enumerate(operations.runs):
             own = [operation for operation in operations.of_harts if operation.hart == hart]
             if (hart, run.choices) not in known:
                 known[hart, run.choices] = self.of_run(operations, own, slots)
             rows, at_slots = known[hart, run.choices]
-            for index, operation in enumerate(own):
-                self.rows[operation.number] = rows[index] << own[0].number
+            for index, row in enumerate(rows):
+                self.rows[first + index] = row << first
                 for (at, pair), fenced in at_slots.items():
-                    self.at[at][pair][operation.number] = fenced[index] << own[0].number
+                    self.at[at][pair][first + index] = fenced[index] << first
+            first += len(own)
 
     @staticmethod
     def of_run(operations, own, slots):

@@ -119,10 +119,8 @@ def told(test, block):
     choices = []
     for hart, runs in enumerate(model.all_runs_over(test, model.value_sets(test))):
         does = {name: re.sub(r" (\(initial\)|from P\d+:\d+)", "", it) for name, of, it in rows if int(of) == hart}
-        of_harts = [(run, model.Operations(test, [run]).of_harts) for run in runs]
-        fits = [run.choices for run, made in of_harts
-                if {it.name: done_by(test, it) for it in made} == {f"P0{name[len(str(hart)) + 1:]}": does[name]
-                                                                     for name in does}]
+        fits = [run.choices for run in runs
+                if {it.name: done_by(test, it) for it in model.Operations(test, [run]).of_harts} == does]
         choices += fits[:1]
     return json.dumps({"choices": choices, "order": [name for name, _, _ in rows]})
 
