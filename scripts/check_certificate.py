@@ -638,9 +638,10 @@ class Step:
     """One executed instruction, and its access, where it makes one: then it is an operation (MODEL 2), a load, a store
     or both. An initial store is one of no hart. `origins` has for each of its sources the steps on which it depends."""
 
-    def __init__(self, hart=None, position=None, instruction=None, address=None, stored=None):
-        self.hart, self.position, self.instruction = hart, position, instruction
-        self.name = None if hart is None else 'P%d:%d' % (hart, position)
+    def __init__(self, run=None, position=None, instruction=None, address=None, stored=None):
+        self.run, self.position, self.instruction = run, position, instruction
+        self.hart = run.hart if run else None
+        self.name = 'P%d:%d' % (run.hart, position) if run else None
         self.origins = {}
         self.accesses(address, stored=stored)
 
@@ -683,11 +684,12 @@ class Run:
             position = self.execute(position)
         if self.used < len(choices):
             raise NoRun()
+        self.operations = [step for step in self.steps if step.address is not None]
 
     def execute(self, position):
         """Makes one step, and gives the position of the next one."""
         instruction = self.test.code[self.hart][position]
-        step = Step(self.hart, position, instruction)
+        step = Step(self, position, instruction)
         step.origins = {register: self.origins[register] for register in instruction.sources()}
         result = None
         goes_to = position + 1
@@ -789,7 +791,7 @@ class Operations:
 
     def __init__(self, test, runs):
         self.test, self.runs = test, runs
-        self.of_harts = [step for run in runs for step in run.steps if step.address is not None]
+        self.of_harts = [operation for run in runs for operation in run.operations]
         self.initial = {address: Step(address=address, stored=word) for address, word in test.words.items()}
         self.named = {operation.name: operation for operation in self.of_harts}
         self.loads = [operation for operation in self.of_harts if operation.loads]
@@ -798,10 +800,6 @@ class Operations:
     def stores_to(self, address):
         """The harts' stores to this word."""
         return [operation for operation in self.of_harts if operation.stores and operation.address == address]
-
-    def between(self, first, second):
-        """The harts' operations between these two in program order."""
-        return [operation for operation in self.of_harts if po(first, operation) and po(operation, second)]
 
     def have_outcome(self, words):
         """Is the outcome true at the end, with these words at addresses? None where the words don't say."""
@@ -813,6 +811,11 @@ def po(a, b):
     return a.hart is not None and a.hart == b.hart and a.position < b.position
 
 
+def between(a, b):
+    """The steps between these two in program order."""
+    return [step for step in a.run.steps if po(a, step) and po(step, b)]
+
+
 # --- Preserved program order (MODEL 5 and 7) ---------------------------------------------------------------------
 
 def orders(pairs, a, b):
@@ -820,17 +823,17 @@ def orders(pairs, a, b):
     return any(p + s in pairs for p in a.classes for s in b.classes)
 
 
-def runs_slot_between(run, slot, a, b):
+def runs_slot_between(slot, a, b):
     """Does the run of their hart execute the slot's instruction after a and up to b, b included?"""
     return a.hart == slot[0] and any(a.position < step.position <= b.position and step.position == slot[1]
-                                     for step in run.steps)
+                                     for step in a.run.steps)
 
 
 class Preserved:
-    """The thirteen rules, for these operations, a source for each load (`rf`) and a placement."""
+    """The thirteen rules, for a source of each load (`rf`) and a placement."""
 
-    def __init__(self, operations, rf, slots, placement):
-        self.operations, self.rf = operations, rf
+    def __init__(self, rf, slots, placement):
+        self.rf = rf
         self.placed = [(slot, PAIRS[kind]) for slot, kind in zip(slots, placement) if kind is not None]
         self.rules = [getattr(self, 'rule_%d' % number) for number in range(1, 14)]
 
@@ -841,9 +844,6 @@ class Preserved:
     def ppo(self, a, b):
         return po(a, b) and any(rule(a, b) for rule in self.rules)
 
-    def steps_between(self, a, b):
-        return [step for step in self.operations.runs[a.hart].steps if po(a, step) and po(step, b)]
-
     def rule_1(self, a, b):
         """Overlapping addresses: a store comes after what accesses its word before."""
         return b.stores and a.address == b.address
@@ -851,7 +851,7 @@ class Preserved:
     def rule_2(self, a, b):
         """Two loads of a word, no store to it between them, from different sources."""
         return (a.loads and b.loads and a.address == b.address and self.rf[a] is not self.rf[b]
-                and not any(m.stores and m.address == a.address for m in self.operations.between(a, b)))
+                and not any(m.stores and m.address == a.address for m in between(a, b)))
 
     def rule_3(self, a, b):
         """A load returns what an AMO or sc.w stored."""
@@ -860,10 +860,8 @@ class Preserved:
     def rule_4(self, a, b):
         """A fence between them: a written one, or a placed one."""
         written = any(step.instruction.form == 'fence' and orders(step.instruction.pairs, a, b)
-                      for step in self.steps_between(a, b))
-        run = self.operations.runs[a.hart]
-        return written or any(orders(pairs, a, b) and runs_slot_between(run, slot, a, b)
-                              for slot, pairs in self.placed)
+                      for step in between(a, b))
+        return written or any(orders(pairs, a, b) and runs_slot_between(slot, a, b) for slot, pairs in self.placed)
 
     def rule_5(self, a, b):
         return a.is_acquire()
@@ -877,7 +875,7 @@ class Preserved:
 
     def rule_8(self, a, b):
         """a is paired with b."""
-        return any(lr is a and sc is b for lr, sc in self.operations.pairs)
+        return (a, b) in a.run.pairs
 
     def rule_9(self, a, b):
         return b.address_depends(a)
@@ -888,7 +886,7 @@ class Preserved:
     def rule_11(self, a, b):
         """b is a store, and a conditional branch between them depends on a."""
         return b.stores and any(step.instruction.form == 'branch' and step.depends(a, *step.instruction.plain)
-                                  for step in self.steps_between(a, b))
+                                  for step in between(a, b))
 
     def rule_12(self, a, b):
         """b returns what a store m between them stored, and m depends on a by its address or data."""
@@ -899,7 +897,7 @@ class Preserved:
 
     def rule_13(self, a, b):
         """b is a store, and the address of an instruction between them depends on a."""
-        return b.stores and any(step.address_depends(a) for step in self.steps_between(a, b))
+        return b.stores and any(step.address_depends(a) for step in between(a, b))
 
 
 # --- Candidates that show the outcome (MODEL 15) -----------------------------------------------------------------
@@ -987,7 +985,7 @@ class Execution:
     def obeys_axioms(self, slots, placement):
         """Preserved program order, load value and atomicity."""
         operations = self.operations
-        preserved = Preserved(operations, self.rf, slots, placement)
+        preserved = Preserved(self.rf, slots, placement)
         return (all(self.before(a, b) for a in operations.of_harts for b in operations.of_harts if preserved.ppo(a, b))
                 and all(self.rf[load].stored == load.loaded for load in operations.loads)
                 and all(keeps_atomicity([store for store in self.gmo if store.stores and store.address == sc.address],
@@ -999,8 +997,8 @@ class Execution:
     def width(self, slot):
         """The pairs that a fence at this slot may have and order no two operations against this execution."""
         harts = self.operations.of_harts
-        turned = [(a, b) for a in harts for b in harts if po(a, b) and not self.before(a, b)
-                  and runs_slot_between(self.operations.runs[a.hart], slot, a, b)]
+        turned = [(a, b) for a in harts for b in harts
+                  if po(a, b) and not self.before(a, b) and runs_slot_between(slot, a, b)]
         return {pair for pair in ALL_PAIRS if not any(orders([pair], a, b) for a, b in turned)}
 
 
@@ -1093,16 +1091,13 @@ NOWHERE = (-1, -1)                  # stands for each name of no memory instruct
 
 
 class OnlyRun:
-    """One run of a hart, while the others do nothing."""
+    """One run of a hart, whatever the others do."""
 
-    def __init__(self, test, run, slots, placement):
-        nothing = type('Nothing', (), {'steps': [], 'pairs': [], 'registers': None})
-        runs = [run if hart == run.hart else nothing for hart in range(len(test.code))]
-        operations = Operations(test, runs)
+    def __init__(self, run, slots, placement):
         self.registers = run.registers
         self.steps = {step.position: step for step in run.steps}
-        self.operations = {operation.position: operation for operation in operations.of_harts}
-        self.preserved = Preserved(operations, {}, slots, placement)
+        self.operations = {operation.position: operation for operation in run.operations}
+        self.preserved = Preserved({}, slots, placement)
         self.rules = {}             # what was found of rules that ask for no source
 
     def loads(self, at):
@@ -1159,7 +1154,7 @@ class Refutation:
 
     def __init__(self, test, slots, placement):
         self.test = test
-        self.runs = [[OnlyRun(test, run, slots, placement) for run in runs]
+        self.runs = [[OnlyRun(run, slots, placement) for run in runs]
                      for runs in all_runs_over(test, value_sets(test))]
         self.names = test.memory_instructions()
         self.named = {'P%d:%d' % name: name for name in self.names}
@@ -1417,7 +1412,7 @@ class Checker:
         named = candidate.operations.named
         if not all(name in named for name, _ in cycle):
             return False
-        preserved = Preserved(candidate.operations, candidate.rf, self.slots, self.answer)
+        preserved = Preserved(candidate.rf, self.slots, self.answer)
         following = cycle[1:] + cycle[:1]
         return all(candidate.is_edge(preserved, named[name], cause, named[next_name])
                    for (name, cause), (next_name, _) in zip(cycle, following))

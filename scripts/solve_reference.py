@@ -126,25 +126,23 @@ class Fences:
         self.rows = [0] * size
         self.at = [{pair: [0] * size for pair in model.ALL_PAIRS} for _ in slots]
         first = 0                       # the number of the hart's first operation
-        for hart, run in enumerate(operations.runs):
-            own = [operation for operation in operations.of_harts if operation.hart == hart]
-            if (hart, run.choices) not in known:
-                known[hart, run.choices] = self.of_run(operations, own, slots)
-            rows, at_slots = known[hart, run.choices]
+        for run in operations.runs:
+            if run not in known:
+                known[run] = self.of_run(run.operations, slots)
+            rows, at_slots = known[run]
             for index, row in enumerate(rows):
                 self.rows[first + index] = row << first
                 for (at, pair), fenced in at_slots.items():
                     self.at[at][pair][first + index] = fenced[index] << first
-            first += len(own)
+            first += len(rows)
 
     @staticmethod
-    def of_run(operations, own, slots):
-        """The rows of a hart's operations, and those for each slot and pair."""
-        preserved = model.Preserved(operations, {}, slots, (None,) * len(slots))
+    def of_run(own, slots):
+        """The rows of a run's operations, and those for each slot and pair."""
+        preserved = model.Preserved({}, slots, (None,) * len(slots))
 
         def is_fenced(slot, pair, a, b):
-            return (model.po(a, b) and model.orders([pair], a, b)
-                    and model.runs_slot_between(operations.runs[a.hart], slot, a, b))
+            return model.po(a, b) and model.orders([pair], a, b) and model.runs_slot_between(slot, a, b)
 
         rows = rows_where(own, lambda a, b: any(preserved.rule(number, a, b) for number in OTHER_RULES))
         return rows, {(at, pair): rows_where(own, lambda a, b: is_fenced(slot, pair, a, b))
@@ -207,7 +205,7 @@ class Problem:
             if operations is not candidate.operations:
                 operations = candidate.operations
                 fences = Fences(operations, self.slots, known)
-            preserved = model.Preserved(operations, candidate.rf, self.slots, (None,) * len(self.slots))
+            preserved = model.Preserved(candidate.rf, self.slots, (None,) * len(self.slots))
             rows = joined(fences.rows, rows_where(operations.of_harts, lambda a, b: (
                 candidate.rfe(a, b) or candidate.co(a, b) or candidate.fr(a, b)
                 or any(preserved.rule(number, a, b) for number in SOURCE_RULES))))

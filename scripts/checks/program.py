@@ -120,7 +120,7 @@ def told(test, block):
     for hart, runs in enumerate(model.all_runs_over(test, model.value_sets(test))):
         does = {name: re.sub(r" (\(initial\)|from P\d+:\d+)", "", it) for name, of, it in rows if int(of) == hart}
         fits = [run.choices for run in runs
-                if {it.name: done_by(test, it) for it in model.Operations(test, [run]).of_harts} == does]
+                if {it.name: done_by(test, it) for it in run.operations} == does]
         choices += fits[:1]
     return json.dumps({"choices": choices, "order": [name for name, _, _ in rows]})
 
