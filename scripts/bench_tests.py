@@ -5,8 +5,8 @@ import itertools
 import re
 
 import stored                                                   # of this folder
-from litmus import text_of
-from running import TOP, decoded, read
+from litmus import test_text
+from running import TOP, text_of
 
 AND, OR = ' /\\ ', ' \\/ '
 HELD = [f'x{at}' for at in (*range(20, 32), *range(1, 5))]      # registers for addresses and constants
@@ -67,7 +67,7 @@ def test_of(name, lines, outcome, words=''):
     entries = [f'{word.replace("&", "")};' for word in words.split()]
     entries += [f'{at}:{name}={value};' for at, hart in enumerate(harts) for name, value in hart.entries.items()]
     fences = [f'fence P{at} {slot} {kind}' for at, hart in enumerate(harts) for slot, kind in hart.fences]
-    return text_of(name, entries, [hart.cells for hart in harts], f'exists {outcome}'), fences
+    return test_text(name, entries, [hart.cells for hart in harts], f'exists {outcome}'), fences
 
 
 # --- Tests that grow ---------------------------------------------------------------------------------------------
@@ -111,16 +111,15 @@ def sizes_of(text):
 def of_table(name):
     """The tests of a stored table, and the lines of their fences, by their names."""
     found = {}
-    for block in decoded(read(f'{TOP}/scripts/transcripts/{name}.table')).rstrip('\n').split('\n\n'):
-        title, *lines = [line for line in block.split('\n') if not line.startswith('# ')] or ['']
-        if not title.startswith('## '):
-            continue
-        _, kind, *ranges = title.split()
+    table = text_of(f'{TOP}/scripts/transcripts/{name}.table')
+    for title, block in re.findall(r'(?m)^## (.+)\n((?:.+\n)+)', table):
+        kind, *ranges = title.split()
+        lines = [line for line in block.splitlines() if not line.startswith('# ')]
         for each in itertools.product(*map(sizes_of, ranges)):
-            words, *harts, outcome = [expanded(line, dict(zip('ns', each))) for line in lines]
+            sizes, title = dict(zip('ns', each)), '-'.join([kind, *map(str, each)])
+            words, *harts, outcome = [expanded(line, sizes) for line in lines]
             parts = [hart.split(': ', 1) for hart in harts]
-            harts = [row for which, text in parts for row in rows(numbers(which, dict(zip('ns', each))), text)]
-            title = '-'.join([kind, *map(str, each)])
+            harts = [row for which, text in parts for row in rows(numbers(which, sizes), text)]
             found[title] = test_of(title, harts, outcome, words.removeprefix('words'))
     return found
 

@@ -19,7 +19,7 @@ MOST_CANDIDATES = 300
 MOST_PLACEMENTS = 20000
 
 
-def text_of(name, entries, harts, condition):
+def test_text(name, entries, harts, condition):
     """A test in the printed form: lines of its init block, the cells of each hart, and the line of its condition."""
     rows = [" | ".join(row) + " ;" for row in itertools.zip_longest(*harts, fillvalue="")]
     header = " | ".join(f"P{hart}" for hart in range(len(harts))) + " ;"
@@ -116,7 +116,7 @@ class Maker:
     def text(self, codes, condition):
         registers = sorted(LOCATIONS.items()) + sorted(WORDS.items())
         entries = [f'{hart}:{register}={value};' for hart in range(len(codes)) for register, value in registers]
-        return text_of(f'made{self.number}', entries + self.words, codes, condition)
+        return test_text(f'made{self.number}', entries + self.words, codes, condition)
 
     def condition(self, states):
         """A condition that is true of one or two of these final states."""
@@ -127,7 +127,7 @@ class Maker:
     def prices(self, slots):
         """One of the lists of examples/ as it is, or made."""
         if self.chance.random() < 0.4:
-            return json.loads(read(f"{EXAMPLES}/{self.chance.choice(PRICE_LISTS)}"))
+            return json.loads(read(f'{EXAMPLES}/{self.chance.choice(PRICE_LISTS)}'))
         most = self.chance.choice([2, 4, 12])
         offered = self.chance.sample(model.KINDS, self.chance.randint(1, 6))
         prices = {kind: self.chance.randint(1, most) for kind in sorted({*offered, 'rw,rw'})}

@@ -3,7 +3,8 @@ tests and price lists that scripts/litmus.py makes.
 
 With 1, 4 and 16 workers it must print the same bytes, and write the same certificate beside an answer, to which `check`
 says yes. (In no test do others join the first worker; crates/fs_board_tests has such.) What differs is printed with the
-test; `--show` prints each test, its prices and the reference's answer."""
+test."""
+import itertools
 import os
 
 import check_certificate as model
@@ -36,8 +37,6 @@ def compare(run, name, data, prices):
     test = model.test_of(data)
     files = [written(run.path("test.litmus"), data), written(run.path("prices.json"), prices)]
     wanted = out, error, _ = reference.answer(test, model.prices_of(prices))
-    if run.options.show:
-        print(data.decode() + prices.decode(), out + error, sep="\n")
     found = rvfence("solve", "-q", *files)
     first = " ".join((out + error).split()[:2])
     run.kinds[f"fenced by {out.count('fence ')}" if first.startswith("fenced") else first.split(" {")[0]] += 1
@@ -47,7 +46,7 @@ def compare(run, name, data, prices):
 
 
 def check(run):
-    for name, prices in [(name, prices) for name in KNOWN for prices in LISTS]:
+    for name, prices in itertools.product(KNOWN, LISTS):
         compare(run, f"{name} at {prices.decode()}", read(f"{EXAMPLES}/{name}.litmus"), prices)
     for number in run.numbers():
         compare(run, f"made test {number}", *Maker(number).make())

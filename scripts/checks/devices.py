@@ -30,6 +30,7 @@ MISSING, FOLDER, UNREAD = "there is no such file", "it is a folder", "it can't b
 UNWRITTEN = Said("", "fault F21 WriteFault\n", 2)
 OLD = b"old"
 NOBODY = 65534
+PIPES = {"stdout": subprocess.PIPE, "stderr": subprocess.PIPE, "text": True}
 STREAMS = [[0], [1], [2], [0, 1], [0, 2], [1, 2], [0, 1, 2]]
 # Store buffering in the printed form, an execution of it, and its answer.
 SB = text_of(f"{transcripts.FOLDER}/files/printed.litmus")
@@ -48,23 +49,19 @@ class Checks:
     def __init__(self, run):
         folder = self.folder = run.folder
         self.check, self.expect = run.check, run.expect
-        # a user who may read little must reach the program and the files
-        os.chmod(folder, 0o755)
-        self.program = shutil.copy(program(), folder)
-        self.prices = shutil.copy(PRICES, folder)
-        self.test = written(f"{folder}/sb.litmus", SB)
-        self.witness = written(f"{folder}/witness.json", SB_WITNESS)
+        os.chmod(folder, 0o755)         # a user who may read little must reach the program and the files
+        self.program, self.prices = shutil.copy(program(), folder), shutil.copy(PRICES, folder)
+        self.test, witness = written(f"{folder}/sb.litmus", SB), written(f"{folder}/witness.json", SB_WITNESS)
         self.hinder = compiled("checks/hinder.c", folder, "-shared", "-fPIC")
         self.certificate = f"{folder}/certificate.json"
-        self.run(["solve", self.test, self.prices, "--cert", self.certificate])
-        self.answer = SB_ANSWER
+        self.certify(self.certificate)
         # each command with its words, and what it says
         self.commands = {
             "place": (["place", self.test], Said(SB, "", 0)),
-            "order": (["order", self.test, self.witness], Said("yes\n", "", 0)),
-            "order, no": (["order", self.test, self.witness, "P0:1=w,r"], Said("no: rule 4 P0:0 P0:1\n", "", 1)),
-            "solve": (["solve", self.test, self.prices], self.answer),
-            "check": (["check", self.test, self.prices, self.certificate], Said(f"yes\n{self.answer.out}", "", 0)),
+            "order": (["order", self.test, witness], Said("yes\n", "", 0)),
+            "order, no": (["order", self.test, witness, "P0:1=w,r"], Said("no: rule 4 P0:0 P0:1\n", "", 1)),
+            "solve": (["solve", self.test, self.prices], SB_ANSWER),
+            "check": (["check", self.test, self.prices, self.certificate], Said(f"yes\n{SB_ANSWER.out}", "", 0)),
         }
 
     def run(self, words, **options):
@@ -129,13 +126,11 @@ def check_inputs(checks):
         words = [words[0], "stdin", *words[2:]]
         failed = unread("stdin", UNREAD)
         checks.expect(f"{command}: standard input is closed", failed, checks.run(words, preexec_fn=before(0)))
-        with open(os.devnull, "wb") as file:
-            found = checks.run(words, stdin=file)
-            checks.expect(f"{command}: standard input is open for writing alone", failed, found)
-        folder = os.open(checks.folder, os.O_RDONLY)
-        found = checks.run(words, stdin=folder)
-        checks.expect(f"{command}: standard input is a folder", unread("stdin", FOLDER), found)
-        os.close(folder)
+        for name, path, how, wanted in (("open for writing alone", os.devnull, os.O_WRONLY, failed),
+                                        ("a folder", checks.folder, os.O_RDONLY, unread("stdin", FOLDER))):
+            file = os.open(path, how)
+            checks.expect(f"{command}: standard input is {name}", wanted, checks.run(words, stdin=file))
+            os.close(file)
         for size in (0, 1, 20, 8192, 100_000):
             data = SB.encode().ljust(size)[:size]
             found = broken(checks, words, data)
@@ -149,8 +144,7 @@ def broken(checks, words, data):
     sending = socket.create_connection(listening.getsockname())
     reading, _ = listening.accept()
     listening.close()
-    pipes = {"stdout": subprocess.PIPE, "stderr": subprocess.PIPE, "text": True}
-    child = subprocess.Popen([checks.program, *words], stdin=reading, **pipes)
+    child = subprocess.Popen([checks.program, *words], stdin=reading, **PIPES)
     longest = waited_for(child.pid, LONGEST)
     sending.sendall(data)
     end = time.monotonic() + longest
@@ -220,21 +214,16 @@ def check_certificates(checks):
     where streams are closed, so that the certificate is opened under the number of one of them: neither the answer nor
     a fault's line comes into it, and the status tells."""
     whole = read(checks.certificate)
-    for size in range(len(whole) + 1):
-        for kept in (OLD, None):
-            for is_ignored in (True, False):
-                wanted = (checks.answer, whole) if size == len(whole) else (UNWRITTEN, kept)
-                name = f"room for {size} bytes of a certificate, {kept} there"
-                name += "" if is_ignored else ", or a signal comes"
-                checks.expect(name, wanted, certified(checks, kept, size, is_ignored))
-    for closed in STREAMS:
-        for size in (0, 1, len(whole) - 1, len(whole)):
-            for kept in (OLD, None):
-                said, left = certified(checks, kept, size, True, closed)
-                has_room = size == len(whole)
-                wanted = (0 if has_room and 1 not in closed else 2, whole if has_room else kept)
-                name = f"streams {closed} closed, room for {size} bytes of a certificate, {kept} there"
-                checks.expect(name, wanted, (said.status, left))
+    for size, kept, is_ignored in itertools.product(range(len(whole) + 1), (OLD, None), (True, False)):
+        wanted = (SB_ANSWER, whole) if size == len(whole) else (UNWRITTEN, kept)
+        name = f"room for {size} bytes of a certificate, {kept} there{'' if is_ignored else ', or a signal comes'}"
+        checks.expect(name, wanted, certified(checks, kept, size, is_ignored))
+    for closed, size, kept in itertools.product(STREAMS, (0, 1, len(whole) - 1, len(whole)), (OLD, None)):
+        said, left = certified(checks, kept, size, True, closed)
+        has_room = size == len(whole)
+        wanted = (0 if has_room and 1 not in closed else 2, whole if has_room else kept)
+        name = f"streams {closed} closed, room for {size} bytes of a certificate, {kept} there"
+        checks.expect(name, wanted, (said.status, left))
 
 
 def certified(checks, kept, size, is_ignored, closed=()):
@@ -243,9 +232,7 @@ def certified(checks, kept, size, is_ignored, closed=()):
     with folder_with(checks, kept) as (folder, path):
         found = checks.certify(path, preexec_fn=before(*closed, size=size, is_ignored=is_ignored))
         beside = [name for name in os.listdir(folder) if name != "kept.json"]
-        if beside:
-            return found, beside
-        return found, read(path) if os.path.exists(path) else None
+        return found, beside or (read(path) if os.path.exists(path) else None)
 
 
 # --- Two runs at once, and calls that are interrupted ----------------------------------------------------------------
@@ -262,8 +249,7 @@ class Held:
         settings = {"HINDER_CALL": call, "HINDER_NAME": folder, "HINDER_REACHED": f"{self.own}/reached",
                     "HINDER_GO": f"{self.own}/go", "LD_PRELOAD": checks.hinder}
         words = [checks.program, "solve", test, checks.prices, "--cert", f"{folder}/kept.json"]
-        pipes = {"stdout": subprocess.PIPE, "stderr": subprocess.PIPE, "text": True}
-        self.child = subprocess.Popen(words, env={**os.environ, **settings}, **pipes)
+        self.child = subprocess.Popen(words, env={**os.environ, **settings}, **PIPES)
         self.longest = waited_for(self.child.pid, LONGEST)
         # until it is held, or has ended without the call; or nothing comes of it, and then its end tells
         end = time.monotonic() + self.longest
@@ -324,7 +310,7 @@ def check_ended_runs(checks):
             name = f"signal {number} before {call}, {kept} there"
             is_right = left.pop("kept.json", None) in (kept, whole) and set(left) <= {"kept.json.part"}
             checks.check(name, is_right, left)
-            checks.expect(f"{name}: a later run", checks.answer, checks.certify(path))
+            checks.expect(f"{name}: a later run", SB_ANSWER, checks.certify(path))
             checks.expect(f"{name}: a later run's certificate", {**left, "kept.json": whole}, contents(folder))
 
 
@@ -346,7 +332,7 @@ def check_modes(checks):
                 checks.check(f"mode {mode:o} at mask {mask:o}, while it is written", not during & ~mode)
                 said = held.let_go()
                 found = (said, contents(folder), mode_of(path))
-                wanted = (checks.answer, {"kept.json": whole}, oct(mode))
+                wanted = (SB_ANSWER, {"kept.json": whole}, oct(mode))
                 checks.expect(f"mode {mode:o} at mask {mask:o}", wanted, found)
         path = f"{checks.folder}/new.json"
         checks.certify(path)
@@ -357,7 +343,7 @@ def check_modes(checks):
         os.chmod(path, 0o640)
         settings = hindering(checks, "fchmod", errno.EPERM, name=folder)
         found = (checks.certify(path, env=settings), contents(folder), mode_of(path))
-        wanted = (checks.answer, {"kept.json": whole}, oct(0o640))
+        wanted = (SB_ANSWER, {"kept.json": whole}, oct(0o640))
         checks.expect("a mode that can't be given", wanted, found)
 
 
@@ -384,7 +370,7 @@ def check_interrupted(checks):
         path = written(f"{checks.folder}/interrupted.json", OLD)
         settings = hindering(checks, call, errno.EINTR, 3, "interrupted.json")
         found = (checks.certify(path, env=settings), read(path))
-        checks.expect(f"a certificate whose {call} is interrupted", (checks.answer, whole), found)
+        checks.expect(f"a certificate whose {call} is interrupted", (SB_ANSWER, whole), found)
 
 
 def check(run):

@@ -9,6 +9,7 @@ With `--huge` it feeds `check` certificates of 100 MB, one after the other, and 
 seconds and 8 GB, and what each takes is printed."""
 import collections
 import contextlib
+import itertools
 import os
 import re
 import resource
@@ -22,22 +23,17 @@ from verdicts import READ
 
 # Seconds of processor time, and bytes: for files up to a mebibyte, and for huge ones.
 LIMITS, HUGE_LIMITS = (2, 400_000_000), (60, 8_000_000_000)
-# The stack that a process has by default, in bytes.
-STACK = 8 * 1024 * 1024
-# A run that waits for something takes no processor time, so it is ended after this many seconds by the clock.
-LONGEST_WAIT = 1800
-# What is said of a test is shorter than this: `test` names the location that nothing stores to, which may fill a file.
-MOST_SAID = 2 << 20
+STACK = 8 * 1024 * 1024             # that a process has by default, in bytes
+LONGEST_WAIT = 1800                 # seconds by the clock, after which a run that waits for something is ended
+MOST_SAID = 2 << 20                 # what is said of a test is shorter: a location's name, at most, may fill a file
 LOG_ERROR = rb"error: (log line \d+: expected [^\n]+|the log (isn't UTF-8|has no block of a test))"
 
 
 def patterns(group, parts=()):
     """The patterns of a group of the table, by what stands before them, with the parts in place of their names."""
-    found = {}
-    for row in rows("hostile", group):
-        key, found[key] = row.split(" | ", 1)
-        for name in parts:
-            found[key] = found[key].replace(name, parts[name])
+    found = dict(row.split(" | ", 1) for row in rows("hostile", group))
+    for key, name in itertools.product(found, parts):
+        found[key] = found[key].replace(name, parts[name])
     return found
 
 
@@ -49,6 +45,7 @@ SAID = {key: re.compile(text.encode()) for key, text in patterns("said", PARTS).
 Use = collections.namedtuple("Use", "group name words read")
 USES = [Use(group, name, words.split(), read) for groups, name, words, read
         in (row.split(" | ") for row in rows("hostile", "uses")) for group in groups.split(", ")]
+# What is wrong with the end of a run, its answer, its seconds of processor time, and its peak of memory.
 Found = collections.namedtuple("Found", "end answer seconds memory")
 # Of runs their number, those that failed by name with what is wrong, and the most of both.
 Tally = collections.namedtuple("Tally", "count failed seconds memory")
@@ -65,9 +62,8 @@ class Runner:
         signal.signal(signal.SIGALRM, lambda *_: os.kill(self.child, signal.SIGKILL))
 
     def run(self, text, words):
-        """A run with this standard input and these words: what is wrong with its end, its answer, its seconds of
-        processor time, and its peak of memory. The answer is the line of its fault, or what it says, and of `place`
-        READ."""
+        """A run with this standard input and these words. Its answer is the line of its fault, or what it says, and of
+        `place` READ."""
         flags = [os.O_RDONLY, *[os.O_WRONLY | os.O_CREAT | os.O_TRUNC] * 2]
         actions = [(os.POSIX_SPAWN_OPEN, at, self.paths[at], flags[at], 0o600) for at in range(3)]
         written(self.paths[0], text)
@@ -141,15 +137,11 @@ def end_of(words, raw, said, error):
 
 def complaint(wanted, found, limits):
     """What is wrong with a run, or nothing."""
-    wrong = [found.end] if found.end else []
     is_wanted = wanted == found.answer if isinstance(wanted, str) else wanted.fullmatch(found.answer)
-    if not found.end and not is_wanted:
-        wrong.append(f"{found.answer}, and {wanted} is wanted")
-    if found.seconds > limits[0]:
-        wrong.append(f"{found.seconds:.1f} seconds")
-    if found.memory > limits[1]:
-        wrong.append(f"{found.memory // 1_000_000} MB")
-    return "; ".join(wrong)
+    wrong = [found.end, "" if found.end or is_wanted else f"{found.answer}, and {wanted} is wanted",
+             f"{found.seconds:.1f} seconds" if found.seconds > limits[0] else "",
+             f"{found.memory // 1_000_000} MB" if found.memory > limits[1] else ""]
+    return "; ".join(filter(None, wrong))
 
 
 def tally_of(runs, limits):
