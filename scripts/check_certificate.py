@@ -323,41 +323,6 @@ def instruction_of(name, words):
     return made
 
 
-class Column:
-    """The code of a hart in the making: its instructions with their lines, and the place of each label. What is wrong
-    with it is noted in `faults`, by number and line."""
-
-    def __init__(self, faults):
-        self.faults, self.code, self.lines, self.labels = faults, [], [], {}
-
-    def read_cell(self, words, lines):
-        at = 0
-        while words[at + 1:at + 2] == [':'] and is_name(words[at]):
-            if words[at] in self.labels:
-                self.faults.append((6, lines[at]))
-            self.labels.setdefault(words[at], len(self.code))
-            at += 2
-        if at == len(words):
-            return
-        made = instruction_of(words[at], words[at + 1:]) if words[at] in FORMS else None
-        if is_word(words[at]) and words[at] not in FORMS:
-            self.faults.append((4, lines[at]))
-        elif made is None:
-            self.faults.append((3, lines[0]))
-        elif words[at] in ('lr.w.rl', 'sc.w.aq'):
-            self.faults.append((5, lines[at]))
-        else:
-            self.code.append(made)
-            self.lines.append(lines[at])
-
-    def link(self):
-        """Has each branch go to the place of its label, which must be a later one."""
-        for at, (made, line) in enumerate(zip(self.code, self.lines)):
-            if made.label is not None:
-                made.label = self.labels.get(made.label, -1)
-                self.faults += [(6, line)] * (made.label <= at)
-
-
 def joined(stack, right, signs):
     """The condition at the right of these signs, once those are off the stack. A condition has its tree and its depth;
     a denial and an open parenthesis have nothing at their left."""
@@ -503,17 +468,40 @@ class TestReader(Tokens):
         condition, depth = self.condition()
         if not self.is_closed:
             raise Fault('fault F3 Syntax line %d' % self.last)
-        for cells in columns:
-            column = Column(self.faults)
-            for cell in cells:
-                column.read_cell(*cell)
-            column.link()
-            test.code.append(column.code)
+        test.code = [self.code(cells) for cells in columns]
         self.begin(entries)
         test.wanted = (condition, quantifier != 'forall')
         test.outcome = ('not', condition) if quantifier == 'forall' else condition
         self.judge(depth)
         return test
+
+    def code(self, cells):
+        """The instructions of a hart, whose cells are tokens and their lines. Each branch must go to a later place."""
+        code, places, labels = [], [], {}
+        for words, lines in cells:
+            at = 0
+            while words[at + 1:at + 2] == [':'] and is_name(words[at]):
+                if words[at] in labels:
+                    self.faults.append((6, lines[at]))
+                labels.setdefault(words[at], len(code))
+                at += 2
+            if at == len(words):
+                continue
+            made = instruction_of(words[at], words[at + 1:]) if words[at] in FORMS else None
+            if is_word(words[at]) and words[at] not in FORMS:
+                self.faults.append((4, lines[at]))
+            elif made is None:
+                self.faults.append((3, lines[0]))
+            elif words[at] in ('lr.w.rl', 'sc.w.aq'):
+                self.faults.append((5, lines[at]))
+            else:
+                code.append(made)
+                places.append(lines[at])
+        for at, (made, line) in enumerate(zip(code, places)):
+            if made.label is not None:
+                made.label = labels.get(made.label, -1)
+                self.faults += [(6, line)] * (made.label <= at)
+        return code
 
     def begin(self, entries):
         """Gives registers and locations their words at the beginning."""

@@ -43,13 +43,13 @@ def fault_of(data, reader=model.test_of):
     return READ
 
 
-def is_witness(data, harts):
-    """Are the bytes a witness for so many harts? Where a key stands twice, the last one counts."""
+def read_witness(data):
+    """The witness that these bytes are, or None. Where a key stands twice, the last one counts."""
     try:
         value = model.json_of(data)
     except (ValueError, RecursionError):
-        return False
-    return model.is_witness(value) and len(value["choices"]) == harts
+        return None
+    return value if model.is_witness(value) else None
 
 
 @functools.cache
@@ -65,11 +65,8 @@ def is_listed(path, most):
 
 def execution_of(test, text, placement):
     """The execution with these fences that this text is, or None."""
-    try:
-        witness = model.json_of(text.encode())
-    except ValueError:
-        return None
-    execution = model.execution_of(test, witness) if model.is_witness(witness) else None
+    witness = read_witness(text.encode())
+    execution = model.execution_of(test, witness) if witness else None
     return execution if execution and execution.obeys_axioms(test.slots(), placement) else None
 
 

@@ -11,7 +11,7 @@ import re
 from check_certificate import prices_of
 from running import EXAMPLES, compact, read
 from stored import expanded, rows
-from verdicts import READ, Judge, fault_of, is_witness
+from verdicts import READ, Judge, fault_of, read_witness
 
 TOKENS_CHANGED = 3000
 TESTS_COMPOSED = 6000
@@ -347,7 +347,8 @@ def witnesses():
     whole = witness_of("[0],[0]", '"P0:2","P1:2","P0:1","P1:1"')
 
     def answer(text):
-        return ANSWERED if is_witness(text, 2) else WITNESS
+        witness = read_witness(text)
+        return ANSWERED if witness and len(witness["choices"]) == 2 else WITNESS
 
     yield from beginnings_of("a witness", whole, lambda _: WITNESS)
     yield from bytes_replaced("a witness", whole, TELLING, answer)
