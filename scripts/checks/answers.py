@@ -24,7 +24,7 @@ from verdicts import Judge, Listing, Shown, is_listed, is_same
 
 GUIDE = f'{TOP}/docs/ANSWERS.md'
 IN_TABLE = PRICE_LISTS[:2]
-HEADER = '| Test | ' + ' | '.join(f'`{prices}`' for prices in IN_TABLE) + ' |'
+OF_GUIDE = re.compile(r'(?m)^\| Test \| `prices\.json` .*\n(?:\|.*\n)+')
 MOST_LISTED = {'solve': 100_000, 'states': 2_000}
 TESTS = [os.path.relpath(path, EXAMPLES) for path in tests_of_examples()]
 QUESTIONS = {'solve': [(test, prices) for test in TESTS for prices in PRICE_LISTS], 'states': [(it,) for it in TESTS]}
@@ -92,21 +92,13 @@ def cell(answer):
 
 
 def table(answers):
-    """The lines of the table of docs/ANSWERS.md."""
-    rows = [HEADER, '|---' * (1 + len(IN_TABLE)) + '|']
+    """The table of docs/ANSWERS.md."""
+    rows = ['| Test | ' + ' | '.join(f'`{prices}`' for prices in IN_TABLE) + ' |', '|---' * (1 + len(IN_TABLE)) + '|']
     for test in TESTS:
         first, second = [cell(answers[test, prices]) for prices in IN_TABLE]
         cells = [first, 'the same' if second == first else second]
         rows.append(f"| `{os.path.basename(test)[:-len('.litmus')]}` | {' | '.join(cells)} |")
-    return rows
-
-
-def table_of_guide():
-    """The guide's lines before its table, those of the table, and those after it."""
-    lines = text_of(GUIDE).split('\n')
-    start = lines.index(HEADER)
-    end = next(at for at in range(start, len(lines)) if not lines[at].startswith('|'))
-    return lines[:start], lines[start:end], lines[end:]
+    return '\n'.join([*rows, ''])
 
 
 def write(command):
@@ -115,8 +107,7 @@ def write(command):
     blocks = [f'$ rvfence {" ".join([command, *words])}\n{answer}\n\n' for words, answer in answers.items()]
     written(f'{EXAMPLES}/answers/{command}.transcripts', ''.join(blocks))
     if command == 'solve':
-        before, _, after = table_of_guide()
-        written(GUIDE, '\n'.join([*before, *table(answers), *after]))
+        written(GUIDE, OF_GUIDE.sub(lambda _: table(answers), text_of(GUIDE)))
 
 
 def compare(run, command, answer, questions):
@@ -134,8 +125,8 @@ def check(run, command):
         write(command)
     run.expect('the questions', QUESTIONS[command], [*stored_answers(command)])
     compare(run, command, asked, QUESTIONS[command])
-    is_left = [words for words in QUESTIONS[command] if command == 'states' or not is_listed(words[0], 100_000)]
-    compare(run, command, by_reference, is_left)
+    left = [words for words in QUESTIONS[command] if command == 'states' or not is_listed(words[0], 100_000)]
+    compare(run, command, by_reference, left)
 
 
 def check_solve(run):
@@ -152,4 +143,4 @@ def check_states(run):
 def check_reference(run):
     """The answers of scripts/solve_reference.py against the file, and the table of docs/ANSWERS.md against it."""
     compare(run, 'solve', by_reference, [words for words in QUESTIONS['solve'] if is_listed(words[0], 100_000)])
-    run.expect('the table of docs/ANSWERS.md', table(stored_answers('solve')), table_of_guide()[1])
+    run.expect('the table of docs/ANSWERS.md', table(stored_answers('solve')), OF_GUIDE.search(text_of(GUIDE))[0])
