@@ -194,7 +194,7 @@ def tallies_of_huge(folder):
 def check(run):
     tallies = list(tallies_of_huge(run.folder) if run.options.huge else tallies_of_groups(run.folder))
     for tally in tallies:
-        run.add(tally.count - len(tally.failed))
+        run.passed += tally.count - len(tally.failed)
         for name, wrong in tally.failed:
             run.check(name, False, wrong)
     seconds, memory = max(tally.seconds for tally in tallies), max(tally.memory for tally in tallies)
