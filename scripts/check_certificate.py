@@ -11,6 +11,7 @@ Bytes that are no certificate are `fault F18 BadCertificate` on standard error, 
 is another line there, with the fault that the program finds in it; both have status 2.
 """
 
+import collections
 import itertools
 import json
 import math
@@ -551,18 +552,18 @@ def test_of(data):
 
 def truth(condition, registers, words):
     """Is the condition true of these registers and words at addresses? None where a word that counts isn't known."""
-    form = condition[0]
-    if form == 'constant':
-        return condition[1]
-    if form == 'register':
-        hart, register = condition[1]
-        return registers[hart][register] == condition[2]
-    if form == 'word':
-        return words[condition[1]] == condition[2] if condition[1] in words else None
+    match condition:
+        case 'constant', value:
+            return value
+        case 'register', (hart, register), word:
+            return registers[hart][register] == word
+        case 'word', address, word:
+            return words[address] == word if address in words else None
+        case 'not', part:
+            value = truth(part, registers, words)
+            return None if value is None else not value
     parts = [truth(part, registers, words) for part in condition[1:]]
-    if form == 'not':
-        return None if parts[0] is None else not parts[0]
-    decisive = form == 'or'
+    decisive = condition[0] == 'or'
     if decisive in parts:
         return decisive
     return None if None in parts else not decisive
@@ -1079,44 +1080,47 @@ NOWHERE = (-1, -1)                  # stands for each name of no memory instruct
 
 
 class OnlyRun:
-    """One run of a hart, whatever the others do."""
+    """One run of a hart, whatever the others do. Its steps go by their names, which are hart and instruction."""
 
     def __init__(self, run, slots, placement):
         self.registers = run.registers
-        self.steps = {step.position: step for step in run.steps}
-        self.operations = {operation.position: operation for operation in run.operations}
+        self.steps = {(run.hart, step.position): step for step in run.steps}
+        self.operations = {(run.hart, operation.position): operation for operation in run.operations}
         self.preserved = Preserved({}, slots, placement)
         self.rules = {}             # what was found of rules that ask for no source
 
-    def loads(self, at):
-        """The address and the word that the operation there loads; None where it is none that loads."""
-        operation = self.operations.get(at)
+    def loads(self, name):
+        """The address and the word that the operation of this name loads; None where it is none that loads."""
+        operation = self.operations.get(name)
         return (operation.address, operation.loaded) if operation and operation.loads else None
 
-    def stores(self, at):
-        operation = self.operations.get(at)
+    def stores(self, name):
+        operation = self.operations.get(name)
         return (operation.address, operation.stored) if operation and operation.stores else None
 
-    def choice(self, at):
+    def choice(self, name):
         """What the run chooses there, as a number: first those that don't execute it; then, as in choice order, words
         rising, and success before failure. An instruction that chooses nothing has one number."""
-        step = self.steps.get(at)
+        step = self.steps.get(name)
         if step is None:
             return 0
         if step.instruction.form == 'sc':
-            return 1 if step.stored is not None else 2
-        return 1 if step.loaded is None else step.loaded + 1
+            return 1 if step.stores else 2
+        return step.loaded + 1 if step.loads else 1
 
-    def has_rule(self, number, a, b, source):
-        """Does the rule put the operation at a before the one at b, with these sources of loads, by position?"""
-        if a not in self.operations or b not in self.operations:
+    def has_rule(self, number, a, b, sources):
+        """Does the rule put a before b, with these sources of loads?"""
+        first, second = self.operations.get(a), self.operations.get(b)
+        if first is None or second is None:
             return False
-        if number not in (2, 3, 12):
-            if (number, a, b) not in self.rules:
-                self.rules[number, a, b] = self.preserved.rule(number, self.operations[a], self.operations[b])
-            return self.rules[number, a, b]
-        self.preserved.rf = {operation: source(at) for at, operation in self.operations.items()}
-        return self.preserved.rule(number, self.operations[a], self.operations[b])
+        if number in (2, 3, 12):
+            outside = collections.defaultdict(Step)         # an operation of no hart for each source outside of the run
+            self.preserved.rf = {operation: self.operations.get(sources.get(name)) or outside[sources.get(name)]
+                                 for name, operation in self.operations.items()}
+            return self.preserved.rule(number, first, second)
+        if (number, a, b) not in self.rules:
+            self.rules[number, a, b] = self.preserved.rule(number, first, second)
+        return self.rules[number, a, b]
 
 
 class Region(typing.NamedTuple):
@@ -1133,9 +1137,6 @@ class Region(typing.NamedTuple):
         left = [run for run in self.runs[hart] if passes(run)]
         return self._replace(runs=[*self.runs[:hart], left, *self.runs[hart + 1:]])
 
-    def is_open(self):
-        return all(self.runs)
-
 
 class Refutation:
     """The inferences by which no candidate of a test has the outcome without a cycle, under a placement."""
@@ -1149,86 +1150,73 @@ class Refutation:
 
     def check(self, inferences):
         root = Region(self.runs, {}, frozenset(), [self.test.wanted])       # all candidates that have the outcome
-        regions = [root] if root.is_open() else []                          # still to be refuted, the next one last
-        for number, inference in enumerate(inferences):
+        regions = [root] if all(root.runs) else []                          # still to be refuted, the next one last
+        for self.number, inference in enumerate(inferences):
             if not regions:
                 raise Refused('cycles')
-            children = self.after(regions.pop(), inference)
-            if children is None:
-                raise Refused('cycle %d' % number)
-            regions += reversed(children)
+            regions += [child for child in reversed(self.after(regions.pop(), inference)) if all(child.runs)]
         if regions:
             raise Refused('cycles')
 
+    def ask(self, holds):
+        """Refuses the inference where what it asks for doesn't hold."""
+        if not holds:
+            raise Refused('cycle %d' % self.number)
+
     def after(self, region, inference):
-        """The regions that are left to refute after the inference; None where it can't be drawn."""
+        """The regions of which it refutes this one if all are refuted: none where the inference is an end."""
         letter, *rest = inference
-        if type(letter) is not str:
-            return [] if self.is_cycle(region, inference) else None
         parts = [self.named.get(part, NOWHERE) if type(part) is str else part for part in rest]
-        ends = {'l': self.is_stale, 'a': self.is_split_pair}
-        if letter in ends:
-            return [] if ends[letter](region, *parts) else None
         splits = {'c': self.by_choice, 's': self.by_source, 'o': self.by_order, 'd': self.by_cases,
                   'f': self.by_outcome}
-        children = splits[letter](region, *parts)
-        return None if children is None else [child for child in children if child.is_open()]
+        if type(letter) is str and letter in splits:
+            return splits[letter](region, *parts)
+        ends = {'l': self.is_stale, 'a': self.is_split_pair}
+        self.ask(ends[letter](region, *parts) if type(letter) is str else self.is_cycle(region, inference))
+        return []
 
     # Splits
 
     def by_choice(self, region, name):
-        if name is NOWHERE:
-            return None
-        hart, at = name
-        choices = sorted({run.choice(at) for run in region.runs[hart]})
-        return [region.keeping(hart, lambda run, it=choice: run.choice(at) == it) for choice in choices]
+        self.ask(name is not NOWHERE)
+        choices = sorted({run.choice(name) for run in region.runs[name[0]]})
+        return [region.keeping(name[0], lambda run, it=choice: run.choice(name) == it) for choice in choices]
 
     def by_source(self, region, load):
-        if load is NOWHERE:
-            return None
+        self.ask(load is not NOWHERE)
         known = region.sources.get(load)
         stores = [store for store in self.names if store[0] != load[0] or store[1] < load[1]]
         children = [self.from_source(region, load, source) for source in [INITIAL] + stores if known in (None, source)]
-        return [region.keeping(load[0], lambda run: run.loads(load[1]) is None)] + children
+        return [region.keeping(load[0], lambda run: run.loads(load) is None)] + children
 
     def from_source(self, region, load, source):
         """The load returns from this source: address and word agree."""
         decided = region._replace(sources={**region.sources, load: source})
-        hart, at = load
         if source == INITIAL:
-            return decided.keeping(hart, lambda run: run.loads(at) in self.test.words.items())
-        if source[0] == hart:
-            return decided.keeping(hart, lambda run: run.loads(at) and run.loads(at) == run.stores(source[1]))
-        stored = {run.stores(source[1]) for run in region.runs[source[0]]} - {None}
-        loaded = {run.loads(at) for run in region.runs[hart]}
-        return decided.keeping(hart, lambda run: run.loads(at) in stored).keeping(
-            source[0], lambda run: run.stores(source[1]) in loaded - {None})
+            return decided.keeping(load[0], lambda run: run.loads(load) in self.test.words.items())
+        if source[0] == load[0]:
+            return decided.keeping(load[0], lambda run: run.loads(load) and run.loads(load) == run.stores(source))
+        stored = {run.stores(source) for run in region.runs[source[0]]} - {None}
+        loaded = {run.loads(load) for run in region.runs[load[0]]} - {None}
+        return decided.keeping(load[0], lambda run: run.loads(load) in stored).keeping(
+            source[0], lambda run: run.stores(source) in loaded)
 
     def by_order(self, region, a, b):
-        may = self.place(region, a, OnlyRun.stores) is not None and a != b
-        if not may or self.place(region, a, OnlyRun.stores) != self.place(region, b, OnlyRun.stores) \
-                or (a, b) in region.before or (b, a) in region.before:
-            return None
+        places = {self.place(region, name, OnlyRun.stores) for name in (a, b)}
+        self.ask(a != b and len(places) == 1 and None not in places and not region.before & {(a, b), (b, a)})
         return [region._replace(before=region.before | {pair}) for pair in ((a, b), (b, a))]
 
     def by_cases(self, region, number):
         """The wanted condition of this number gives way to its parts."""
-        if number >= len(region.wanted):
-            return None
-        condition, value = region.wanted[number]
-        if condition[0] == 'not':
-            ways = [[(condition[1], not value)]]
-        elif condition[0] in ('and', 'or'):
-            parts = [(part, value) for part in condition[1:]]
-            ways = [parts] if value == (condition[0] == 'and') else [[part] for part in parts]
-        else:
-            return None
+        self.ask(number < len(region.wanted) and region.wanted[number][0][0] in ('not', 'and', 'or'))
+        (form, *parts), value = region.wanted[number]
+        wanted = [(part, value != (form == 'not')) for part in parts]       # of a denial one, in one way
+        ways = [wanted] if value == (form == 'and') else [[part] for part in wanted]
         return [region._replace(wanted=region.wanted[:number] + way + region.wanted[number + 1:]) for way in ways]
 
     def by_outcome(self, region, hart):
         """Of the hart's runs those with each of which the wanted conditions may have their truth values."""
-        if hart >= len(region.runs):
-            return None
+        self.ask(hart < len(region.runs))
 
         def may_be(run):
             alone = region.keeping(hart, lambda other: other is run)
@@ -1240,18 +1228,17 @@ class Refutation:
 
     def may(self, region, condition, value):
         """May the condition have this truth value?"""
-        form = condition[0]
-        if form == 'constant':
-            return condition[1] == value
-        if form == 'register':
-            hart, register = condition[1]
-            return any((run.registers[register] == condition[2]) == value for run in region.runs[hart])
-        if form == 'word':
-            return any((word == condition[2]) == value for word in self.last_words(region, condition[1]))
-        if form == 'not':
-            return self.may(region, condition[1], not value)
+        match condition:
+            case 'constant', known:
+                return known == value
+            case 'register', (hart, register), word:
+                return any((run.registers[register] == word) == value for run in region.runs[hart])
+            case 'word', address, word:
+                return any((last == word) == value for last in self.last_words(region, address))
+            case 'not', part:
+                return self.may(region, part, not value)
         parts = [self.may(region, part, value) for part in condition[1:]]
-        return all(parts) if value == (form == 'and') else any(parts)
+        return all(parts) if value == (condition[0] == 'and') else any(parts)
 
     def last_words(self, region, address):
         """The words with which the location may end."""
@@ -1260,10 +1247,8 @@ class Refutation:
         earlier = {first for first, second in region.before}
         for name in self.names:
             if name not in earlier:
-                for run in region.runs[name[0]]:
-                    stored = run.stores(name[1])
-                    if stored is not None and stored[0] == address:
-                        yield stored[1]
+                stored = [run.stores(name) for run in region.runs[name[0]]]
+                yield from (word for place, word in filter(None, stored) if place == address)
 
     # What must be in each candidate of a region
 
@@ -1271,7 +1256,7 @@ class Refutation:
         """The address that the operation of this name accesses in each run that is left, or None."""
         if name is NOWHERE:
             return None
-        found = {access(run, name[1]) and access(run, name[1])[0] for run in region.runs[name[0]]}
+        found = {access(run, name) and access(run, name)[0] for run in region.runs[name[0]]}
         return found.pop() if len(found) == 1 else None
 
     def overwrites(self, region, store, load):
@@ -1288,17 +1273,7 @@ class Refutation:
             return False
         if number == 2 and (a not in region.sources or b not in region.sources):
             return False
-        others = {}                     # an operation of no hart for each source outside of the run
-
-        def sources_in(run):
-            def source(at):
-                known = region.sources.get((a[0], at))
-                if type(known) is tuple and known[0] == a[0] and known[1] in run.operations:
-                    return run.operations[known[1]]
-                return others.setdefault(known, Step())
-            return source
-
-        return all(run.has_rule(number, a[1], b[1], sources_in(run)) for run in region.runs[a[0]])
+        return all(run.has_rule(number, a, b, region.sources) for run in region.runs[a[0]])
 
     def is_edge(self, region, a, cause, b):
         if cause.startswith('p'):
