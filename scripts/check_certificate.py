@@ -41,6 +41,12 @@ class Refused(Exception):
     """The certificate isn't valid, for this reason."""
 
 
+def ask(holds, reason):
+    """Refuses the certificate for this reason where what it asks for doesn't hold."""
+    if not holds:
+        raise Refused(reason)
+
+
 # --- JSON as the formats ask for it ------------------------------------------------------------------------------
 
 OTHER_NUMBER = object()
@@ -1151,17 +1157,11 @@ class Refutation:
     def check(self, inferences):
         root = Region(self.runs, {}, frozenset(), [self.test.wanted])       # all candidates that have the outcome
         regions = [root] if all(root.runs) else []                          # still to be refuted, the next one last
-        for self.number, inference in enumerate(inferences):
-            if not regions:
-                raise Refused('cycles')
+        for number, inference in enumerate(inferences):
+            ask(regions, 'cycles')
+            self.reason = 'cycle %d' % number
             regions += [child for child in reversed(self.after(regions.pop(), inference)) if all(child.runs)]
-        if regions:
-            raise Refused('cycles')
-
-    def ask(self, holds):
-        """Refuses the inference where what it asks for doesn't hold."""
-        if not holds:
-            raise Refused('cycle %d' % self.number)
+        ask(not regions, 'cycles')
 
     def after(self, region, inference):
         """The regions of which it refutes this one if all are refuted: none where the inference is an end."""
@@ -1172,18 +1172,19 @@ class Refutation:
         if type(letter) is str and letter in splits:
             return splits[letter](region, *parts)
         ends = {'l': self.is_stale, 'a': self.is_split_pair}
-        self.ask(ends[letter](region, *parts) if type(letter) is str else self.is_cycle(region, inference))
+        is_end = ends[letter](region, *parts) if type(letter) is str else self.is_cycle(region, inference)
+        ask(is_end, self.reason)
         return []
 
     # Splits
 
     def by_choice(self, region, name):
-        self.ask(name is not NOWHERE)
+        ask(name is not NOWHERE, self.reason)
         choices = sorted({run.choice(name) for run in region.runs[name[0]]})
         return [region.keeping(name[0], lambda run, it=choice: run.choice(name) == it) for choice in choices]
 
     def by_source(self, region, load):
-        self.ask(load is not NOWHERE)
+        ask(load is not NOWHERE, self.reason)
         known = region.sources.get(load)
         stores = [store for store in self.names if store[0] != load[0] or store[1] < load[1]]
         children = [self.from_source(region, load, source) for source in [INITIAL] + stores if known in (None, source)]
@@ -1203,12 +1204,13 @@ class Refutation:
 
     def by_order(self, region, a, b):
         places = {self.place(region, name, OnlyRun.stores) for name in (a, b)}
-        self.ask(a != b and len(places) == 1 and None not in places and not region.before & {(a, b), (b, a)})
+        is_open = a != b and len(places) == 1 and None not in places and not region.before & {(a, b), (b, a)}
+        ask(is_open, self.reason)
         return [region._replace(before=region.before | {pair}) for pair in ((a, b), (b, a))]
 
     def by_cases(self, region, number):
         """The wanted condition of this number gives way to its parts."""
-        self.ask(number < len(region.wanted) and region.wanted[number][0][0] in ('not', 'and', 'or'))
+        ask(number < len(region.wanted) and region.wanted[number][0][0] in ('not', 'and', 'or'), self.reason)
         (form, *parts), value = region.wanted[number]
         wanted = [(part, value != (form == 'not')) for part in parts]       # of a denial one, in one way
         ways = [wanted] if value == (form == 'and') else [[part] for part in wanted]
@@ -1216,7 +1218,7 @@ class Refutation:
 
     def by_outcome(self, region, hart):
         """Of the hart's runs those with each of which the wanted conditions may have their truth values."""
-        self.ask(hart < len(region.runs))
+        ask(hart < len(region.runs), self.reason)
 
         def may_be(run):
             alone = region.keeping(hart, lambda other: other is run)
@@ -1313,13 +1315,11 @@ def completed(part, kind):
 
 def is_earlier(p, q):
     """At the first slot where they differ, does p have none, or the kind that stands earlier in the table?"""
-    def ranks(placement):
-        return [-1 if kind is None else KINDS.index(kind) for kind in placement]
-    return ranks(p) < ranks(q)
+    order = [None] + KINDS
+    return [order.index(kind) for kind in p] < [order.index(kind) for kind in q]
 
 
 def fence_lines(slots, placement):
-    """A line for each fence."""
     return ['fence P%d %d %s' % (slot + (kind,)) for slot, kind in zip(slots, placement) if kind is not None]
 
 
@@ -1342,8 +1342,8 @@ class Checker:
 
     def check_none(self):
         """One witness, which shows the outcome with `rw,rw` in every slot."""
-        if self.certificate['cycles'] or self.certificate['tree'] or len(self.certificate['witnesses']) != 1:
-            raise Refused('answer')
+        parts = [self.certificate[part] for part in ('cycles', 'tree', 'witnesses')]
+        ask([len(part) for part in parts] == [0, 0, 1], 'answer')
         self.shown(0, ('rw,rw',) * len(self.slots))
 
     def check_answer(self):
@@ -1352,9 +1352,8 @@ class Checker:
         kinds = dict(text.partition('=')[::2] for text in claim['fences'])
         self.answer, self.cost = tuple(kinds.get('P%d:%d' % slot) for slot in self.slots), claim['cost']
         fences = ['P%d:%d=%s' % (*slot, kind) for slot, kind in zip(self.slots, self.answer) if kind is not None]
-        if fences != claim['fences'] or not {*kinds.values()} <= {*self.prices.offered} \
-                or self.prices.cost(self.slots, self.answer) != self.cost:
-            raise Refused('answer')
+        ask(fences == claim['fences'] and {*kinds.values()} <= {*self.prices.offered}
+            and self.prices.cost(self.slots, self.answer) == self.cost, 'answer')
 
     def check_cycles(self):
         """One cycle for each candidate that shows the outcome, in the candidates' order."""
@@ -1364,11 +1363,9 @@ class Checker:
             return
         # One more than there are cycles is enough to see that there are too few.
         showing = list(itertools.islice(candidates(self.test), len(cycles) + 1))
-        if len(showing) != len(cycles):
-            raise Refused('cycles')
+        ask(len(showing) == len(cycles), 'cycles')
         for number, (candidate, cycle) in enumerate(zip(showing, cycles)):
-            if not self.is_cycle_of(candidate, cycle):
-                raise Refused('cycle %d' % number)
+            ask(self.is_cycle_of(candidate, cycle), 'cycle %d' % number)
 
     def is_cycle_of(self, candidate, cycle):
         """Is each operation before the next one, and the last before the first, under the answer and for its cause?"""
@@ -1384,27 +1381,22 @@ class Checker:
         """The items are one whole tree in preorder, and each leaf is closed."""
         nodes = [(UNDECIDED,) * len(self.slots)]        # those still to come, the next one last
         for number, item in enumerate(self.certificate['tree']):
-            if not nodes:
-                raise Refused('tree')
+            ask(nodes, 'tree')
             part = nodes.pop()
             if type(item) is int:
                 nodes += reversed(self.children(part, item))
             elif item == 'c':
-                if self.is_better(completed(part, None)):
-                    raise Refused('node %d' % number)
+                ask(not self.is_better(completed(part, None)), 'node %d' % number)
             elif item[0] == 'w':
                 self.shown(item[1], completed(part, 'rw,rw'))
             else:
                 executions = [self.shown(witness, completed(part, None)) for witness in item[1]]
-                if not self.bound(part, executions):
-                    raise Refused('node %d' % number)
-        if nodes:
-            raise Refused('tree')
+                ask(self.bound(part, executions), 'node %d' % number)
+        ask(not nodes, 'tree')
 
     def children(self, part, slot):
         """The children of a node that is split at this slot: none first, and then the offered kinds."""
-        if slot >= len(part) or part[slot] != UNDECIDED:
-            raise Refused('tree')
+        ask(slot < len(part) and part[slot] == UNDECIDED, 'tree')
         return [part[:slot] + (decision,) + part[slot + 1:] for decision in [None] + self.prices.offered]
 
     def is_better(self, floor):
@@ -1416,8 +1408,7 @@ class Checker:
         """The execution of this witness, which must show the outcome under this placement."""
         if (number, placement) not in self.verdicts:
             self.verdicts[number, placement] = self.shows(number, placement)
-        if not self.verdicts[number, placement]:
-            raise Refused('witness %d' % number)
+        ask(self.verdicts[number, placement], 'witness %d' % number)
         return self.executions[number]
 
     def shows(self, number, placement):
