@@ -4,9 +4,8 @@ scripts/transcripts/idioms.table says, which has idioms and locks that grow."""
 import itertools
 import re
 
-import stored                                                   # of this folder
-from litmus import test_text
-from running import TOP, text_of
+from litmus import test_text                                    # of this folder
+from running import TOP, rows as rows_of_table, text_of
 
 AND, OR = ' /\\ ', ' \\/ '
 HELD = [f'x{at}' for at in (*range(20, 32), *range(1, 5))]      # registers for addresses and constants
@@ -168,7 +167,7 @@ TINY = PARTS['HEAD'] + PARTS['BODY'] + PARTS['TAIL']
 
 def kinds_of_files():
     """Of each kind what stands before a unit, the unit, what stands after it, and the exit status of `place`."""
-    for row in stored.rows('files'):
+    for row in rows_of_table('files'):
         name, *texts, status = row.split(' ¦ ')
         for part, text in PARTS.items():
             texts = [it.replace(part, text) for it in texts]

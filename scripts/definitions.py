@@ -2,17 +2,18 @@
 is reached, without comments and imports, and of `src/` those of the types that they speak of.
 
 A name counts wherever it stands in a definition, also as that of a variable or a field; so a sum is no less than what
-is to be believed. Definitions of the standard library and of the ported crates are left out."""
+is to be believed. Definitions of the standard library and of the ported crates are left out.
+
+First come the files of the tree, and what their first lines say."""
 
 import functools
+import glob
 import itertools
 import os
 import re
 import sys
 
-from documents import text_of
-from running import TOP, reached
-from stored import rows
+from running import TOP, decoded, reached, read, rows
 
 IMPORT = re.compile(r"^(pub |ghost )?use Rattle\.(\w+)\.specs\.([\w.'-]+?)(?:\.\{([^}]*)\}| as (\w+))?;?$", re.M)
 ITEM = re.compile(r"^( *)(?:abbrev|unfoldable|pub record|pub data|record|data) (?:pub )?([^\s:]+)", re.M)
@@ -22,7 +23,33 @@ COMMENT = re.compile(r"(?:^|(?<=\s))--(?:\s.*)?$", re.M)
 WORD = re.compile(r"[^\s(){};,λ→×↔]+")
 TYPE = r"^(?:pub(?:\(\w+\))? )?(?:struct|enum|type) {}\b.*"
 USE = r"^use (crate|fs_\w+)::(?:\w+::)*(?:\{{[^}}]*\b{}\b[^}}]*\}}|{});"
+HEADER = re.compile(r'(?:#![^\n]*\n)?(?:"""(.*?)(?:\n\n|""")|/\*(.*?)\*/|((?:(?:#(?!!)|//!|--)[^\n]*\n)+))', re.S)
 PLAIN_TYPES = {"Option", "Box", "Vec", "String", "List", "Self", "Arc"}
+
+
+@functools.cache
+def text_of(file):
+    """The text of a file by its path in the repository; none where there is no such file."""
+    return decoded(read(f"{TOP}/{file}")) if os.path.isfile(f"{TOP}/{file}") else ""
+
+
+@functools.cache
+def files(pattern):
+    """The files of this pattern, by their paths in the repository."""
+    return sorted(it for it in glob.glob(pattern, root_dir=TOP, recursive=True) if os.path.isfile(f"{TOP}/{it}"))
+
+
+def beginning(text):
+    """The first sentence of a text, or where it is short the first two."""
+    sentences = re.split(r"(?<=[.?!])\s+(?=[A-Z`])", " ".join(text.split()))
+    return " ".join(sentences[:2 if len(sentences[0].split()) < 8 else 1]).removesuffix(".").replace("|", "\\|")
+
+
+def header(file):
+    """What the first lines of a file say: its `//!` text, its docstring, or its first comment."""
+    found = HEADER.match(text_of(file))
+    text = next(filter(None, found.groups())) if found else ""
+    return beginning(re.sub(r"^(?://!|--| ?[#*])", "", text, flags=re.M))
 
 
 def listed(group):

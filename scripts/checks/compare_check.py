@@ -12,9 +12,8 @@ import os
 import random
 import sys
 
-from running import (EXAMPLES, PRICE_LISTS, PRICES, TOP, Said, compact, encoded, here, ran, read, rvfence,
-                     tests_of_examples, written)
-from stored import expanded, rows
+from running import (EXAMPLES, PRICE_LISTS, PRICES, TOP, Said, compact, encoded, expanded, here, ran, read, rows,
+                     rvfence, tests_of_examples, written)
 from verdicts import Judge
 
 FAULT = 'fault F18 BadCertificate'

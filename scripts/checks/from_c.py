@@ -6,8 +6,7 @@ import os
 import random
 import re
 
-from running import EXAMPLES, TOP, ran, read, rvfence, side_by_side, text_of, written
-from stored import expanded, rows
+from running import EXAMPLES, TOP, expanded, ran, read, rows, rvfence, side_by_side, text_of, written
 
 FOLDER = f"{EXAMPLES}/c"
 WORDS = {"Never": "forbidden", "Sometimes": "allowed"}

@@ -17,8 +17,7 @@ import signal
 from concurrent.futures import ProcessPoolExecutor
 
 from checks import hostile_files as files
-from running import EXAMPLES, PRICES, TOP, program, read, written
-from stored import rows
+from running import EXAMPLES, PRICES, TOP, program, read, rows, written
 from verdicts import READ
 
 # Seconds of processor time, and bytes: for files up to a mebibyte, and for huge ones.

@@ -9,8 +9,7 @@ import random
 import re
 
 from check_certificate import prices_of
-from running import EXAMPLES, compact, read
-from stored import expanded, rows
+from running import EXAMPLES, compact, expanded, read, rows
 from verdicts import READ, Judge, fault_of, read_witness
 
 TOKENS_CHANGED = 3000

@@ -17,8 +17,7 @@ import re
 import subprocess
 import tempfile
 
-from running import EXAMPLES, TOP, Said, compiled, program, ran, read, rvfence, side_by_side, text_of
-from stored import rows
+from running import EXAMPLES, TOP, Said, compiled, program, ran, read, rows, rvfence, side_by_side, text_of
 
 CRATE = f"{TOP}/crates/fs_tests_out_of_memory"
 CALLS = f"{CRATE}/out/fs_tests_out_of_memory"
