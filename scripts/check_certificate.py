@@ -33,9 +33,6 @@ class Fault(Unreadable):
 class NotACertificate(Exception):
     """The bytes are no certificate file."""
 
-    def __str__(self):
-        return 'fault F18 BadCertificate'
-
 
 class Refused(Exception):
     """The certificate isn't valid, for this reason."""
@@ -597,7 +594,7 @@ def prices_of(data):
     try:
         value = json_of(data)
     except (ValueError, RecursionError):
-        raise Fault('fault F10 BadPrices')
+        value = None
     weight = value.pop('weights', {}) if type(value) is dict else None
     if not (type(weight) is dict and all(is_byte_name(slot) and is_whole(it, 1001) for slot, it in weight.items())
             and all(kind in KINDS and is_whole(price, 1000001) and price > 0 for kind, price in value.items())):
@@ -1073,10 +1070,10 @@ def certificate_of(data):
     try:
         value = json_of(data)
     except (ValueError, RecursionError):
-        raise NotACertificate()
+        value = None
     if any(has_form(value, form) for form in FILES.values()):
         return value
-    raise NotACertificate()
+    raise NotACertificate('fault F18 BadCertificate')
 
 
 # --- Refutations (REFUTATIONS 1 to 4) ----------------------------------------------------------------------------
