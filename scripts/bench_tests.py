@@ -1,6 +1,5 @@
 """The tests and files that scripts/bench measures. Two checks run some of the tests too. A hart is a line of words, as
 scripts/transcripts/idioms.table says, which has idioms and locks that grow."""
-
 import itertools
 import re
 

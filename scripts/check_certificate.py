@@ -10,7 +10,6 @@ It prints `yes` and the answer, status 0; or `no: ` and the first reason of docs
 Bytes that are no certificate are `fault F18 BadCertificate` on standard error, and any other file that can't be read
 is another line there, with the fault that the program finds in it; both have status 2.
 """
-
 import collections
 import itertools
 import json

@@ -5,7 +5,6 @@ A name counts wherever it stands in a definition, also as that of a variable or 
 is to be believed. Definitions of the standard library and of the ported crates are left out.
 
 First come the files of the tree, and what their first lines say."""
-
 import functools
 import glob
 import itertools

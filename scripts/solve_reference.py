@@ -8,7 +8,6 @@ It gives what `rvfence solve` is to print: `fenced`, the cost and a line for eac
 execution that shows the outcome with `rw,rw` in every slot, status 1. Where the program may print any such execution,
 this is one. Of the faults of runs and candidates it knows F13, F14 and F15.
 """
-
 import collections
 import graphlib
 import itertools
