@@ -9,10 +9,12 @@ execution that shows the outcome with `rw,rw` in every slot, status 1. Where the
 this is one. Of the faults of runs and candidates it knows F13, F14 and F15.
 """
 import collections
+import functools
 import graphlib
 import itertools
 import json
 import math
+import operator
 
 import check_certificate as model                               # of this folder
 
@@ -230,63 +232,41 @@ class Problem:
 # --- The answer, by breaking one execution after the other -------------------------------------------------------
 
 class Breaks:
-    """Which placements break all of some executions: for each execution the slots and kinds that break it."""
+    """Which placements break all of some executions: of each slot and option the executions that it breaks, as bits."""
 
     def __init__(self, problem):
         self.problem = problem
         self.options = [None] + problem.prices.offered          # in the order of precedence
-        self.executions = []
-        self.best = None
+        self.broken = [[0] * len(self.options) for _ in problem.slots]
+        self.all = 0
 
     def add(self, kept):
         """An execution that stands fences with the pairs kept at each slot, and breaks where a kind has another."""
-        self.executions.append([{kind for kind in self.options if kind is not None and not model.PAIRS[kind] <= pairs}
-                                for pairs in kept])
+        bit = self.all + 1
+        self.all |= bit
+        for broken, pairs in zip(self.broken, kept):
+            for number, kind in enumerate(self.options):
+                if kind is not None and not model.PAIRS[kind] <= pairs:
+                    broken[number] |= bit
 
     def cheapest(self):
-        """Of the placements that break all executions the first cheapest, with its cost; or None."""
-        self.best = None
-        self.visit((), 0, self.executions)
-        return self.best
-
-    def visit(self, chosen, cost, left):
-        """Goes on from these decisions for the first slots, which leave these executions unbroken. What is visited
-        later is later in precedence too, so only what is cheaper replaces the best."""
-        least = self.least(len(chosen), left)
-        if least is None or self.best is not None and cost + least >= self.best[0]:
-            return
-        if not left:
-            self.best = (cost, chosen + (None,) * (len(self.problem.slots) - len(chosen)))
-            return
-        for option in self.useful(len(chosen), left):
-            rest = [breaks for breaks in left if option not in breaks[len(chosen)]]
-            self.visit(chosen + (option,), cost + self.problem.price(len(chosen), option), rest)
-
-    def useful(self, at, left):
-        """The options at a slot, but for each that another, which costs less or is earlier at its price, outdoes."""
-        broken = {option: {number for number, breaks in enumerate(left) if option in breaks[at]}
-                  for option in self.options}
-
-        def is_better(number, other):
-            rank = (self.problem.price(at, self.options[number]), number)
-            return rank < (self.problem.price(at, self.options[other]), other) \
-                and broken[self.options[number]] >= broken[self.options[other]]
-
-        numbers = range(len(self.options))
-        return [self.options[other] for other in numbers if not any(is_better(number, other) for number in numbers)]
-
-    def least(self, start, left):
-        """A cost that it takes at least to break these executions at slots from this number on; None where that can't
-        be. Executions that are broken at different slots are paid for each."""
-        found, taken = 0, set()
-        for breaks in left:
-            slots = [at for at in range(start, len(breaks)) if breaks[at]]
-            if not slots:
-                return None
-            if taken.isdisjoint(slots):
-                taken.update(slots)
-                found += min(self.problem.price(at, kind) for at in slots for kind in breaks[at])
-        return found
+        """Of the placements that break all executions the first cheapest; or None. Of the ways to fill the first slots
+        that leave the same executions unbroken, it goes on from the first cheapest alone."""
+        best = {self.all: (0, ())}      # by what is unbroken the cost, and the numbers of the options
+        for at, broken in enumerate(self.broken):
+            ways = {}                   # by what breaks, the price and the number of the first cheapest option
+            for number, kind in enumerate(self.options):
+                way = self.problem.price(at, kind), number
+                ways[broken[number]] = min(way, ways.get(broken[number], way))
+            later = functools.reduce(operator.or_, itertools.chain(*self.broken[at + 1:]), 0)
+            wider = {}
+            for (left, (cost, chosen)), (breaks, (price, number)) in itertools.product(best.items(), ways.items()):
+                left &= ~breaks
+                if not left & ~later:
+                    found = cost + price, (*chosen, number)
+                    wider[left] = min(found, wider.get(left, found))
+            best = wider
+        return tuple(self.options[number] for number in best[0][1]) if 0 in best else None
 
 
 def solved(problem):
@@ -295,13 +275,11 @@ def solved(problem):
     it forbids the outcome, and nothing better does, since that would leave one of the known executions."""
     breaks = Breaks(problem)
     while True:
-        found = breaks.cheapest()
-        if found is None:
-            return None
-        live = problem.survivor(found[1])
+        placement = breaks.cheapest()
+        live = None if placement is None else problem.survivor(placement)
         if live is None:
-            return found[1]
-        breaks.add(live.kept(found[1]))
+            return placement
+        breaks.add(live.kept(placement))
 
 
 # --- What is printed -------------------------------------------------------------------------------------------------
