@@ -6,21 +6,16 @@ What can't be read is F20 and what can't be written F21, with status 2, and of F
 why; what is on standard output is a beginning of the answer; status 0 or 1 comes only where the whole answer was
 written. No signal ends a run where a file may not grow further. A certificate stands under its name whole or not at
 all, with the mode of what was there; what was there stays where it can't be written, and so does each other file."""
-import array
 import contextlib
 import errno
-import fcntl
 import itertools
 import os
 import resource
 import shutil
 import signal
-import socket
 import stat
-import struct
 import subprocess
 import tempfile
-import termios
 import time
 
 from checks import transcripts
@@ -120,8 +115,8 @@ def check_readers(checks):
 
 
 def check_inputs(checks):
-    """Standard input that is closed, a folder, open for writing alone, or a connection that breaks after some bytes
-    were read."""
+    """Standard input that is closed, a folder, open for writing alone, or a connection that breaks behind some bytes, in
+    place of their end."""
     for command, (words, _) in checks.commands.items():
         words = [words[0], "stdin", *words[2:]]
         failed = unread("stdin", UNREAD)
@@ -132,36 +127,9 @@ def check_inputs(checks):
             checks.expect(f"{command}: standard input is {name}", wanted, checks.run(words, stdin=file))
             os.close(file)
         for size in (0, 1, 20, 8192, 100_000):
-            data = SB.encode().ljust(size)[:size]
-            found = broken(checks, words, data)
+            settings = hindering(checks, "end", errno.ECONNRESET, name="pipe:")
+            found = checks.run(words, stdin=SB.ljust(size)[:size], env=settings)
             checks.expect(f"{command}: a connection that breaks after {size} bytes", failed, found)
-
-
-def broken(checks, words, data):
-    """What the program says where standard input is a connection on which these bytes come, are read, and then no end
-    but a reset."""
-    listening = socket.create_server(("127.0.0.1", 0))
-    sending = socket.create_connection(listening.getsockname())
-    reading, _ = listening.accept()
-    listening.close()
-    child = subprocess.Popen([checks.program, *words], stdin=reading, **PIPES)
-    longest = waited_for(child.pid, LONGEST)
-    sending.sendall(data)
-    end = time.monotonic() + longest
-    # all has come, and the program has read it
-    while (waiting(sending, termios.TIOCOUTQ) or waiting(reading, termios.FIONREAD)) and time.monotonic() < end:
-        time.sleep(0.001)
-    sending.setsockopt(socket.SOL_SOCKET, socket.SO_LINGER, struct.pack("ii", 1, 0))
-    sending.close()
-    said, error = child.communicate(timeout=longest)
-    reading.close()
-    return Said(said, error, child.returncode)
-
-
-def waiting(connection, which):
-    """How many bytes have not arrived yet, or have not been read yet."""
-    left = array.array("i", [0])
-    return fcntl.ioctl(connection, which, left) or left[0]
 
 
 # --- Standard output -------------------------------------------------------------------------------------------------

@@ -1,7 +1,7 @@
 /* A library to be put before a program by LD_PRELOAD: it hinders the calls HINDER_CALL (statx, open, fchmod, read,
- * write, rename or unlink) of files whose names have HINDER_NAME in them. Where HINDER_ERROR is set, the first
- * HINDER_COUNT of them fail with this number of an error. Else the first one is held: it makes the file HINDER_REACHED,
- * and goes on only when the file HINDER_GO is there. None of it goes by a clock. */
+ * write, rename, unlink, or `end` for a read that finds the end) of files whose names have HINDER_NAME in them. Where
+ * HINDER_ERROR is set, the first HINDER_COUNT of them fail with this number of an error. Else the first one is held: it
+ * makes the file HINDER_REACHED, and goes on only when the file HINDER_GO is there. None of it goes by a clock. */
 #define _GNU_SOURCE
 #include <errno.h>
 #include <fcntl.h>
@@ -52,12 +52,16 @@ static const char *name_of(int file) {
     result call parameters { return is_failing(#call, path) ? -1 : (result)syscall(SYS_##call, __VA_ARGS__); }
 
 HINDERED(int, fchmod, (int file, mode_t mode), name_of(file), file, mode)
-HINDERED(ssize_t, read, (int file, void *bytes, size_t count), name_of(file), file, bytes, count)
 HINDERED(ssize_t, write, (int file, const void *bytes, size_t count), name_of(file), file, bytes, count)
 HINDERED(int, rename, (const char *from, const char *to), from, from, to)
 HINDERED(int, unlink, (const char *path), path, path)
 HINDERED(int, statx, (int folder, const char *path, int flags, unsigned mask, struct statx *found), path, folder, path,
          flags, mask, found)
+
+ssize_t read(int file, void *bytes, size_t count) {
+    ssize_t length = is_failing("read", name_of(file)) ? -1 : syscall(SYS_read, file, bytes, count);
+    return length == 0 && is_failing("end", name_of(file)) ? -1 : length;
+}
 
 ssize_t __write(int file, const void *bytes, size_t count) { return write(file, bytes, count); }
 
