@@ -16,7 +16,6 @@ import signal
 import stat
 import subprocess
 import tempfile
-import time
 
 from checks import transcripts
 from running import EXAMPLES, LONGEST, PRICES, Said, compiled, program, ran, read, text_of, waited_for, written
@@ -25,7 +24,6 @@ MISSING, FOLDER, UNREAD = "there is no such file", "it is a folder", "it can't b
 UNWRITTEN = Said("", "fault F21 WriteFault\n", 2)
 OLD = b"old"
 NOBODY = 65534
-PIPES = {"stdout": subprocess.PIPE, "stderr": subprocess.PIPE, "text": True}
 STREAMS = [[0], [1], [2], [0, 1], [0, 2], [1, 2], [0, 1, 2]]
 # Store buffering in the printed form, an execution of it, and its answer.
 SB = text_of(f"{transcripts.FOLDER}/files/printed.litmus")
@@ -210,39 +208,26 @@ HELD = ["statx", "open", "write", "rename", "unlink"]
 
 
 class Held:
-    """A run that writes a certificate, and is held before its first call of this name at a file of this folder."""
+    """A run that writes a certificate, and stops before its first call of this name at a file of this folder."""
 
     def __init__(self, checks, folder, test, call):
-        self.own = tempfile.mkdtemp(dir=checks.folder)
-        settings = {"HINDER_CALL": call, "HINDER_NAME": folder, "HINDER_REACHED": f"{self.own}/reached",
-                    "HINDER_GO": f"{self.own}/go", "LD_PRELOAD": checks.hinder}
+        settings = {**os.environ, "HINDER_CALL": call, "HINDER_NAME": folder, "LD_PRELOAD": checks.hinder}
         words = [checks.program, "solve", test, checks.prices, "--cert", f"{folder}/kept.json"]
-        self.child = subprocess.Popen(words, env={**os.environ, **settings}, **PIPES)
+        self.child = subprocess.Popen(words, env=settings, stdout=subprocess.PIPE, stderr=subprocess.PIPE, text=True)
         self.longest = waited_for(self.child.pid, LONGEST)
-        # until it is held, or has ended without the call; or nothing comes of it, and then its end tells
-        end = time.monotonic() + self.longest
-        while not os.path.exists(f"{self.own}/reached") and self.child.poll() is None and time.monotonic() < end:
-            time.sleep(0.0005)
+        # until it has stopped, or has ended without the call
+        os.waitid(os.P_PID, self.child.pid, os.WSTOPPED | os.WEXITED | os.WNOWAIT)
 
     def let_go(self):
         """What it says to its end."""
-        written(f"{self.own}/go", "")
-        return self.end()
-
-    def end(self):
+        self.child.send_signal(signal.SIGCONT)
         out, error = self.child.communicate(timeout=self.longest)
-        shutil.rmtree(self.own)
         return Said(out, error, self.child.returncode)
 
 
 def contents(folder):
-    """The files of a folder with what is in them; of links where they lead, and of folders nothing."""
-    found = {}
-    for name in sorted(os.listdir(folder)):
-        path = f"{folder}/{name}"
-        kinds = ((os.path.islink, os.readlink), (os.path.isfile, read), (os.path.isdir, lambda _: "a folder"))
-        found[name] = next(what(path) for is_kind, what in kinds if is_kind(path))
-    return found
+    """The files of a folder with what is in them."""
+    return {name: read(f"{folder}/{name}") for name in os.listdir(folder)}
 
 
 def check_two_runs(checks):
@@ -273,7 +258,7 @@ def check_ended_runs(checks):
         with folder_with(checks, kept) as (folder, path):
             held = Held(checks, folder, checks.test, call)
             held.child.send_signal(number)
-            held.end()
+            held.let_go()
             left = contents(folder)
             name = f"signal {number} before {call}, {kept} there"
             is_right = left.pop("kept.json", None) in (kept, whole) and set(left) <= {"kept.json.part"}

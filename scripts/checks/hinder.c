@@ -1,11 +1,12 @@
 /* A library to be put before a program by LD_PRELOAD: it hinders the calls HINDER_CALL (statx, open, fchmod, read,
  * write, rename, unlink, or `end` for a read that finds the end) of files whose names have HINDER_NAME in them. Where
- * HINDER_ERROR is set, the first HINDER_COUNT of them fail with this number of an error. Else the first one is held: it
- * makes the file HINDER_REACHED, and goes on only when the file HINDER_GO is there. None of it goes by a clock. */
+ * HINDER_ERROR is set, the first HINDER_COUNT of them fail with this number of an error. Else the program stops before
+ * the first one, until a signal has it go on. */
 #define _GNU_SOURCE
 #include <errno.h>
 #include <fcntl.h>
 #include <limits.h>
+#include <signal.h>
 #include <stdarg.h>
 #include <stdatomic.h>
 #include <stdio.h>
@@ -17,21 +18,14 @@
 
 static atomic_long calls;
 
-static void hold(void) {
-    const char *reached = getenv("HINDER_REACHED"), *go = getenv("HINDER_GO");
-    syscall(SYS_close, syscall(SYS_openat, AT_FDCWD, reached, O_CREAT | O_WRONLY, 0600));
-    while (syscall(SYS_faccessat, AT_FDCWD, go, F_OK) != 0)
-        usleep(500);
-}
-
-/* Does this call fail? One that is held is held here. */
+/* Does this call fail? */
 static int is_failing(const char *call, const char *path) {
     const char *wanted = getenv("HINDER_CALL"), *error = getenv("HINDER_ERROR");
     if (wanted == NULL || strcmp(wanted, call) != 0 || strstr(path, getenv("HINDER_NAME")) == NULL)
         return 0;
     long number = atomic_fetch_add(&calls, 1);
     if (error == NULL && number == 0)
-        hold();
+        raise(SIGSTOP);
     if (error == NULL || number >= atol(getenv("HINDER_COUNT")))
         return 0;
     errno = atoi(error);
