@@ -11,6 +11,7 @@ Bytes that are no certificate are `fault F18 BadCertificate` on standard error, 
 is another line there, with the fault that the program finds in it; both have status 2.
 """
 import collections
+import functools
 import itertools
 import json
 import math
@@ -232,55 +233,6 @@ def number_of(token):
     return int(digits, base) if len(digits) <= 20 else 10 ** 20
 
 
-class Tokens:
-    """The tokens of a text with their lines, and a place among them; comments nest. `last` is the line where the text
-    ends, and `is_closed` says whether each comment does."""
-
-    def __init__(self, text, line, last):
-        self.words, self.lines = [], []
-        self.at, self.last = 0, last
-        depth = 0
-        for sign, token in (found.groups() for found in TOKEN.finditer(text)):
-            if token == '\n':
-                line += 1
-            elif sign == '(*' or sign and depth:
-                depth += 1 if sign == '(*' else -1
-            elif not depth:
-                words = [token] if token else ['*', ')']        # which is no sign outside of comments
-                self.words += words
-                self.lines += [line] * len(words)
-        self.is_closed = depth == 0
-
-    def peek(self, ahead=0):
-        """The token here, or the empty text at the end."""
-        return self.words[self.at + ahead] if self.at + ahead < len(self.words) else ''
-
-    def line(self):
-        return self.lines[self.at] if self.at < len(self.lines) else self.last
-
-    def next(self, is_wanted):
-        """Takes the token here, where it is wanted; else the form breaks here."""
-        token = self.peek()
-        if not token or not is_wanted(token):
-            raise Fault('fault F3 Syntax line %d' % self.line())
-        self.at += 1
-        return token
-
-    def expect(self, *wanted):
-        return self.next(lambda token: token in wanted)
-
-    def accept(self, wanted):
-        """Takes the token here, where it is this one. Is it?"""
-        is_here = self.peek() == wanted
-        self.at += is_here
-        return is_here
-
-    def skip_to(self, *ends):
-        """Goes on to the first of these tokens."""
-        while self.peek() not in ends:
-            self.next(lambda token: is_word(token) or token in SIGNS)
-
-
 def take_operand(operand, words, made):
     """Takes an operand of FORMS off the words, into its place in the instruction. Is it one?"""
     if operand in 'mo' and words[:1] == ['(']:
@@ -336,14 +288,54 @@ def joined(stack, right, signs):
     return right
 
 
-class TestReader(Tokens):
-    """Reads a test from first to last. Where the form breaks, that is its fault; else the least of those noted is."""
+class TestReader:
+    """Reads a test from first to last, by its tokens. Where the form breaks, that is its fault; else the least of those
+    noted is."""
 
-    def __init__(self, *text):
-        super().__init__(*text)
-        self.test = Test()
-        self.faults = []            # number and line
-        self.has_bad_atom = False
+    def __init__(self, text, line, last):
+        self.words, self.lines = [], []         # the tokens, and the line of each
+        self.at, self.last = 0, last            # a place among them, and the line where the text ends
+        self.test, self.faults, self.has_bad_atom = Test(), [], False       # faults have a number and a line
+        depth = 0                               # comments nest
+        for sign, token in (found.groups() for found in TOKEN.finditer(text)):
+            if token == '\n':
+                line += 1
+            elif sign == '(*' or sign and depth:
+                depth += 1 if sign == '(*' else -1
+            elif not depth:
+                words = [token] if token else ['*', ')']        # which is no sign outside of comments
+                self.words += words
+                self.lines += [line] * len(words)
+        self.is_closed = depth == 0
+
+    def peek(self, ahead=0):
+        """The token here, or the empty text at the end."""
+        return self.words[self.at + ahead] if self.at + ahead < len(self.words) else ''
+
+    def line(self):
+        return self.lines[self.at] if self.at < len(self.lines) else self.last
+
+    def next(self, is_wanted):
+        """Takes the token here, where it is wanted; else the form breaks here."""
+        token = self.peek()
+        if not token or not is_wanted(token):
+            raise Fault('fault F3 Syntax line %d' % self.line())
+        self.at += 1
+        return token
+
+    def expect(self, *wanted):
+        return self.next(lambda token: token in wanted)
+
+    def accept(self, wanted):
+        """Takes the token here, where it is this one. Is it?"""
+        is_here = self.peek() == wanted
+        self.at += is_here
+        return is_here
+
+    def skip_to(self, *ends):
+        """Goes on to the first of these tokens."""
+        while self.peek() not in ends:
+            self.next(lambda token: is_word(token) or token in SIGNS)
 
     def location(self):
         """The address of the location of this name, which declares it where it is new."""
@@ -1089,7 +1081,7 @@ class OnlyRun:
         self.steps = {(run.hart, step.position): step for step in run.steps}
         self.operations = {(run.hart, operation.position): operation for operation in run.operations}
         self.preserved = Preserved({}, slots, placement)
-        self.rules = {}             # what was found of rules that ask for no source
+        self.rule = functools.cache(self.preserved.rule)    # of rules that ask for no source
 
     def loads(self, name):
         """The address and the word that the operation of this name loads; None where it is none that loads."""
@@ -1115,14 +1107,12 @@ class OnlyRun:
         first, second = self.operations.get(a), self.operations.get(b)
         if first is None or second is None:
             return False
-        if number in (2, 3, 12):
-            outside = collections.defaultdict(Step)         # an operation of no hart for each source outside of the run
-            self.preserved.rf = {operation: self.operations.get(sources.get(name)) or outside[sources.get(name)]
-                                 for name, operation in self.operations.items()}
-            return self.preserved.rule(number, first, second)
-        if (number, a, b) not in self.rules:
-            self.rules[number, a, b] = self.preserved.rule(number, first, second)
-        return self.rules[number, a, b]
+        if number not in (2, 3, 12):
+            return self.rule(number, first, second)
+        outside = collections.defaultdict(Step)             # an operation of no hart for each source outside of the run
+        self.preserved.rf = {operation: self.operations.get(sources.get(name)) or outside[sources.get(name)]
+                             for name, operation in self.operations.items()}
+        return self.preserved.rule(number, first, second)
 
 
 class Region(typing.NamedTuple):
@@ -1325,7 +1315,7 @@ class Checker:
     def __init__(self, test, prices, certificate):
         self.test, self.prices, self.slots = test, prices, test.slots()
         self.certificate, self.version = certificate, certificate['version']
-        self.executions, self.verdicts = {}, {}
+        self.execution, self.shows = functools.cache(self.execution), functools.cache(self.shows)
         self.answer = self.cost = None
 
     def check(self):
@@ -1400,20 +1390,20 @@ class Checker:
         cost = self.prices.cost(self.slots, floor)
         return cost < self.cost or self.version > 1 and cost == self.cost and is_earlier(floor, self.answer)
 
-    def shown(self, number, placement):
-        """The execution of this witness, which must show the outcome under this placement."""
-        if (number, placement) not in self.verdicts:
-            self.verdicts[number, placement] = self.shows(number, placement)
-        ask(self.verdicts[number, placement], 'witness %d' % number)
-        return self.executions[number]
+    def execution(self, number):
+        """The execution of this witness, or None."""
+        witnesses = self.certificate['witnesses']
+        return execution_of(self.test, witnesses[number]) if number < len(witnesses) else None
 
     def shows(self, number, placement):
-        if number >= len(self.certificate['witnesses']):
-            return False
-        if number not in self.executions:
-            self.executions[number] = execution_of(self.test, self.certificate['witnesses'][number])
-        execution = self.executions[number]
+        """Does this witness show the outcome under this placement?"""
+        execution = self.execution(number)
         return execution is not None and execution.obeys_axioms(self.slots, placement) and execution.has_outcome()
+
+    def shown(self, number, placement):
+        """The execution of this witness, which must show the outcome under this placement."""
+        ask(self.shows(number, placement), 'witness %d' % number)
+        return self.execution(number)
 
     def breaks_of(self, part, execution):
         """The breakable slots of a leaf and an execution, each with the least price of a kind that breaks it there."""

@@ -127,9 +127,7 @@ def check(run):
 # --- Stored certificates ------------------------------------------------------------------------------------------
 
 def stored(name):
-    """A certificate of examples/certificates/ or of scripts/transcripts/files/, or the one that no fence is needed."""
-    if name == "unfenced":
-        return {"answer": {"cost": 0, "fences": []}, "cycles": [], "tree": ["c"], "version": 2, "witnesses": []}
+    """A certificate of examples/certificates/ or of scripts/transcripts/files/."""
     return json.loads(read(here(f"certificates/{name}.json", f"{name}.json")))
 
 

@@ -113,8 +113,8 @@ def check_readers(checks):
 
 
 def check_inputs(checks):
-    """Standard input that is closed, a folder, open for writing alone, or a connection that breaks behind some bytes, in
-    place of their end."""
+    """Standard input that is closed, a folder, open for writing alone, or a connection that breaks behind some bytes,
+    in place of their end."""
     for command, (words, _) in checks.commands.items():
         words = [words[0], "stdin", *words[2:]]
         failed = unread("stdin", UNREAD)
