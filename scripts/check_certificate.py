@@ -1015,10 +1015,6 @@ def is_byte_name(value):
     return is_name_of_operation(value) and all(len(part) < 4 and int(part) < 256 for part in value[1:].split(':'))
 
 
-def is_answer(value):
-    return value == 'none' or has_form(value, {'cost': is_whole, 'fences': [str]})
-
-
 def is_cycle(value):
     return has_form(value, [(is_name_of_operation, lambda cause: cause in CAUSES)]) and 1 <= len(value) <= 64
 
@@ -1043,17 +1039,12 @@ def is_inference(value):
             or is_cycle(value) and all(is_byte_name(name) for name, cause in value))
 
 
-def is_choice(value):
-    return type(value) is bool or is_whole(value, WORDS)
-
-
-def is_witness(value):
-    return has_form(value, {'choices': [[is_choice]], 'order': [is_name_of_operation]})
-
-
-FILES = {version: {'version': version, 'answer': is_answer, 'cycles': [is_inference if version == 4 else is_cycle],
-                   'tree': [is_item if version > 1 else is_item_of_1],
-                   'witnesses': [is_witness]} for version in (1, 2, 4)}
+FENCED = {'cost': is_whole, 'fences': [str]}
+WITNESS = {'choices': [[lambda choice: type(choice) is bool or is_whole(choice, WORDS)]],
+           'order': [is_name_of_operation]}
+FILES = [{'version': version, 'answer': lambda answer: answer == 'none' or has_form(answer, FENCED),
+          'cycles': [is_inference if version == 4 else is_cycle],
+          'tree': [is_item if version > 1 else is_item_of_1], 'witnesses': [WITNESS]} for version in (1, 2, 4)]
 
 
 def certificate_of(data):
@@ -1062,7 +1053,7 @@ def certificate_of(data):
         value = json_of(data)
     except (ValueError, RecursionError):
         value = None
-    if any(has_form(value, form) for form in FILES.values()):
+    if any(has_form(value, form) for form in FILES):
         return value
     raise NotACertificate('fault F18 BadCertificate')
 

@@ -38,17 +38,12 @@ def files(pattern):
     return sorted(it for it in glob.glob(pattern, root_dir=TOP, recursive=True) if os.path.isfile(f"{TOP}/{it}"))
 
 
-def beginning(text):
-    """The first sentence of a text, or where it is short the first two."""
+def header(file):
+    """What a file says first, in its `//!` text, its docstring or its first comment: a sentence, or two short ones."""
+    found = HEADER.match(text_of(file))
+    text = re.sub(r"^(?://!|--| ?[#*])", "", next(filter(None, found.groups())) if found else "", flags=re.M)
     sentences = re.split(r"(?<=[.?!])\s+(?=[A-Z`])", " ".join(text.split()))
     return " ".join(sentences[:2 if len(sentences[0].split()) < 8 else 1]).removesuffix(".").replace("|", "\\|")
-
-
-def header(file):
-    """What the first lines of a file say: its `//!` text, its docstring, or its first comment."""
-    found = HEADER.match(text_of(file))
-    text = next(filter(None, found.groups())) if found else ""
-    return beginning(re.sub(r"^(?://!|--| ?[#*])", "", text, flags=re.M))
 
 
 def listed(group):

@@ -49,7 +49,7 @@ def read_witness(data):
         value = model.json_of(data)
     except (ValueError, RecursionError):
         return None
-    return value if model.is_witness(value) else None
+    return value if model.has_form(value, model.WITNESS) else None
 
 
 @functools.cache
