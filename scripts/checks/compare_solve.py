@@ -1,5 +1,5 @@
-"""Compares `rvfence solve` with scripts/solve_reference.py on known tests at lists of two and three kinds, and on the
-tests and price lists that scripts/litmus.py makes.
+"""Compares `rvfence solve` with scripts/solve_reference.py on known tests at lists of a few kinds, by
+scripts/transcripts/known.table, and on the tests and price lists that scripts/litmus.py makes.
 
 With 1, 4 and 16 workers it must print the same bytes, and write the same certificate beside an answer, to which `check`
 says yes. (In no test do others join the first worker; crates/fs_board_tests has such.) What differs is printed with the
@@ -10,13 +10,8 @@ import os
 import check_certificate as model
 import solve_reference as reference
 from litmus import Maker
-from running import EXAMPLES, read, rvfence, written
+from running import EXAMPLES, read, rows, rvfence, written
 from verdicts import is_same
-
-KNOWN = ["SB", "MP", "LB", "MPA", "SBX", "SBXA", "MPB", "2+2W", "CoRR", "MP11", "LRSC", "LRSCF", "ADD2", "LBD", "SBF"]
-# One list with a weight, and one in which the strongest kind is the cheapest.
-LISTS = [b'{"w,r":4,"rw,rw":5}', b'{"r,r":1,"w,w":1,"rw,rw":3,"weights":{"P1:1":3,"P1:2":2}}', b'{"tso":2,"rw,rw":2}',
-         b'{"r,rw":2,"rw,w":2,"rw,rw":3}', b'{"rw,rw":1}']
 
 
 def compare_workers(run, name, files, found):
@@ -46,7 +41,7 @@ def compare(run, name, data, prices):
 
 
 def check(run):
-    for name, prices in itertools.product(KNOWN, LISTS):
-        compare(run, f"{name} at {prices.decode()}", read(f"{EXAMPLES}/{name}.litmus"), prices)
+    for name, prices in itertools.product(rows("known", "tests"), rows("known", "prices")):
+        compare(run, f"{name} at {prices}", read(f"{EXAMPLES}/{name}.litmus"), prices.encode())
     for number in run.numbers():
         compare(run, f"made test {number}", *Maker(number).make())

@@ -208,14 +208,8 @@ def tests_composed():
         yield f"composed test {number}, {text!r}", text, fault_of(text)
 
 
-# Where a flood may begin: what stands before it, its line, and what stands after it, on lines of its own.
-PLACES = {
-    "in the init block": (b"RISCV T\n{ ", b"\n}\nP0 ;\n;\nexists true\n"),
-    "in a row": (b"RISCV T\n{ }\nP0 ;\n", b"\n;\nexists true\n"),
-    "in a cell": (b"RISCV T\n{ }\nP0 ;\nnop\n", b"\n;\nexists true\n"),
-    "in the condition": (b"RISCV T\n{ }\nP0 ;\nnop ;\nexists ", b"\n"),
-    "in locations": (b"RISCV T\n{ }\nP0 ;\nnop ;\nlocations [ ", b"\n]\nexists true\n"),
-}
+PLACES = {name: (before.encode(), after.encode()) for name, before, after
+          in (expanded(row).split(" | ") for row in rows("hostile", "places"))}
 
 
 def floods():
