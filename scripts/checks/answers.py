@@ -4,14 +4,13 @@ examples/answers/solve.transcripts and states.transcripts. `--write` writes that
 
 What stands there is found by scripts/solve_reference.py and scripts/verdicts.py. These list candidates, so they are
 asked only of tests with at most 100,000 lists of runs and as many candidates, and of states with at most 2,000. The
-other answers are the program's. Those of `solve` stand there where scripts/check_certificate.py says yes to the
-certificate that `solve --cert` writes: it shows that the fences are enough and that nothing better is. Those of
-`states` do where each of the executions that it prints is one and ends in the state above it; that no state is missing
-isn't looked at there.
+other answers are the program's: of `solve` where scripts/check_certificate.py says yes to the certificate beside it,
+of `states` where each execution that it prints is one and ends in the state above it (whether a state is missing isn't
+looked at then).
 
-A file has a transcript for each test and price list, and an empty line after each: `$ rvfence solve TEST PRICES` or
-`$ rvfence states TEST`, as it runs in examples/, what is printed, and `[status N]`. The second line of an answer `none`
-is an execution, of which there may be many, so it isn't there: it must show the outcome with `rw,rw` in every slot."""
+A file has for each test and price list the command, as it runs in examples/, what is printed, `[status N]`, and an
+empty line. The second line of an answer `none` is an execution, of which there may be many, so it isn't there: it must
+show the outcome with `rw,rw` in every slot."""
 import os
 import re
 import tempfile
