@@ -128,8 +128,7 @@ COMPUTES = {
     'add': lambda a, b: a + b, 'sub': lambda a, b: a - b,
     'xor': lambda a, b: a ^ b, 'or': lambda a, b: a | b, 'and': lambda a, b: a & b,
     'sll': lambda a, b: a << (b & 31), 'srl': lambda a, b: a >> (b & 31), 'sra': lambda a, b: signed(a) >> (b & 31),
-    'slt': lambda a, b: int(signed(a) < signed(b)), 'sltu': lambda a, b: int(a < b),
-    'swap': lambda a, b: b,
+    'slt': lambda a, b: int(signed(a) < signed(b)), 'sltu': lambda a, b: int(a < b), 'swap': lambda a, b: b,
     'min': lambda a, b: min(a, b, key=signed), 'max': lambda a, b: max(a, b, key=signed), 'minu': min, 'maxu': max,
 }
 RANGES = {'i': (-2048, 2047), 'm': (-2048, 2047), 'n': (0, 31), 'u': (0, 2 ** 20 - 1), 'c': (-2 ** 31, WORDS - 1),
