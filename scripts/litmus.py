@@ -172,13 +172,10 @@ class Maker:
 
 def state_of(candidate):
     """The words at the end, as atoms: of registers that come from memory, and of locations."""
-    operations = candidate.operations
-    from_memory = [(hart, instruction.rd) for hart, code in enumerate(operations.test.code)
-                   for instruction in code if instruction.is_memory() and instruction.rd]
-    atoms = ['%d:x%d=%d' % (hart, register, operations.runs[hart].registers[register])
-             for hart, register in from_memory]
-    atoms += ['%s=%d' % (name, last_word(candidate, address)) for name, address in operations.test.addresses.items()]
-    return tuple(atoms)
+    test, runs = candidate.operations.test, candidate.operations.runs
+    from_memory = [(hart, test.code[hart][at].rd) for hart, at in test.memory_instructions()]
+    atoms = ['%d:x%d=%d' % (hart, register, runs[hart].registers[register]) for hart, register in from_memory if register]
+    return *atoms, *('%s=%d' % (name, last_word(candidate, address)) for name, address in test.addresses.items())
 
 
 def last_word(candidate, address):

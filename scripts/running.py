@@ -98,12 +98,9 @@ def decoded(data):
 
 def side_by_side(function, items):
     """What the function gives of each item, in their order; it is called as many at once as there are processors. An
-    interrupt leaves out those that haven't begun."""
-    pool = concurrent.futures.ThreadPoolExecutor(os.cpu_count())
-    try:
+    interrupt leaves out those that haven't begun, as `map` does."""
+    with concurrent.futures.ThreadPoolExecutor(os.cpu_count()) as pool:
         return list(pool.map(function, items))
-    finally:
-        pool.shutdown(cancel_futures=True)
 
 
 def read(path):

@@ -2,12 +2,8 @@
 
 It is written from docs/MODEL.md and docs/FORMAT.md alone and shares no code with the program. Tests, prices, runs,
 rules and candidates are those of scripts/check_certificate.py. The way to the answer is another one than the
-program's: it has no tree.
-
-It gives what `rvfence solve` is to print: `fenced`, the cost and a line for each fence, status 0; or `none` and an
-execution that shows the outcome with `rw,rw` in every slot, status 1. Where the program may print any such execution,
-this is one. Of the faults of runs and candidates it knows F13, F14 and F15.
-"""
+program's: it has no tree. It gives what `rvfence solve` is to print, where beside `none` the program may print any
+execution that shows the outcome. Of the faults of runs and candidates it knows F13, F14 and F15."""
 import collections
 import functools
 import graphlib

@@ -1,10 +1,9 @@
 """Compares the command `check` with scripts/check_certificate.py, which shares no code with it.
 
 For each test of examples/ and each price list, `solve --cert` must write a certificate to which both say yes, with
-the answer that `solve` printed, and each of its cycles must begin at its least operation. At prices.json both must
-say yes to the same with the items of examples/refutations.json. Then COUNT certificates are made of these, and of
-those of versions 1 and 2 in examples/certificates/, each with one change or two by a number. Of each the two must print
-the same and end with the same status."""
+the answer that `solve` printed, and whose cycles begin at their least operations. At prices.json both must say yes to
+the same with the items of examples/refutations.json. Then COUNT certificates are made of these and of stored ones of
+versions 1 and 2, each with one change or two by a number. Of each the two must print and end the same."""
 import copy
 import itertools
 import json

@@ -1,6 +1,5 @@
-"""Runs the built program where files and devices fail: what it reads, prints and writes as a certificate; calls that a
-signal interrupts; and two runs at once that write one certificate, each held at each of its calls
-(scripts/checks/hinder.c).
+"""Runs the built program where files and devices fail: what it reads, prints and writes as a certificate; where calls
+are interrupted; and where two runs at once write one certificate, each held at each of its calls (by hinder.c).
 
 What can't be read is F20 and what can't be written F21, with status 2, and of F20 a line says which file it is, and
 why; what is on standard output is a beginning of the answer; status 0 or 1 comes only where the whole answer was

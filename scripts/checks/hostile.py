@@ -2,8 +2,8 @@
 
 Each run must end by itself with the answer that is wanted, and print what the patterns of the table say: an answer, or
 the one line of a fault and its message where one is due (docs/FORMAT.md, section 14); within 2 seconds of processor
-time, 400 MB and a stack of 8 MiB. `check` says of a certificate what scripts/check_certificate.py says. Memory is
-ample, so status 3 is no answer here. The groups of files are split over as many processes as there are processors.
+time, 400 MB (which are ample, so status 3 is no answer) and a stack of 8 MiB. `check` says of a certificate what
+scripts/check_certificate.py says.
 
 With `--huge` it feeds `check` certificates of 100 MB, one after the other, and nothing else: these may take 60
 seconds and 8 GB, and what each takes is printed."""
