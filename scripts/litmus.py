@@ -173,8 +173,8 @@ class Maker:
 def state_of(candidate):
     """The words at the end, as atoms: of registers that come from memory, and of locations."""
     test, runs = candidate.operations.test, candidate.operations.runs
-    from_memory = [(hart, test.code[hart][at].rd) for hart, at in test.memory_instructions()]
-    atoms = ['%d:x%d=%d' % (hart, register, runs[hart].registers[register]) for hart, register in from_memory if register]
+    loaded = [(hart, test.code[hart][at].rd) for hart, at in test.memory_instructions()]
+    atoms = ['%d:x%d=%d' % (hart, register, runs[hart].registers[register]) for hart, register in loaded if register]
     return *atoms, *('%s=%d' % (name, last_word(candidate, address)) for name, address in test.addresses.items())
 
 

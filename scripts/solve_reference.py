@@ -191,13 +191,8 @@ class Problem:
         self.raw = count_candidates(test, model.all_runs_over(test, sets_of(test)))
         self.candidates, self.live = 0, []
         self.is_listed = self.raw <= most_listed
-        if self.is_listed:
-            self.list_candidates()
-
-    def list_candidates(self):
-        """Goes through all showing candidates, and keeps those without a cycle."""
         operations, known = None, {}
-        for candidate in model.candidates(self.test):
+        for candidate in model.candidates(test) if self.is_listed else ():
             self.candidates += 1
             if operations is not candidate.operations:
                 operations = candidate.operations

@@ -60,15 +60,6 @@ def check_launcher(run):
         transcripts.check_block(block)
 
 
-def show(notes):
-    """Prints what the runs took that were large, and notes anew."""
-    for line in text_of(notes).splitlines():
-        nanoseconds, peak, _, words = line.split(" ", 3)
-        if int(nanoseconds) > 20_000_000 or int(peak) > 8_000_000:
-            print(f"{words[:120]}: {int(nanoseconds) / 1e6:.0f} ms, {int(peak) / 2 ** 20:.0f} MiB", flush=True)
-    written(notes, "")
-
-
 def check_limits(run):
     """Runs the built program at its limits: each is met, where there must be an answer, and passed by one, where there
     must be a fault, as scripts/transcripts/limits/limits.txt has it. The tests beside it say why.
@@ -84,4 +75,8 @@ def check_limits(run):
         os.chmod(written(run.path("bin/rvfence"), MEASURED.format(**parts)), 0o755)
     for block in (block for name in names for block in blocks_of(f"{FOLDER}/limits/{name}")):
         transcripts.check_block(block)
-        show(notes)
+        for line in text_of(notes).splitlines():
+            nanoseconds, peak, _, words = line.split(" ", 3)
+            if int(nanoseconds) > 20_000_000 or int(peak) > 8_000_000:
+                print(f"{words[:120]}: {int(nanoseconds) / 1e6:.0f} ms, {int(peak) / 2 ** 20:.0f} MiB", flush=True)
+        written(notes, "")
