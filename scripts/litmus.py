@@ -1,8 +1,7 @@
-"""Tests with prices that the checks make at random, by a number, which makes the same test and the same prices each
-time.
+"""Tests with prices that the checks make at random, by a number, which makes the same ones each time.
 
-They are small: one to four harts, stores, loads, AMOs, LR/SC, dependencies, branches, fences and
-annotations. Most conditions are on final states that fences rule out."""
+They are small: one to four harts, stores, loads, AMOs, LR/SC, dependencies, branches, fences and annotations. Most
+conditions are on final states that fences rule out."""
 import itertools
 import json
 import random

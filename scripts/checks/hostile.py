@@ -25,7 +25,6 @@ LIMITS, HUGE_LIMITS = (2, 400_000_000), (60, 8_000_000_000)
 STACK = 8 * 1024 * 1024             # that a process has by default, in bytes
 LONGEST_WAIT = 1800                 # seconds by the clock, after which a run that waits for something is ended
 MOST_SAID = 2 << 20                 # what is said of a test is shorter: a location's name, at most, may fill a file
-LOG_ERROR = rb"error: (log line \d+: expected [^\n]+|the log (isn't UTF-8|has no block of a test))"
 
 
 def patterns(group, parts=()):
@@ -87,15 +86,11 @@ def answer_of(command, said, error):
     return answer.split("\n")[0].removeprefix("stdin  ") if command == "test" else answer
 
 
-# What is said below the line of F20.
-UNREAD = rb"[ -~]*: (there is no such file|it is a folder|it has more than \d+ bytes|it can't be opened or read)\n"
-
-
 def is_message(fault, text):
     """Is the text a message of the fault whose line this is (docs/FORMAT.md, section 14)? Where the line has a number,
     so has the place."""
     if fault == b"fault F20 ReadFault":
-        return re.fullmatch(UNREAD, text)
+        return SAID["unread"].fullmatch(text)
     line = re.search(rb" line (\d+)$", fault)
     place = rb":%s:\d+: " % (line[1] if line else rb"\d+")
     source = rb"\n  [ -~]{0,100}\n {2,62}\^ [ -~]+\n"
@@ -110,7 +105,7 @@ def is_explained(words, said, error):
         found = re.match(rb"stdin  (fault F(?:[1-9]|20) [^\n]+)\n", said)
         return is_message(found[1], error) if found else not error
     line, _, message = error.partition(b"\n")
-    if "--log" in words and re.fullmatch(LOG_ERROR, line):
+    if "--log" in words and SAID["log"].fullmatch(line):
         return not message
     if not re.fullmatch(rb"fault F\d+ [^\n]+", line):
         return False
