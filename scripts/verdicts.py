@@ -10,7 +10,6 @@ from litmus import last_word
 from running import EXAMPLES, Said
 
 YES = Said("yes\n", "", 0)
-ONES = b'{"rw,rw":1}'
 ALWAYS = ("constant", True)
 WORDS = {"exists": "Allowed", "~exists": "Forbidden", "forall": "Required"}
 READ = "a test"                     # the answer of a file that has no fault
@@ -161,7 +160,7 @@ class Listing(Shown):
         super().__init__(data, is_all)
         free = model.test_of(data)
         free.outcome, free.wanted = ALWAYS, (ALWAYS, True)
-        self.live = reference.Problem(free, model.prices_of(ONES)).live
+        self.live = reference.Problem(free, model.prices_of(b'{"rw,rw":1}')).live
 
     def states(self, placement):
         """The final states of the executions with these fences."""

@@ -16,7 +16,7 @@ from running import (EXAMPLES, PRICE_LISTS, PRICES, TOP, Said, compact, encoded,
 from verdicts import Judge
 
 FAULT = 'fault F18 BadCertificate'
-LISTED = ['CoRR', 'MP', 'SB', 'SBF']    # of version 1, and of version 2
+LISTED = ['CoRR', 'MP', 'SB', 'SBF']    # of versions 1 and 2, with a list of cycles
 PARTS = ['cycles'] * 4 + ['tree'] * 3 + ['witnesses', 'answer']     # where changes are made, so often
 
 
@@ -105,7 +105,7 @@ def certified(run):
 
 def check(run):
     found = certified(run)
-    for name in LISTED:         # with a list of cycles, each as often as makes them a third of all
+    for name in LISTED:                 # each as often as makes them a third of all
         test = f'{EXAMPLES}/{name}.litmus'
         found += [(f'{name}, listed', test, PRICES, Judge(test, PRICES), stored(name))] * 10
     for number in run.numbers():

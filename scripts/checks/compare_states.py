@@ -1,9 +1,8 @@
 """Compares `rvfence states` with a plain list of final states on the tests that scripts/litmus.py makes.
 
-The list is made in Python, from all candidates of the test, whatever its condition. Each test is asked without FENCE
-words and with some by chance, every second one with `--all`. All lines must be the same. Each witness of
-`--witnesses` must be an execution that ends in the state above it, and `order` must say of it what the condition does.
-The object of `--json` must say what the lines say. What differs is printed with the test."""
+The list is made in Python. Each test is asked without FENCE words and with some by chance, every second one with
+`--all`. All lines must be the same, and the object of `--json` must say what they say. Each witness of `--witnesses`
+must be an execution that ends in the state above it, and `order` must say of it what the condition does."""
 import random
 
 import check_certificate as model

@@ -1,7 +1,6 @@
 """Prints the C tests of examples/c as RISC-V by scripts/from-c, with each lock, with labels and without, and compares
-what `test` says with the result in their comment, which is that of the kernel's documentation; where RISC-V has another
-one, it stands behind `RISC-V:`, with the reason. Then come tests that scripts/from-c refuses, and bytes that are
-changed by chance: it ends with status 0 or 2 and says no more than a line."""
+what `test` says with the result in their comment, that of the kernel's documentation, or behind `RISC-V:`. Then come
+tests that scripts/from-c refuses, and bytes changed by chance: it ends with status 0 or 2 and says at most a line."""
 import os
 import random
 import re
