@@ -71,7 +71,8 @@ def waited_for(process, seconds):
 def ran_on_terminal(command):
     """What a run of this command says whose standard error is a terminal."""
     with tempfile.NamedTemporaryFile() as out:
-        said = ran(["script", "-qec", f"exec {shlex.join(command)} </dev/null >{out.name}", os.devnull])
+        words = ["script", "-qec", f"exec {shlex.join(command)} </dev/null >{out.name}", os.devnull]
+        said = ran(words, env={**os.environ, "SHELL": "/bin/sh"})
         return Said(text_of(out.name), said.out, said.status)
 
 
