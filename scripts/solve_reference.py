@@ -212,6 +212,10 @@ class Problem:
                 return live
         return None
 
+    def options(self, at):
+        """What may stand at the slot of this number, in the order of precedence."""
+        return [None] + self.prices.offered
+
     def price(self, at, kind):
         """What a kind or none costs at the slot of this number."""
         return 0 if kind is None else self.prices.at(self.slots[at], kind)
@@ -226,17 +230,16 @@ class Breaks:
     """Which placements break all of some executions: of each slot and option the executions that it breaks, as bits."""
 
     def __init__(self, problem):
-        self.problem = problem
-        self.options = [None] + problem.prices.offered          # in the order of precedence
-        self.broken = [[0] * len(self.options) for _ in problem.slots]
-        self.all = 0
+        self.problem, self.all = problem, 0
+        self.options = [problem.options(at) for at in range(len(problem.slots))]
+        self.broken = [[0] * len(options) for options in self.options]
 
     def add(self, kept):
         """An execution that stands fences with the pairs kept at each slot, and breaks where a kind has another."""
         bit = self.all + 1
         self.all |= bit
-        for broken, pairs in zip(self.broken, kept):
-            for number, kind in enumerate(self.options):
+        for broken, options, pairs in zip(self.broken, self.options, kept):
+            for number, kind in enumerate(options):
                 if kind is not None and not model.PAIRS[kind] <= pairs:
                     broken[number] |= bit
 
@@ -246,7 +249,7 @@ class Breaks:
         best = {self.all: (0, ())}      # by what is unbroken the cost, and the numbers of the options
         for at, broken in enumerate(self.broken):
             ways = {}                   # by what breaks, the price and the number of the first cheapest option
-            for number, kind in enumerate(self.options):
+            for number, kind in enumerate(self.options[at]):
                 way = self.problem.price(at, kind), number
                 ways[broken[number]] = min(way, ways.get(broken[number], way))
             later = functools.reduce(operator.or_, itertools.chain(*self.broken[at + 1:]), 0)
@@ -257,7 +260,7 @@ class Breaks:
                     found = cost + price, (*chosen, number)
                     wider[left] = min(found, wider.get(left, found))
             best = wider
-        return tuple(self.options[number] for number in best[0][1]) if 0 in best else None
+        return tuple(options[number] for options, number in zip(self.options, best[0][1])) if 0 in best else None
 
 
 def solved(problem):
