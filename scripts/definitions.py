@@ -2,9 +2,7 @@
 is reached, without comments and imports, and of `src/` those of the types that they speak of.
 
 A name counts wherever it stands in a definition, also as that of a variable or a field; so a sum is no less than what
-is to be believed. Definitions of the standard library and of the ported crates are left out.
-
-First come the files of the tree, and what their first lines say."""
+is to be believed. Definitions of the standard library and of the ported crates are left out."""
 import functools
 import glob
 import itertools

@@ -119,8 +119,6 @@ def check(run):
         run.expect(f'certificate {number}, of {what}', wanted, rvfence('check', test, prices, path))
 
 
-# --- Stored certificates ------------------------------------------------------------------------------------------
-
 def stored(name):
     """A certificate of examples/certificates/ or of scripts/transcripts/files/."""
     return json.loads(read(here(f"certificates/{name}.json", f"{name}.json")))

@@ -18,7 +18,6 @@
 
 static atomic_long calls;
 
-/* Does this call fail? */
 static int is_failing(const char *call, const char *path) {
     const char *wanted = getenv("HINDER_CALL"), *error = getenv("HINDER_ERROR");
     if (wanted == NULL || strcmp(wanted, call) != 0 || strstr(path, getenv("HINDER_NAME")) == NULL)
@@ -32,7 +31,6 @@ static int is_failing(const char *call, const char *path) {
     return 1;
 }
 
-/* The name of an open file. */
 static const char *name_of(int file) {
     static _Thread_local char link[64], path[PATH_MAX];
     snprintf(link, sizeof link, "/proc/self/fd/%d", file);

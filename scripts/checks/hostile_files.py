@@ -1,7 +1,6 @@
 """Hostile tests, prices, witnesses, logs and certificates, each with its answer: the line of its fault, or READ, or
-what the command says. The answers are those of docs/FORMAT.md, and none is taken from the program: they are derived
-where the file is made, and for files that are changed or composed by a second reader of the formats. Those that a line
-describes are in scripts/transcripts/hostile.table."""
+what the command says. The answers are those of docs/FORMAT.md, none the program's: they are derived where the file is
+made, or by a second reader of the formats. Files that a line describes are in scripts/transcripts/hostile.table."""
 import itertools
 import json
 import os
@@ -334,9 +333,8 @@ def logs():
 
 
 def witnesses():
-    """Every beginning of a witness for SB, and the witness with each byte replaced by each telling one; then the
-    large ones: with very many parts, very deep, and with long numbers. Lists that are too long are a matter of the
-    runs, and names are a matter of the order, whatever their numbers; choices come before the order."""
+    """Every beginning of a witness for SB, and the witness with each byte replaced by each telling one; then large ones.
+    Lists that are too long are a matter of the runs, and names, whatever their numbers, of the order, which comes last."""
     whole = witness_of("[0],[0]", '"P0:2","P1:2","P0:1","P1:1"')
 
     def answer(text):
@@ -375,9 +373,8 @@ def stored(name):
 
 
 def changed_certificates(what, name, telling):
-    """Every beginning of a certificate, the certificate with each byte replaced by some telling ones and with each of
-    its values replaced by others, and with much of one thing, in which nothing may take more time or memory than the
-    bytes: neither parts of it nor the regions that items of a refutation leave open."""
+    """Every beginning of a certificate, the certificate with each byte replaced by some telling ones and each of its
+    values by others, and with much of one thing, none of which may take more time or memory than the bytes."""
     good = stored(name)
     yield from beginnings_of(what, good.encode(), checked)
     yield from bytes_replaced(what, good.encode(), telling, checked)
