@@ -108,8 +108,6 @@ def verdict_of(data, prices):
     return "vacuous" if is_vacuous(test) else "allowed" if problem.live else "forbidden", problem
 
 
-# --- Final states -------------------------------------------------------------------------------------------------
-
 def named(condition):
     """The places of a condition: a hart and a register, or the address of a location."""
     if condition[0] in ("register", "word"):

@@ -38,8 +38,7 @@ def patterns(group, parts=()):
 PARTS = patterns("parts of what is said")
 ANSWERS = {name: re.compile(text) for name, text in patterns("answers", PARTS).items()}
 SAID = {key: re.compile(text.encode()) for key, text in patterns("said", PARTS).items()}
-# How the program gets the files of a group: what stands before the names of the runs, the words of its command line,
-# and the answer where a reader has READ.
+# How the program gets the files of a group: what stands before the names, its words, and the answer in place of READ.
 Use = collections.namedtuple("Use", "group name words read")
 USES = [Use(group, name, words.split(), read) for groups, name, words, read
         in (row.split(" | ") for row in rows("hostile", "uses")) for group in groups.split(", ")]

@@ -333,8 +333,8 @@ def logs():
 
 
 def witnesses():
-    """Every beginning of a witness for SB, and the witness with each byte replaced by each telling one; then large ones.
-    Lists that are too long are a matter of the runs, and names, whatever their numbers, of the order, which comes last."""
+    """Every beginning of a witness for SB, the witness with each byte replaced by each telling one, and large ones.
+    Lists that are too long are a matter of the runs, names of the order, whatever their numbers; choices come first."""
     whole = witness_of("[0],[0]", '"P0:2","P1:2","P0:1","P1:1"')
 
     def answer(text):

@@ -6,8 +6,7 @@ import tempfile
 from running import EXAMPLES, LONGEST, TOP, compiled, program, ran, text_of, written
 
 FOLDER = f"{TOP}/scripts/transcripts"
-# Runs the program in place of itself, and notes its nanoseconds, its bytes, its status and its words, but for those of
-# standard input.
+# Runs the program, and notes its nanoseconds, its bytes, its status and its words, as measured without standard input.
 MEASURED = """#!/bin/bash
 echo "$("{measure}" 1 /dev/null "{program}" "$@") rvfence $*" >>"{notes}"
 exec "{program}" "$@"
