@@ -84,7 +84,6 @@ def compiled(source, folder, *words):
 
 
 def rvfence(*words, **options):
-    """What a run of the program with these words says."""
     return ran([program(), *words], **options)
 
 

@@ -28,7 +28,6 @@ def compare_workers(run, name, files, found):
 
 
 def compare(run, name, data, prices):
-    """Compares the answers to this test, of this name."""
     test = model.test_of(data)
     files = [written(run.path("test.litmus"), data), written(run.path("prices.json"), prices)]
     wanted = out, error, _ = reference.answer(test, model.prices_of(prices))

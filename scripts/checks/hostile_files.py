@@ -91,13 +91,11 @@ def flooded(group, signs, wanted, size=MEBIBYTE - 100):
 # --- Tests -------------------------------------------------------------------------------------------------------
 
 def beginnings_of(what, whole, answer):
-    """Every beginning of a text."""
     for count in range(len(whole)):
         yield f"the first {count} bytes of {what}", whole[:count], answer(whole[:count])
 
 
 def bytes_replaced(what, whole, bytes_for, answer):
-    """The text with each byte replaced by each of these."""
     for at, byte in itertools.product(range(len(whole)), bytes_for):
         text = whole[:at] + bytes([byte]) + whole[at + 1:]
         yield f"{what} with byte {at} {byte:#04x}", text, answer(text)
