@@ -12,8 +12,9 @@ import traceback
 from counting import Counts
 from running import TOP
 
-# What a check needs: nothing that is built, the gate (which it is, or what that has built), or the program.
-NOTHING, GATE, PROGRAM = "nothing", "the gate", "the program"
+# What a check needs: nothing that is built, the gate (which it is, or what that has built), the program, or that and
+# what else the gate has built.
+NOTHING, GATE, PROGRAM, BUILT = "nothing", "the gate", "the program", "the program and the gate"
 
 
 @dataclasses.dataclass(frozen=True)

@@ -1,7 +1,9 @@
-"""Runs all checks: first those that need nothing, then the gate, and then those of the program, side by side. Each is a
-process in a group of its own, with its output in a log, which is shown whole when it has ended. It fails where a check
-in it does, where it makes none, where it ends without its counts, and where it takes far more processor time than it
-should, or no end comes. How long it takes by the clock fails nothing: other work may slow it."""
+"""Runs all checks: first those that need nothing, then the gate, and those of the program, side by side. Where the
+program in bin/ is of the sources as they are, these go on beside the gate, which is to build the same, byte for byte;
+else, and where that failed, they look at what the gate has built. Each is a process in a group of its own, with its
+output in a log, which is shown whole when it has ended. It fails where a check in it does, where it makes none, where
+it ends without its counts, and where it takes far more processor time than it should, or no end comes. How long it
+takes by the clock fails nothing: other work may slow it."""
 import concurrent.futures
 import contextlib
 import os
@@ -11,7 +13,7 @@ import subprocess
 import sys
 import tempfile
 
-from checks.registry import GATE, NOTHING, PROGRAM
+from checks.registry import BUILT, GATE, NOTHING, PROGRAM
 from counting import Counts
 from running import TOP, ran, read
 
@@ -28,6 +30,7 @@ class Step:
 
     def __init__(self, check, words, folder):
         self.check, self.name, self.process = check, " ".join([check.name, *words]), None
+        self.is_behind = self.has_passed = False
         most = MUCH * (check.seconds or 0) + 60
         # (both say it where there is no such command)
         limit = ["env"] if check.seconds is None else ["prlimit", f"--cpu={most}:{most + 1}"]
@@ -35,10 +38,13 @@ class Step:
         self.log = f"{folder}/{check.name}"
 
     def run(self):
-        """Runs it to its end. Where it has no limit, what it prints is shown as it comes."""
+        """Runs it to its end, behind all else that the machine does where it is to be. Where it has no limit, what it
+        prints is shown as it comes."""
         with open(self.log, "wb") as log:
             self.process = subprocess.Popen(self.command, cwd=TOP, stdin=subprocess.DEVNULL, stdout=log,
                                             stderr=subprocess.STDOUT, start_new_session=True)
+        if self.is_behind:
+            put_behind(self.process.pid)
         if self.check.seconds is None:
             with subprocess.Popen(["tail", "-n", "+1", "-f", f"--pid={self.process.pid}", self.log]):
                 self.process.wait()
@@ -76,10 +82,11 @@ class Report(Counts):
     def add_step(self, step):
         """Adds the counts of a step that has ended, and shows what it has printed. Has it passed?"""
         text = read(step.log).decode("utf-8", "replace")
-        print("" if step.check.seconds is None else text, end="", flush=True)
         counts = (COUNTS.findall(text) or [None])[-1]
         passed, failed = map(int, counts) if counts else (None, 0)
-        self.passed, self.failed = self.passed + (passed or 0), self.failed + failed
+        with self.lock:
+            print("" if step.check.seconds is None else text, end="", flush=True)
+            self.passed, self.failed = self.passed + (passed or 0), self.failed + failed
         wrong = step.wrong(passed, failed)
         if wrong:
             self.check(f"{step.name} {wrong}", False)
@@ -87,7 +94,8 @@ class Report(Counts):
         telling = TELLING.findall(text)[:MOST_TELLING] if step.process.returncode else []
         self.lines[step.name] = [f"{step.name}: {shown}, status {step.process.returncode}",
                                  *[f"    {line}" for line in telling]]
-        return not failed and not wrong
+        step.has_passed = not failed and not wrong
+        return step.has_passed
 
     def end_of(self, steps):
         """Prints the lines in the order of the steps, and the sums, and gives the exit status."""
@@ -95,17 +103,31 @@ class Report(Counts):
         return self.end()
 
 
-def run_steps(steps, report):
-    """Runs steps side by side, the longest first, as many at once as there are processors. Have all passed?"""
+def put_behind(process):
+    """Has the process, and what it starts, wait for all others that want a processor. (A session's processes share one
+    part of the processors, which has a priority of its own.)"""
+    with contextlib.suppress(OSError):                          # it has ended, or the system has no such shares
+        os.setpriority(os.PRIO_PROCESS, process, 19)
+        with open(f"/proc/{process}/autogroup", "w") as share:
+            share.write("19")
+
+
+def run_rows(rows, report):
+    """Runs rows of steps side by side, those of a row one after another, the longest rows first, as many at once as
+    there are processors. Have all passed?"""
+    def run_row(row):
+        return all([report.add_step(step.run()) for step in row])
+
     pool = concurrent.futures.ThreadPoolExecutor(PROCESSORS)
-    longest_first = sorted(steps, key=lambda step: -(step.check.seconds or 0))
+    longest_first = sorted(rows, key=lambda row: -(row[0].check.seconds or float("inf")))
     try:
-        ended = concurrent.futures.as_completed([pool.submit(step.run) for step in longest_first])
-        return all([report.add_step(future.result()) for future in ended])
+        ended = concurrent.futures.as_completed([pool.submit(run_row, row) for row in longest_first])
+        return all([future.result() for future in ended])
     finally:
         pool.shutdown(wait=False, cancel_futures=True)
-        for step in steps:
-            step.stop()
+        for row in rows:
+            for step in row:
+                step.stop()
 
 
 def jobs_of_gate():
@@ -122,29 +144,51 @@ def program_to_check(is_built):
     return ran([f"{TOP}/scripts/program", "--find"], env=environment).out.strip()
 
 
+def look(steps, program, report, beside=()):
+    """Runs the steps that look at this program from outside, and a row of others beside them."""
+    if program:
+        os.environ["RVFENCE_PROGRAM"] = program
+        print(f"checked from outside: {program}", flush=True)
+        run_rows([*([beside] if beside else []), *([step] for step in steps)], report)
+    else:
+        report.check("there is a program that is up to date with its sources; ./rvfence builds it", False)
+
+
+def run_gate(of_gate, of_program, report):
+    """Runs the steps of the gate one after another, and those of the program: beside them where the one in bin/ is of
+    the sources as they are, since the gate holds it against what it builds, else when they have ended. Returns the
+    program that was looked at."""
+    os.environ.setdefault("RT_JOBS", jobs_of_gate())
+    program = program_to_check(False)
+    if os.path.dirname(program) == f"{TOP}/bin":
+        for step in of_program:
+            step.is_behind = True
+        look(of_program, program, report, of_gate)
+    else:
+        run_rows([of_gate], report)
+        program = program_to_check(of_gate[0].has_passed)
+        look(of_program, program, report)
+    return program
+
+
 def run_all(checks, is_quick):
-    """Runs all checks, and gives the exit status. The gate and what looks at it come one after another."""
+    """Runs all checks, and gives the exit status."""
     for number in (signal.SIGHUP, signal.SIGINT, signal.SIGTERM):
         signal.signal(number, lambda came, _: sys.exit(128 + came))
     report = Report()
     with tempfile.TemporaryDirectory() as folder:
         steps = [Step(check, check.quick * is_quick, folder) for check in checks]
-        of_kind = {kind: [step for step in steps if step.check.needs == kind] for kind in (NOTHING, GATE, PROGRAM)}
-        run_steps(of_kind[NOTHING], report)
-        if not is_quick:
-            os.environ.setdefault("RT_JOBS", jobs_of_gate())
-        is_built = not is_quick and [run_steps([step], report) for step in of_kind[GATE]][0]
-        program = program_to_check(is_built)
-        if program:
-            os.environ["RVFENCE_PROGRAM"] = program
-            print(f"checked from outside: {program}", flush=True)
-            run_steps(of_kind[PROGRAM], report)
+        of_kind = {kind: [it for it in steps if it.check.needs == kind] for kind in (NOTHING, GATE, PROGRAM, BUILT)}
+        run_rows([[step] for step in of_kind[NOTHING]], report)
+        if is_quick:
+            look([*of_kind[PROGRAM], *of_kind[BUILT]], program_to_check(False), report)
         else:
-            report.check("there is a program that is up to date with its sources; ./rvfence builds it", False)
+            look(of_kind[BUILT], run_gate(of_kind[GATE], of_kind[PROGRAM], report), report)
     return report.end_of(steps)
 
 
 def show(checks):
+    """Prints a line for each check."""
     for check in checks:
         taken = " ".join([name if name.startswith("-") else f"[{name.upper()}]" for name in check.words])
         print(f"{' '.join([check.name, taken]).strip()} (needs {check.needs}): {check.about()}")

@@ -11,10 +11,8 @@ use Rattle.fs_app_audit.specs.Audit.{IsAudited, IsMended, IsFirstAuditFault, IsF
 use Rattle.fs_kinds.specs.declared.fault.Fault.{Fault}
 use Rattle.fs_app_check.specs.Check.{IsChecked, AreOneVerdict}
 use Rattle.fs_app_test.specs.declared.said.Line.{Line}
-use Rattle.fs_app_test.specs.SaidVerdicts.{witness_in}
 use Rattle.fs_app_test.specs.Status.{report_status}
 use Rattle.fs_app_test.specs.Report.{report_text, json_text}
-use Rattle.fs_app_test.specs.Verdicts.{NamesFault}
 use Rattle.fs_app_why.specs.Why.{IsAnswerWhy, IsOrderWhy}
 use Rattle.fs_app_command_line.specs.declared.command.Task.{Task}
 use Rattle.fs_app_command_line.specs.declared.command.Task.TheVariants as task
@@ -24,7 +22,7 @@ use Rattle.fs_app_command_line.specs.declared.command.Order.{Order}
 use Rattle.fs_app_command_line.specs.declared.command.Solve.{Solve}
 use Rattle.fs_app_command_line.specs.declared.command.Audit.{Audit}
 use Rattle.fs_app_command_line.specs.declared.command.Check.{Check}
-use Rattle.fs_app.specs.declared.papers.Papers.{Papers}
+use Rattle.fs_app_files.specs.declared.papers.Papers.{Papers}
 use Rattle.fs_app.specs.Telling.{AreTold, IsSolveWhy, IsTold, is_yes}
 
 -- the bytes of the prices that were read, where `place` is to read some
@@ -115,12 +113,6 @@ pub data AnswersTest (test : Test) (output : Output) : Type 0 where
   lacking : IsSome test.expect → (lines : Output) → AnswersLines test lines → output.text ≡ lines.text
       → output.status ≡ Denied → AnswersTest test output
   refused : IsSome test.expect → string_bytes output.text ≡ [] → output.status ≡ Failure → AnswersTest test output
-
--- the object of a fault, in a line
-pub record IsFaultObject (fault : Fault) (text : List ℕ) : Type 0 where
-  pub line : Line
-  pub names : NamesFault fault line.said.kind (string_bytes line.said.why) (witness_in line.said.witness)
-  pub shown : text ≡ json_text false (line ∷ [])
 
 -- of `states` there is none here: it is the answers of its files, one below the other
 abbrev pub Answers : Task → Papers → Output → Type 0

@@ -1,5 +1,5 @@
 //! Why a run ends without an answer.
-use crate::list_error::ListError;
+use fs_app_files::ListError;
 use fs_app_io::Status;
 use fs_app_states_log::LogError;
 use fs_kinds::Fault;

@@ -13,20 +13,10 @@ ghost use Rattle.fs_app_test.specs.Status.{report_status};
 ghost use Rattle.fs_app.specs.Answers.{IsSolvedAndTold, IsSolvedIn, offered, in_form, IsAuditFault, IsAuditText, Answers, AnswersTest, AnswersPlace};
 ghost use Rattle.fs_app.specs.Answers.{AnswersLines, AnswersOrder, AnswersSolve, AnswersAudit, AnswersCheck};
 
-use crate::expecting::Expecting;
 use crate::failure::Failure;
-use crate::faults::fault_object;
-use crate::input::INPUT_LIMIT;
-use crate::judging::{Judged, Wants, judge_files};
-use crate::limits::{has_stack, room_of, tell, write_within};
-use crate::list_error::ListError;
-use crate::papers::Papers;
 use crate::progress::Progress;
-use crate::rows::read_rows;
-use crate::sources::sources;
 use crate::states::{answer_log, answer_states};
 use crate::telling::{answer_why, is_yes, order_why, solve_why, tests_why, with_below};
-use crate::whole::write_whole;
 use clap::error::ErrorKind;
 use fs_app_audit::{run_audit, run_mended};
 use fs_app_check::{Checked, run_check};
@@ -35,7 +25,12 @@ use fs_app_command_line::{
     completion_script, read_request,
 };
 use fs_app_error_messages::shown_name;
-use fs_app_io::{Output, Status};
+use fs_app_files::{
+    Expecting, Judged, ListError, Papers, Wants, fault_object, judge_files, read_rows,
+};
+use fs_app_io::{
+    INPUT_LIMIT, Output, Status, has_stack, room_of, sources, tell, write_whole, write_within,
+};
 use fs_app_place_order::{run_order, run_place};
 use fs_app_solve::{Found, run_solve, run_solve_alone};
 use fs_app_test::{Line, test_objects, test_report, vacuous_note};

@@ -1,12 +1,10 @@
 //! What `states` answers: the states of each file, or what a log has of them.
 use crate::failure::Failure;
-use crate::faults::fault_object;
-use crate::papers::Papers;
 use crate::program::{Voice, failure_of, report};
-use crate::sources::{Source, sources};
 use fs_app_command_line::States;
 use fs_app_error_messages::explain_test;
-use fs_app_io::{Output, Status};
+use fs_app_files::{Papers, fault_object};
+use fs_app_io::{Output, Source, Status, sources};
 use fs_app_states::{Shown, run_states};
 use fs_app_states_log::{Compared, Log, LogError, MOST_BYTES, compare, left_over, read_log};
 use fs_kinds::Fault;

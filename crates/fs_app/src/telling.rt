@@ -6,8 +6,8 @@ ghost use Rattle.fs_app_why.specs.Why.{IsAllowedWhy, IsAnswerWhy, IsOrderWhy};
 ghost use Rattle.fs_app.specs.Answers.{IsSolvedAndTold, IsSolvedIn};
 ghost use Rattle.fs_app.specs.Telling.{AreTold, IsTold, is_yes};
 
-use crate::papers::Papers;
 use fs_app_error_messages::shown_name;
+use fs_app_files::Papers;
 use fs_app_io::{Output, Status};
 use fs_app_test::Line;
 use fs_app_why::{why_allowed, why_answer, why_order};

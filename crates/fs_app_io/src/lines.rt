@@ -7,7 +7,7 @@ ghost use Rattle.fs_app_io.specs.Lines.{says};
 use std::alloc::{AllocError, Global};
 
 /// Says the line, without the blanks at its ends, something?
-pub(crate) fn says(line: &str) -> bool
+pub fn says(line: &str) -> bool
     ensures { result ≡ says line.now }
 {
     match line.as_bytes().first() {
@@ -17,7 +17,7 @@ pub(crate) fn says(line: &str) -> bool
 }
 
 /// The lines of a text, without their ends.
-pub(crate) fn lines_of<'a>(alloc: Global, text: &'a str) -> Result<Vec<&'a str>, AllocError>
+pub fn lines_of<'a>(alloc: Global, text: &'a str) -> Result<Vec<&'a str>, AllocError>
     ensures { IfOk result (λ made. map (λ line. line.now) made.items ≡ lines text.now) }
 {
     text.lines().collect(alloc)

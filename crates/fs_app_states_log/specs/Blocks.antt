@@ -26,10 +26,7 @@ pub record ReadBlock : Type 0 where
   pub name : List ℕ
   pub states : List ReadState
 
--- the texts of what was cut
-abbrev pub pair_now : Option (Bor (List ℕ) × Bor (List ℕ)) → Option (List ℕ × List ℕ)
-pair_now = option_map (λ parts. (parts.0.now, parts.1.now))
-
+-- the texts of what was read
 abbrev pub split_now : Option (ℕ × Bor (List ℕ)) → Option (ℕ × List ℕ)
 split_now = option_map (λ parts. (parts.0, parts.1.now))
 

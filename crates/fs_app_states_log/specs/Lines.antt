@@ -2,18 +2,13 @@
 -- says.
 use Rattle.std.specs.Prelude.{ℕ, ◌-◌, ◌==◌, ◌^◌, nat_lt, nat_eq, Bool, true, false, not, ◌&&◌, ◌||◌, Option, Some, None, option_map, option_and_then, is_some, List, [], ◌∷◌, codes, drop, length, if◌then◌else◌}
 use Rattle.std.specs.Char.{is_ascii_digit, is_ascii_whitespace}
-use Rattle.std.specs.List.{after_first, before_first, list_all, list_any, position_or_len, slice_split, starts_with}
+use Rattle.std.specs.List.{list_all, list_any, slice_split, starts_with}
 use Rattle.std.specs.Str.{bytes_eq, trim}
 use Rattle.std.specs.Str.Parse.{digits_value}
+pub use Rattle.fs_app_io.specs.Lines.{cut}
 use Rattle.fs_app_states_log.specs.declared.spelling.Count.{Count}
 
 -- ---- pieces of a line
-
--- what stands before the first such byte, and what stands behind it
-abbrev pub cut : (byte : ℕ) → List ℕ → Option (List ℕ × List ℕ)
-cut byte text =
-    if nat_lt (position_or_len (λ b. b == byte) text) (length text)
-    then Some (before_first (λ b. b == byte) text, after_first (λ b. b == byte) text) else None
 
 -- what stands before such a byte at the end
 abbrev pub before_last : (byte : ℕ) → List ℕ → Option (List ℕ)

@@ -10,8 +10,8 @@ ghost use Rattle.fs_board.specs.Growth.{AreWitnesses};
 use fs_board_offers::Question;
 use fs_cert_evidence::{Forbidden, Witness};
 use fs_judge::{Problem, Verdict};
-use fs_judge_tests::verdict_on;
 use fs_kinds::{Fault, List, Slot};
+use fs_tests_shared::verdict_on;
 use std::alloc::Global;
 use std::sync::Arc;
 

@@ -6,10 +6,9 @@ ghost use Rattle.fs_model.specs.Test.{IsBounded, IsTest};
 use crate::printing::say_refused;
 use fs_cert_evidence::Witness;
 use fs_judge::{Judge, Problem, Verdict};
-use fs_judge_tests::{count_of, verdict_on};
 use fs_kinds::Fault;
 use fs_model::Test;
-use fs_tests_shared::{PRICES, SB, placement_of, question_of};
+use fs_tests_shared::{PRICES, SB, count_of, placement_of, question_of, verdict_on};
 use std::alloc::Global;
 use std::sync::Arc;
 

@@ -1,0 +1,21 @@
+//! The files that a command reads, what is said of the faults in them, and what `test` says of each beside what is
+//! expected of it.
+#![tactic(auto)]
+
+mod expecting;
+mod faults;
+mod judging;
+mod kinds;
+mod list_error;
+mod names;
+mod papers;
+mod rows;
+
+pub use expecting::Expecting;
+pub use faults::fault_object;
+pub use judging::{Judged, Wants, judge_files};
+pub use kinds::{Kinds, kind_by, kinds_of};
+pub use list_error::ListError;
+pub use names::test_name;
+pub use papers::{Noted, Paper, Papers};
+pub use rows::{Row, read_rows};

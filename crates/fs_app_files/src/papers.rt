@@ -1,0 +1,319 @@
+//! What a run has read, and what is said of its fault from that.
+
+ghost use Rattle.std.specs.Prelude.{◌≡◌, IfOk, OnOk};
+
+use fs_app_error_messages::{
+    Located, explain, explain_fences, explain_json, explain_test, explain_unread, locate,
+    locate_fences, locate_json, locate_test,
+};
+use fs_app_io::{INPUT_LIMIT, Missing, Source, Unread, read_file, read_input};
+use fs_app_test::Note;
+use fs_kinds::Fault;
+use std::alloc::{AllocError, Global};
+use std::rt::Files;
+
+/// A file, or standard input: its name as it was given, and its bytes.
+#[derive(Drop)]
+pub struct Paper<'a> {
+    pub name: &'a str,
+    pub bytes: Vec<u8>,
+}
+
+/// What a run goes by. A file that it wasn't given, or hasn't read yet, has no name.
+#[derive(Drop)]
+pub struct Papers<'a> {
+    pub test: Paper<'a>,
+    pub prices: Paper<'a>,
+    /// The witness or the certificate.
+    pub evidence: Paper<'a>,
+    /// The FENCE words.
+    pub fences: &'a [String],
+    /// The name of the file that wasn't read, and why.
+    unread: Option<(&'a str, Missing)>,
+}
+
+impl<'a> Papers<'a> {
+    /// Nothing was read yet.
+    pub fn new(alloc: Global) -> Self {
+        Papers {
+            test: no_paper(alloc),
+            prices: no_paper(alloc),
+            evidence: no_paper(alloc),
+            fences: &[],
+            unread: None,
+        }
+    }
+
+    /// Reads the test, from standard input where it is called so.
+    pub fn read_test<R: Files + Input + AllocGlobal>(
+        &mut self,
+        rt: &R,
+        name: &'a str,
+    ) -> Result<(), Fault>
+        ensures name { OnOk result (self.new.test.name.now ≡ name.now) }
+        ensures kept { (self.new.prices ≡ self.old.prices) × (self.new.evidence ≡ self.old.evidence)
+            × (self.new.fences ≡ self.old.fences) }
+    {
+        self.test = self.paper(name, read_input(rt, name))?;
+        Ok(())
+    }
+
+    /// Reads the test that a FILE word names.
+    pub fn read_source<R: Files + Input + AllocGlobal>(
+        &mut self,
+        rt: &R,
+        source: &'a Source,
+    ) -> Result<(), Fault> {
+        self.test = self.paper(source.name.as_str(), source.read(rt))?;
+        Ok(())
+    }
+
+    /// Reads the prices.
+    pub fn read_prices<R: Files + AllocGlobal>(
+        &mut self,
+        rt: &R,
+        name: &'a str,
+    ) -> Result<(), Fault>
+        ensures name { OnOk result (self.new.prices.name.now ≡ name.now) }
+        ensures kept { (self.new.test ≡ self.old.test) × (self.new.evidence ≡ self.old.evidence)
+            × (self.new.fences ≡ self.old.fences) }
+    {
+        self.prices = self.paper(name, read_file(rt, name, INPUT_LIMIT))?;
+        Ok(())
+    }
+
+    /// Reads the witness or the certificate, which may have so many bytes.
+    pub fn read_evidence<R: Files + AllocGlobal>(
+        &mut self,
+        rt: &R,
+        name: &'a str,
+        limit: usize,
+    ) -> Result<(), Fault>
+        ensures name { OnOk result (self.new.evidence.name.now ≡ name.now) }
+        ensures kept { (self.new.test ≡ self.old.test) × (self.new.prices ≡ self.old.prices)
+            × (self.new.fences ≡ self.old.fences) }
+    {
+        self.evidence = self.paper(name, read_file(rt, name, limit))?;
+        Ok(())
+    }
+
+    /// The paper of these bytes; or the fault that there are none, and why is kept.
+    fn paper(&mut self, name: &'a str, file: Result<Vec<u8>, Missing>) -> Result<Paper<'a>, Fault>
+        ensures name { IfOk result (λ paper. paper.name.now ≡ name.now) }
+        ensures kept { (self.new.test ≡ self.old.test) × (self.new.prices ≡ self.old.prices)
+            × (self.new.evidence ≡ self.old.evidence) × (self.new.fences ≡ self.old.fences) }
+    {
+        match file {
+            Ok(bytes) => Ok(Paper { name, bytes }),
+            Err(why) => {
+                self.unread = Some((name, why));
+                Err(why.fault())
+            }
+        }
+    }
+
+    /// The prices, where some were read.
+    fn offered(&self) -> Option<&[u8]> {
+        if self.prices.name.is_empty() {
+            None
+        } else {
+            Some(&self.prices.bytes)
+        }
+    }
+
+    /// The message of the fault that ended the run. None where there is no more to say than its line, or no memory for
+    /// it.
+    pub fn message(&self, alloc: Global, fault: Fault) -> Option<String> {
+        self.explained(alloc, fault).unwrap_or(None)
+    }
+
+    fn explained(&self, alloc: Global, fault: Fault) -> Result<Option<String>, AllocError> {
+        match fault {
+            Fault::BadPrices | Fault::NoTop => explained_json(alloc, &self.prices, fault),
+            Fault::BadWitness | Fault::BadCertificate => explained_json(
+                alloc,
+                &self.evidence,
+                fault,
+            ),
+            Fault::BadFence => {
+                let text = explain_fences(alloc, self.fences, &self.test.bytes, self.offered())?;
+                Ok(Some(text))
+            }
+            Fault::ReadFault => explained_unread(alloc, self.unread),
+            Fault::Memory | Fault::WriteFault | Fault::Unmatched | Fault::StrangePass => Ok(None),
+            _ => Ok(Some(explain(alloc, self.test.name, &self.test.bytes, fault)?)),
+        }
+    }
+}
+
+/// What the message of a fault says, and of which file.
+#[derive(Drop)]
+pub struct Noted<'a> {
+    pub file: &'a str,
+    pub note: Note,
+}
+
+impl<'a> Papers<'a> {
+    /// What the message of the fault that ended the run says, for those who read JSON. None where it has no message. The
+    /// error is want of memory.
+    pub fn noted(&self, alloc: Global, fault: Fault) -> Result<Option<Noted<'a>>, AllocError> {
+        match fault {
+            Fault::BadPrices | Fault::NoTop => noted_json(alloc, &self.prices, fault),
+            Fault::BadWitness | Fault::BadCertificate => noted_json(alloc, &self.evidence, fault),
+            Fault::BadFence => {
+                let found = locate_fences(alloc, self.fences, &self.test.bytes)?;
+                Ok(Some(self.noted_test(note_of(found))))
+            }
+            Fault::Syntax { .. } => Ok(Some(self.noted_test(form_note(alloc, &self.test.bytes)?))),
+            Fault::ReadFault => noted_unread(alloc, self.unread),
+            Fault::Memory | Fault::WriteFault | Fault::Unmatched | Fault::StrangePass => Ok(None),
+            _ => {
+                let found = locate(alloc, &self.test.bytes, fault)?;
+                Ok(Some(self.noted_test(note_of(found))))
+            }
+        }
+    }
+
+    fn noted_test(&self, note: Note) -> Noted<'a> {
+        Noted {
+            file: self.test.name,
+            note,
+        }
+    }
+}
+
+/// The note of a fault of the form. Where the test has none, the fault is that of an item of `locations`, which is refused
+/// beside the reader of tests.
+fn form_note(alloc: Global, bytes: &[u8]) -> Result<Note, AllocError> {
+    match locate_test(alloc, bytes)? {
+        Some(found) => Ok(note_of(found)),
+        None => placeless(
+            alloc,
+            "an item of `locations` has another form, or names what the test lacks",
+        ),
+    }
+}
+
+fn placeless(alloc: Global, message: &str) -> Result<Note, AllocError> {
+    Ok(Note {
+        line: None,
+        column: None,
+        message: String::from_str(alloc, message)?,
+    })
+}
+
+fn noted_json<'a>(
+    alloc: Global,
+    paper: &Paper<'a>,
+    fault: Fault,
+) -> Result<Option<Noted<'a>>, AllocError> {
+    let note = note_of(locate_json(alloc, &paper.bytes, fault)?);
+    Ok(Some(Noted {
+        file: paper.name,
+        note,
+    }))
+}
+
+fn noted_unread<'a>(
+    alloc: Global,
+    unread: Option<(&'a str, Missing)>,
+) -> Result<Option<Noted<'a>>, AllocError> {
+    match unread {
+        Some((file, why)) => {
+            let note = note_of_missing(alloc, why)?;
+            Ok(Some(Noted { file, note }))
+        }
+        None => Ok(None),
+    }
+}
+
+fn no_paper<'a>(alloc: Global) -> Paper<'a> {
+    Paper {
+        name: "",
+        bytes: Vec::new(alloc),
+    }
+}
+
+fn explained_json(
+    alloc: Global,
+    paper: &Paper<'_>,
+    fault: Fault,
+) -> Result<Option<String>, AllocError> {
+    Ok(Some(explain_json(alloc, paper.name, &paper.bytes, fault)?))
+}
+
+fn explained_unread(
+    alloc: Global,
+    unread: Option<(&str, Missing)>,
+) -> Result<Option<String>, AllocError> {
+    match unread {
+        Some((name, why)) => Ok(Some(unread_line(alloc, name, why)?)),
+        None => Ok(None),
+    }
+}
+
+/// The line that says why the file wasn't read.
+fn unread_line(alloc: Global, name: &str, why: Missing) -> Result<String, AllocError> {
+    let why = format!(in alloc; "{why}")?;
+    explain_unread(alloc, name, why.as_str())
+}
+
+/// The message of a file of `test` that isn't a test, or wasn't read. None where it is one, or there is no memory for
+/// the message. A file that is one is read a second time by `test_file`.
+pub(crate) fn message_of_file(
+    alloc: Global,
+    name: &str,
+    file: &Result<Vec<u8>, Missing>,
+) -> Option<String> {
+    match file {
+        Ok(bytes) => explain_test(alloc, name, bytes).unwrap_or(None),
+        Err(Missing::Unread(Unread::NoMemory)) => None,
+        Err(why) => unread_line(alloc, name, *why).ok(),
+    }
+}
+
+/// What that message says, for those who read JSON. The error is want of memory.
+pub(crate) fn note_of_file(
+    alloc: Global,
+    file: &Result<Vec<u8>, Missing>,
+) -> Result<Option<Note>, AllocError> {
+    match file {
+        Ok(bytes) => match locate_test(alloc, bytes)? {
+            Some(found) => Ok(Some(note_of(found))),
+            None => Ok(None),
+        },
+        Err(why) => Ok(Some(note_of_missing(alloc, *why)?)),
+    }
+}
+
+/// The note; or where there is none that of the fault, which is none of the form of a test.
+pub(crate) fn note_or(
+    alloc: Global,
+    note: Option<Note>,
+    fault: Option<Fault>,
+) -> Result<Option<Note>, AllocError> {
+    if note.is_some() {
+        return Ok(note);
+    }
+    match fault {
+        Some(fault) => Ok(Some(note_of(locate(alloc, &[], fault)?))),
+        None => Ok(None),
+    }
+}
+
+fn note_of(found: Located) -> Note {
+    let Located { place, hint } = found;
+    Note {
+        line: place.map(|place| place.line),
+        column: place.map(|place| place.column),
+        message: hint,
+    }
+}
+
+fn note_of_missing(alloc: Global, why: Missing) -> Result<Note, AllocError> {
+    Ok(Note {
+        line: None,
+        column: None,
+        message: format!(in alloc; "{why}")?,
+    })
+}

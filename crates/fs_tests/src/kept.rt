@@ -1,0 +1,193 @@
+//! Hunts that begin with what earlier ones have kept.
+
+use crate::texts::{ALWAYS, CASES, LOCK, LOCK3, WAITERS};
+use fs_judge::{Judge, Verdict};
+use fs_judge_hunt::{Found, Hunter, Kept};
+use fs_judge_runs::hunter_of;
+use fs_kinds::{Fault, Placement};
+use fs_litmus::read_test;
+use fs_region_refutation::Basis;
+use fs_tests_shared::{SB, placement_of, problem_of};
+use std::alloc::Global;
+use std::sync::Arc;
+use std::test::Fail;
+
+/// As many inferences as a refutation may have.
+const MOST: usize = 1000000;
+
+/// Writes how a hunt with these fences ends, whether it looks at no region, and whether it looks at fewer than half of
+/// those that a hunt from nothing looks at.
+fn write_hunt(
+    alloc: Global,
+    hunter: &Hunter,
+    kept: &mut Kept,
+    placement: &Placement,
+    text: &mut String,
+) -> Result<(), Fault> {
+    let found = hunter.hunt(alloc, kept, placement, MOST)?;
+    let said = match found {
+        Found::Refuted(_) => "refuted",
+        Found::Shown(_) => "shown",
+        Found::GaveUp => "gave up",
+    };
+    let mut none = Kept::new();
+    hunter.hunt(alloc, &mut none, placement, MOST)?;
+    let is_known = kept.looks() == 0;
+    let is_short = kept.looks() < none.looks() / 2;
+    write!(text, "{said} {is_known} {is_short}\n")?;
+    Ok(())
+}
+
+/// The same for hunts one after the other, with the fences that each of the words names.
+fn all_hunted(alloc: Global, text: &str, fences: &[&str]) -> Result<String, Fault> {
+    let test = Arc::new(alloc, read_test(alloc, text.as_bytes())?)?;
+    let basis = Basis::new(alloc, &test)?;
+    let hunter = hunter_of(alloc, &test, basis.names(), basis.runs())?;
+    let mut kept = Kept::new();
+    let mut lines = String::new(alloc);
+    for words in fences {
+        let placement = placement_of(alloc, &test, words)?;
+        write_hunt(alloc, &hunter, &mut kept, &placement, &mut lines)?;
+    }
+    Ok(lines)
+}
+
+const LOCK3_FENCES: [&str; 5] = [
+    "P0:3=r,r P0:7=w,w P1:3=r,r P1:7=w,w P2:3=r,r P2:7=w,w",
+    "P0:3=r,r P0:7=w,w P1:3=r,r P1:7=w,w P2:3=r,r P2:7=w,w",
+    "P0:3=rw,rw P0:7=rw,rw P1:3=rw,rw P1:7=rw,rw P2:3=rw,rw P2:7=rw,rw",
+    "P0:3=r,r P0:7=w,w P1:3=r,r P1:7=w,w P2:3=r,r",
+    "P0:3=tso P0:7=w,w P1:3=r,r P1:7=tso P2:3=r,r P2:7=w,w",
+];
+
+/// What was refuted once needs no look with the same fences or with more.
+#[test]
+fn trees_are_kept(rt: HostRuntime) -> Result<(), Fail> {
+    let found = all_hunted(rt.alloc(), LOCK3, &LOCK3_FENCES)?;
+    assert_eq!(rt;
+        found.as_str(),
+        "refuted false false
+refuted true true
+refuted true true
+shown false true
+refuted true true
+"
+    );
+    Ok(())
+}
+
+fn is_allowed(verdict: &Verdict) -> bool {
+    matches!(verdict, Verdict::Allowed(_))
+}
+
+/// Writes what the judge says of the placement that the words name: `+` for allowed, `-` for forbidden, `?` where a
+/// judge that has judged nothing says something else.
+fn write_judged(
+    alloc: Global,
+    judge: &mut Judge,
+    words: &str,
+    text: &mut String,
+) -> Result<(), Fault> {
+    let placement = placement_of(alloc, judge.problem().test(), words)?;
+    let verdict = judge.verdict(alloc, &placement, &[])?;
+    let alone = judge.problem().judged(alloc, &placement, &[])?;
+    let said = match (is_allowed(&verdict), is_allowed(&alone)) {
+        (true, true) => "+",
+        (false, false) => "-",
+        _ => "?",
+    };
+    Ok(text.push_str(said)?)
+}
+
+/// The same of placements in turn, and at the end how often a check has refused what was found.
+fn write_all_judged(
+    alloc: Global,
+    test: &str,
+    fences: &[&str],
+    text: &mut String,
+) -> Result<(), Fault> {
+    let mut judge = Judge::new(alloc, problem_of(alloc, test)?);
+    for words in fences {
+        write_judged(alloc, &mut judge, words, text)?;
+    }
+    write!(text, " {}\n", judge.refusals())?;
+    Ok(())
+}
+
+/// What is said of each of the tests, a line for each.
+fn all_judged(alloc: Global, tests: &[&str], fences: &[&str]) -> Result<String, Fault> {
+    let mut text = String::new(alloc);
+    for test in tests {
+        write_all_judged(alloc, test, fences, &mut text)?;
+    }
+    Ok(text)
+}
+
+const TWO_SLOTS: [&str; 9] = [
+    "",
+    "P0:2=w,r",
+    "P1:2=w,r",
+    "P0:2=w,r P1:2=w,r",
+    "P0:2=rw,rw P1:2=tso",
+    "P0:2=rw,rw",
+    "P0:2=r,r P1:2=rw,rw",
+    "P0:2=rw,rw P1:2=rw,rw",
+    "P0:2=w,r P1:2=rw,rw",
+];
+
+const LOCK_FENCES: [&str; 9] = [
+    "P0:3=r,r P0:7=w,w P1:3=r,r P1:7=w,w",
+    "P0:7=w,w P1:3=r,r P1:7=w,w",
+    "P0:3=r,r P1:3=r,r P1:7=w,w",
+    "P0:3=r,r P0:7=w,w P1:7=w,w",
+    "P0:3=r,r P0:7=w,w P1:3=r,r",
+    "P0:3=rw,rw P0:7=rw,rw P1:3=rw,rw P1:7=rw,rw",
+    "",
+    "P0:3=tso P0:7=tso P1:3=tso P1:7=tso",
+    "P0:3=r,r P0:7=w,w P1:3=r,r P1:7=w,w",
+];
+
+const WAITERS_FENCES: [&str; 7] = [
+    "",
+    "P0:1=r,r P4:1=rw,rw",
+    "P0:1=r,r P1:1=r,r P4:1=rw,rw",
+    "P0:1=r,r P1:1=r,r P2:1=r,r P4:1=rw,rw",
+    "P0:1=r,r P1:1=r,r P2:1=r,r P3:1=r,r P4:1=rw,rw",
+    "P1:1=r,r P2:1=r,r P3:1=r,r P4:1=rw,rw",
+    "P0:1=rw,rw P1:1=rw,rw P2:1=rw,rw P3:1=rw,rw P4:1=rw,rw",
+];
+
+/// Store buffering needs a fence of stores before loads in both harts. Of the lock's four fences each is needed: a hart
+/// that comes second may load what there was before the first one stored, if its load isn't behind its AMO or the store
+/// of the first one isn't before the release.
+#[test]
+fn kept_trees_hold(rt: HostRuntime) -> Result<(), Fail> {
+    let stores = all_judged(rt.alloc(), &[SB, ALWAYS, CASES], &TWO_SLOTS)?;
+    assert_eq!(rt;
+        stores.as_str(),
+        "+++-+++-- 0
++++-+++-- 0
++++-+++-- 0
+"
+    );
+    let lock = all_judged(rt.alloc(), &[LOCK], &LOCK_FENCES)?;
+    assert_eq!(rt;
+        lock.as_str(),
+        "-++++-+-- 0
+"
+    );
+    Ok(())
+}
+
+/// Each of the five harts needs a fence between its AMO or store and its load. With more fences orders of AMOs follow
+/// near the root that with fewer were decided, or followed the other way, below.
+#[test]
+fn orders_that_follow_above_hold(rt: HostRuntime) -> Result<(), Fail> {
+    let found = all_judged(rt.alloc(), &[WAITERS], &WAITERS_FENCES)?;
+    assert_eq!(rt;
+        found.as_str(),
+        "++++-+- 0
+"
+    );
+    Ok(())
+}

@@ -1,0 +1,10 @@
+use Rattle.std.proofs.Common.{ap, ◌∙◌}
+use Rattle.std.proofs.lemmas.Result.{IfOk-weaker}
+use Rattle.fs_model.specs.Slots.{slots}
+use Rattle.fs_tests_shared.proofs.verdicts.verdict_on.Goals as goal
+
+pub verdict-requires : goal.verdict-requires
+verdict-requires c = c.in_ok-placement.ensures ∙ ap slots c.test.ensures.value
+
+pub returns : goal.returns
+returns c = record { ok = IfOk-weaker c.verdict.result _ _ (λ v is. (c.in_ok-placement.placement, is)) c.verdict.ensures.ok }
