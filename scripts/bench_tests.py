@@ -1,12 +1,10 @@
 """The tests and files that scripts/bench measures. Two checks run some of the tests too. A hart is a line of words, as
 scripts/transcripts/idioms.table says, which has idioms and locks that grow."""
-
 import itertools
 import re
 
-import stored                                                   # of this folder
-from litmus import text_of
-from running import TOP, decoded, read
+from litmus import test_text                                    # of this folder
+from running import TOP, rows as rows_of_table, text_of
 
 AND, OR = ' /\\ ', ' \\/ '
 HELD = [f'x{at}' for at in (*range(20, 32), *range(1, 5))]      # registers for addresses and constants
@@ -67,7 +65,7 @@ def test_of(name, lines, outcome, words=''):
     entries = [f'{word.replace("&", "")};' for word in words.split()]
     entries += [f'{at}:{name}={value};' for at, hart in enumerate(harts) for name, value in hart.entries.items()]
     fences = [f'fence P{at} {slot} {kind}' for at, hart in enumerate(harts) for slot, kind in hart.fences]
-    return text_of(name, entries, [hart.cells for hart in harts], f'exists {outcome}'), fences
+    return test_text(name, entries, [hart.cells for hart in harts], f'exists {outcome}'), fences
 
 
 # --- Tests that grow ---------------------------------------------------------------------------------------------
@@ -111,16 +109,15 @@ def sizes_of(text):
 def of_table(name):
     """The tests of a stored table, and the lines of their fences, by their names."""
     found = {}
-    for block in decoded(read(f'{TOP}/scripts/transcripts/{name}.table')).rstrip('\n').split('\n\n'):
-        title, *lines = [line for line in block.split('\n') if not line.startswith('# ')] or ['']
-        if not title.startswith('## '):
-            continue
-        _, kind, *ranges = title.split()
+    table = text_of(f'{TOP}/scripts/transcripts/{name}.table')
+    for title, block in re.findall(r'(?m)^## (.+)\n((?:.+\n)+)', table):
+        kind, *ranges = title.split()
+        lines = [line for line in block.splitlines() if not line.startswith('# ')]
         for each in itertools.product(*map(sizes_of, ranges)):
-            words, *harts, outcome = [expanded(line, dict(zip('ns', each))) for line in lines]
+            sizes, title = dict(zip('ns', each)), '-'.join([kind, *map(str, each)])
+            words, *harts, outcome = [expanded(line, sizes) for line in lines]
             parts = [hart.split(': ', 1) for hart in harts]
-            harts = [row for which, text in parts for row in rows(numbers(which, dict(zip('ns', each))), text)]
-            title = '-'.join([kind, *map(str, each)])
+            harts = [row for which, text in parts for row in rows(numbers(which, sizes), text)]
             found[title] = test_of(title, harts, outcome, words.removeprefix('words'))
     return found
 
@@ -169,7 +166,7 @@ TINY = PARTS['HEAD'] + PARTS['BODY'] + PARTS['TAIL']
 
 def kinds_of_files():
     """Of each kind what stands before a unit, the unit, what stands after it, and the exit status of `place`."""
-    for row in stored.rows('files'):
+    for row in rows_of_table('files'):
         name, *texts, status = row.split(' ¦ ')
         for part, text in PARTS.items():
             texts = [it.replace(part, text) for it in texts]

@@ -13,10 +13,9 @@ fail() {
 
 # Waits until no other launcher builds here, by the lock of an open folder. (For an rt at work in the crates rt waits.)
 lock() {
-    local how="import fcntl; fcntl.flock($1, fcntl.LOCK_EX"
-    python3 -c "$how | fcntl.LOCK_NB)" && return
+    flock -n "$1" && return
     say "another rvfence is at work here; waiting for it"
-    python3 -c "$how)" &
+    flock "$1" &
     wait $!
 } 2>/dev/null
 

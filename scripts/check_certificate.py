@@ -10,7 +10,8 @@ It prints `yes` and the answer, status 0; or `no: ` and the first reason of docs
 Bytes that are no certificate are `fault F18 BadCertificate` on standard error, and any other file that can't be read
 is another line there, with the fault that the program finds in it; both have status 2.
 """
-
+import collections
+import functools
 import itertools
 import json
 import math
@@ -32,12 +33,15 @@ class Fault(Unreadable):
 class NotACertificate(Exception):
     """The bytes are no certificate file."""
 
-    def __str__(self):
-        return 'fault F18 BadCertificate'
-
 
 class Refused(Exception):
     """The certificate isn't valid, for this reason."""
+
+
+def ask(holds, reason):
+    """Refuses the certificate for this reason where what it asks for doesn't hold."""
+    if not holds:
+        raise Refused(reason)
 
 
 # --- JSON as the formats ask for it ------------------------------------------------------------------------------
@@ -59,16 +63,10 @@ ESCAPE = re.compile('%s%s|(?P<half>%s)|%s' % (HALF % '89abAB', HALF % 'c-fC-F', 
 """An escape of a JSON text: both halves of a surrogate pair, half of one by itself, or another."""
 
 
-TEXT_OR_BRACKET = re.compile(r'"(?:[^"\\]|\\.)*"|[][{}]', re.DOTALL)
-
-
 def depth_of(text):
     """How many lists and objects stand in one another in a JSON text."""
-    depth = most = 0
-    for found in TEXT_OR_BRACKET.finditer(text):
-        depth += {'[': 1, '{': 1, ']': -1, '}': -1}.get(found[0], 0)
-        most = max(most, depth)
-    return most
+    brackets = re.sub(r'"(?:[^"\\]|\\.)*"|[^][{}"]+|"', '', text, flags=re.DOTALL)
+    return max(itertools.accumulate(1 if bracket in '[{' else -1 for bracket in brackets), default=0)
 
 
 def json_of(data):
@@ -86,19 +84,17 @@ def is_whole(value, below=2 ** 64):
     return type(value) is int and value < below
 
 
-def is_text(value):
-    return type(value) is str
-
-
 def has_form(value, form):
-    """Is this an object with these keys, a list of such entries, a list with an entry for each of these, this very
-    value, or what a function says?"""
+    """Is this an object with these keys, a list of such entries, a list with an entry for each of these, a value of
+    this type, this very value, or what a function says?"""
     if type(form) is dict:
         return type(value) is dict and value.keys() == form.keys() and all(has_form(value[it], form[it]) for it in form)
     if type(form) is list:
         return type(value) is list and all(has_form(entry, form[0]) for entry in value)
     if type(form) is tuple:
         return type(value) is list and len(value) == len(form) and all(map(has_form, value, form))
+    if type(form) is type:
+        return type(value) is form
     return form(value) if callable(form) else type(value) is type(form) and value == form
 
 
@@ -117,11 +113,11 @@ ALL_PAIRS = ['RR', 'RW', 'WR', 'WW']
 
 # --- Tests (FORMAT 1, 2, 9 and 10) -------------------------------------------------------------------------------
 
-REGISTER_NAMES = ['zero', 'ra', 'sp', 'gp', 'tp', 't0', 't1', 't2', 's0', 's1'] + ['a%d' % n for n in range(8)] \
-    + ['s%d' % n for n in range(2, 12)] + ['t%d' % n for n in range(3, 7)]
-REGISTERS = {name: number for number, name in enumerate(REGISTER_NAMES)}
-REGISTERS.update({'x%d' % number: number for number in range(32)})
-REGISTERS['fp'] = 8
+REGISTER_NAMES = ('zero ra sp gp tp t0 t1 t2 s0 s1 a0 a1 a2 a3 a4 a5 a6 a7 '
+                  's2 s3 s4 s5 s6 s7 s8 s9 s10 s11 t3 t4 t5 t6').split()
+REGISTERS = {'fp': 8}
+for _number, _name in enumerate(REGISTER_NAMES):
+    REGISTERS.update({_name: _number, 'x%d' % _number: _number})
 
 
 def signed(word):
@@ -132,19 +128,11 @@ COMPUTES = {
     'add': lambda a, b: a + b, 'sub': lambda a, b: a - b,
     'xor': lambda a, b: a ^ b, 'or': lambda a, b: a | b, 'and': lambda a, b: a & b,
     'sll': lambda a, b: a << (b & 31), 'srl': lambda a, b: a >> (b & 31), 'sra': lambda a, b: signed(a) >> (b & 31),
-    'slt': lambda a, b: int(signed(a) < signed(b)), 'sltu': lambda a, b: int(a < b),
-    'swap': lambda a, b: b,
+    'slt': lambda a, b: int(signed(a) < signed(b)), 'sltu': lambda a, b: int(a < b), 'swap': lambda a, b: b,
     'min': lambda a, b: min(a, b, key=signed), 'max': lambda a, b: max(a, b, key=signed), 'minu': min, 'maxu': max,
 }
-BRANCHES = {
-    'beq': lambda a, b: a == b, 'bne': lambda a, b: a != b,
-    'blt': lambda a, b: signed(a) < signed(b), 'bge': lambda a, b: signed(a) >= signed(b),
-    'bltu': lambda a, b: a < b, 'bgeu': lambda a, b: a >= b,
-}
-RANGES = {'i': (-2048, 2047), 'm': (-2048, 2047), 'n': (0, 31), 'u': (0, 2 ** 20 - 1), 'c': (-2 ** 31, WORDS - 1)}
-RANGES['o'] = 0, 0
-ANNOTATIONS = {'': (False, False), '.aq': (True, False), '.rl': (False, True)}
-ANNOTATIONS.update({'.aqrl': (True, True), '.aq.rl': (True, True)})
+RANGES = {'i': (-2048, 2047), 'm': (-2048, 2047), 'n': (0, 31), 'u': (0, 2 ** 20 - 1), 'c': (-2 ** 31, WORDS - 1),
+          'o': (0, 0)}
 
 FORMS = {
     'lui': ('d,u', 'compute', COMPUTES['add']), 'li': ('d,c', 'compute', COMPUTES['add']),
@@ -155,6 +143,9 @@ FORMS = {
     'sgtz': ('d,s', 'compute', lambda a, b: int(signed(a) > 0)),
     'neg': ('d,s', 'compute', lambda a, b: -a), 'not': ('d,s', 'compute', lambda a, b: ~a),
     'sext.w': ('d,s', 'compute', COMPUTES['add']),
+    'beq': ('s,s,l', 'branch', lambda a, b: a == b), 'bne': ('s,s,l', 'branch', lambda a, b: a != b),
+    'blt': ('s,s,l', 'branch', lambda a, b: signed(a) < signed(b)), 'bltu': ('s,s,l', 'branch', lambda a, b: a < b),
+    'bge': ('s,s,l', 'branch', lambda a, b: signed(a) >= signed(b)), 'bgeu': ('s,s,l', 'branch', lambda a, b: a >= b),
     'beqz': ('s,l', 'branch', lambda a, b: a == 0), 'bnez': ('s,l', 'branch', lambda a, b: a != 0),
     'blez': ('s,l', 'branch', lambda a, b: signed(a) <= 0), 'bgez': ('s,l', 'branch', lambda a, b: signed(a) >= 0),
     'bltz': ('s,l', 'branch', lambda a, b: signed(a) < 0), 'bgtz': ('s,l', 'branch', lambda a, b: signed(a) > 0),
@@ -171,8 +162,7 @@ for _name in ['add', 'sub', 'xor', 'or', 'and', 'sll', 'srl', 'sra', 'slt', 'slt
 for _name in ['add', 'xor', 'or', 'and', 'slt', 'sll', 'srl', 'sra']:
     FORMS[_name + 'i'] = ('d,s,n' if _name in ('sll', 'srl', 'sra') else 'd,s,i', 'compute', COMPUTES[_name])
 FORMS['sltiu'] = ('d,s,i', 'compute', COMPUTES['sltu'])
-FORMS.update({_name: ('s,s,l', 'branch', _jumps) for _name, _jumps in BRANCHES.items()})
-for _bits in ANNOTATIONS:
+for _bits in ['', '.aq', '.rl', '.aqrl', '.aq.rl']:
     FORMS['lr.w' + _bits] = ('d,o(a)', 'lr', None)
     FORMS['sc.w' + _bits] = ('d,v,o(a)', 'sc', None)
     for _name in ['swap', 'add', 'xor', 'and', 'or', 'min', 'max', 'minu', 'maxu']:
@@ -212,98 +202,34 @@ class Test:
         self.outcome = ('constant', True)
         self.wanted = (self.outcome, True)      # the condition, and the truth value that it has where the outcome is
 
+    def memory_instructions(self):
+        """Hart and instruction of each memory instruction."""
+        return [(hart, position) for hart, code in enumerate(self.code)
+                for position, instruction in enumerate(code) if instruction.is_memory()]
+
     def slots(self):
         """Hart and instruction of each slot: before a memory instruction whose hart has an earlier one (FORMAT 3)."""
-        found = []
-        for hart, code in enumerate(self.code):
-            memory = [position for position, instruction in enumerate(code) if instruction.is_memory()]
-            found += [(hart, position) for position in memory[1:]]
-        return found
+        return [after for before, after in itertools.pairwise(self.memory_instructions()) if before[0] == after[0]]
 
 
-TOKEN = re.compile(r'[A-Za-z0-9_.]+|/\\|\\/|[^ \t\r\n]')
-COMMENT_SIGN = re.compile(r'\(\*|\*\)')
+TOKEN = re.compile(r'(\(\*|\*\))|([A-Za-z0-9_.]+|/\\|\\/|[^ \t\r])')
+"""A sign of a comment; or a token, or a line end."""
 SIGNS = {*'{};|,:=()[]~-*&<>!', '/\\', '\\/'}
 CONNECTIVES = {'/\\': 'and', '\\/': 'or'}
 FAULTS = {3: 'Syntax', 4: 'UnknownInstr', 5: 'BadAnnotation', 6: 'BadLabel', 7: 'BadInit'}
 
 
+# Is this token a number, any word, a name?
+is_number = re.compile('0x[0-9A-Fa-f]+|[0-9]+').fullmatch
+is_word = re.compile('[A-Za-z0-9_.]').match
+is_name = re.compile('[A-Za-z_][A-Za-z0-9_]*').fullmatch
+
+
 def number_of(token):
-    """The number that this word is, or None. One of many digits is in no range."""
-    match = re.fullmatch('0x([0-9A-Fa-f]+)|([0-9]+)', token)
-    if not match:
-        return None
-    digits = match[match.lastindex].lstrip('0') or '0'
-    return int(digits, 16 if match[1] else 10) if len(digits) <= 20 else 10 ** 20
-
-
-def is_number(token):
-    return number_of(token) is not None
-
-
-def is_word(token):
-    return re.match('[A-Za-z0-9_.]', token) is not None
-
-
-def is_name(token):
-    return re.fullmatch('[A-Za-z_][A-Za-z0-9_]*', token) is not None
-
-
-def end_of_comment(text, place):
-    """Where the comment that begins here ends, or None where it doesn't. Comments nest."""
-    depth = 0
-    for sign in COMMENT_SIGN.finditer(text, place):
-        depth += 1 if sign[0] == '(*' else -1
-        if depth == 0:
-            return sign.end()
-    return None
-
-
-class Tokens:
-    """The tokens of a text with their lines, and a place among them. `last` is the line where the text ends."""
-
-    def __init__(self, text, line, last):
-        self.words, self.lines = [], []
-        self.at, self.last, self.is_closed = 0, last, True
-        place = 0
-        while place < len(text):
-            if text.startswith('(*', place):
-                end = end_of_comment(text, place)
-                self.is_closed = end is not None
-                end = end if self.is_closed else len(text)
-                line += text.count('\n', place, end)
-                place = end
-            elif text[place] in ' \t\r\n':
-                line += text[place] == '\n'
-                place += 1
-            else:
-                word = TOKEN.match(text, place)[0]
-                self.words.append(word)
-                self.lines.append(line)
-                place += len(word)
-
-    def peek(self, ahead=0):
-        """The token here, or the empty text at the end."""
-        return self.words[self.at + ahead] if self.at + ahead < len(self.words) else ''
-
-    def line(self):
-        return self.lines[self.at] if self.at < len(self.lines) else self.last
-
-    def next(self, is_wanted):
-        """Takes the token here, where it is wanted; else the form breaks here."""
-        token = self.peek()
-        if not token or not is_wanted(token):
-            raise Fault('fault F3 Syntax line %d' % self.line())
-        self.at += 1
-        return token
-
-    def expect(self, *wanted):
-        return self.next(lambda token: token in wanted)
-
-    def skip_to(self, *ends):
-        """Goes on to the first of these tokens."""
-        while self.peek() not in ends:
-            self.next(lambda token: is_word(token) or token in SIGNS)
+    """The number that this token is. One of many digits is in no range."""
+    base = 16 if token.startswith('0x') else 10
+    digits = token.removeprefix('0x').lstrip('0') or '0'
+    return int(digits, base) if len(digits) <= 20 else 10 ** 20
 
 
 def take_operand(operand, words, made):
@@ -315,9 +241,10 @@ def take_operand(operand, words, made):
     del words[:is_negative + 1]
     if operand in RANGES:
         least, greatest = RANGES[operand]
-        number = -(number_of(word) or 0) if is_negative else number_of(word) or 0
+        number = number_of(word) if is_number(word) else math.inf       # which is in no range
+        number = -number if is_negative else number
         made.number = (number * 4096 if operand == 'u' else number) % WORDS
-        return is_number(word) and least <= number <= greatest
+        return least <= number <= greatest
     if operand in 'dsvaz':
         register = REGISTERS.get(word)
         if operand == 's':
@@ -343,45 +270,11 @@ def instruction_of(name, words):
     if not all(take_operand(operand, words, made) for operand in operands) or words:
         return None
     if form in ('lr', 'sc', 'amo'):
-        made.aq, made.rl = ANNOTATIONS[name.partition('.w')[2]]
+        bits = name.partition('.w')[2]
+        made.aq, made.rl = 'aq' in bits, 'rl' in bits
     if form == 'fence':
         made.pairs = product_of(*made.letters) if made.letters else TSO if name == 'fence.tso' else frozenset()
     return made
-
-
-class Column:
-    """The code of a hart in the making: its instructions with their lines, and the place of each label. What is wrong
-    with it is noted in `faults`, by number and line."""
-
-    def __init__(self, faults):
-        self.faults, self.code, self.lines, self.labels = faults, [], [], {}
-
-    def read_cell(self, words, lines):
-        at = 0
-        while words[at + 1:at + 2] == [':'] and is_name(words[at]):
-            if words[at] in self.labels:
-                self.faults.append((6, lines[at]))
-            self.labels.setdefault(words[at], len(self.code))
-            at += 2
-        if at == len(words):
-            return
-        made = instruction_of(words[at], words[at + 1:]) if words[at] in FORMS else None
-        if is_word(words[at]) and words[at] not in FORMS:
-            self.faults.append((4, lines[at]))
-        elif made is None:
-            self.faults.append((3, lines[0]))
-        elif words[at] in ('lr.w.rl', 'sc.w.aq'):
-            self.faults.append((5, lines[at]))
-        else:
-            self.code.append(made)
-            self.lines.append(lines[at])
-
-    def link(self):
-        """Has each branch go to the place of its label, which must be a later one."""
-        for at, (made, line) in enumerate(zip(self.code, self.lines)):
-            if made.label is not None:
-                made.label = self.labels.get(made.label, -1)
-                self.faults += [(6, line)] * (made.label <= at)
 
 
 def joined(stack, right, signs):
@@ -394,14 +287,54 @@ def joined(stack, right, signs):
     return right
 
 
-class TestReader(Tokens):
-    """Reads a test from first to last. Where the form breaks, that is its fault; else the least of those noted is."""
+class TestReader:
+    """Reads a test from first to last, by its tokens. Where the form breaks, that is its fault; else the least of those
+    noted is."""
 
-    def __init__(self, *text):
-        super().__init__(*text)
-        self.test = Test()
-        self.faults = []            # number and line
-        self.has_bad_atom = False
+    def __init__(self, text, line, last):
+        self.words, self.lines = [], []         # the tokens, and the line of each
+        self.at, self.last = 0, last            # a place among them, and the line where the text ends
+        self.test, self.faults, self.has_bad_atom = Test(), [], False       # faults have a number and a line
+        depth = 0                               # comments nest
+        for sign, token in (found.groups() for found in TOKEN.finditer(text)):
+            if token == '\n':
+                line += 1
+            elif sign == '(*' or sign and depth:
+                depth += 1 if sign == '(*' else -1
+            elif not depth:
+                words = [token] if token else ['*', ')']        # which is no sign outside of comments
+                self.words += words
+                self.lines += [line] * len(words)
+        self.is_closed = depth == 0
+
+    def peek(self, ahead=0):
+        """The token here, or the empty text at the end."""
+        return self.words[self.at + ahead] if self.at + ahead < len(self.words) else ''
+
+    def line(self):
+        return self.lines[self.at] if self.at < len(self.lines) else self.last
+
+    def next(self, is_wanted):
+        """Takes the token here, where it is wanted; else the form breaks here."""
+        token = self.peek()
+        if not token or not is_wanted(token):
+            raise Fault('fault F3 Syntax line %d' % self.line())
+        self.at += 1
+        return token
+
+    def expect(self, *wanted):
+        return self.next(lambda token: token in wanted)
+
+    def accept(self, wanted):
+        """Takes the token here, where it is this one. Is it?"""
+        is_here = self.peek() == wanted
+        self.at += is_here
+        return is_here
+
+    def skip_to(self, *ends):
+        """Goes on to the first of these tokens."""
+        while self.peek() not in ends:
+            self.next(lambda token: is_word(token) or token in SIGNS)
 
     def location(self):
         """The address of the location of this name, which declares it where it is new."""
@@ -417,9 +350,8 @@ class TestReader(Tokens):
             hart = number_of(self.next(is_number))
             self.expect(':')
             return hart, REGISTERS.get(self.next(is_word))
-        if self.peek() != '[':
+        if not self.accept('['):
             return self.location()
-        self.expect('[')
         address = self.location()
         self.expect(']')
         return address
@@ -428,33 +360,28 @@ class TestReader(Tokens):
         """A word, or None where the number is out of range."""
         if is_name(self.peek()):
             return self.location()
-        sign = -1 if self.peek() == '-' and self.expect('-') else 1
+        sign = -1 if self.accept('-') else 1
         number = sign * number_of(self.next(is_number))
         return number % WORDS if -2 ** 31 <= number < WORDS else None
-
-    def initial(self):
-        """The word behind `=`."""
-        self.expect('=')
-        return self.location() if self.peek() == '&' and self.expect('&') else self.value()
 
     def skip_type(self):
         """Goes past the names of a type, each with `*` behind it or without."""
         while is_name(self.peek()) and (is_word(self.peek(1)) or self.peek(1) in ('[', '*')):
             self.next(is_name)
-            if self.peek() == '*':
-                self.expect('*')
+            self.accept('*')
 
     def entries(self):
         """The entries of the init block: line, target and value of each."""
         found = []
         self.expect('{')
-        while self.peek() != '}':
+        while not self.accept('}'):
             self.skip_type()
-            line, target = self.line(), self.target()
-            found.append((line, target, self.initial() if self.peek() == '=' else 0))
+            line, target, word = self.line(), self.target(), 0
+            if self.accept('='):
+                word = self.location() if self.accept('&') else self.value()
+            found.append((line, target, word))
             if self.peek() != '}':
                 self.expect(';')
-        self.expect('}')
         return found
 
     def header(self):
@@ -525,8 +452,7 @@ class TestReader(Tokens):
         test, entries = self.test, self.entries()
         columns = self.rows(self.header())
         test.registers = [[0] * 32 for _ in columns]
-        if self.peek() == 'locations':
-            self.expect('locations')
+        if self.accept('locations'):
             self.expect('[')
             self.skip_to(']')
             self.expect(']')
@@ -536,17 +462,40 @@ class TestReader(Tokens):
         condition, depth = self.condition()
         if not self.is_closed:
             raise Fault('fault F3 Syntax line %d' % self.last)
-        for cells in columns:
-            column = Column(self.faults)
-            for cell in cells:
-                column.read_cell(*cell)
-            column.link()
-            test.code.append(column.code)
+        test.code = [self.code(cells) for cells in columns]
         self.begin(entries)
         test.wanted = (condition, quantifier != 'forall')
         test.outcome = ('not', condition) if quantifier == 'forall' else condition
         self.judge(depth)
         return test
+
+    def code(self, cells):
+        """The instructions of a hart, whose cells are tokens and their lines. Each branch must go to a later place."""
+        code, places, labels = [], [], {}
+        for words, lines in cells:
+            at = 0
+            while words[at + 1:at + 2] == [':'] and is_name(words[at]):
+                if words[at] in labels:
+                    self.faults.append((6, lines[at]))
+                labels.setdefault(words[at], len(code))
+                at += 2
+            if at == len(words):
+                continue
+            made = instruction_of(words[at], words[at + 1:]) if words[at] in FORMS else None
+            if is_word(words[at]) and words[at] not in FORMS:
+                self.faults.append((4, lines[at]))
+            elif made is None:
+                self.faults.append((3, lines[0]))
+            elif words[at] in ('lr.w.rl', 'sc.w.aq'):
+                self.faults.append((5, lines[at]))
+            else:
+                code.append(made)
+                places.append(lines[at])
+        for at, (made, line) in enumerate(zip(code, places)):
+            if made.label is not None:
+                made.label = labels.get(made.label, -1)
+                self.faults += [(6, line)] * (made.label <= at)
+        return code
 
     def begin(self, entries):
         """Gives registers and locations their words at the beginning."""
@@ -596,18 +545,18 @@ def test_of(data):
 
 def truth(condition, registers, words):
     """Is the condition true of these registers and words at addresses? None where a word that counts isn't known."""
-    form = condition[0]
-    if form == 'constant':
-        return condition[1]
-    if form == 'register':
-        hart, register = condition[1]
-        return registers[hart][register] == condition[2]
-    if form == 'word':
-        return words[condition[1]] == condition[2] if condition[1] in words else None
+    match condition:
+        case 'constant', value:
+            return value
+        case 'register', (hart, register), word:
+            return registers[hart][register] == word
+        case 'word', address, word:
+            return words[address] == word if address in words else None
+        case 'not', part:
+            value = truth(part, registers, words)
+            return None if value is None else not value
     parts = [truth(part, registers, words) for part in condition[1:]]
-    if form == 'not':
-        return None if parts[0] is None else not parts[0]
-    decisive = form == 'or'
+    decisive = condition[0] == 'or'
     if decisive in parts:
         return decisive
     return None if None in parts else not decisive
@@ -635,7 +584,7 @@ def prices_of(data):
     try:
         value = json_of(data)
     except (ValueError, RecursionError):
-        raise Fault('fault F10 BadPrices')
+        value = None
     weight = value.pop('weights', {}) if type(value) is dict else None
     if not (type(weight) is dict and all(is_byte_name(slot) and is_whole(it, 1001) for slot, it in weight.items())
             and all(kind in KINDS and is_whole(price, 1000001) and price > 0 for kind, price in value.items())):
@@ -668,16 +617,37 @@ class ChoicesEnd(NoRun):
 
 
 class Step:
-    """One executed instruction and its access. `origins` has for each of its sources the steps on which it depends."""
+    """One executed instruction, and its access, where it makes one: then it is an operation (MODEL 2), a load, a store
+    or both. An initial store is one of no hart. `origins` has for each of its sources the steps on which it depends."""
 
-    def __init__(self, position, instruction):
-        self.position, self.instruction = position, instruction
-        self.address = self.loaded = self.stored = None
+    def __init__(self, run=None, position=None, instruction=None, address=None, stored=None):
+        self.run, self.position, self.instruction = run, position, instruction
+        self.hart = run.hart if run else None
+        self.name = 'P%d:%d' % (run.hart, position) if run else None
         self.origins = {}
+        self.accesses(address, stored=stored)
 
-    def depends(self, register, step):
-        """Does this step depend on that one (a number in the run) through this source?"""
-        return step in self.origins.get(register, ())
+    def accesses(self, address, loaded=None, stored=None):
+        self.address, self.loaded, self.stored = address, loaded, stored
+        self.loads, self.stores = loaded is not None, stored is not None
+        self.classes = 'R' * self.loads + 'W' * self.stores
+
+    def is_acquire(self):
+        """An AMO or lr.w with aq, or any of the three with both bits."""
+        return self.instruction.aq and (self.instruction.form != 'sc' or self.instruction.rl)
+
+    def is_release(self):
+        return self.instruction.rl and (self.instruction.form != 'lr' or self.instruction.aq)
+
+    def depends(self, step, *registers):
+        """Does this step depend on that one through one of these sources?"""
+        return any(step in self.origins.get(register, ()) for register in registers)
+
+    def address_depends(self, step):
+        return self.depends(step, self.instruction.address)
+
+    def data_depends(self, step):
+        return self.depends(step, self.instruction.data)
 
 
 class Run:
@@ -686,21 +656,22 @@ class Run:
     def __init__(self, test, hart, choices):
         self.test, self.hart, self.choices = test, hart, choices
         self.steps = []
-        self.pairs = []             # lr.w and sc.w, as numbers of steps
+        self.pairs = []             # lr.w and sc.w
         self.registers = list(test.registers[hart])
         self.origins = [frozenset()] * 32
         self.used = 0
-        self.reserving = None       # the lr.w with which an sc.w here would be paired, as the number of its step
+        self.reserving = None       # the lr.w with which an sc.w here would be paired
         position = 0
         while position < len(test.code[hart]):
             position = self.execute(position)
         if self.used < len(choices):
             raise NoRun()
+        self.operations = [step for step in self.steps if step.address is not None]
 
     def execute(self, position):
         """Makes one step, and gives the position of the next one."""
         instruction = self.test.code[self.hart][position]
-        step = Step(position, instruction)
+        step = Step(self, position, instruction)
         step.origins = {register: self.origins[register] for register in instruction.sources()}
         result = None
         goes_to = position + 1
@@ -712,45 +683,42 @@ class Run:
             goes_to = instruction.label
         elif instruction.is_memory():
             result = self.access(step, instruction)
-        number = len(self.steps)
         self.steps.append(step)
         if result is not None and instruction.rd != 0:
             self.registers[instruction.rd] = result
             carried = step.origins.values() if instruction.form == 'compute' else ()
-            self.origins[instruction.rd] = frozenset([number]).union(*carried)
+            self.origins[instruction.rd] = frozenset([step]).union(*carried)
         return goes_to
 
     def access(self, step, instruction):
         """Accesses memory, and gives the word for rd, if there is one."""
-        number = len(self.steps)
         address = (self.registers[instruction.address] + instruction.number) % WORDS
         data = self.registers[instruction.data] if instruction.data is not None else None
         if instruction.form == 'sc':
-            return self.store_conditional(step, number, address, data)
+            return self.store_conditional(step, address, data)
         if address not in self.test.words:
             raise GoesAstray(step.position)
-        step.address = address
         if instruction.form == 'store':
-            step.stored = data
+            step.accesses(address, stored=data)
             return None
-        step.loaded = self.choose(address, ())
-        if type(step.loaded) is not int:
+        loaded = self.choose(address, ())
+        if type(loaded) is not int:
             raise NoRun()
-        if instruction.form == 'amo':
-            step.stored = instruction.function(step.loaded, data) % WORDS
+        stored = instruction.function(loaded, data) % WORDS if instruction.form == 'amo' else None
+        step.accesses(address, loaded, stored)
         if instruction.form == 'lr':
-            self.reserving = number
-        return step.loaded
+            self.reserving = step
+        return loaded
 
-    def store_conditional(self, step, number, address, data):
+    def store_conditional(self, step, address, data):
         """An sc.w succeeds only where it is paired with an lr.w of its address, and may always fail."""
-        can_succeed = self.reserving is not None and self.steps[self.reserving].address == address
+        can_succeed = self.reserving is not None and self.reserving.address == address
         succeeds = self.choose(None, (True, False) if can_succeed else (False,))
         if type(succeeds) is not bool or succeeds and not can_succeed:
             raise NoRun()
         if succeeds:
-            step.address, step.stored = address, data
-            self.pairs.append((self.reserving, number))
+            step.accesses(address, stored=data)
+            self.pairs.append((self.reserving, step))
         self.reserving = None
         return 0 if succeeds else 1
 
@@ -800,60 +768,20 @@ def value_sets(test, runs_over=all_runs_over):
 
 # --- Operations (MODEL 2) ----------------------------------------------------------------------------------------
 
-class Operation:
-    """A load, a store or both; of no hart where it is an initial store."""
-
-    def __init__(self, number, address, hart=None, at=None, step=None, stored=None):
-        self.number, self.address, self.hart, self.step = number, address, hart, step
-        self.at = at                # the number of its step in the run
-        self.loaded = step.loaded if step else None
-        self.stored = step.stored if step else stored
-        self.name = 'P%d:%d' % (hart, step.position) if step else None
-        self.classes = ('R' if self.loads() else '') + ('W' if self.stores() else '')
-
-    def loads(self):
-        return self.loaded is not None
-
-    def stores(self):
-        return self.stored is not None
-
-    def is_acquire(self):
-        """An AMO or lr.w with aq, or any of the three with both bits."""
-        instruction = self.step.instruction
-        return instruction.aq and (instruction.form != 'sc' or instruction.rl)
-
-    def is_release(self):
-        instruction = self.step.instruction
-        return instruction.rl and (instruction.form != 'lr' or instruction.aq)
-
-
 class Operations:
-    """All operations of the runs by number, and after them the initial stores by location."""
+    """The operations of runs, and of each location the initial store, by its address."""
 
     def __init__(self, test, runs):
-        self.test, self.runs, self.all = test, runs, []
-        for hart, run in enumerate(runs):
-            for at, step in enumerate(run.steps):
-                if step.loaded is not None or step.stored is not None:
-                    self.all.append(Operation(len(self.all), step.address, hart, at, step))
-        self.of_harts = list(self.all)
-        self.initial = {}
-        for address, word in test.words.items():
-            self.initial[address] = Operation(len(self.all), address, stored=word)
-            self.all.append(self.initial[address])
+        self.test, self.runs = test, runs
+        self.of_harts = [operation for run in runs for operation in run.operations]
+        self.initial = {address: Step(address=address, stored=word) for address, word in test.words.items()}
         self.named = {operation.name: operation for operation in self.of_harts}
-        self.loads = [operation for operation in self.of_harts if operation.loads()]
-        at_step = {(operation.hart, operation.at): operation for operation in self.of_harts}
-        self.pairs = [(at_step[hart, first], at_step[hart, second])
-                      for hart, run in enumerate(runs) for first, second in run.pairs]
+        self.loads = [operation for operation in self.of_harts if operation.loads]
+        self.pairs = [pair for run in runs for pair in run.pairs]
 
     def stores_to(self, address):
-        """The harts' stores to this word, by number."""
-        return [operation for operation in self.of_harts if operation.stores() and operation.address == address]
-
-    def between(self, first, second):
-        """The harts' operations between these two in program order."""
-        return [operation for operation in self.of_harts if po(first, operation) and po(operation, second)]
+        """The harts' stores to this word."""
+        return [operation for operation in self.of_harts if operation.stores and operation.address == address]
 
     def have_outcome(self, words):
         """Is the outcome true at the end, with these words at addresses? None where the words don't say."""
@@ -861,12 +789,13 @@ class Operations:
 
 
 def po(a, b):
-    """Program order."""
-    return a.hart is not None and a.hart == b.hart and a.at < b.at
+    """Program order. All branches go forward, so no run comes to an instruction twice."""
+    return a.hart is not None and a.hart == b.hart and a.position < b.position
 
 
-def same_word(a, b):
-    return a.address == b.address
+def between(a, b):
+    """The steps between these two in program order."""
+    return [step for step in a.run.steps if po(a, step) and po(step, b)]
 
 
 # --- Preserved program order (MODEL 5 and 7) ---------------------------------------------------------------------
@@ -876,16 +805,17 @@ def orders(pairs, a, b):
     return any(p + s in pairs for p in a.classes for s in b.classes)
 
 
-def runs_slot_between(run, slot, a, b):
+def runs_slot_between(slot, a, b):
     """Does the run of their hart execute the slot's instruction after a and up to b, b included?"""
-    return a.hart == slot[0] and any(run.steps[at].position == slot[1] for at in range(a.at + 1, b.at + 1))
+    return a.hart == slot[0] and any(a.position < step.position <= b.position and step.position == slot[1]
+                                     for step in a.run.steps)
 
 
 class Preserved:
-    """The thirteen rules, for these operations, a source for each load (`rf`, by number) and a placement."""
+    """The thirteen rules, for a source of each load (`rf`) and a placement."""
 
-    def __init__(self, operations, rf, slots, placement):
-        self.operations, self.rf = operations, rf
+    def __init__(self, rf, slots, placement):
+        self.rf = rf
         self.placed = [(slot, PAIRS[kind]) for slot, kind in zip(slots, placement) if kind is not None]
         self.rules = [getattr(self, 'rule_%d' % number) for number in range(1, 14)]
 
@@ -896,29 +826,24 @@ class Preserved:
     def ppo(self, a, b):
         return po(a, b) and any(rule(a, b) for rule in self.rules)
 
-    def steps_between(self, a, b):
-        return self.operations.runs[a.hart].steps[a.at + 1:b.at]
-
     def rule_1(self, a, b):
         """Overlapping addresses: a store comes after what accesses its word before."""
-        return b.stores() and same_word(a, b)
+        return b.stores and a.address == b.address
 
     def rule_2(self, a, b):
         """Two loads of a word, no store to it between them, from different sources."""
-        return (a.loads() and b.loads() and same_word(a, b) and self.rf[a.number] is not self.rf[b.number]
-                and not any(m.stores() and same_word(m, a) for m in self.operations.between(a, b)))
+        return (a.loads and b.loads and a.address == b.address and self.rf[a] is not self.rf[b]
+                and not any(m.stores and m.address == a.address for m in between(a, b)))
 
     def rule_3(self, a, b):
         """A load returns what an AMO or sc.w stored."""
-        return a.step.instruction.form in ('amo', 'sc') and b.loads() and self.rf[b.number] is a
+        return a.instruction.form in ('amo', 'sc') and b.loads and self.rf[b] is a
 
     def rule_4(self, a, b):
         """A fence between them: a written one, or a placed one."""
         written = any(step.instruction.form == 'fence' and orders(step.instruction.pairs, a, b)
-                      for step in self.steps_between(a, b))
-        run = self.operations.runs[a.hart]
-        return written or any(orders(pairs, a, b) and runs_slot_between(run, slot, a, b)
-                              for slot, pairs in self.placed)
+                      for step in between(a, b))
+        return written or any(orders(pairs, a, b) and runs_slot_between(slot, a, b) for slot, pairs in self.placed)
 
     def rule_5(self, a, b):
         return a.is_acquire()
@@ -932,35 +857,29 @@ class Preserved:
 
     def rule_8(self, a, b):
         """a is paired with b."""
-        return any(lr is a and sc is b for lr, sc in self.operations.pairs)
-
-    def address_dependency(self, a, step):
-        return step.depends(step.instruction.address, a.at)
-
-    def data_dependency(self, a, step):
-        return step.depends(step.instruction.data, a.at)
+        return (a, b) in a.run.pairs
 
     def rule_9(self, a, b):
-        return self.address_dependency(a, b.step)
+        return b.address_depends(a)
 
     def rule_10(self, a, b):
-        return self.data_dependency(a, b.step)
+        return b.data_depends(a)
 
     def rule_11(self, a, b):
         """b is a store, and a conditional branch between them depends on a."""
-        return b.stores() and any(step.instruction.form == 'branch' and step.depends(register, a.at)
-                                  for step in self.steps_between(a, b) for register in step.instruction.plain)
+        return b.stores and any(step.instruction.form == 'branch' and step.depends(a, *step.instruction.plain)
+                                  for step in between(a, b))
 
     def rule_12(self, a, b):
         """b returns what a store m between them stored, and m depends on a by its address or data."""
-        if not b.loads():
+        if not b.loads:
             return False
-        m = self.rf[b.number]
-        return po(a, m) and po(m, b) and (self.address_dependency(a, m.step) or self.data_dependency(a, m.step))
+        m = self.rf[b]
+        return po(a, m) and po(m, b) and (m.address_depends(a) or m.data_depends(a))
 
     def rule_13(self, a, b):
         """b is a store, and the address of an instruction between them depends on a."""
-        return b.stores() and any(self.address_dependency(a, step) for step in self.steps_between(a, b))
+        return b.stores and any(step.address_depends(a) for step in between(a, b))
 
 
 # --- Candidates that show the outcome (MODEL 15) -----------------------------------------------------------------
@@ -970,16 +889,16 @@ class Candidate:
 
     def __init__(self, operations, rf, co):
         self.operations, self.rf = operations, rf
-        self.place = {store.number: place for order in co.values() for place, store in enumerate(order)}
+        self.place = {store: place for order in co.values() for place, store in enumerate(order)}
 
     def co(self, a, b):
-        return a.stores() and b.stores() and same_word(a, b) and self.place[a.number] < self.place[b.number]
+        return a.stores and b.stores and a.address == b.address and self.place[a] < self.place[b]
 
     def rfe(self, a, b):
-        return b.loads() and self.rf[b.number] is a and a.hart != b.hart
+        return b.loads and self.rf[b] is a and a.hart != b.hart
 
     def fr(self, a, b):
-        return a.loads() and b is not a and self.co(self.rf[a.number], b)
+        return a.loads and b is not a and self.co(self.rf[a], b)
 
     def is_edge(self, preserved, a, cause, b):
         """Is a before b in the judged relation, for this cause?"""
@@ -999,11 +918,9 @@ def coherence_orders(operations, rf, address):
     """The orders of a location's stores, the initial one first, that keep `latest` and `atomic`."""
     for order in itertools.permutations(operations.stores_to(address)):
         order = (operations.initial[address],) + order
-        place = {store.number: at for at, store in enumerate(order)}
-        latest = all(place[store.number] <= place[rf[load.number].number]
+        latest = all(order.index(store) <= order.index(rf[load])
                      for load in operations.loads if load.address == address for store in order if po(store, load))
-        pairs = [(lr, sc) for lr, sc in operations.pairs if sc.address == address]
-        if latest and all(keeps_atomicity(order, rf[lr.number], sc) for lr, sc in pairs):
+        if latest and all(keeps_atomicity(order, rf[lr], sc) for lr, sc in operations.pairs if sc.address == address):
             yield order
 
 
@@ -1020,7 +937,7 @@ def candidates(test):
         if operations.have_outcome({}) is False:
             continue
         for sources in itertools.product(*[sources_of(operations, load) for load in operations.loads]):
-            rf = {load.number: source for load, source in zip(operations.loads, sources)}
+            rf = dict(zip(operations.loads, sources))
             each = [list(coherence_orders(operations, rf, address)) for address in test.words]
             for found in itertools.product(*each):
                 if operations.have_outcome({order[-1].address: order[-1].stored for order in found}):
@@ -1035,35 +952,35 @@ class Execution:
     def __init__(self, operations, order):
         self.operations = operations
         self.gmo = list(operations.initial.values()) + order
-        self.place = {operation.number: at for at, operation in enumerate(self.gmo)}
-        self.rf = {load.number: self.source(load) for load in operations.loads}
+        self.place = {operation: at for at, operation in enumerate(self.gmo)}
+        self.rf = {load: self.source(load) for load in operations.loads}
 
     def before(self, a, b):
-        return self.place[a.number] < self.place[b.number]
+        return self.place[a] < self.place[b]
 
     def source(self, load):
         """The latest among the stores to its word that precede the load in the order or in program order."""
-        may_be = [store for store in self.gmo if store.stores() and same_word(store, load) and store is not load
+        may_be = [store for store in self.gmo if store.stores and store.address == load.address and store is not load
                   and (self.before(store, load) or po(store, load))]
         return may_be[-1]
 
     def obeys_axioms(self, slots, placement):
         """Preserved program order, load value and atomicity."""
         operations = self.operations
-        preserved = Preserved(operations, self.rf, slots, placement)
+        preserved = Preserved(self.rf, slots, placement)
         return (all(self.before(a, b) for a in operations.of_harts for b in operations.of_harts if preserved.ppo(a, b))
-                and all(self.rf[load.number].stored == load.loaded for load in operations.loads)
-                and all(keeps_atomicity([store for store in self.gmo if store.stores() and same_word(store, sc)],
-                                        self.rf[lr.number], sc) for lr, sc in operations.pairs))
+                and all(self.rf[load].stored == load.loaded for load in operations.loads)
+                and all(keeps_atomicity([store for store in self.gmo if store.stores and store.address == sc.address],
+                                        self.rf[lr], sc) for lr, sc in operations.pairs))
 
     def has_outcome(self):
-        return self.operations.have_outcome({store.address: store.stored for store in self.gmo if store.stores()})
+        return self.operations.have_outcome({store.address: store.stored for store in self.gmo if store.stores})
 
     def width(self, slot):
         """The pairs that a fence at this slot may have and order no two operations against this execution."""
         harts = self.operations.of_harts
-        turned = [(a, b) for a in harts for b in harts if po(a, b) and not self.before(a, b)
-                  and runs_slot_between(self.operations.runs[a.hart], slot, a, b)]
+        turned = [(a, b) for a in harts for b in harts
+                  if po(a, b) and not self.before(a, b) and runs_slot_between(slot, a, b)]
         return {pair for pair in ALL_PAIRS if not any(orders([pair], a, b) for a, b in turned)}
 
 
@@ -1089,7 +1006,7 @@ CAUSES = ['p%d' % rule for rule in range(1, 14)] + ['rf', 'co', 'fr']
 
 
 def is_name_of_operation(value):
-    return is_text(value) and NAME.fullmatch(value) is not None
+    return type(value) is str and NAME.fullmatch(value) is not None
 
 
 def is_byte_name(value):
@@ -1097,37 +1014,22 @@ def is_byte_name(value):
     return is_name_of_operation(value) and all(len(part) < 4 and int(part) < 256 for part in value[1:].split(':'))
 
 
-def is_answer(value):
-    return value == 'none' or has_form(value, {'cost': is_whole, 'fences': [is_text]})
-
-
 def is_cycle(value):
     return has_form(value, [(is_name_of_operation, lambda cause: cause in CAUSES)]) and 1 <= len(value) <= 64
 
 
-def begins_at_least(cycle):
-    """Does the cycle begin at its least operation, by hart and then by instruction? So does each that the program
-    writes; a valid one may begin anywhere, and no check below asks this."""
-    names = [tuple(int(part) for part in name[1:].split(':')) for name, cause in cycle]
-    return names[0] == min(names)
-
-
-def is_leaf_of_1(value):
-    return value == 'c' or has_form(value, ('w', is_whole))
+def is_item_of_1(value):
+    """A split, or a leaf that needs no bound."""
+    return is_whole(value) or value == 'c' or has_form(value, ('w', is_whole))
 
 
 def is_item(value):
-    """A split, or a leaf."""
-    return is_whole(value) or is_leaf_of_1(value) or has_form(value, ('b', [is_whole])) and value[1] != []
-
-
-def is_hart(value):
-    return is_whole(value, 256)
+    return is_item_of_1(value) or has_form(value, ('b', [is_whole])) and value[1] != []
 
 
 INFERENCES = [('c', is_byte_name), ('s', is_byte_name), ('o', is_byte_name, is_byte_name), ('d', is_whole),
-              ('f', is_hart), ('l', is_byte_name, is_byte_name), ('a', is_byte_name, is_byte_name),
-              ('a', is_byte_name, is_byte_name, is_byte_name)]
+              ('f', lambda hart: is_whole(hart, 256)), ('l', is_byte_name, is_byte_name),
+              ('a', is_byte_name, is_byte_name), ('a', is_byte_name, is_byte_name, is_byte_name)]
 
 
 def is_inference(value):
@@ -1136,17 +1038,12 @@ def is_inference(value):
             or is_cycle(value) and all(is_byte_name(name) for name, cause in value))
 
 
-def is_choice(value):
-    return type(value) is bool or is_whole(value, WORDS)
-
-
-def is_witness(value):
-    return has_form(value, {'choices': [[is_choice]], 'order': [is_name_of_operation]})
-
-
-FILES = {version: {'version': version, 'answer': is_answer, 'cycles': [is_inference if version == 4 else is_cycle],
-                   'tree': [is_item if version > 1 else lambda item: is_whole(item) or is_leaf_of_1(item)],
-                   'witnesses': [is_witness]} for version in (1, 2, 4)}
+FENCED = {'cost': is_whole, 'fences': [str]}
+WITNESS = {'choices': [[lambda choice: type(choice) is bool or is_whole(choice, WORDS)]],
+           'order': [is_name_of_operation]}
+FILES = [{'version': version, 'answer': lambda answer: answer == 'none' or has_form(answer, FENCED),
+          'cycles': [is_inference if version == 4 else is_cycle],
+          'tree': [is_item if version > 1 else is_item_of_1], 'witnesses': [WITNESS]} for version in (1, 2, 4)]
 
 
 def certificate_of(data):
@@ -1154,65 +1051,58 @@ def certificate_of(data):
     try:
         value = json_of(data)
     except (ValueError, RecursionError):
-        raise NotACertificate()
-    if not any(has_form(value, form) for form in FILES.values()):
-        raise NotACertificate()
-    return value
+        value = None
+    if any(has_form(value, form) for form in FILES):
+        return value
+    raise NotACertificate('fault F18 BadCertificate')
 
 
 # --- Refutations (REFUTATIONS 1 to 4) ----------------------------------------------------------------------------
 
-INITIAL = 'the initial store'
-"""As the source of a load: the initial store of its location, which has no name."""
-
-
-NOWHERE = (-1, -1)
-"""Stands for each name of no memory instruction."""
+INITIAL = 'the initial store'       # as the source of a load: that of its location, which has no name
+NOWHERE = (-1, -1)                  # stands for each name of no memory instruction
 
 
 class OnlyRun:
-    """One run of a hart, while the others do nothing."""
+    """One run of a hart, whatever the others do. Its steps go by their names, which are hart and instruction."""
 
-    def __init__(self, test, run, slots, placement):
-        nothing = type('Nothing', (), {'steps': [], 'pairs': [], 'registers': None})
-        runs = [run if hart == run.hart else nothing for hart in range(len(test.code))]
-        operations = Operations(test, runs)
+    def __init__(self, run, slots, placement):
         self.registers = run.registers
-        self.steps = {step.position: step for step in run.steps}
-        self.operations = {operation.step.position: operation for operation in operations.of_harts}
-        self.preserved = Preserved(operations, {}, slots, placement)
-        self.pairs = [(lr.step.position, sc.step.position) for lr, sc in operations.pairs]
-        self.rules = {}             # what was found of rules that ask for no source
+        self.steps = {(run.hart, step.position): step for step in run.steps}
+        self.operations = {(run.hart, operation.position): operation for operation in run.operations}
+        self.preserved = Preserved({}, slots, placement)
+        self.rule = functools.cache(self.preserved.rule)    # of rules that ask for no source
 
-    def loads(self, at):
-        """The address and the word that the operation there loads; None where it is none that loads."""
-        operation = self.operations.get(at)
-        return (operation.address, operation.loaded) if operation and operation.loads() else None
+    def loads(self, name):
+        """The address and the word that the operation of this name loads; None where it is none that loads."""
+        operation = self.operations.get(name)
+        return (operation.address, operation.loaded) if operation and operation.loads else None
 
-    def stores(self, at):
-        operation = self.operations.get(at)
-        return (operation.address, operation.stored) if operation and operation.stores() else None
+    def stores(self, name):
+        operation = self.operations.get(name)
+        return (operation.address, operation.stored) if operation and operation.stores else None
 
-    def choice(self, at):
+    def choice(self, name):
         """What the run chooses there, as a number: first those that don't execute it; then, as in choice order, words
         rising, and success before failure. An instruction that chooses nothing has one number."""
-        step = self.steps.get(at)
+        step = self.steps.get(name)
         if step is None:
             return 0
         if step.instruction.form == 'sc':
-            return 1 if step.stored is not None else 2
-        return 1 if step.loaded is None else step.loaded + 1
+            return 1 if step.stores else 2
+        return step.loaded + 1 if step.loads else 1
 
-    def has_rule(self, number, a, b, source):
-        """Does the rule put the operation at a before the one at b, with these sources of loads, by position?"""
-        if a not in self.operations or b not in self.operations:
+    def has_rule(self, number, a, b, sources):
+        """Does the rule put a before b, with these sources of loads?"""
+        first, second = self.operations.get(a), self.operations.get(b)
+        if first is None or second is None:
             return False
         if number not in (2, 3, 12):
-            if (number, a, b) not in self.rules:
-                self.rules[number, a, b] = self.preserved.rule(number, self.operations[a], self.operations[b])
-            return self.rules[number, a, b]
-        self.preserved.rf = {operation.number: source(at) for at, operation in self.operations.items()}
-        return self.preserved.rule(number, self.operations[a], self.operations[b])
+            return self.rule(number, first, second)
+        outside = collections.defaultdict(Step)             # an operation of no hart for each source outside of the run
+        self.preserved.rf = {operation: self.operations.get(sources.get(name)) or outside[sources.get(name)]
+                             for name, operation in self.operations.items()}
+        return self.preserved.rule(number, first, second)
 
 
 class Region(typing.NamedTuple):
@@ -1229,110 +1119,82 @@ class Region(typing.NamedTuple):
         left = [run for run in self.runs[hart] if passes(run)]
         return self._replace(runs=[*self.runs[:hart], left, *self.runs[hart + 1:]])
 
-    def with_order(self, first, second):
-        return self._replace(before=self.before | {(first, second)})
-
-    def is_open(self):
-        return all(self.runs)
-
 
 class Refutation:
     """The inferences by which no candidate of a test has the outcome without a cycle, under a placement."""
 
     def __init__(self, test, slots, placement):
         self.test = test
-        self.runs = [[OnlyRun(test, run, slots, placement) for run in runs]
+        self.runs = [[OnlyRun(run, slots, placement) for run in runs]
                      for runs in all_runs_over(test, value_sets(test))]
-        self.names = [(hart, position) for hart, code in enumerate(test.code)
-                      for position, instruction in enumerate(code) if instruction.is_memory()]
+        self.names = test.memory_instructions()
         self.named = {'P%d:%d' % name: name for name in self.names}
 
-    def root(self):
-        """All candidates that have the outcome, in a list of one region."""
-        root = Region(self.runs, {}, frozenset(), [self.test.wanted])
-        return [root] if root.is_open() else []
-
     def check(self, inferences):
-        regions = self.root()           # those that are still to be refuted, the next one last
+        root = Region(self.runs, {}, frozenset(), [self.test.wanted])       # all candidates that have the outcome
+        regions = [root] if all(root.runs) else []                          # still to be refuted, the next one last
         for number, inference in enumerate(inferences):
-            if not regions:
-                raise Refused('cycles')
-            children = self.after(regions.pop(), inference)
-            if children is None:
-                raise Refused('cycle %d' % number)
-            regions += reversed(children)
-        if regions:
-            raise Refused('cycles')
+            ask(regions, 'cycles')
+            self.reason = 'cycle %d' % number
+            regions += [child for child in reversed(self.after(regions.pop(), inference)) if all(child.runs)]
+        ask(not regions, 'cycles')
 
     def after(self, region, inference):
-        """The regions that are left to refute after the inference; None where it can't be drawn."""
+        """The regions of which it refutes this one if all are refuted: none where the inference is an end."""
         letter, *rest = inference
-        if not is_text(letter):
-            return [] if self.is_cycle(region, inference) else None
-        parts = [self.named.get(part, NOWHERE) if is_text(part) else part for part in rest]
-        ends = {'l': self.is_stale, 'a': self.is_split_pair}
-        if letter in ends:
-            return [] if ends[letter](region, *parts) else None
+        parts = [self.named.get(part, NOWHERE) if type(part) is str else part for part in rest]
         splits = {'c': self.by_choice, 's': self.by_source, 'o': self.by_order, 'd': self.by_cases,
                   'f': self.by_outcome}
-        children = splits[letter](region, *parts)
-        return None if children is None else [child for child in children if child.is_open()]
+        if type(letter) is str and letter in splits:
+            return splits[letter](region, *parts)
+        ends = {'l': self.is_stale, 'a': self.is_split_pair}
+        is_end = ends[letter](region, *parts) if type(letter) is str else self.is_cycle(region, inference)
+        ask(is_end, self.reason)
+        return []
 
     # Splits
 
     def by_choice(self, region, name):
-        if name is NOWHERE:
-            return None
-        hart, at = name
-        choices = sorted({run.choice(at) for run in region.runs[hart]})
-        return [region.keeping(hart, lambda run, it=choice: run.choice(at) == it) for choice in choices]
+        ask(name is not NOWHERE, self.reason)
+        choices = sorted({run.choice(name) for run in region.runs[name[0]]})
+        return [region.keeping(name[0], lambda run, it=choice: run.choice(name) == it) for choice in choices]
 
     def by_source(self, region, load):
-        if load is NOWHERE:
-            return None
+        ask(load is not NOWHERE, self.reason)
         known = region.sources.get(load)
         stores = [store for store in self.names if store[0] != load[0] or store[1] < load[1]]
         children = [self.from_source(region, load, source) for source in [INITIAL] + stores if known in (None, source)]
-        return [region.keeping(load[0], lambda run: run.loads(load[1]) is None)] + children
+        return [region.keeping(load[0], lambda run: run.loads(load) is None)] + children
 
     def from_source(self, region, load, source):
         """The load returns from this source: address and word agree."""
         decided = region._replace(sources={**region.sources, load: source})
-        hart, at = load
         if source == INITIAL:
-            return decided.keeping(hart, lambda run: run.loads(at) in self.test.words.items())
-        if source[0] == hart:
-            return decided.keeping(hart, lambda run: run.loads(at) and run.loads(at) == run.stores(source[1]))
-        stored = {run.stores(source[1]) for run in region.runs[source[0]]} - {None}
-        loaded = {run.loads(at) for run in region.runs[hart]}
-        return decided.keeping(hart, lambda run: run.loads(at) in stored).keeping(
-            source[0], lambda run: run.stores(source[1]) in loaded - {None})
+            return decided.keeping(load[0], lambda run: run.loads(load) in self.test.words.items())
+        if source[0] == load[0]:
+            return decided.keeping(load[0], lambda run: run.loads(load) and run.loads(load) == run.stores(source))
+        stored = {run.stores(source) for run in region.runs[source[0]]} - {None}
+        loaded = {run.loads(load) for run in region.runs[load[0]]} - {None}
+        return decided.keeping(load[0], lambda run: run.loads(load) in stored).keeping(
+            source[0], lambda run: run.stores(source) in loaded)
 
     def by_order(self, region, a, b):
-        may = self.place(region, a, OnlyRun.stores) is not None and a != b
-        if not may or self.place(region, a, OnlyRun.stores) != self.place(region, b, OnlyRun.stores) \
-                or (a, b) in region.before or (b, a) in region.before:
-            return None
-        return [region.with_order(a, b), region.with_order(b, a)]
+        places = {self.place(region, name, OnlyRun.stores) for name in (a, b)}
+        is_open = a != b and len(places) == 1 and None not in places and not region.before & {(a, b), (b, a)}
+        ask(is_open, self.reason)
+        return [region._replace(before=region.before | {pair}) for pair in ((a, b), (b, a))]
 
     def by_cases(self, region, number):
         """The wanted condition of this number gives way to its parts."""
-        if number >= len(region.wanted):
-            return None
-        condition, value = region.wanted[number]
-        if condition[0] == 'not':
-            ways = [[(condition[1], not value)]]
-        elif condition[0] in ('and', 'or'):
-            parts = [(part, value) for part in condition[1:]]
-            ways = [parts] if value == (condition[0] == 'and') else [[part] for part in parts]
-        else:
-            return None
+        ask(number < len(region.wanted) and region.wanted[number][0][0] in ('not', 'and', 'or'), self.reason)
+        (form, *parts), value = region.wanted[number]
+        wanted = [(part, value != (form == 'not')) for part in parts]       # of a denial one, in one way
+        ways = [wanted] if value == (form == 'and') else [[part] for part in wanted]
         return [region._replace(wanted=region.wanted[:number] + way + region.wanted[number + 1:]) for way in ways]
 
     def by_outcome(self, region, hart):
         """Of the hart's runs those with each of which the wanted conditions may have their truth values."""
-        if hart >= len(region.runs):
-            return None
+        ask(hart < len(region.runs), self.reason)
 
         def may_be(run):
             alone = region.keeping(hart, lambda other: other is run)
@@ -1344,18 +1206,17 @@ class Refutation:
 
     def may(self, region, condition, value):
         """May the condition have this truth value?"""
-        form = condition[0]
-        if form == 'constant':
-            return condition[1] == value
-        if form == 'register':
-            hart, register = condition[1]
-            return any((run.registers[register] == condition[2]) == value for run in region.runs[hart])
-        if form == 'word':
-            return any((word == condition[2]) == value for word in self.last_words(region, condition[1]))
-        if form == 'not':
-            return self.may(region, condition[1], not value)
+        match condition:
+            case 'constant', known:
+                return known == value
+            case 'register', (hart, register), word:
+                return any((run.registers[register] == word) == value for run in region.runs[hart])
+            case 'word', address, word:
+                return any((last == word) == value for last in self.last_words(region, address))
+            case 'not', part:
+                return self.may(region, part, not value)
         parts = [self.may(region, part, value) for part in condition[1:]]
-        return all(parts) if value == (form == 'and') else any(parts)
+        return all(parts) if value == (condition[0] == 'and') else any(parts)
 
     def last_words(self, region, address):
         """The words with which the location may end."""
@@ -1364,10 +1225,8 @@ class Refutation:
         earlier = {first for first, second in region.before}
         for name in self.names:
             if name not in earlier:
-                for run in region.runs[name[0]]:
-                    stored = run.stores(name[1])
-                    if stored is not None and stored[0] == address:
-                        yield stored[1]
+                stored = [run.stores(name) for run in region.runs[name[0]]]
+                yield from (word for place, word in filter(None, stored) if place == address)
 
     # What must be in each candidate of a region
 
@@ -1375,7 +1234,7 @@ class Refutation:
         """The address that the operation of this name accesses in each run that is left, or None."""
         if name is NOWHERE:
             return None
-        found = {access(run, name[1]) and access(run, name[1])[0] for run in region.runs[name[0]]}
+        found = {access(run, name) and access(run, name)[0] for run in region.runs[name[0]]}
         return found.pop() if len(found) == 1 else None
 
     def overwrites(self, region, store, load):
@@ -1392,17 +1251,7 @@ class Refutation:
             return False
         if number == 2 and (a not in region.sources or b not in region.sources):
             return False
-        others = {}                     # an operation of no hart for each source outside of the run
-
-        def sources_in(run):
-            def source(at):
-                known = region.sources.get((a[0], at))
-                if type(known) is tuple and known[0] == a[0] and known[1] in run.operations:
-                    return run.operations[known[1]]
-                return others.setdefault(known, Operation(-1, None))
-            return source
-
-        return all(run.has_rule(number, a[1], b[1], sources_in(run)) for run in region.runs[a[0]])
+        return all(run.has_rule(number, a, b, region.sources) for run in region.runs[a[0]])
 
     def is_edge(self, region, a, cause, b):
         if cause.startswith('p'):
@@ -1442,13 +1291,11 @@ def completed(part, kind):
 
 def is_earlier(p, q):
     """At the first slot where they differ, does p have none, or the kind that stands earlier in the table?"""
-    def ranks(placement):
-        return [-1 if kind is None else KINDS.index(kind) for kind in placement]
-    return ranks(p) < ranks(q)
+    order = [None] + KINDS
+    return [order.index(kind) for kind in p] < [order.index(kind) for kind in q]
 
 
 def fence_lines(slots, placement):
-    """A line for each fence."""
     return ['fence P%d %d %s' % (slot + (kind,)) for slot, kind in zip(slots, placement) if kind is not None]
 
 
@@ -1458,7 +1305,7 @@ class Checker:
     def __init__(self, test, prices, certificate):
         self.test, self.prices, self.slots = test, prices, test.slots()
         self.certificate, self.version = certificate, certificate['version']
-        self.executions, self.verdicts = {}, {}
+        self.execution, self.shows = functools.cache(self.execution), functools.cache(self.shows)
         self.answer = self.cost = None
 
     def check(self):
@@ -1471,25 +1318,18 @@ class Checker:
 
     def check_none(self):
         """One witness, which shows the outcome with `rw,rw` in every slot."""
-        if self.certificate['cycles'] or self.certificate['tree'] or len(self.certificate['witnesses']) != 1:
-            raise Refused('answer')
+        parts = [self.certificate[part] for part in ('cycles', 'tree', 'witnesses')]
+        ask([len(part) for part in parts] == [0, 0, 1], 'answer')
         self.shown(0, ('rw,rw',) * len(self.slots))
 
     def check_answer(self):
         """The fences are a placement of offered kinds, in slot order, and cost what is said."""
-        placement = [None] * len(self.slots)
-        last = -1
-        for text in self.certificate['answer']['fences']:
-            name, _, kind = text.partition('=')
-            names = ['P%d:%d' % slot for slot in self.slots]
-            if name not in names or names.index(name) <= last or kind not in self.prices.offered:
-                raise Refused('answer')
-            last = names.index(name)
-            placement[last] = kind
-        self.answer = tuple(placement)
-        self.cost = self.certificate['answer']['cost']
-        if self.prices.cost(self.slots, self.answer) != self.cost:
-            raise Refused('answer')
+        claim = self.certificate['answer']
+        kinds = dict(text.partition('=')[::2] for text in claim['fences'])
+        self.answer, self.cost = tuple(kinds.get('P%d:%d' % slot) for slot in self.slots), claim['cost']
+        fences = ['P%d:%d=%s' % (*slot, kind) for slot, kind in zip(self.slots, self.answer) if kind is not None]
+        ask(fences == claim['fences'] and {*kinds.values()} <= {*self.prices.offered}
+            and self.prices.cost(self.slots, self.answer) == self.cost, 'answer')
 
     def check_cycles(self):
         """One cycle for each candidate that shows the outcome, in the candidates' order."""
@@ -1499,18 +1339,16 @@ class Checker:
             return
         # One more than there are cycles is enough to see that there are too few.
         showing = list(itertools.islice(candidates(self.test), len(cycles) + 1))
-        if len(showing) != len(cycles):
-            raise Refused('cycles')
+        ask(len(showing) == len(cycles), 'cycles')
         for number, (candidate, cycle) in enumerate(zip(showing, cycles)):
-            if not self.is_cycle_of(candidate, cycle):
-                raise Refused('cycle %d' % number)
+            ask(self.is_cycle_of(candidate, cycle), 'cycle %d' % number)
 
     def is_cycle_of(self, candidate, cycle):
         """Is each operation before the next one, and the last before the first, under the answer and for its cause?"""
         named = candidate.operations.named
         if not all(name in named for name, _ in cycle):
             return False
-        preserved = Preserved(candidate.operations, candidate.rf, self.slots, self.answer)
+        preserved = Preserved(candidate.rf, self.slots, self.answer)
         following = cycle[1:] + cycle[:1]
         return all(candidate.is_edge(preserved, named[name], cause, named[next_name])
                    for (name, cause), (next_name, _) in zip(cycle, following))
@@ -1519,27 +1357,22 @@ class Checker:
         """The items are one whole tree in preorder, and each leaf is closed."""
         nodes = [(UNDECIDED,) * len(self.slots)]        # those still to come, the next one last
         for number, item in enumerate(self.certificate['tree']):
-            if not nodes:
-                raise Refused('tree')
+            ask(nodes, 'tree')
             part = nodes.pop()
             if type(item) is int:
                 nodes += reversed(self.children(part, item))
             elif item == 'c':
-                if self.is_better(completed(part, None)):
-                    raise Refused('node %d' % number)
+                ask(not self.is_better(completed(part, None)), 'node %d' % number)
             elif item[0] == 'w':
                 self.shown(item[1], completed(part, 'rw,rw'))
             else:
                 executions = [self.shown(witness, completed(part, None)) for witness in item[1]]
-                if not self.bound(part, executions):
-                    raise Refused('node %d' % number)
-        if nodes:
-            raise Refused('tree')
+                ask(self.bound(part, executions), 'node %d' % number)
+        ask(not nodes, 'tree')
 
     def children(self, part, slot):
         """The children of a node that is split at this slot: none first, and then the offered kinds."""
-        if slot >= len(part) or part[slot] != UNDECIDED:
-            raise Refused('tree')
+        ask(slot < len(part) and part[slot] == UNDECIDED, 'tree')
         return [part[:slot] + (decision,) + part[slot + 1:] for decision in [None] + self.prices.offered]
 
     def is_better(self, floor):
@@ -1547,21 +1380,20 @@ class Checker:
         cost = self.prices.cost(self.slots, floor)
         return cost < self.cost or self.version > 1 and cost == self.cost and is_earlier(floor, self.answer)
 
-    def shown(self, number, placement):
-        """The execution of this witness, which must show the outcome under this placement."""
-        if (number, placement) not in self.verdicts:
-            self.verdicts[number, placement] = self.shows(number, placement)
-        if not self.verdicts[number, placement]:
-            raise Refused('witness %d' % number)
-        return self.executions[number]
+    def execution(self, number):
+        """The execution of this witness, or None."""
+        witnesses = self.certificate['witnesses']
+        return execution_of(self.test, witnesses[number]) if number < len(witnesses) else None
 
     def shows(self, number, placement):
-        if number >= len(self.certificate['witnesses']):
-            return False
-        if number not in self.executions:
-            self.executions[number] = execution_of(self.test, self.certificate['witnesses'][number])
-        execution = self.executions[number]
+        """Does this witness show the outcome under this placement?"""
+        execution = self.execution(number)
         return execution is not None and execution.obeys_axioms(self.slots, placement) and execution.has_outcome()
+
+    def shown(self, number, placement):
+        """The execution of this witness, which must show the outcome under this placement."""
+        ask(self.shows(number, placement), 'witness %d' % number)
+        return self.execution(number)
 
     def breaks_of(self, part, execution):
         """The breakable slots of a leaf and an execution, each with the least price of a kind that breaks it there."""

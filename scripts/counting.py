@@ -27,11 +27,6 @@ class Counts:
         """Counts a check that passes where the two are the same."""
         return self.check(name, wanted == found, "" if wanted == found else difference(wanted, found))
 
-    def add(self, passed):
-        """Counts so many that passed elsewhere."""
-        with self.lock:
-            self.passed += passed
-
     def end(self):
         """Prints the last line, and gives the exit status: 0 only where there was a check, and all passed."""
         print(f"{self.passed} passed, {self.failed} failed", flush=True)

@@ -3,13 +3,14 @@ is reached, without comments and imports, and of `src/` those of the types that 
 
 A name counts wherever it stands in a definition, also as that of a variable or a field; so a sum is no less than what
 is to be believed. Definitions of the standard library and of the ported crates are left out."""
-
 import functools
+import glob
+import itertools
 import os
 import re
 import sys
 
-from documents import TOP, text_of
+from running import TOP, decoded, reached, read, rows
 
 IMPORT = re.compile(r"^(pub |ghost )?use Rattle\.(\w+)\.specs\.([\w.'-]+?)(?:\.\{([^}]*)\}| as (\w+))?;?$", re.M)
 ITEM = re.compile(r"^( *)(?:abbrev|unfoldable|pub record|pub data|record|data) (?:pub )?([^\s:]+)", re.M)
@@ -19,25 +20,40 @@ COMMENT = re.compile(r"(?:^|(?<=\s))--(?:\s.*)?$", re.M)
 WORD = re.compile(r"[^\s(){};,λ→×↔]+")
 TYPE = r"^(?:pub(?:\(\w+\))? )?(?:struct|enum|type) {}\b.*"
 USE = r"^use (crate|fs_\w+)::(?:\w+::)*(?:\{{[^}}]*\b{}\b[^}}]*\}}|{});"
+HEADER = re.compile(r'(?:#![^\n]*\n)?(?:"""(.*?)(?:\n\n|""")|/\*(.*?)\*/|((?:(?:#(?!!)|//!|--)[^\n]*\n)+))', re.S)
 PLAIN_TYPES = {"Option", "Box", "Vec", "String", "List", "Self", "Arc"}
 
 
+@functools.cache
+def text_of(file):
+    """The text of a file by its path in the repository; none where there is no such file."""
+    return decoded(read(f"{TOP}/{file}")) if os.path.isfile(f"{TOP}/{file}") else ""
+
+
+@functools.cache
+def files(pattern):
+    """The files of this pattern, by their paths in the repository."""
+    return sorted(it for it in glob.glob(pattern, root_dir=TOP, recursive=True) if os.path.isfile(f"{TOP}/{it}"))
+
+
+def header(file):
+    """What a file says first, in its `//!` text, its docstring or its first comment: a sentence, or two short ones."""
+    found = HEADER.match(text_of(file))
+    text = re.sub(r"^(?://!|--| ?[#*])", "", next(filter(None, found.groups())) if found else "", flags=re.M)
+    sentences = re.split(r"(?<=[.?!])\s+(?=[A-Z`])", " ".join(text.split()))
+    return " ".join(sentences[:2 if len(sentences[0].split()) < 8 else 1]).removesuffix(".").replace("|", "\\|")
+
+
 def listed(group):
-    """What scripts/contracts.table has in a group: by their names parts of lines."""
+    """What scripts/transcripts/contracts.table has in a group: by their names parts of lines."""
     found = {}
-    for line in text_of("scripts/contracts.table").partition(f"\n## {group}\n")[2].partition("\n\n")[0].splitlines():
-        name, *parts = line.split(" | ")
+    for name, *parts in (row.split(" | ") for row in rows("contracts", group)):
         found.setdefault(name, []).append(parts)
     return found
 
 
 CONTRACTS, PROGRAMS, ANSWERS = map(listed, ["contracts", "programs", "answers"])
 MEANINGS = {**PROGRAMS, **ANSWERS}
-
-
-def spec_file(crate, path):
-    """The file of the definitions of this module."""
-    return f"crates/{crate}/specs/{path.replace('.', '/')}.antt"
 
 
 @functools.cache
@@ -83,7 +99,7 @@ def node_of(crate, path, name):
     if path.startswith("declared."):
         module, _, owner = path.removeprefix("declared.").removesuffix(".TheVariants").rpartition(".")
         return f"crates/{crate}/src/{module.replace('.', '/')}.rt", owner
-    file = spec_file(crate, path)
+    file = f"crates/{crate}/specs/{path.replace('.', '/')}.antt"
     owners, _ = items_of(file)
     if name in owners:
         return file, owners[name]
@@ -135,17 +151,6 @@ def rests_on(node):
     return set(filter(None, named_in(file, "\n".join(items_of(file)[1][name]))))
 
 
-def reached(roots):
-    """All that these rest on, themselves too."""
-    found, left = set(), list(roots)
-    while left:
-        node = left.pop()
-        if node not in found:
-            found.add(node)
-            left += rests_on(node)
-    return found
-
-
 def contract_of(path, function):
     """What the contract of the first function of this name in the file below crates/ names."""
     file = f"crates/{path}"
@@ -164,23 +169,19 @@ def needed_by(name):
     """All definitions and types that the contracts of this name rest on, or the definitions in `MEANINGS`."""
     if name in MEANINGS:
         nodes = {it[0]: node_of(*it[0].split()) for it in MEANINGS[name]}
-        return reached(nodes[it] or sys.exit(f"definitions: there is no {it}") for it in nodes)
-    return reached(it for words, in CONTRACTS[name] for it in contract_of(*words.split()))
+        return reached((nodes[it] or sys.exit(f"definitions: there is no {it}") for it in nodes), rests_on)
+    return reached((it for words, in CONTRACTS[name] for it in contract_of(*words.split())), rests_on)
 
 
 def all_needed(names):
-    """All that these rest on."""
     return {it for name in names for it in needed_by(name)}
 
 
 def size_of(nodes):
-    """How many lines these have together."""
     return sum(map(size, nodes))
 
 
 def lines_by_file(nodes):
     """For each file, how many lines the definitions or types in it have that are among these."""
-    found = {}
-    for node in sorted(nodes):
-        found[node[0]] = found.get(node[0], 0) + size(node)
-    return found
+    by_file = itertools.groupby(sorted(nodes), key=lambda node: node[0])
+    return {file: size_of(here) for file, here in by_file}

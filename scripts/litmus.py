@@ -1,8 +1,7 @@
-"""Tests with prices that the checks make at random, by a number, which makes the same test and the same prices each
-time.
+"""Tests with prices that the checks make at random, by a number, which makes the same ones each time.
 
-They are small: one to four harts, stores, loads, AMOs, LR/SC, dependencies, branches, fences and
-annotations. Most conditions are on final states that fences rule out."""
+They are small: one to four harts, stores, loads, AMOs, LR/SC, dependencies, branches, fences and annotations. Most
+conditions are on final states that fences rule out."""
 import itertools
 import json
 import random
@@ -19,7 +18,7 @@ MOST_CANDIDATES = 300
 MOST_PLACEMENTS = 20000
 
 
-def text_of(name, entries, harts, condition):
+def test_text(name, entries, harts, condition):
     """A test in the printed form: lines of its init block, the cells of each hart, and the line of its condition."""
     rows = [" | ".join(row) + " ;" for row in itertools.zip_longest(*harts, fillvalue="")]
     header = " | ".join(f"P{hart}" for hart in range(len(harts))) + " ;"
@@ -114,10 +113,9 @@ class Maker:
         return [Code(self.chance, locations).make(self.chance.randint(min(2, most), most)) for _ in range(harts)]
 
     def text(self, codes, condition):
-        """The test as a file has it."""
         registers = sorted(LOCATIONS.items()) + sorted(WORDS.items())
         entries = [f'{hart}:{register}={value};' for hart in range(len(codes)) for register, value in registers]
-        return text_of(f'made{self.number}', entries + self.words, codes, condition)
+        return test_text(f'made{self.number}', entries + self.words, codes, condition)
 
     def condition(self, states):
         """A condition that is true of one or two of these final states."""
@@ -128,7 +126,7 @@ class Maker:
     def prices(self, slots):
         """One of the lists of examples/ as it is, or made."""
         if self.chance.random() < 0.4:
-            return json.loads(read(f"{EXAMPLES}/{self.chance.choice(PRICE_LISTS)}"))
+            return json.loads(read(f'{EXAMPLES}/{self.chance.choice(PRICE_LISTS)}'))
         most = self.chance.choice([2, 4, 12])
         offered = self.chance.sample(model.KINDS, self.chance.randint(1, 6))
         prices = {kind: self.chance.randint(1, most) for kind in sorted({*offered, 'rw,rw'})}
@@ -173,16 +171,13 @@ class Maker:
 
 def state_of(candidate):
     """The words at the end, as atoms: of registers that come from memory, and of locations."""
-    operations = candidate.operations
-    from_memory = [(hart, instruction.rd) for hart, code in enumerate(operations.test.code)
-                   for instruction in code if instruction.is_memory() and instruction.rd]
-    atoms = ['%d:x%d=%d' % (hart, register, operations.runs[hart].registers[register])
-             for hart, register in from_memory]
-    atoms += ['%s=%d' % (name, last_word(candidate, address)) for name, address in operations.test.addresses.items()]
-    return tuple(atoms)
+    test, runs = candidate.operations.test, candidate.operations.runs
+    loaded = [(hart, test.code[hart][at].rd) for hart, at in test.memory_instructions()]
+    atoms = ['%d:x%d=%d' % (hart, register, runs[hart].registers[register]) for hart, register in loaded if register]
+    return *atoms, *('%s=%d' % (name, last_word(candidate, address)) for name, address in test.addresses.items())
 
 
 def last_word(candidate, address):
     """The word that the last store to this address wrote."""
     stores = [candidate.operations.initial[address]] + candidate.operations.stores_to(address)
-    return max(stores, key=lambda store: candidate.place[store.number]).stored
+    return max(stores, key=lambda store: candidate.place[store]).stored

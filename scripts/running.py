@@ -5,13 +5,15 @@ import collections
 import concurrent.futures
 import contextlib
 import functools
+import json
 import os
-import pty
+import re
 import resource
+import shlex
 import signal
 import subprocess
 import sys
-import threading
+import tempfile
 
 TOP = os.path.dirname(os.path.dirname(os.path.realpath(__file__)))
 EXAMPLES = f"{TOP}/examples"
@@ -36,17 +38,13 @@ def program():
     return os.path.realpath(found.stdout.strip())
 
 
-def ran(command, stdin=None, seconds=LONGEST, limits=None, **options):
+def ran(command, stdin=subprocess.DEVNULL, seconds=LONGEST, **options):
     """What a run of this command says. Standard input is text, bytes, a file, or empty; it may take so many seconds of
-    processor time, or for None any; `limits` has what else the run may use, by the resource, as
-    `{resource.RLIMIT_AS: 400_000_000}`; all else is for `subprocess.Popen`."""
+    processor time, or for None any; all else is for `subprocess.Popen`."""
     data = None
     if isinstance(stdin, (str, bytes)):
-        data, stdin = stdin if isinstance(stdin, bytes) else encoded(stdin), subprocess.PIPE
-    if limits:
-        options["preexec_fn"] = functools.partial(limit, limits)
-    options = {"stdin": subprocess.DEVNULL if stdin is None else stdin, "stdout": subprocess.PIPE,
-               "stderr": subprocess.PIPE, **options}
+        data, stdin = encoded(stdin), subprocess.PIPE
+    options = {"stdin": stdin, "stdout": subprocess.PIPE, "stderr": subprocess.PIPE, **options}
     with subprocess.Popen(command, **options) as run:
         try:
             out, err = run.communicate(data, waited_for(run.pid, seconds))
@@ -72,21 +70,10 @@ def waited_for(process, seconds):
 
 def ran_on_terminal(command):
     """What a run of this command says whose standard error is a terminal."""
-    terminal, end = pty.openpty()
-    with subprocess.Popen(command, stdin=subprocess.DEVNULL, stdout=subprocess.PIPE, stderr=end) as run:
-        os.close(end)
-        timer = threading.Timer(waited_for(run.pid, LONGEST), run.kill)
-        timer.start()
-        said = bytearray()
-        try:
-            while more := os.read(terminal, 4096):
-                said += more
-        except OSError:                 # no process has the other end any more
-            pass
-        out = run.stdout.read()
-        timer.cancel()
-    os.close(terminal)
-    return Said(decoded(out), decoded(said), run.returncode)
+    with tempfile.NamedTemporaryFile() as out:
+        words = ["script", "-qec", f"exec {shlex.join(command)} </dev/null >{out.name}", os.devnull]
+        said = ran(words, env={**os.environ, "SHELL": "/bin/sh"})
+        return Said(text_of(out.name), said.out, said.status)
 
 
 def compiled(source, folder, *words):
@@ -97,18 +84,12 @@ def compiled(source, folder, *words):
 
 
 def rvfence(*words, **options):
-    """What a run of the program with these words says."""
     return ran([program(), *words], **options)
 
 
-def limit(limits):
-    """Limits what this process may use."""
-    for which, most in limits.items():
-        resource.setrlimit(which, (most, most))
-
-
 def encoded(text):
-    return text.encode("utf-8", "surrogateescape")
+    """The bytes of a text; bytes stay as they are."""
+    return text if isinstance(text, bytes) else text.encode("utf-8", "surrogateescape")
 
 
 def decoded(data):
@@ -117,31 +98,69 @@ def decoded(data):
 
 def side_by_side(function, items):
     """What the function gives of each item, in their order; it is called as many at once as there are processors. An
-    interrupt leaves out those that haven't begun."""
-    pool = concurrent.futures.ThreadPoolExecutor(os.cpu_count())
-    try:
+    interrupt leaves out those that haven't begun, as `map` does."""
+    with concurrent.futures.ThreadPoolExecutor(os.cpu_count()) as pool:
         return list(pool.map(function, items))
-    finally:
-        pool.shutdown(cancel_futures=True)
 
 
 def read(path):
-    """The bytes of a file."""
     with open(path, "rb") as file:
         return file.read()
+
+
+def text_of(path):
+    return decoded(read(path))
+
+
+def compact(value):
+    """A value as a text of JSON without blanks."""
+    return json.dumps(value, separators=(",", ":"))
 
 
 def written(path, data):
     """Writes bytes or text to a file, and gives its path."""
     with open(path, "wb") as file:
-        file.write(data if isinstance(data, bytes) else encoded(data))
+        file.write(encoded(data))
     return path
+
+
+def rows(name, group=""):
+    """The lines of a table of scripts/transcripts/, or of a group of it, but for empty ones and comments."""
+    text = text_of(f"{TOP}/scripts/transcripts/{name}.table")
+    if group:
+        text = text.partition(f"\n## {group}\n")[2].partition("\n\n")[0]
+    return [line for line in text.split("\n") if line and not line.startswith("#")]
+
+
+def repeated(found):
+    """What stands for a text and how many times it comes."""
+    text, count = found[1], int(found[2])
+    if "#" in text or "§" in text:
+        return "".join(text.replace("#", str(at)).replace("§", f"{at:x}") for at in range(count))
+    return text * count
+
+
+def expanded(text):
+    """The text of a row: «TEXT×N» is TEXT N times, in which # and § are the number of the time, from 0, in decimal and
+    hexadecimal digits; ⏎ is a line end, and ␍ a return."""
+    return re.sub("«(.*?)×([0-9]+)»", repeated, text.replace("⏎", "\n").replace("␍", "\r"), flags=re.S)
 
 
 def crates():
     """The crates of crates.txt, with what its line says that each stands on."""
-    lines = [line.partition("#")[0].partition(":") for line in decoded(read(f"{TOP}/crates.txt")).splitlines()]
+    lines = [line.partition("#")[0].partition(":") for line in text_of(f"{TOP}/crates.txt").splitlines()]
     return {names.split()[0]: uses.split() for names, colon, uses in lines if colon}
+
+
+def reached(roots, steps):
+    """All that comes of these by steps, where `steps` gives what comes of one; themselves too."""
+    found, left = set(), list(roots)
+    while left:
+        node = left.pop()
+        if node not in found:
+            found.add(node)
+            left += steps(node)
+    return found
 
 
 def here(*names):
@@ -164,5 +183,5 @@ def transcript(said):
 
 def stored_answers(command):
     """The transcripts of examples/answers/ of this command, by the words behind it."""
-    blocks = decoded(read(f"{EXAMPLES}/answers/{command}.transcripts")).split(f"$ rvfence {command} ")[1:]
+    blocks = text_of(f"{EXAMPLES}/answers/{command}.transcripts").split(f"$ rvfence {command} ")[1:]
     return {tuple(words.split()): rest for words, rest in (it.removesuffix("\n\n").split("\n", 1) for it in blocks)}

@@ -2,17 +2,15 @@
 
 It is written from docs/MODEL.md and docs/FORMAT.md alone and shares no code with the program. Tests, prices, runs,
 rules and candidates are those of scripts/check_certificate.py. The way to the answer is another one than the
-program's: it has no tree.
-
-It gives what `rvfence solve` is to print: `fenced`, the cost and a line for each fence, status 0; or `none` and an
-execution that shows the outcome with `rw,rw` in every slot, status 1. Where the program may print any such execution,
-this is one. Of the faults of runs and candidates it knows F13, F14 and F15.
-"""
-
+program's: it has no tree. It gives what `rvfence solve` is to print, where beside `none` the program may print any
+execution that shows the outcome. Of the faults of runs and candidates it knows F13, F14 and F15."""
 import collections
+import functools
+import graphlib
 import itertools
 import json
 import math
+import operator
 
 import check_certificate as model                               # of this folder
 
@@ -59,17 +57,11 @@ def accesses_of(run):
 
 def raw_candidates(test, accesses):
     """How many raw candidates these accesses give: the sources of each load times the orders of each word's stores."""
-    stores = collections.Counter()
-    for address, _, stored in accesses:
-        if stored is not None:
-            stores[address, stored] += 1
-    count = 1
-    for address, loaded, stored in accesses:
-        if loaded is not None:
-            count *= stores[address, loaded] + (test.words[address] == loaded) - (stored == loaded)
-    for address in test.words:
-        count *= math.factorial(sum(number for (place, _), number in stores.items() if place == address))
-    return count
+    stores = collections.Counter((address, stored) for address, _, stored in accesses if stored is not None)
+    sources = [stores[address, loaded] + (test.words[address] == loaded) - (stored == loaded)
+               for address, loaded, stored in accesses if loaded is not None]
+    numbers = collections.Counter(address for address, _ in stores.elements())
+    return math.prod(sources) * math.prod(map(math.factorial, numbers.values()))
 
 
 def count_candidates(test, all_runs, most=MOST_CANDIDATES):
@@ -106,11 +98,8 @@ def has_cycle(rows):
 
 def order_of(rows):
     """An order of the numbers that goes the way of each edge. There must be no cycle."""
-    found = []
-    while len(found) < len(rows):
-        left = [number for number in range(len(rows)) if number not in found]
-        found.append(next(b for b in left if not any(rows[a] >> b & 1 for a in left)))
-    return found
+    numbers = range(len(rows))
+    return graphlib.TopologicalSorter({b: [a for a in numbers if rows[a] >> b & 1] for b in numbers}).static_order()
 
 
 def rows_where(operations, is_edge):
@@ -133,31 +122,28 @@ class Fences:
         size = len(operations.of_harts)
         self.rows = [0] * size
         self.at = [{pair: [0] * size for pair in model.ALL_PAIRS} for _ in slots]
-        for hart, run in enumerate(operations.runs):
-            own = [operation for operation in operations.of_harts if operation.hart == hart]
-            if (hart, run.choices) not in known:
-                known[hart, run.choices] = self.of_run(operations, own, slots)
-            self.put(own, *known[hart, run.choices])
+        first = 0                       # the number of the hart's first operation
+        for run in operations.runs:
+            if run not in known:
+                known[run] = self.of_run(run.operations, slots)
+            rows, at_slots = known[run]
+            for index, row in enumerate(rows):
+                self.rows[first + index] = row << first
+                for (at, pair), fenced in at_slots.items():
+                    self.at[at][pair][first + index] = fenced[index] << first
+            first += len(rows)
 
     @staticmethod
-    def of_run(operations, own, slots):
-        """The rows of a hart's operations, and those for each slot and pair."""
-        preserved = model.Preserved(operations, {}, slots, (None,) * len(slots))
+    def of_run(own, slots):
+        """The rows of a run's operations, and those for each slot and pair."""
+        preserved = model.Preserved({}, slots, (None,) * len(slots))
 
         def is_fenced(slot, pair, a, b):
-            return (model.po(a, b) and model.orders([pair], a, b)
-                    and model.runs_slot_between(operations.runs[a.hart], slot, a, b))
+            return model.po(a, b) and model.orders([pair], a, b) and model.runs_slot_between(slot, a, b)
 
         rows = rows_where(own, lambda a, b: any(preserved.rule(number, a, b) for number in OTHER_RULES))
         return rows, {(at, pair): rows_where(own, lambda a, b: is_fenced(slot, pair, a, b))
                       for at, slot in enumerate(slots) for pair in model.ALL_PAIRS}
-
-    def put(self, own, rows, at_slots):
-        """Puts the rows of a hart's operations in their place."""
-        for index, operation in enumerate(own):
-            self.rows[operation.number] = rows[index] << own[0].number
-            for (at, pair), fenced in at_slots.items():
-                self.at[at][pair][operation.number] = fenced[index] << own[0].number
 
 
 class Live:
@@ -205,19 +191,13 @@ class Problem:
         self.raw = count_candidates(test, model.all_runs_over(test, sets_of(test)))
         self.candidates, self.live = 0, []
         self.is_listed = self.raw <= most_listed
-        if self.is_listed:
-            self.list_candidates()
-
-    def list_candidates(self):
-        """Goes through all showing candidates, and keeps those without a cycle."""
-        operations = None
-        known = {}
-        for candidate in model.candidates(self.test):
+        operations, known = None, {}
+        for candidate in model.candidates(test) if self.is_listed else ():
             self.candidates += 1
             if operations is not candidate.operations:
                 operations = candidate.operations
                 fences = Fences(operations, self.slots, known)
-            preserved = model.Preserved(operations, candidate.rf, self.slots, (None,) * len(self.slots))
+            preserved = model.Preserved(candidate.rf, self.slots, (None,) * len(self.slots))
             rows = joined(fences.rows, rows_where(operations.of_harts, lambda a, b: (
                 candidate.rfe(a, b) or candidate.co(a, b) or candidate.fr(a, b)
                 or any(preserved.rule(number, a, b) for number in SOURCE_RULES))))
@@ -232,6 +212,10 @@ class Problem:
                 return live
         return None
 
+    def options(self, at):
+        """What may stand at the slot of this number, in the order of precedence."""
+        return [None] + self.prices.offered
+
     def price(self, at, kind):
         """What a kind or none costs at the slot of this number."""
         return 0 if kind is None else self.prices.at(self.slots[at], kind)
@@ -243,64 +227,40 @@ class Problem:
 # --- The answer, by breaking one execution after the other -------------------------------------------------------
 
 class Breaks:
-    """Which placements break all of some executions: for each execution the slots and kinds that break it."""
+    """Which placements break all of some executions: of each slot and option the executions that it breaks, as bits."""
 
     def __init__(self, problem):
-        self.problem = problem
-        self.options = [None] + problem.prices.offered          # in the order of precedence
-        self.executions = []
-        self.best = None
+        self.problem, self.all = problem, 0
+        self.options = [problem.options(at) for at in range(len(problem.slots))]
+        self.broken = [[0] * len(options) for options in self.options]
 
     def add(self, kept):
         """An execution that stands fences with the pairs kept at each slot, and breaks where a kind has another."""
-        self.executions.append([{kind for kind in self.options if kind is not None and not model.PAIRS[kind] <= pairs}
-                                for pairs in kept])
+        bit = self.all + 1
+        self.all |= bit
+        for broken, options, pairs in zip(self.broken, self.options, kept):
+            for number, kind in enumerate(options):
+                if kind is not None and not model.PAIRS[kind] <= pairs:
+                    broken[number] |= bit
 
     def cheapest(self):
-        """Of the placements that break all executions the first cheapest, with its cost; or None."""
-        self.best = None
-        self.visit((), 0, self.executions)
-        return self.best
-
-    def visit(self, chosen, cost, left):
-        """Goes on from these decisions for the first slots, which leave these executions unbroken. What is visited
-        later is later in precedence too, so only what is cheaper replaces the best."""
-        least = self.least(len(chosen), left)
-        if least is None or self.best is not None and cost + least >= self.best[0]:
-            return
-        if not left:
-            self.best = (cost, chosen + (None,) * (len(self.problem.slots) - len(chosen)))
-            return
-        for option in self.useful(len(chosen), left):
-            rest = [breaks for breaks in left if option not in breaks[len(chosen)]]
-            self.visit(chosen + (option,), cost + self.problem.price(len(chosen), option), rest)
-
-    def useful(self, at, left):
-        """The options at a slot, but for each that another, which costs less or is earlier at its price, outdoes."""
-        broken = {option: {number for number, breaks in enumerate(left) if option in breaks[at]}
-                  for option in self.options}
-
-        def is_better(number, other):
-            rank = (self.problem.price(at, self.options[number]), number)
-            return rank < (self.problem.price(at, self.options[other]), other) \
-                and broken[self.options[number]] >= broken[self.options[other]]
-
-        numbers = range(len(self.options))
-        return [self.options[other] for other in numbers if not any(is_better(number, other) for number in numbers)]
-
-    def least(self, start, left):
-        """A cost that it takes at least to break these executions at slots from this number on; None where that can't
-        be. Executions that are broken at different slots are paid for each."""
-        found = 0
-        taken = set()
-        for breaks in left:
-            slots = [at for at in range(start, len(breaks)) if breaks[at]]
-            if not slots:
-                return None
-            if taken.isdisjoint(slots):
-                taken.update(slots)
-                found += min(self.problem.price(at, kind) for at in slots for kind in breaks[at])
-        return found
+        """Of the placements that break all executions the first cheapest; or None. Of the ways to fill the first slots
+        that leave the same executions unbroken, it goes on from the first cheapest alone."""
+        best = {self.all: (0, ())}      # by what is unbroken the cost, and the numbers of the options
+        for at, broken in enumerate(self.broken):
+            ways = {}                   # by what breaks, the price and the number of the first cheapest option
+            for number, kind in enumerate(self.options[at]):
+                way = self.problem.price(at, kind), number
+                ways[broken[number]] = min(way, ways.get(broken[number], way))
+            later = functools.reduce(operator.or_, itertools.chain(*self.broken[at + 1:]), 0)
+            wider = {}
+            for (left, (cost, chosen)), (breaks, (price, number)) in itertools.product(best.items(), ways.items()):
+                left &= ~breaks
+                if not left & ~later:
+                    found = cost + price, (*chosen, number)
+                    wider[left] = min(found, wider.get(left, found))
+            best = wider
+        return tuple(options[number] for options, number in zip(self.options, best[0][1])) if 0 in best else None
 
 
 def solved(problem):
@@ -309,19 +269,16 @@ def solved(problem):
     it forbids the outcome, and nothing better does, since that would leave one of the known executions."""
     breaks = Breaks(problem)
     while True:
-        found = breaks.cheapest()
-        if found is None:
-            return None
-        live = problem.survivor(found[1])
+        placement = breaks.cheapest()
+        live = None if placement is None else problem.survivor(placement)
         if live is None:
-            return found[1]
-        breaks.add(live.kept(found[1]))
+            return placement
+        breaks.add(live.kept(placement))
 
 
 # --- What is printed -------------------------------------------------------------------------------------------------
 
 def lines_of(problem, placement):
-    """What is printed of an answer."""
     if placement is None:
         full = ('rw,rw',) * len(problem.slots)
         return ['none', json.dumps(problem.survivor(full).witness(full), separators=(',', ':'))]

@@ -1,14 +1,17 @@
 """What plain Python says of tests, executions and certificates: which faults files have; which tests are vacuous, by
-whether runs and last words can make the outcome true at all; which can be listed; and what check_certificate.py
-accepts."""
+whether runs and last words can make the outcome true at all; which can be listed; what check_certificate.py accepts;
+and which final states a test allows, by a plain list of all candidates, whatever the condition."""
 import functools
 import itertools
 
 import check_certificate as model                               # of this folder
 import solve_reference as reference
+from litmus import last_word
 from running import EXAMPLES, Said
 
 YES = Said("yes\n", "", 0)
+ALWAYS = ("constant", True)
+WORDS = {"exists": "Allowed", "~exists": "Forbidden", "forall": "Required"}
 READ = "a test"                     # the answer of a file that has no fault
 
 
@@ -39,13 +42,13 @@ def fault_of(data, reader=model.test_of):
     return READ
 
 
-def is_witness(data, harts):
-    """Are the bytes a witness for so many harts? Where a key stands twice, the last one counts."""
+def read_witness(data):
+    """The witness that these bytes are, or None. Where a key stands twice, the last one counts."""
     try:
         value = model.json_of(data)
     except (ValueError, RecursionError):
-        return False
-    return model.is_witness(value) and len(value["choices"]) == harts
+        return None
+    return value if model.has_form(value, model.WITNESS) else None
 
 
 @functools.cache
@@ -61,11 +64,8 @@ def is_listed(path, most):
 
 def execution_of(test, text, placement):
     """The execution with these fences that this text is, or None."""
-    try:
-        witness = model.json_of(text.encode())
-    except ValueError:
-        return None
-    execution = model.execution_of(test, witness) if model.is_witness(witness) else None
+    witness = read_witness(text.encode())
+    execution = model.execution_of(test, witness) if witness else None
     return execution if execution and execution.obeys_axioms(test.slots(), placement) else None
 
 
@@ -106,3 +106,79 @@ def verdict_of(data, prices):
     test = model.test_of(data)
     problem = reference.Problem(test, prices)
     return "vacuous" if is_vacuous(test) else "allowed" if problem.live else "forbidden", problem
+
+
+def named(condition):
+    """The places of a condition: a hart and a register, or the address of a location."""
+    if condition[0] in ("register", "word"):
+        return {condition[1]}
+    return set().union(*map(named, condition[1:])) if condition[0] != "constant" else set()
+
+
+class Shown:
+    """A test, and the places that are shown of it, in their order. A state has the words there. Registers go by their
+    names with x, and `locations [..]` isn't looked at."""
+
+    def __init__(self, data, is_all=False):
+        test = self.test = model.test_of(data)
+        self.title = data.decode().split("\n", 1)[0].split()[1]
+        places = named(test.wanted[0])
+        if is_all:
+            places |= {(hart, one.rd) for hart, code in enumerate(test.code) for one in code if one.rd}
+            places |= set(test.words)
+        self.places = sorted(places, key=lambda place: (type(place) is int, place))
+
+    def line_of(self, state):
+        """A state in print."""
+        names = {address: name for name, address in self.test.addresses.items()}
+        shown = [names[place] if type(place) is int else "%d:x%d" % place for place in self.places]
+        return " ".join(f"{place}={names.get(word, word)};" for place, word in zip(shown, state))
+
+    def is_true(self, state):
+        """Is the condition, without its quantifier, true of this state?"""
+        words = dict(zip(self.places, state))
+        registers = [[words.get((hart, register)) for register in range(32)] for hart in range(len(self.test.code))]
+        return model.truth(self.test.wanted[0], registers, words)
+
+    def ends_so(self, text, line, placement):
+        """Is this the text of an execution with these fences that ends in the state of this line?"""
+        execution = execution_of(self.test, text, placement)
+        if execution is None:
+            return False
+        last = {store.address: store.stored for store in execution.gmo if store.stores}
+        registers = [run.registers for run in execution.operations.runs]
+        found = [last[place] if type(place) is int else registers[place[0]][place[1]] for place in self.places]
+        return self.line_of(found) == line
+
+
+class Listing(Shown):
+    """The executions of a test, whatever its condition, as candidates without a cycle where no fence is placed."""
+
+    def __init__(self, data, is_all=False):
+        super().__init__(data, is_all)
+        free = model.test_of(data)
+        free.outcome, free.wanted = ALWAYS, (ALWAYS, True)
+        self.live = reference.Problem(free, model.prices_of(b'{"rw,rw":1}')).live
+
+    def states(self, placement):
+        """The final states of the executions with these fences."""
+        def word_of(candidate, place):
+            if type(place) is int:
+                return last_word(candidate, place)
+            return candidate.operations.runs[place[0]].registers[place[1]]
+
+        return sorted({tuple(word_of(live.candidate, place) for place in self.places)
+                       for live in self.live if live.survives(placement)})
+
+    def answer(self, placement, printed):
+        """What `states` is to say of the test with these fences, which is printed so (docs/FORMAT.md, section 15)."""
+        states, condition = self.states(placement), printed.rstrip("\n").rsplit("\n", 1)[-1]
+        quantifier = condition.split(" ", 1)[0]
+        positive = sum(map(self.is_true, states))
+        negative = len(states) - positive
+        is_met = {"exists": positive > 0, "~exists": positive == 0, "forall": negative == 0}[quantifier]
+        how_often = "Never" if not positive else "Sometimes" if negative else "Always"
+        lines = [f"Test {self.title} {WORDS[quantifier]}", f"States {len(states)}", *map(self.line_of, states),
+                 "Ok" if is_met else "No", "Witnesses", f"Positive: {positive} Negative: {negative}",
+                 f"Condition {condition}", f"Observation {self.title} {how_often} {positive} {negative}", ""]
+        return Said("".join(f"{line}\n" for line in lines), "", 0)

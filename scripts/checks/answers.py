@@ -2,30 +2,28 @@
 examples/answers/solve.transcripts and states.transcripts. `--write` writes that file anew, and with the answers of
 `solve` the table of docs/ANSWERS.md.
 
-What stands there is found by scripts/solve_reference.py and scripts/states_reference.py. These list candidates, so they
-are asked only of tests with at most 100,000 lists of runs and as many candidates, and of states with at most 2,000. The
-other answers are the program's. Those of `solve` stand there where scripts/check_certificate.py says yes to the
-certificate that `solve --cert` writes: it shows that the fences are enough and that nothing better is. Those of
-`states` do where each of the executions that it prints is one and ends in the state above it; that no state is missing
-isn't looked at there.
+What stands there is found by scripts/solve_reference.py and scripts/verdicts.py. These list candidates, so they are
+asked only of tests with at most 100,000 lists of runs and as many candidates, and of states with at most 2,000. The
+other answers are the program's: of `solve` where scripts/check_certificate.py says yes to the certificate beside it,
+of `states` where each execution that it prints is one and ends in the state above it (whether a state is missing isn't
+looked at then).
 
-A file has a transcript for each test and price list, and an empty line after each: `$ rvfence solve TEST PRICES` or
-`$ rvfence states TEST`, as it runs in examples/, what is printed, and `[status N]`. The second line of an answer `none`
-is an execution, of which there may be many, so it isn't there: it must show the outcome with `rw,rw` in every slot."""
+A file has for each test and price list the command, as it runs in examples/, what is printed, `[status N]`, and an
+empty line. The second line of an answer `none` is an execution, of which there may be many, so it isn't there: it must
+show the outcome with `rw,rw` in every slot."""
 import os
 import re
 import tempfile
 
 import check_certificate as model
 import solve_reference as reference
-from running import (EXAMPLES, PRICE_LISTS, TOP, Said, decoded, read, rvfence, stored_answers, tests_of_examples,
+from running import (EXAMPLES, PRICE_LISTS, TOP, Said, read, rvfence, stored_answers, tests_of_examples, text_of,
                      transcript, written)
-from states_reference import Listing, Shown
-from verdicts import Judge, is_listed, is_same
+from verdicts import Judge, Listing, Shown, is_listed, is_same
 
 GUIDE = f'{TOP}/docs/ANSWERS.md'
 IN_TABLE = PRICE_LISTS[:2]
-HEADER = '| Test | ' + ' | '.join(f'`{prices}`' for prices in IN_TABLE) + ' |'
+OF_GUIDE = re.compile(r'(?m)^\| Test \| `prices\.json` .*\n(?:\|.*\n)+')
 MOST_LISTED = {'solve': 100_000, 'states': 2_000}
 TESTS = [os.path.relpath(path, EXAMPLES) for path in tests_of_examples()]
 QUESTIONS = {'solve': [(test, prices) for test in TESTS for prices in PRICE_LISTS], 'states': [(it,) for it in TESTS]}
@@ -93,21 +91,13 @@ def cell(answer):
 
 
 def table(answers):
-    """The lines of the table of docs/ANSWERS.md."""
-    rows = [HEADER, '|---' * (1 + len(IN_TABLE)) + '|']
+    """The table of docs/ANSWERS.md."""
+    rows = ['| Test | ' + ' | '.join(f'`{prices}`' for prices in IN_TABLE) + ' |', '|---' * (1 + len(IN_TABLE)) + '|']
     for test in TESTS:
         first, second = [cell(answers[test, prices]) for prices in IN_TABLE]
         cells = [first, 'the same' if second == first else second]
         rows.append(f"| `{os.path.basename(test)[:-len('.litmus')]}` | {' | '.join(cells)} |")
-    return rows
-
-
-def table_of_guide():
-    """The guide's lines before its table, those of the table, and those after it."""
-    lines = decoded(read(GUIDE)).split('\n')
-    start = lines.index(HEADER)
-    end = next(at for at in range(start, len(lines)) if not lines[at].startswith('|'))
-    return lines[:start], lines[start:end], lines[end:]
+    return '\n'.join([*rows, ''])
 
 
 def write(command):
@@ -116,12 +106,10 @@ def write(command):
     blocks = [f'$ rvfence {" ".join([command, *words])}\n{answer}\n\n' for words, answer in answers.items()]
     written(f'{EXAMPLES}/answers/{command}.transcripts', ''.join(blocks))
     if command == 'solve':
-        before, _, after = table_of_guide()
-        written(GUIDE, '\n'.join([*before, *table(answers), *after]))
+        written(GUIDE, OF_GUIDE.sub(lambda _: table(answers), text_of(GUIDE)))
 
 
 def compare(run, command, answer, questions):
-    """Compares answers with the file."""
     answers = stored_answers(command)
     for words in questions:
         said = answer(command, *words)
@@ -136,8 +124,8 @@ def check(run, command):
         write(command)
     run.expect('the questions', QUESTIONS[command], [*stored_answers(command)])
     compare(run, command, asked, QUESTIONS[command])
-    is_left = [words for words in QUESTIONS[command] if command == 'states' or not is_listed(words[0], 100_000)]
-    compare(run, command, by_reference, is_left)
+    left = [words for words in QUESTIONS[command] if command == 'states' or not is_listed(words[0], 100_000)]
+    compare(run, command, by_reference, left)
 
 
 def check_solve(run):
@@ -154,4 +142,4 @@ def check_states(run):
 def check_reference(run):
     """The answers of scripts/solve_reference.py against the file, and the table of docs/ANSWERS.md against it."""
     compare(run, 'solve', by_reference, [words for words in QUESTIONS['solve'] if is_listed(words[0], 100_000)])
-    run.expect('the table of docs/ANSWERS.md', table(stored_answers('solve')), table_of_guide()[1])
+    run.expect('the table of docs/ANSWERS.md', table(stored_answers('solve')), OF_GUIDE.search(text_of(GUIDE))[0])

@@ -1,21 +1,22 @@
 """Compares the command `check` with scripts/check_certificate.py, which shares no code with it.
 
 For each test of examples/ and each price list, `solve --cert` must write a certificate to which both say yes, with
-the answer that `solve` printed, and each of its cycles must begin at its least operation. At prices.json both must
-say yes to the same with the items of examples/refutations.json. Then COUNT certificates are made of these, and of
-those of versions 1 and 2 in examples/certificates/, each with one change or two by a number. Of each the two must print
-the same and end with the same status."""
+the answer that `solve` printed, and whose cycles begin at their least operations. At prices.json both must say yes to
+the same with the items of examples/refutations.json. Then COUNT certificates are made of these and of stored ones of
+versions 1 and 2, each with one change or two by a number. Of each the two must print and end the same."""
 import copy
 import itertools
 import json
 import os
 import random
+import sys
 
-import check_certificate as model
-from running import EXAMPLES, PRICE_LISTS, Said, here, read, rvfence, tests_of_examples, written
+from running import (EXAMPLES, PRICE_LISTS, PRICES, TOP, Said, compact, encoded, expanded, here, ran, read, rows,
+                     rvfence, tests_of_examples, written)
 from verdicts import Judge
 
-LISTED = ['CoRR', 'MP', 'SB', 'SBF']    # of version 1, and of version 2
+FAULT = 'fault F18 BadCertificate'
+LISTED = ['CoRR', 'MP', 'SB', 'SBF']    # of versions 1 and 2, with a list of cycles
 PARTS = ['cycles'] * 4 + ['tree'] * 3 + ['witnesses', 'answer']     # where changes are made, so often
 
 
@@ -25,6 +26,12 @@ def places_in(value):
     for key in keys:
         yield value, key
         yield from places_in(value[key])
+
+
+def begins_at_least(cycle):
+    """Does the cycle begin at its least operation, by hart and then by instruction?"""
+    names = [tuple(map(int, name[1:].split(':'))) for name, _ in cycle]
+    return names[0] == min(names)
 
 
 def kind_of(value):
@@ -67,7 +74,7 @@ def refuted(run, test, judge, cert, wanted):
     if items is None or cert['answer'] == 'none':
         return None
     cert = dict(cert, version=4, cycles=items)
-    files = [test, f'{EXAMPLES}/prices.json', written(run.path('refuted.json'), json.dumps(cert))]
+    files = [test, PRICES, written(run.path('refuted.json'), json.dumps(cert))]
     judge_both(run, f'{test}, refuted', files, judge, wanted)
     return cert
 
@@ -86,7 +93,7 @@ def certified(run):
         judge_both(run, what, (test, prices, path), judge, wanted)
         cert = json.loads(read(path))
         cycles = [item for item in cert['cycles'] if type(item[0]) is list]
-        late = [cycle for cycle in cycles if not model.begins_at_least(cycle)]
+        late = [cycle for cycle in cycles if not begins_at_least(cycle)]
         run.expect(f'cycles that begin after their least operation, {what}', [], late)
         found.append((what, test, prices, judge, cert))
         if name == 'prices.json':
@@ -96,16 +103,11 @@ def certified(run):
     return found
 
 
-def listed():
-    """The stored certificates with a list of cycles, each as often as makes them a third of all."""
-    prices = f'{EXAMPLES}/prices.json'
-    for name in LISTED:
-        test, cert = f'{EXAMPLES}/{name}.litmus', json.loads(read(f'{EXAMPLES}/certificates/{name}.json'))
-        yield from [(f'{name}, listed', test, prices, Judge(test, prices), cert)] * 10
-
-
 def check(run):
-    found = [*certified(run), *listed()]
+    found = certified(run)
+    for name in LISTED:                 # each as often as makes them a third of all
+        test = f'{EXAMPLES}/{name}.litmus'
+        found += [(f'{name}, listed', test, PRICES, Judge(test, PRICES), stored(name))] * 10
     for number in run.numbers():
         dice = random.Random(number)
         what, test, prices, judge, cert = found[number % len(found)]
@@ -115,3 +117,66 @@ def check(run):
         words = wanted.out.split() or ['fault']
         run.kinds[' '.join(words[:2]) if words[0] != 'yes' else 'yes'] += 1
         run.expect(f'certificate {number}, of {what}', wanted, rvfence('check', test, prices, path))
+
+
+def stored(name):
+    """A certificate of examples/certificates/ or of scripts/transcripts/files/."""
+    return json.loads(read(here(f"certificates/{name}.json", f"{name}.json")))
+
+
+def judge(run, what, test, data, wanted, prices=PRICES, fault=None):
+    """Is the verdict on this certificate as wanted? `yes` alone stands for all answers; with its answer the command is
+    run. `check` must print the same, but for the fault, where one is given: it looks for faults in the runs too."""
+    files = [test, prices, written(run.path("certificate.json"), data)]
+    command = [sys.executable, f"{TOP}/scripts/check_certificate.py", *files]
+    said = ran(command) if "\n" in wanted else Judge(test, prices).verdict(data)
+    run.expect(f"{what}, by check", Said("", f"{fault}\n", 2) if fault else said, rvfence("check", *files))
+    if wanted == FAULT:
+        run.expect(what, Said("", f"{FAULT}\n", 2), said)
+    elif wanted == "yes":
+        run.expect(what, ("yes", "", 0), (said.out.split("\n")[0], *said[1:]))
+    else:
+        run.expect(what, Said(f"{wanted}\n", "", 0 if wanted.startswith("yes\n") else 1), said)
+
+
+def links(text):
+    """A cycle, written as names and causes with blanks between them."""
+    words = text.split()
+    return [list(pair) for pair in zip(words[::2], words[1::2])]
+
+
+def changed(certificate, changes):
+    """The bytes of the certificate with these values in it, by their keys, and by a key and a number in its list; or
+    with another text in place of one in it, or of all."""
+    old, new = changes.pop("text", ("", ""))
+    if "whole" in changes:
+        return changes["whole"].encode()
+    for key, value in changes.items():
+        if key == "cycles" and isinstance(value, list):
+            value = [links(cycle) if isinstance(cycle, str) else cycle for cycle in value]
+        key, _, number = key.partition(" ")
+        if number:
+            certificate[key][int(number)] = value
+        else:
+            certificate[key] = value
+    return encoded(json.dumps(certificate).replace(old, new))
+
+
+def check_rows(run):
+    """Checks scripts/check_certificate.py and the command `check`, by scripts/transcripts/certificates.table: valid
+    certificates, mangled ones for each reason of docs/CERTIFICATE.md, section 5, and every beginning of one. Of each
+    the two must print the same lines and end with the same status.
+
+    The valid ones are in examples/certificates/. What is expected of the mangled ones was worked out by hand. The valid
+    ones go through the command; the others are judged in this process, which takes less time."""
+    for row in rows("certificates"):
+        wanted, test, name, what, changes = row.split(" | ", 4)
+        wanted, _, fault = wanted.partition("; ")
+        test, _, prices = test.partition("@")
+        wanted = FAULT if wanted == "F18" else wanted.replace(" / ", "\n")
+        judge(run, what, here(f"{test}.litmus"), changed(stored(name), json.loads(expanded(changes))), wanted,
+              here(prices or "prices.json"), fault)
+    whole = compact(stored("CoRR")).encode()
+    for count in range(len(whole) + 1):
+        wanted = FAULT if count < len(whole) else "yes"
+        judge(run, f"coherent reads: the first {count} bytes", here("CoRR.litmus"), whole[:count], wanted)

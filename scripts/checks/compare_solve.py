@@ -1,21 +1,17 @@
-"""Compares `rvfence solve` with scripts/solve_reference.py on known tests at lists of two and three kinds, and on the
-tests and price lists that scripts/litmus.py makes.
+"""Compares `rvfence solve` with scripts/solve_reference.py on known tests at lists of a few kinds, by
+scripts/transcripts/known.table, and on the tests and price lists that scripts/litmus.py makes.
 
 With 1, 4 and 16 workers it must print the same bytes, and write the same certificate beside an answer, to which `check`
 says yes. (In no test do others join the first worker; crates/fs_tests has such.) What differs is printed with the
-test; `--show` prints each test, its prices and the reference's answer."""
+test."""
+import itertools
 import os
 
 import check_certificate as model
 import solve_reference as reference
 from litmus import Maker
-from running import EXAMPLES, read, rvfence, written
+from running import EXAMPLES, read, rows, rvfence, written
 from verdicts import is_same
-
-KNOWN = ["SB", "MP", "LB", "MPA", "SBX", "SBXA", "MPB", "2+2W", "CoRR", "MP11", "LRSC", "LRSCF", "ADD2", "LBD", "SBF"]
-# One list with a weight, and one in which the strongest kind is the cheapest.
-LISTS = [b'{"w,r":4,"rw,rw":5}', b'{"r,r":1,"w,w":1,"rw,rw":3,"weights":{"P1:1":3,"P1:2":2}}', b'{"tso":2,"rw,rw":2}',
-         b'{"r,rw":2,"rw,w":2,"rw,rw":3}', b'{"rw,rw":1}']
 
 
 def compare_workers(run, name, files, found):
@@ -32,12 +28,9 @@ def compare_workers(run, name, files, found):
 
 
 def compare(run, name, data, prices):
-    """Compares the answers to this test, of this name."""
     test = model.test_of(data)
     files = [written(run.path("test.litmus"), data), written(run.path("prices.json"), prices)]
     wanted = out, error, _ = reference.answer(test, model.prices_of(prices))
-    if run.options.show:
-        print(data.decode() + prices.decode(), out + error, sep="\n")
     found = rvfence("solve", "-q", *files)
     first = " ".join((out + error).split()[:2])
     run.kinds[f"fenced by {out.count('fence ')}" if first.startswith("fenced") else first.split(" {")[0]] += 1
@@ -47,7 +40,7 @@ def compare(run, name, data, prices):
 
 
 def check(run):
-    for name, prices in [(name, prices) for name in KNOWN for prices in LISTS]:
-        compare(run, f"{name} at {prices.decode()}", read(f"{EXAMPLES}/{name}.litmus"), prices)
+    for name, prices in itertools.product(rows("known", "tests"), rows("known", "prices")):
+        compare(run, f"{name} at {prices}", read(f"{EXAMPLES}/{name}.litmus"), prices.encode())
     for number in run.numbers():
         compare(run, f"made test {number}", *Maker(number).make())

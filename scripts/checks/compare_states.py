@@ -1,17 +1,15 @@
 """Compares `rvfence states` with a plain list of final states on the tests that scripts/litmus.py makes.
 
-The list is made in Python, from all candidates of the test, whatever its condition. Each test is asked without FENCE
-words and with some by chance, every second one with `--all`. All lines must be the same. Each witness of
-`--witnesses` must be an execution that ends in the state above it, and `order` must say of it what the condition does.
-The object of `--json` must say what the lines say. What differs is printed with the test."""
-import json
+The list is made in Python. Each test is asked without FENCE words and with some by chance, every second one with
+`--all`. All lines must be the same, and the object of `--json` must say what they say. Each witness of `--witnesses`
+must be an execution that ends in the state above it, and `order` must say of it what the condition does."""
 import random
 
 import check_certificate as model
 import solve_reference as reference
 from litmus import Maker
-from running import read, rvfence, written
-from states_reference import Listing
+from running import compact, read, rvfence, written
+from verdicts import Listing
 
 
 def object_of(lines):
@@ -34,7 +32,7 @@ def compare_states(run, listing, name, placement, flags):
     run.expect(what, wanted, rvfence("states", "-q", *flags, name, *fences))
     lines = rvfence("states", *flags, "--witnesses", name, *fences).out.splitlines(keepends=True)
     run.expect(f"{what} without witnesses", wanted.out, "".join(line for line in lines if not line.startswith("{")))
-    json_text = json.dumps(object_of(wanted.out.splitlines()), separators=(",", ":"), sort_keys=True) + "\n"
+    json_text = compact(object_of(wanted.out.splitlines())) + "\n"
     run.expect(f"{what} as JSON", json_text, rvfence("states", *flags, "--json", name, *fences).out)
     states, witnesses = listing.states(placement), [line for line in lines if line.startswith("{")]
     run.expect(f"how many witnesses of {what}", len(states), len(witnesses))

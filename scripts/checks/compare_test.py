@@ -1,11 +1,10 @@
 """Compares `rvfence test` with the solver and the checker in Python on the tests that scripts/litmus.py makes.
 
 In every second test one atom of the condition is changed by chance: it gets another word, or is joined with an atom
-that has one. So many outcomes are vacuous. Where one is, the words for it are compared too; of an outcome that is
-allowed, that the two operations are of one hart, the first later in its code; of one that is forbidden, the form of the
-words, and that they count contradictions where candidates show the outcome. Up to 200 files go into one run, and into
-one with four jobs, which must print the same bytes. In a run with `--json` the objects must say the same, and `order`
-says yes to their witnesses. What differs is printed with the test."""
+that has one. So many outcomes are vacuous; then the words for it are compared too. Of an outcome that is allowed the
+two operations must be of one hart, the first later in its code; of one that is forbidden the words have a form, and
+count contradictions where candidates show the outcome. Up to 200 files go into one run, and into one with four jobs,
+which must print the same. With `--json` objects must say the same, and `order` says yes to their witnesses."""
 import collections
 import itertools
 import json

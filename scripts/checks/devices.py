@@ -1,30 +1,23 @@
-"""Runs the built program where files and devices fail: what it reads, prints and writes as a certificate; calls that a
-signal interrupts; and two runs at once that write one certificate, each held at each of its calls
-(scripts/checks/hinder.c).
+"""Runs the built program where files and devices fail: what it reads, prints and writes as a certificate; where calls
+are interrupted; and where two runs at once write one certificate, each held at each of its calls (by hinder.c).
 
 What can't be read is F20 and what can't be written F21, with status 2, and of F20 a line says which file it is, and
 why; what is on standard output is a beginning of the answer; status 0 or 1 comes only where the whole answer was
 written. No signal ends a run where a file may not grow further. A certificate stands under its name whole or not at
 all, with the mode of what was there; what was there stays where it can't be written, and so does each other file."""
-import array
 import contextlib
 import errno
-import fcntl
 import itertools
 import os
 import resource
 import shutil
 import signal
-import socket
 import stat
-import struct
 import subprocess
 import tempfile
-import termios
-import time
 
 from checks import transcripts
-from running import EXAMPLES, LONGEST, PRICES, Said, compiled, decoded, program, ran, read, waited_for, written
+from running import EXAMPLES, LONGEST, PRICES, Said, compiled, program, ran, read, text_of, waited_for, written
 
 MISSING, FOLDER, UNREAD = "there is no such file", "it is a folder", "it can't be opened or read"
 UNWRITTEN = Said("", "fault F21 WriteFault\n", 2)
@@ -32,7 +25,7 @@ OLD = b"old"
 NOBODY = 65534
 STREAMS = [[0], [1], [2], [0, 1], [0, 2], [1, 2], [0, 1, 2]]
 # Store buffering in the printed form, an execution of it, and its answer.
-SB = decoded(read(f"{transcripts.FOLDER}/files/printed.litmus"))
+SB = text_of(f"{transcripts.FOLDER}/files/printed.litmus")
 SB_WITNESS = '{"choices":[[0],[0]],"order":["P0:1","P1:1","P0:0","P1:0"]}'
 SB_ANSWER = Said("fenced 18\nfence P0 1 w,r\nfence P1 1 w,r\n", "", 0)
 
@@ -48,23 +41,19 @@ class Checks:
     def __init__(self, run):
         folder = self.folder = run.folder
         self.check, self.expect = run.check, run.expect
-        # a user who may read little must reach the program and the files
-        os.chmod(folder, 0o755)
-        self.program = shutil.copy(program(), folder)
-        self.prices = shutil.copy(PRICES, folder)
-        self.test = written(f"{folder}/sb.litmus", SB)
-        self.witness = written(f"{folder}/witness.json", SB_WITNESS)
+        os.chmod(folder, 0o755)         # a user who may read little must reach the program and the files
+        self.program, self.prices = shutil.copy(program(), folder), shutil.copy(PRICES, folder)
+        self.test, witness = written(f"{folder}/sb.litmus", SB), written(f"{folder}/witness.json", SB_WITNESS)
         self.hinder = compiled("checks/hinder.c", folder, "-shared", "-fPIC")
         self.certificate = f"{folder}/certificate.json"
-        self.run(["solve", self.test, self.prices, "--cert", self.certificate])
-        self.answer = SB_ANSWER
+        self.certify(self.certificate)
         # each command with its words, and what it says
         self.commands = {
             "place": (["place", self.test], Said(SB, "", 0)),
-            "order": (["order", self.test, self.witness], Said("yes\n", "", 0)),
-            "order, no": (["order", self.test, self.witness, "P0:1=w,r"], Said("no: rule 4 P0:0 P0:1\n", "", 1)),
-            "solve": (["solve", self.test, self.prices], self.answer),
-            "check": (["check", self.test, self.prices, self.certificate], Said(f"yes\n{self.answer.out}", "", 0)),
+            "order": (["order", self.test, witness], Said("yes\n", "", 0)),
+            "order, no": (["order", self.test, witness, "P0:1=w,r"], Said("no: rule 4 P0:0 P0:1\n", "", 1)),
+            "solve": (["solve", self.test, self.prices], SB_ANSWER),
+            "check": (["check", self.test, self.prices, self.certificate], Said(f"yes\n{SB_ANSWER.out}", "", 0)),
         }
 
     def run(self, words, **options):
@@ -123,51 +112,21 @@ def check_readers(checks):
 
 
 def check_inputs(checks):
-    """Standard input that is closed, a folder, open for writing alone, or a connection that breaks after some bytes
-    were read."""
+    """Standard input that is closed, a folder, open for writing alone, or a connection that breaks behind some bytes,
+    in place of their end."""
     for command, (words, _) in checks.commands.items():
         words = [words[0], "stdin", *words[2:]]
         failed = unread("stdin", UNREAD)
         checks.expect(f"{command}: standard input is closed", failed, checks.run(words, preexec_fn=before(0)))
-        with open(os.devnull, "wb") as file:
-            found = checks.run(words, stdin=file)
-            checks.expect(f"{command}: standard input is open for writing alone", failed, found)
-        folder = os.open(checks.folder, os.O_RDONLY)
-        found = checks.run(words, stdin=folder)
-        checks.expect(f"{command}: standard input is a folder", unread("stdin", FOLDER), found)
-        os.close(folder)
+        for name, path, how, wanted in (("open for writing alone", os.devnull, os.O_WRONLY, failed),
+                                        ("a folder", checks.folder, os.O_RDONLY, unread("stdin", FOLDER))):
+            file = os.open(path, how)
+            checks.expect(f"{command}: standard input is {name}", wanted, checks.run(words, stdin=file))
+            os.close(file)
         for size in (0, 1, 20, 8192, 100_000):
-            data = SB.encode().ljust(size)[:size]
-            found = broken(checks, words, data)
+            settings = hindering(checks, "end", errno.ECONNRESET, name="pipe:")
+            found = checks.run(words, stdin=SB.ljust(size)[:size], env=settings)
             checks.expect(f"{command}: a connection that breaks after {size} bytes", failed, found)
-
-
-def broken(checks, words, data):
-    """What the program says where standard input is a connection on which these bytes come, are read, and then no end
-    but a reset."""
-    listening = socket.create_server(("127.0.0.1", 0))
-    sending = socket.create_connection(listening.getsockname())
-    reading, _ = listening.accept()
-    listening.close()
-    pipes = {"stdout": subprocess.PIPE, "stderr": subprocess.PIPE, "text": True}
-    child = subprocess.Popen([checks.program, *words], stdin=reading, **pipes)
-    longest = waited_for(child.pid, LONGEST)
-    sending.sendall(data)
-    end = time.monotonic() + longest
-    # all has come, and the program has read it
-    while (waiting(sending, termios.TIOCOUTQ) or waiting(reading, termios.FIONREAD)) and time.monotonic() < end:
-        time.sleep(0.001)
-    sending.setsockopt(socket.SOL_SOCKET, socket.SO_LINGER, struct.pack("ii", 1, 0))
-    sending.close()
-    said, error = child.communicate(timeout=longest)
-    reading.close()
-    return Said(said, error, child.returncode)
-
-
-def waiting(connection, which):
-    """How many bytes have not arrived yet, or have not been read yet."""
-    left = array.array("i", [0])
-    return fcntl.ioctl(connection, which, left) or left[0]
 
 
 # --- Standard output -------------------------------------------------------------------------------------------------
@@ -194,7 +153,7 @@ def check_outputs(checks):
                 limits = before(size=size + len(old), is_ignored=is_ignored)
                 found = checks.run(words, stdout=file, preexec_fn=limits)
             wanted = answer if size == len(answer.out) else UNWRITTEN._replace(out=answer.out[:size])
-            found = found._replace(out=decoded(read(path)).removeprefix(old))
+            found = found._replace(out=text_of(path).removeprefix(old))
             name = f"{command}: standard output takes {size} bytes behind {old!r}"
             checks.expect(name + ("" if is_ignored else ", or a signal comes"), wanted, found)
 
@@ -208,7 +167,7 @@ def check_errors(checks):
         with open(path, "wb") as file:
             found = checks.run(missing, stderr=file, preexec_fn=before(size=size, is_ignored=is_ignored))
         wanted = "".join(it for it in line.splitlines(keepends=True) if line.index(it) + len(it) <= size)
-        is_right = found.status == 2 and decoded(read(path)) == wanted
+        is_right = found.status == 2 and text_of(path) == wanted
         checks.check(f"standard error takes {size} bytes, ignored: {is_ignored}", is_right, (found, wanted))
 
 
@@ -220,21 +179,16 @@ def check_certificates(checks):
     where streams are closed, so that the certificate is opened under the number of one of them: neither the answer nor
     a fault's line comes into it, and the status tells."""
     whole = read(checks.certificate)
-    for size in range(len(whole) + 1):
-        for kept in (OLD, None):
-            for is_ignored in (True, False):
-                wanted = (checks.answer, whole) if size == len(whole) else (UNWRITTEN, kept)
-                name = f"room for {size} bytes of a certificate, {kept} there"
-                name += "" if is_ignored else ", or a signal comes"
-                checks.expect(name, wanted, certified(checks, kept, size, is_ignored))
-    for closed in STREAMS:
-        for size in (0, 1, len(whole) - 1, len(whole)):
-            for kept in (OLD, None):
-                said, left = certified(checks, kept, size, True, closed)
-                has_room = size == len(whole)
-                wanted = (0 if has_room and 1 not in closed else 2, whole if has_room else kept)
-                name = f"streams {closed} closed, room for {size} bytes of a certificate, {kept} there"
-                checks.expect(name, wanted, (said.status, left))
+    for size, kept, is_ignored in itertools.product(range(len(whole) + 1), (OLD, None), (True, False)):
+        wanted = (SB_ANSWER, whole) if size == len(whole) else (UNWRITTEN, kept)
+        name = f"room for {size} bytes of a certificate, {kept} there{'' if is_ignored else ', or a signal comes'}"
+        checks.expect(name, wanted, certified(checks, kept, size, is_ignored))
+    for closed, size, kept in itertools.product(STREAMS, (0, 1, len(whole) - 1, len(whole)), (OLD, None)):
+        said, left = certified(checks, kept, size, True, closed)
+        has_room = size == len(whole)
+        wanted = (0 if has_room and 1 not in closed else 2, whole if has_room else kept)
+        name = f"streams {closed} closed, room for {size} bytes of a certificate, {kept} there"
+        checks.expect(name, wanted, (said.status, left))
 
 
 def certified(checks, kept, size, is_ignored, closed=()):
@@ -243,9 +197,7 @@ def certified(checks, kept, size, is_ignored, closed=()):
     with folder_with(checks, kept) as (folder, path):
         found = checks.certify(path, preexec_fn=before(*closed, size=size, is_ignored=is_ignored))
         beside = [name for name in os.listdir(folder) if name != "kept.json"]
-        if beside:
-            return found, beside
-        return found, read(path) if os.path.exists(path) else None
+        return found, beside or (read(path) if os.path.exists(path) else None)
 
 
 # --- Two runs at once, and calls that are interrupted ----------------------------------------------------------------
@@ -255,40 +207,26 @@ HELD = ["statx", "open", "write", "rename", "unlink"]
 
 
 class Held:
-    """A run that writes a certificate, and is held before its first call of this name at a file of this folder."""
+    """A run that writes a certificate, and stops before its first call of this name at a file of this folder."""
 
     def __init__(self, checks, folder, test, call):
-        self.own = tempfile.mkdtemp(dir=checks.folder)
-        settings = {"HINDER_CALL": call, "HINDER_NAME": folder, "HINDER_REACHED": f"{self.own}/reached",
-                    "HINDER_GO": f"{self.own}/go", "LD_PRELOAD": checks.hinder}
+        settings = {**os.environ, "HINDER_CALL": call, "HINDER_NAME": folder, "LD_PRELOAD": checks.hinder}
         words = [checks.program, "solve", test, checks.prices, "--cert", f"{folder}/kept.json"]
-        pipes = {"stdout": subprocess.PIPE, "stderr": subprocess.PIPE, "text": True}
-        self.child = subprocess.Popen(words, env={**os.environ, **settings}, **pipes)
+        self.child = subprocess.Popen(words, env=settings, stdout=subprocess.PIPE, stderr=subprocess.PIPE, text=True)
         self.longest = waited_for(self.child.pid, LONGEST)
-        # until it is held, or has ended without the call; or nothing comes of it, and then its end tells
-        end = time.monotonic() + self.longest
-        while not os.path.exists(f"{self.own}/reached") and self.child.poll() is None and time.monotonic() < end:
-            time.sleep(0.0005)
+        # until it has stopped, or has ended without the call
+        os.waitid(os.P_PID, self.child.pid, os.WSTOPPED | os.WEXITED | os.WNOWAIT)
 
     def let_go(self):
         """What it says to its end."""
-        written(f"{self.own}/go", "")
-        return self.end()
-
-    def end(self):
+        self.child.send_signal(signal.SIGCONT)
         out, error = self.child.communicate(timeout=self.longest)
-        shutil.rmtree(self.own)
         return Said(out, error, self.child.returncode)
 
 
 def contents(folder):
-    """The files of a folder with what is in them; of links where they lead, and of folders nothing."""
-    found = {}
-    for name in sorted(os.listdir(folder)):
-        path = f"{folder}/{name}"
-        kinds = ((os.path.islink, os.readlink), (os.path.isfile, read), (os.path.isdir, lambda _: "a folder"))
-        found[name] = next(what(path) for is_kind, what in kinds if is_kind(path))
-    return found
+    """The files of a folder with what is in them."""
+    return {name: read(f"{folder}/{name}") for name in os.listdir(folder)}
 
 
 def check_two_runs(checks):
@@ -319,12 +257,12 @@ def check_ended_runs(checks):
         with folder_with(checks, kept) as (folder, path):
             held = Held(checks, folder, checks.test, call)
             held.child.send_signal(number)
-            held.end()
+            held.let_go()
             left = contents(folder)
             name = f"signal {number} before {call}, {kept} there"
             is_right = left.pop("kept.json", None) in (kept, whole) and set(left) <= {"kept.json.part"}
             checks.check(name, is_right, left)
-            checks.expect(f"{name}: a later run", checks.answer, checks.certify(path))
+            checks.expect(f"{name}: a later run", SB_ANSWER, checks.certify(path))
             checks.expect(f"{name}: a later run's certificate", {**left, "kept.json": whole}, contents(folder))
 
 
@@ -346,7 +284,7 @@ def check_modes(checks):
                 checks.check(f"mode {mode:o} at mask {mask:o}, while it is written", not during & ~mode)
                 said = held.let_go()
                 found = (said, contents(folder), mode_of(path))
-                wanted = (checks.answer, {"kept.json": whole}, oct(mode))
+                wanted = (SB_ANSWER, {"kept.json": whole}, oct(mode))
                 checks.expect(f"mode {mode:o} at mask {mask:o}", wanted, found)
         path = f"{checks.folder}/new.json"
         checks.certify(path)
@@ -357,7 +295,7 @@ def check_modes(checks):
         os.chmod(path, 0o640)
         settings = hindering(checks, "fchmod", errno.EPERM, name=folder)
         found = (checks.certify(path, env=settings), contents(folder), mode_of(path))
-        wanted = (checks.answer, {"kept.json": whole}, oct(0o640))
+        wanted = (SB_ANSWER, {"kept.json": whole}, oct(0o640))
         checks.expect("a mode that can't be given", wanted, found)
 
 
@@ -384,7 +322,7 @@ def check_interrupted(checks):
         path = written(f"{checks.folder}/interrupted.json", OLD)
         settings = hindering(checks, call, errno.EINTR, 3, "interrupted.json")
         found = (checks.certify(path, env=settings), read(path))
-        checks.expect(f"a certificate whose {call} is interrupted", (checks.answer, whole), found)
+        checks.expect(f"a certificate whose {call} is interrupted", (SB_ANSWER, whole), found)
 
 
 def check(run):

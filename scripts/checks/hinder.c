@@ -1,11 +1,12 @@
 /* A library to be put before a program by LD_PRELOAD: it hinders the calls HINDER_CALL (statx, open, fchmod, read,
- * write, rename or unlink) of files whose names have HINDER_NAME in them. Where HINDER_ERROR is set, the first
- * HINDER_COUNT of them fail with this number of an error. Else the first one is held: it makes the file HINDER_REACHED,
- * and goes on only when the file HINDER_GO is there. None of it goes by a clock. */
+ * write, rename, unlink, or `end` for a read that finds the end) of files whose names have HINDER_NAME in them. Where
+ * HINDER_ERROR is set, the first HINDER_COUNT of them fail with this number of an error. Else the program stops before
+ * the first one, until a signal has it go on. */
 #define _GNU_SOURCE
 #include <errno.h>
 #include <fcntl.h>
 #include <limits.h>
+#include <signal.h>
 #include <stdarg.h>
 #include <stdatomic.h>
 #include <stdio.h>
@@ -17,38 +18,44 @@
 
 static atomic_long calls;
 
-static void hold(void) {
-    const char *reached = getenv("HINDER_REACHED"), *go = getenv("HINDER_GO");
-    syscall(SYS_close, syscall(SYS_openat, AT_FDCWD, reached, O_CREAT | O_WRONLY, 0600));
-    while (syscall(SYS_faccessat, AT_FDCWD, go, F_OK) != 0)
-        usleep(500);
-}
-
-/* Does this call fail? One that is held is held here. */
 static int is_failing(const char *call, const char *path) {
     const char *wanted = getenv("HINDER_CALL"), *error = getenv("HINDER_ERROR");
     if (wanted == NULL || strcmp(wanted, call) != 0 || strstr(path, getenv("HINDER_NAME")) == NULL)
         return 0;
     long number = atomic_fetch_add(&calls, 1);
     if (error == NULL && number == 0)
-        hold();
+        raise(SIGSTOP);
     if (error == NULL || number >= atol(getenv("HINDER_COUNT")))
         return 0;
     errno = atoi(error);
     return 1;
 }
 
-static int is_failing_at(const char *call, int file) {
-    char link[64], path[PATH_MAX];
+static const char *name_of(int file) {
+    static _Thread_local char link[64], path[PATH_MAX];
     snprintf(link, sizeof link, "/proc/self/fd/%d", file);
     ssize_t length = readlink(link, path, sizeof path - 1);
     path[length < 0 ? 0 : length] = 0;
-    return is_failing(call, path);
+    return path;
 }
 
-int statx(int folder, const char *restrict path, int flags, unsigned mask, struct statx *restrict found) {
-    return is_failing("statx", path) ? -1 : (int)syscall(SYS_statx, folder, path, flags, mask, found);
+// A function of the C library, which fails where the call at this path does, and else asks the kernel.
+#define HINDERED(result, call, parameters, path, ...) \
+    result call parameters { return is_failing(#call, path) ? -1 : (result)syscall(SYS_##call, __VA_ARGS__); }
+
+HINDERED(int, fchmod, (int file, mode_t mode), name_of(file), file, mode)
+HINDERED(ssize_t, write, (int file, const void *bytes, size_t count), name_of(file), file, bytes, count)
+HINDERED(int, rename, (const char *from, const char *to), from, from, to)
+HINDERED(int, unlink, (const char *path), path, path)
+HINDERED(int, statx, (int folder, const char *path, int flags, unsigned mask, struct statx *found), path, folder, path,
+         flags, mask, found)
+
+ssize_t read(int file, void *bytes, size_t count) {
+    ssize_t length = is_failing("read", name_of(file)) ? -1 : syscall(SYS_read, file, bytes, count);
+    return length == 0 && is_failing("end", name_of(file)) ? -1 : length;
 }
+
+ssize_t __write(int file, const void *bytes, size_t count) { return write(file, bytes, count); }
 
 int open(const char *path, int flags, ...) {
     va_list more;
@@ -56,28 +63,4 @@ int open(const char *path, int flags, ...) {
     int mode = flags & O_CREAT ? va_arg(more, int) : 0;
     va_end(more);
     return is_failing("open", path) ? -1 : (int)syscall(SYS_openat, AT_FDCWD, path, flags, mode);
-}
-
-int fchmod(int file, mode_t mode) {
-    return is_failing_at("fchmod", file) ? -1 : (int)syscall(SYS_fchmod, file, mode);
-}
-
-ssize_t read(int file, void *bytes, size_t count) {
-    return is_failing_at("read", file) ? -1 : syscall(SYS_read, file, bytes, count);
-}
-
-ssize_t write(int file, const void *bytes, size_t count) {
-    return is_failing_at("write", file) ? -1 : syscall(SYS_write, file, bytes, count);
-}
-
-ssize_t __write(int file, const void *bytes, size_t count) {
-    return write(file, bytes, count);
-}
-
-int rename(const char *from, const char *to) {
-    return is_failing("rename", from) ? -1 : (int)syscall(SYS_rename, from, to);
-}
-
-int unlink(const char *path) {
-    return is_failing("unlink", path) ? -1 : (int)syscall(SYS_unlink, path);
 }

@@ -2,13 +2,14 @@
 
 Each run must end by itself with the answer that is wanted, and print what the patterns of the table say: an answer, or
 the one line of a fault and its message where one is due (docs/FORMAT.md, section 14); within 2 seconds of processor
-time, 400 MB and a stack of 8 MiB. `check` says of a certificate what scripts/check_certificate.py says. Memory is
-ample, so status 3 is no answer here. The groups of files are split over as many processes as there are processors.
+time, 400 MB (which are ample, so status 3 is no answer) and a stack of 8 MiB. `check` says of a certificate what
+scripts/check_certificate.py says.
 
 With `--huge` it feeds `check` certificates of 100 MB, one after the other, and nothing else: these may take 60
 seconds and 8 GB, and what each takes is printed."""
 import collections
 import contextlib
+import itertools
 import os
 import re
 import resource
@@ -16,39 +17,32 @@ import signal
 from concurrent.futures import ProcessPoolExecutor
 
 from checks import hostile_files as files
-from running import EXAMPLES, PRICES, TOP, program, read, written
-from stored import rows
+from running import EXAMPLES, PRICES, TOP, program, read, rows, written
 from verdicts import READ
 
 # Seconds of processor time, and bytes: for files up to a mebibyte, and for huge ones.
 LIMITS, HUGE_LIMITS = (2, 400_000_000), (60, 8_000_000_000)
-# The stack that a process has by default, in bytes.
-STACK = 8 * 1024 * 1024
-# A run that waits for something takes no processor time, so it is ended after this many seconds by the clock.
-LONGEST_WAIT = 1800
-# What is said of a test is shorter than this: `test` names the location that nothing stores to, which may fill a file.
-MOST_SAID = 2 << 20
-LOG_ERROR = rb"error: (log line \d+: expected [^\n]+|the log (isn't UTF-8|has no block of a test))"
+STACK = 8 * 1024 * 1024             # that a process has by default, in bytes
+LONGEST_WAIT = 1800                 # seconds by the clock, after which a run that waits for something is ended
+MOST_SAID = 2 << 20                 # what is said of a test is shorter: a location's name, at most, may fill a file
 
 
 def patterns(group, parts=()):
     """The patterns of a group of the table, by what stands before them, with the parts in place of their names."""
-    found = {}
-    for row in rows("hostile", group):
-        key, found[key] = row.split(" | ", 1)
-        for name in parts:
-            found[key] = found[key].replace(name, parts[name])
+    found = dict(row.split(" | ", 1) for row in rows("hostile", group))
+    for key, name in itertools.product(found, parts):
+        found[key] = found[key].replace(name, parts[name])
     return found
 
 
 PARTS = patterns("parts of what is said")
 ANSWERS = {name: re.compile(text) for name, text in patterns("answers", PARTS).items()}
 SAID = {key: re.compile(text.encode()) for key, text in patterns("said", PARTS).items()}
-# How the program gets the files of a group: what stands before the names of the runs, the words of its command line,
-# and the answer where a reader has READ.
+# How the program gets the files of a group: what stands before the names, its words, and the answer in place of READ.
 Use = collections.namedtuple("Use", "group name words read")
 USES = [Use(group, name, words.split(), read) for groups, name, words, read
         in (row.split(" | ") for row in rows("hostile", "uses")) for group in groups.split(", ")]
+# What is wrong with the end of a run, its answer, its seconds of processor time, and its peak of memory.
 Found = collections.namedtuple("Found", "end answer seconds memory")
 # Of runs their number, those that failed by name with what is wrong, and the most of both.
 Tally = collections.namedtuple("Tally", "count failed seconds memory")
@@ -65,9 +59,8 @@ class Runner:
         signal.signal(signal.SIGALRM, lambda *_: os.kill(self.child, signal.SIGKILL))
 
     def run(self, text, words):
-        """A run with this standard input and these words: what is wrong with its end, its answer, its seconds of
-        processor time, and its peak of memory. The answer is the line of its fault, or what it says, and of `place`
-        READ."""
+        """A run with this standard input and these words. Its answer is the line of its fault, or what it says, and of
+        `place` READ."""
         flags = [os.O_RDONLY, *[os.O_WRONLY | os.O_CREAT | os.O_TRUNC] * 2]
         actions = [(os.POSIX_SPAWN_OPEN, at, self.paths[at], flags[at], 0o600) for at in range(3)]
         written(self.paths[0], text)
@@ -92,15 +85,11 @@ def answer_of(command, said, error):
     return answer.split("\n")[0].removeprefix("stdin  ") if command == "test" else answer
 
 
-# What is said below the line of F20.
-UNREAD = rb"[ -~]*: (there is no such file|it is a folder|it has more than \d+ bytes|it can't be opened or read)\n"
-
-
 def is_message(fault, text):
     """Is the text a message of the fault whose line this is (docs/FORMAT.md, section 14)? Where the line has a number,
     so has the place."""
     if fault == b"fault F20 ReadFault":
-        return re.fullmatch(UNREAD, text)
+        return SAID["unread"].fullmatch(text)
     line = re.search(rb" line (\d+)$", fault)
     place = rb":%s:\d+: " % (line[1] if line else rb"\d+")
     source = rb"\n  [ -~]{0,100}\n {2,62}\^ [ -~]+\n"
@@ -115,7 +104,7 @@ def is_explained(words, said, error):
         found = re.match(rb"stdin  (fault F(?:[1-9]|20) [^\n]+)\n", said)
         return is_message(found[1], error) if found else not error
     line, _, message = error.partition(b"\n")
-    if "--log" in words and re.fullmatch(LOG_ERROR, line):
+    if "--log" in words and SAID["log"].fullmatch(line):
         return not message
     if not re.fullmatch(rb"fault F\d+ [^\n]+", line):
         return False
@@ -141,15 +130,11 @@ def end_of(words, raw, said, error):
 
 def complaint(wanted, found, limits):
     """What is wrong with a run, or nothing."""
-    wrong = [found.end] if found.end else []
     is_wanted = wanted == found.answer if isinstance(wanted, str) else wanted.fullmatch(found.answer)
-    if not found.end and not is_wanted:
-        wrong.append(f"{found.answer}, and {wanted} is wanted")
-    if found.seconds > limits[0]:
-        wrong.append(f"{found.seconds:.1f} seconds")
-    if found.memory > limits[1]:
-        wrong.append(f"{found.memory // 1_000_000} MB")
-    return "; ".join(wrong)
+    wrong = [found.end, "" if found.end or is_wanted else f"{found.answer}, and {wanted} is wanted",
+             f"{found.seconds:.1f} seconds" if found.seconds > limits[0] else "",
+             f"{found.memory // 1_000_000} MB" if found.memory > limits[1] else ""]
+    return "; ".join(filter(None, wrong))
 
 
 def tally_of(runs, limits):
@@ -202,7 +187,7 @@ def tallies_of_huge(folder):
 def check(run):
     tallies = list(tallies_of_huge(run.folder) if run.options.huge else tallies_of_groups(run.folder))
     for tally in tallies:
-        run.add(tally.count - len(tally.failed))
+        run.passed += tally.count - len(tally.failed)
         for name, wrong in tally.failed:
             run.check(name, False, wrong)
     seconds, memory = max(tally.seconds for tally in tallies), max(tally.memory for tally in tallies)

@@ -1,8 +1,6 @@
 """Hostile tests, prices, witnesses, logs and certificates, each with its answer: the line of its fault, or READ, or
-what the command says. The answers are those of docs/FORMAT.md, and none is taken from the program: they are derived
-where the file is made, and for files that are changed or composed by a second reader of the formats. Those that a line
-describes are in scripts/transcripts/hostile.table."""
-import functools
+what the command says. The answers are those of docs/FORMAT.md, none the program's: they are derived where the file is
+made, or by a second reader of the formats. Files that a line describes are in scripts/transcripts/hostile.table."""
 import itertools
 import json
 import os
@@ -10,9 +8,8 @@ import random
 import re
 
 from check_certificate import prices_of
-from running import EXAMPLES, read
-from stored import expanded, rows
-from verdicts import READ, Judge, fault_of, is_witness
+from running import EXAMPLES, compact, expanded, read, rows
+from verdicts import READ, Judge, fault_of, read_witness
 
 TOKENS_CHANGED = 3000
 TESTS_COMPOSED = 6000
@@ -34,11 +31,6 @@ def syntax(line):
     return f"fault F3 Syntax line {line}"
 
 
-def compact(value):
-    """A value as bytes of JSON without blanks."""
-    return json.dumps(value, separators=(",", ":")).encode()
-
-
 def last_line(text):
     """The number of the last line. A line end at the end of the text begins none."""
     return text.count(b"\n") + (not text.endswith(b"\n"))
@@ -50,7 +42,6 @@ def litmus(init="0:x6=x;", cell="lw x5,0(x6)", condition="0:x5=0"):
 
 
 def examples():
-    """The examples, each with its name."""
     for name in sorted(os.listdir(EXAMPLES)):
         if name.endswith(".litmus"):
             yield name, read(f"{EXAMPLES}/{name}")
@@ -100,13 +91,11 @@ def flooded(group, signs, wanted, size=MEBIBYTE - 100):
 # --- Tests -------------------------------------------------------------------------------------------------------
 
 def beginnings_of(what, whole, answer):
-    """Every beginning of a text."""
     for count in range(len(whole)):
         yield f"the first {count} bytes of {what}", whole[:count], answer(whole[:count])
 
 
 def bytes_replaced(what, whole, bytes_for, answer):
-    """The text with each byte replaced by each of these."""
     for at, byte in itertools.product(range(len(whole)), bytes_for):
         text = whole[:at] + bytes([byte]) + whole[at + 1:]
         yield f"{what} with byte {at} {byte:#04x}", text, answer(text)
@@ -210,21 +199,14 @@ def composed(chance):
 
 
 def tests_composed():
-    """Tests made of parts, the same ones each time."""
     chance = random.Random(2)
     for number in range(TESTS_COMPOSED):
         text = composed(chance).encode("ascii")
         yield f"composed test {number}, {text!r}", text, fault_of(text)
 
 
-# Where a flood may begin: what stands before it, its line, and what stands after it, on lines of its own.
-PLACES = {
-    "in the init block": (b"RISCV T\n{ ", b"\n}\nP0 ;\n;\nexists true\n"),
-    "in a row": (b"RISCV T\n{ }\nP0 ;\n", b"\n;\nexists true\n"),
-    "in a cell": (b"RISCV T\n{ }\nP0 ;\nnop\n", b"\n;\nexists true\n"),
-    "in the condition": (b"RISCV T\n{ }\nP0 ;\nnop ;\nexists ", b"\n"),
-    "in locations": (b"RISCV T\n{ }\nP0 ;\nnop ;\nlocations [ ", b"\n]\nexists true\n"),
-}
+PLACES = {name: (before.encode(), after.encode()) for name, before, after
+          in (expanded(row).split(" | ") for row in rows("hostile", "places"))}
 
 
 def floods():
@@ -296,7 +278,7 @@ def prices():
 def prices_changed():
     """A price list with each byte replaced by each telling one, and with each of its values replaced by others."""
     value = {"w,w": 2, "tso": 1000000, "rw,rw": 10, "weights": {"P0:3": 3, "P255:255": 1000}}
-    whole = compact(value)
+    whole = compact(value).encode()
     yield from bytes_replaced("prices", whole, TELLING, lambda text: fault_of(text, prices_of))
     for name, text in values_changed(value):
         yield f"prices with {name}", text, fault_of(text, prices_of)
@@ -307,7 +289,7 @@ def values_changed(whole):
     object left out or put in twice, an object's under another key."""
     mark = "@"
     for place, changed in parts_changed(whole, mark):
-        text = compact(changed).decode()
+        text = compact(changed)
         if f'"{mark}"' not in text:
             yield place, text.encode()
             continue
@@ -349,13 +331,13 @@ def logs():
 
 
 def witnesses():
-    """Every beginning of a witness for SB, and the witness with each byte replaced by each telling one; then the
-    large ones: with very many parts, very deep, and with long numbers. Lists that are too long are a matter of the
-    runs, and names are a matter of the order, whatever their numbers; choices come before the order."""
+    """Every beginning of a witness for SB, the witness with each byte replaced by each telling one, and large ones.
+    Lists that are too long are a matter of the runs, names of the order, whatever their numbers; choices come first."""
     whole = witness_of("[0],[0]", '"P0:2","P1:2","P0:1","P1:1"')
 
     def answer(text):
-        return ANSWERED if is_witness(text, 2) else WITNESS
+        witness = read_witness(text)
+        return ANSWERED if witness and len(witness["choices"]) == 2 else WITNESS
 
     yield from beginnings_of("a witness", whole, lambda _: WITNESS)
     yield from bytes_replaced("a witness", whole, TELLING, answer)
@@ -374,26 +356,23 @@ def witnesses():
 
 # --- Certificates ------------------------------------------------------------------------------------------------
 
+JUDGE = Judge(f"{EXAMPLES}/SB.litmus", f"{EXAMPLES}/prices.json")
+
+
 def checked(text):
     """What `check` answers to a certificate of SB, by scripts/check_certificate.py."""
-    said = judge().verdict(text)
+    said = JUDGE.verdict(text)
     return (said.out or said.err).rstrip("\n")
-
-
-@functools.cache
-def judge():
-    return Judge(f"{EXAMPLES}/SB.litmus", f"{EXAMPLES}/prices.json")
 
 
 def stored(name):
     """A certificate of SB as text."""
-    return compact(json.loads(read(f"{EXAMPLES}/certificates/{name}.json"))).decode()
+    return compact(json.loads(read(f"{EXAMPLES}/certificates/{name}.json")))
 
 
 def changed_certificates(what, name, telling):
-    """Every beginning of a certificate, the certificate with each byte replaced by some telling ones and with each of
-    its values replaced by others, and with much of one thing, in which nothing may take more time or memory than the
-    bytes: neither parts of it nor the regions that items of a refutation leave open."""
+    """Every beginning of a certificate, the certificate with each byte replaced by some telling ones and each of its
+    values by others, and with much of one thing, none of which may take more time or memory than the bytes."""
     good = stored(name)
     yield from beginnings_of(what, good.encode(), checked)
     yield from bytes_replaced(what, good.encode(), telling, checked)

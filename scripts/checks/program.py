@@ -14,13 +14,9 @@ import time
 import check_certificate as model
 from bench_tests import votes
 from checks.transcripts import FOLDER, Transcripts, blocks_of
-from running import (EXAMPLES, PRICES, TOP, decoded, program, ran, ran_on_terminal, read, rvfence, side_by_side,
-                     stored_answers, tests_of_examples, transcript, written)
+from running import (EXAMPLES, PRICES, TOP, compact, program, ran, ran_on_terminal, rvfence, side_by_side,
+                     stored_answers, tests_of_examples, text_of, transcript, written)
 from verdicts import YES
-
-
-def text_of(path):
-    return decoded(read(path))
 
 
 def check_transcripts(checks):
@@ -54,10 +50,8 @@ def check_idioms(checks):
     """Each idiom goes wrong without fences. And where of those of its answer at prices-linux.json one is missing, or a
     kind that costs less stands in its place, an execution goes wrong that all of them forbid."""
     folder, answers, names = f"{EXAMPLES}/idioms", stored_answers("solve"), []
-    price = json.loads(read(f"{EXAMPLES}/prices-linux.json"))
-    for test in tests_of_examples():
-        if not test.startswith(folder):
-            continue
+    price = json.loads(text_of(f"{EXAMPLES}/prices-linux.json"))
+    for test in sorted(glob.glob(f"{folder}/*.litmus")):
         name = os.path.basename(test).removesuffix(".litmus")
         fences = fences_of(answers[f"idioms/{name}.litmus", "prices-linux.json"].split("\n"))
         cases = [(name, [], [])]
@@ -114,8 +108,8 @@ def done_by(test, operation):
     names = {address: name for name, address in test.addresses.items()}
     loaded, stored = (f"&{names[it]}" if it in names else str(it) for it in (operation.loaded, operation.stored))
     at = names[operation.address]
-    if operation.loads():
-        return f"reads {at}={loaded}" + (f", stores {stored}" if operation.stores() else "")
+    if operation.loads:
+        return f"reads {at}={loaded}" + (f", stores {stored}" if operation.stores else "")
     return f"stores {at}={stored}"
 
 
@@ -125,10 +119,8 @@ def told(test, block):
     choices = []
     for hart, runs in enumerate(model.all_runs_over(test, model.value_sets(test))):
         does = {name: re.sub(r" (\(initial\)|from P\d+:\d+)", "", it) for name, of, it in rows if int(of) == hart}
-        of_harts = [(run, model.Operations(test, [run]).of_harts) for run in runs]
-        fits = [run.choices for run, made in of_harts
-                if {it.name: done_by(test, it) for it in made} == {f"P0{name[len(str(hart)) + 1:]}": does[name]
-                                                                     for name in does}]
+        fits = [run.choices for run in runs
+                if {it.name: done_by(test, it) for it in run.operations} == does]
         choices += fits[:1]
     return json.dumps({"choices": choices, "order": [name for name, _, _ in rows]})
 
@@ -154,7 +146,7 @@ def check_why(checks):
 def answer_of(found):
     """The lines of `solve` that say what its JSON object says."""
     if found["answer"] == "none":
-        return f"none\n{json.dumps(found['witness'], separators=(',', ':'))}\n"
+        return f"none\n{compact(found['witness'])}\n"
     fences = [f"fence P{fence['hart']} {fence['before']} {fence['kind']}\n" for fence in found["fences"]]
     return "".join([f"fenced {found['cost']}\n", *fences])
 

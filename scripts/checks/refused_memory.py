@@ -1,8 +1,8 @@
 """Refuses each request for memory of some runs in turn, one request a run. Every such run must either end with status
-3, nothing on standard output and `fault F19 Memory` on standard error, or end as it does with ample memory, but
-perhaps without messages that explain faults: where several threads search, others or the end of the run finish what one
-that lacks memory leaves. (`states` says the fault of a file as it comes to it, so that F19 may stand below.) It leaves no part of a certificate, and a whole one where it has answered. The command lines
-are in scripts/transcripts/refused.table. (In none do other threads join the first; crates/fs_tests has such.)
+3, nothing on standard output and `fault F19 Memory` on standard error (of `states` below the faults of files), or end
+as it does with ample memory, but perhaps without messages that explain faults. It leaves no part of a certificate, and
+a whole one where it has answered. The command lines are in scripts/transcripts/refused.table. (In none do other threads
+join the first; crates/fs_tests has such.)
 
 Then come the calls of the program `fs_tests_out_of_memory`. Where the gate hasn't built that, or a source is newer, it
 is built now; with --quick they are left out then. A run of one part of it makes that part's calls, and makes a call
@@ -17,8 +17,7 @@ import re
 import subprocess
 import tempfile
 
-from running import EXAMPLES, TOP, Said, compiled, decoded, program, ran, read, rvfence, side_by_side
-from stored import rows
+from running import EXAMPLES, TOP, Said, compiled, program, ran, read, rows, rvfence, side_by_side, text_of
 
 CRATE = f"{TOP}/crates/fs_tests_out_of_memory"
 CALLS = f"{CRATE}/out/fs_tests_out_of_memory"
@@ -147,4 +146,4 @@ def check(run):
     if not are_built():
         subprocess.run(["rt", "run"], cwd=CRATE, stdout=subprocess.DEVNULL, check=True)
     whole = [line for part in PARTS for line in try_part(run.check, library, part)]
-    run.expect("what the calls print with ample memory", decoded(read(f"{CRATE}/stdout")).splitlines(), whole)
+    run.expect("what the calls print with ample memory", text_of(f"{CRATE}/stdout").splitlines(), whole)

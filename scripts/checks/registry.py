@@ -1,8 +1,9 @@
 """What a check is: its name, its function or command, what it needs, about how long it takes, and the words that it
-takes. Its module has the function, and scripts/checks/every.py the list of all."""
+takes. Its module has the function, and scripts/check the list of all."""
 import argparse
 import collections
 import dataclasses
+import inspect
 import os
 import sys
 import tempfile
@@ -49,7 +50,6 @@ class Run(Counts):
         return range(self.options.first, self.options.first + self.options.count)
 
     def path(self, name):
-        """The path of a file in its folder."""
         return f"{self.folder}/{name}"
 
 
@@ -58,7 +58,7 @@ def run_one(check, words):
     if check.command:
         os.chdir(TOP)
         os.execvp(check.command[0], [*check.command, *words])
-    about = sys.modules[check.run.__module__].__doc__
+    about = "\n\n".join(filter(None, map(inspect.getdoc, [check.run, sys.modules[check.run.__module__]])))
     parser = argparse.ArgumentParser(f"scripts/check {check.name}", description=about,
                                      formatter_class=argparse.RawDescriptionHelpFormatter)
     for name, default in check.words.items():

@@ -1,28 +1,27 @@
 """Runs all checks: first those that need nothing, then the gate, and those of the program, side by side. Where the
 program in bin/ is of the sources as they are, these go on beside the gate, which is to build the same, byte for byte;
-else, and where that failed, they look at what the gate has built. Each is a process in a group of its own, with its output in a log, which is shown whole when it has ended. It fails where a check
-in it does, where it makes none, where it ends without its counts, and where it takes far more processor time than it
-should, or no end comes. How long it takes by the clock fails nothing: other work may slow it."""
+else, and where that failed, they look at what the gate has built. Each is a process in a group of its own, with its
+output in a log, which is shown whole when it has ended. It fails where a check in it does, where it makes none, where
+it ends without its counts, and where it takes far more processor time than it should, or no end comes. How long it
+takes by the clock fails nothing: other work may slow it."""
 import concurrent.futures
 import contextlib
 import os
 import re
-import resource
 import signal
 import subprocess
 import sys
 import tempfile
-import threading
 
 from checks.registry import BUILT, GATE, NOTHING, PROGRAM
-from running import TOP, decoded, read
+from counting import Counts
+from running import TOP, ran, read
 
 COUNTS = re.compile(r"(?m)^(\d+) passed, (\d+) failed$")
 TELLING = re.compile(r"(?im)^.*(?:fail|error).*$")
 MOST_TELLING = 40
 MUCH = 20                           # a process may take so many times the time that its check should, and a minute
 LONGEST_WAIT = 4 * 3600             # seconds by the clock, after which a check that waits for something is ended
-MEMORY_OF_PROOF = 4_500_000         # kB
 PROCESSORS = len(os.sched_getaffinity(0))
 
 
@@ -32,8 +31,10 @@ class Step:
     def __init__(self, check, words, folder):
         self.check, self.name, self.process = check, " ".join([check.name, *words]), None
         self.is_behind = self.has_passed = False
-        # (by env, which says it where there is no such command)
-        self.command = ["env", *(check.command or (f"{TOP}/scripts/check", check.name)), *words]
+        most = MUCH * (check.seconds or 0) + 60
+        # (both say it where there is no such command)
+        limit = ["env"] if check.seconds is None else ["prlimit", f"--cpu={most}:{most + 1}"]
+        self.command = [*limit, *(check.command or (f"{TOP}/scripts/check", check.name)), *words]
         self.log = f"{folder}/{check.name}"
 
     def run(self):
@@ -47,10 +48,6 @@ class Step:
         if self.check.seconds is None:
             with subprocess.Popen(["tail", "-n", "+1", "-f", f"--pid={self.process.pid}", self.log]):
                 self.process.wait()
-        else:
-            most = MUCH * self.check.seconds + 60
-            with contextlib.suppress(ProcessLookupError):       # it has ended
-                resource.prlimit(self.process.pid, resource.RLIMIT_CPU, (most, most + 1))
         with contextlib.suppress(subprocess.TimeoutExpired):
             self.process.wait(LONGEST_WAIT)
         self.stop()
@@ -75,45 +72,35 @@ class Step:
         return f"ended with status {status}" if status and not failed else ""
 
 
-class Report:
+class Report(Counts):
     """What the steps have counted, and for each a line or more."""
 
     def __init__(self):
-        self.passed = self.failed = 0
+        super().__init__(most_shown=float("inf"))
         self.lines = {}
-        self.lock = threading.RLock()       # steps of two kinds may end at once
 
-    def fail(self, line):
-        with self.lock:
-            print(f"FAILED {line}", flush=True)
-            self.failed += 1
-
-    def add(self, step):
+    def add_step(self, step):
         """Adds the counts of a step that has ended, and shows what it has printed. Has it passed?"""
-        with self.lock:
-            step.has_passed = self.count(step)
-        return step.has_passed
-
-    def count(self, step):
         text = read(step.log).decode("utf-8", "replace")
-        print("" if step.check.seconds is None else text, end="", flush=True)
         counts = (COUNTS.findall(text) or [None])[-1]
         passed, failed = map(int, counts) if counts else (None, 0)
-        self.passed, self.failed = self.passed + (passed or 0), self.failed + failed
+        with self.lock:
+            print("" if step.check.seconds is None else text, end="", flush=True)
+            self.passed, self.failed = self.passed + (passed or 0), self.failed + failed
         wrong = step.wrong(passed, failed)
         if wrong:
-            self.fail(f"{step.name} {wrong}")
+            self.check(f"{step.name} {wrong}", False)
         shown = f"{passed} passed, {failed} failed" if counts else "no counts"
         telling = TELLING.findall(text)[:MOST_TELLING] if step.process.returncode else []
         self.lines[step.name] = [f"{step.name}: {shown}, status {step.process.returncode}",
                                  *[f"    {line}" for line in telling]]
-        return not failed and not wrong
+        step.has_passed = not failed and not wrong
+        return step.has_passed
 
-    def end(self, steps):
+    def end_of(self, steps):
         """Prints the lines in the order of the steps, and the sums, and gives the exit status."""
-        lines = [line for step in steps for line in self.lines.get(step.name, [])]
-        print(*lines, f"{self.passed} passed, {self.failed} failed", sep="\n", flush=True)
-        return 0 if self.passed and not self.failed else 1
+        print(*[line for step in steps for line in self.lines.get(step.name, [])], sep="\n")
+        return self.end()
 
 
 def put_behind(process):
@@ -129,7 +116,7 @@ def run_rows(rows, report):
     """Runs rows of steps side by side, those of a row one after another, the longest rows first, as many at once as
     there are processors. Have all passed?"""
     def run_row(row):
-        return all([report.add(step.run()) for step in row])
+        return all([report.add_step(step.run()) for step in row])
 
     pool = concurrent.futures.ThreadPoolExecutor(PROCESSORS)
     longest_first = sorted(rows, key=lambda row: -(row[0].check.seconds or float("inf")))
@@ -144,10 +131,9 @@ def run_rows(rows, report):
 
 
 def jobs_of_gate():
-    """How many proofs go on side by side: one a processor, where each has its memory. (By itself rt reckons with more
-    memory than a proof takes, and leaves processors idle.)"""
-    free = int(re.search(rb"MemAvailable: *(\d+)", read("/proc/meminfo"))[1])
-    return str(max(1, min(free // MEMORY_OF_PROOF, PROCESSORS)))
+    """How many proofs go on side by side, as in a build. (By itself rt reckons with more memory than a proof takes, and
+    leaves processors idle.)"""
+    return ran(["bash", "-c", f". {TOP}/scripts/build.sh && jobs_at_once"]).out.strip()
 
 
 def program_to_check(is_built):
@@ -155,8 +141,7 @@ def program_to_check(is_built):
     if is_built:
         return f"{TOP}/crates/rvfence/out/rvfence"
     environment = {name: value for name, value in os.environ.items() if name != "RVFENCE_PROGRAM"}
-    found = subprocess.run([f"{TOP}/scripts/program", "--find"], env=environment, stdout=subprocess.PIPE)
-    return decoded(found.stdout).strip()
+    return ran([f"{TOP}/scripts/program", "--find"], env=environment).out.strip()
 
 
 def look(steps, program, report, beside=()):
@@ -166,7 +151,7 @@ def look(steps, program, report, beside=()):
         print(f"checked from outside: {program}", flush=True)
         run_rows([*([beside] if beside else []), *([step] for step in steps)], report)
     else:
-        report.fail("there is no program that is up to date with its sources; ./rvfence builds it")
+        report.check("there is a program that is up to date with its sources; ./rvfence builds it", False)
 
 
 def run_gate(of_gate, of_program, report):
@@ -199,7 +184,7 @@ def run_all(checks, is_quick):
             look([*of_kind[PROGRAM], *of_kind[BUILT]], program_to_check(False), report)
         else:
             look(of_kind[BUILT], run_gate(of_kind[GATE], of_kind[PROGRAM], report), report)
-    return report.end(steps)
+    return report.end_of(steps)
 
 
 def show(checks):
