@@ -9,10 +9,11 @@ export LOG=$PWD/log HOLD=$PWD/hold RT_JOBS=4 HOSTTYPE=x86_64 OSTYPE=linux-gnu
 # Makes the repository, the stand-in for rt, and a folder of few programs.
 prepare() {
     local name
-    mkdir -p "$repo/scripts" "$repo/bin" bin few elsewhere
+    mkdir -p "$repo/scripts/transcripts" "$repo/bin" bin few elsewhere
     cp "$top/rvfence" "$repo/"
     cp "$here/crates.table" "$repo/crates.txt"
-    cp -r "$top"/scripts/{build.sh,sources.sh,help} "$repo/scripts/"
+    cp "$top"/scripts/{build.sh,sources.sh} "$repo/scripts/"
+    cp -r "$top/scripts/transcripts/help" "$repo/scripts/transcripts/"
     ln -s "$here/rt" bin/
     for name in left right both rvfence law; do
         mkdir -p "$repo/crates/$name"/{src/tests,specs,proofs,must-fail}
