@@ -38,13 +38,12 @@ class Step:
         self.log = f"{folder}/{check.name}"
 
     def run(self):
-        """Runs it to its end, behind all else that the machine does where it is to be. Where it has no limit, what it
-        prints is shown as it comes."""
+        """Runs it to its end, behind all else where it is to be. Where it has no limit, what it prints is shown as it
+        comes. (Its group stays in the session, as Linux weighs priorities within one.)"""
+        command = [*["nice", "-n", "19"] * self.is_behind, *self.command]
         with open(self.log, "wb") as log:
-            self.process = subprocess.Popen(self.command, cwd=TOP, stdin=subprocess.DEVNULL, stdout=log,
-                                            stderr=subprocess.STDOUT, start_new_session=True)
-        if self.is_behind:
-            put_behind(self.process.pid)
+            self.process = subprocess.Popen(command, cwd=TOP, stdin=subprocess.DEVNULL, stdout=log,
+                                            stderr=subprocess.STDOUT, process_group=0)
         if self.check.seconds is None:
             with subprocess.Popen(["tail", "-n", "+1", "-f", f"--pid={self.process.pid}", self.log]):
                 self.process.wait()
@@ -101,15 +100,6 @@ class Report(Counts):
         """Prints the lines in the order of the steps, and the sums, and gives the exit status."""
         print(*[line for step in steps for line in self.lines.get(step.name, [])], sep="\n")
         return self.end()
-
-
-def put_behind(process):
-    """Has the process, and what it starts, wait for all others that want a processor. (A session's processes share one
-    part of the processors, which has a priority of its own.)"""
-    with contextlib.suppress(OSError):                          # it has ended, or the system has no such shares
-        os.setpriority(os.PRIO_PROCESS, process, 19)
-        with open(f"/proc/{process}/autogroup", "w") as share:
-            share.write("19")
 
 
 def run_rows(rows, report):
