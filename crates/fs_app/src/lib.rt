@@ -21,7 +21,7 @@ mod states;
 mod telling;
 mod whole;
 
-pub use fs_app_audit::{run_audit, run_mended};
+pub use fs_app_audit::{run_anew, run_audit, run_mended};
 pub use fs_app_check::{Checked, run_check};
 pub use fs_app_io::{Output, Status, read_bytes, write_text};
 pub use fs_app_place_order::{run_order, run_place};

@@ -5,3 +5,5 @@ pub mod Taken
 pub mod FirstFaults
 pub mod Rows
 pub mod Searched
+pub mod Offered
+pub mod Followed
