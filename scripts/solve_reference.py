@@ -303,11 +303,11 @@ class Breaks:
         return found
 
 
-def solved(problem):
+def solved(problem, breaking=Breaks):
     """The first cheapest placement that forbids the outcome; or None. Each round takes the best placement that breaks
     all executions known so far. Where it leaves a candidate without a cycle that is an execution more to break; else
     it forbids the outcome, and nothing better does, since that would leave one of the known executions."""
-    breaks = Breaks(problem)
+    breaks = breaking(problem)
     while True:
         found = breaks.cheapest()
         if found is None:

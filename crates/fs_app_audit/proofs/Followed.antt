@@ -1,5 +1,5 @@
 -- What is so of a test whose FENCEs order no memory.
-use Rattle.std.proofs.Common.{◌≡◌, ℕ, List}
+use Rattle.std.proofs.Common.{◌≡◌, ℕ, List, sym, subst}
 use Rattle.fs_kinds.specs.declared.placement.Entry.{Entry}
 use Rattle.fs_model.specs.declared.test.Test.{Test}
 use Rattle.fs_model.specs.Allows.{Allows, no_fences}
@@ -7,6 +7,10 @@ use Rattle.fs_model.specs.Test.{IsSame}
 use Rattle.fs_model_in_place.specs.InPlace.{IsFollowed, as_written, emptied}
 use Rattle.fs_model_in_place.proofs.EmptiedExecutions.{followed_ruled_out, same_allowed_in_place}
 use Rattle.fs_model_laws.proofs.FencedSame.{shows_same}
+use Rattle.fs_kinds.specs.PriceTable.{PriceTable, IsPriceTable}
+use Rattle.fs_board_offers.specs.Offers.{Offers, IsPlacement}
+use Rattle.fs_app_audit.specs.InPlace.{offers_in_place}
+use Rattle.fs_app_audit.proofs.Offered.{written_placement}
 use Rattle.fs_app_io.specs.declared.status.Status.{Status}
 use Rattle.fs_app_audit.specs.Audit.{IsInPlace}
 
@@ -21,6 +25,14 @@ allowed_back t u p same h = (h.0, (shows_same t u p h.0 same).1 h.1)
 pub written_forbids : (empty t : Test) → IsSame empty (emptied t) → (Allows t (no_fences t) → ⊥) → Allows empty (as_written t) → ⊥
 written_forbids empty t same forbidden possible =
     forbidden ((same_allowed_in_place t).0 (allowed_alike empty (emptied t) (as_written t) same possible))
+
+pub some_in_place : (empty t : Test) (prices : PriceTable) (os : Offers) → IsPriceTable prices → os ≡ offers_in_place prices t.codes
+    → IsSame empty (emptied t) → (Allows t (no_fences t) → ⊥) → (p : List Entry) × IsPlacement os p × (Allows empty p → ⊥)
+some_in_place empty t prices os table is same forbidden = (
+  as_written t,
+  subst (λ o. IsPlacement o (as_written t)) (sym is) (written_placement prices table t),
+  written_forbids empty t same forbidden,
+)
 
 -- and so do those of which each orders as much as what is advised
 pub followed : (test prices text : List ℕ) (status : Status) (in_place : IsInPlace test prices text status) (u : Test)

@@ -19,7 +19,7 @@ use crate::places::offers_in_place;
 use crate::stand_in::cheapest;
 use fs_board_offers::Offers;
 use fs_board_search::Problem;
-use fs_kinds::{Fault, Placement, Prices};
+use fs_kinds::{Fault, Kind, Placement, Prices};
 use fs_litmus::{Test, read_test};
 use std::alloc::Global;
 use std::sync::Arc;
@@ -86,6 +86,7 @@ pub(crate) fn find_in_place(
         → IsTestFault bytes.now f ⊎ ((u : Tests) × IsSame u (emptied own.now) × IsUnansweredInPlace u f)) }
 {
     let codes = own.codes.as_slice();
+    let _table = prices.of(Kind::RwRw);
     let empty = read_emptied(alloc, bytes)?;
     let asked = offers_in_place(alloc, prices, codes)?;
     let advised = advised_of(alloc, &empty, asked, limit)?;

@@ -3,7 +3,6 @@ use Rattle.std.proofs.Common.{◌≡◌, ℕ, zero, suc, ◌-◌, nat_lt, Bool, 
 use Rattle.std.specs.Prelude.{option_map, unwrap_or, slice_get}
 use Rattle.std.specs.List.{list_any}
 use Rattle.std.proofs.lemmas.Option.{slice_get-map}
-use Rattle.fs_instr.specs.declared.instr.Roles.{Roles}
 use Rattle.fs_instr.specs.Instructions.{nop, roles_of, is_conditional, sources_of, carries_of, data_of, address_of}
 use Rattle.fs_model.specs.declared.step.Step.{Step}
 use Rattle.fs_model.specs.Forms.{is_lr, is_sc}
@@ -42,7 +41,7 @@ module _ (steps : List Step) where
       ap is_conditional (instr_there k) ∙ same_of_emptied is_conditional (λ b a. refl) refl (instr_at steps k)
 
   writes_there : (register : Option ℕ) (k : ℕ) → writes out k register ≡ writes steps k register
-  writes_there register k = ap (λ (r : Roles). is_same r.dest register) (roles_there k)
+  writes_there register k = ap (λ r. is_same r.dest register) (roles_there k)
 
   -- a step between that carries on what it depends on
   abbrev carried : List Step → (d i j : ℕ) → Option ℕ → ℕ → Bool
@@ -54,14 +53,14 @@ module _ (steps : List Step) where
   sources_there : (f g : Option ℕ → Bool) → ((o : Option ℕ) → f o ≡ g o) → (k : ℕ)
       → list_any f (sources_of (instr_at out k)) ≡ list_any g (sources_of (instr_at steps k))
   sources_there f g same k =
-      ap (λ (r : Roles). list_any f r.sources) (roles_there k) ∙ any_same f g same (sources_of (instr_at steps k))
+      ap (λ r. list_any f r.sources) (roles_there k) ∙ any_same f g same (sources_of (instr_at steps k))
 
   within : (d i j : ℕ) (register : Option ℕ) → depends_within d out i j register ≡ depends_within d steps i j register
   within zero i j register = refl
   within (suc d) i j register =
       let written = any_same (λ m. writes out m register) (λ m. writes steps m register) (writes_there register) (between i j) in
       let through = any_same (carried out d i j register) (carried steps d i j register)
-      (λ m. and_same _ _ _ _ (and_same _ _ _ _ (ap (λ (r : Roles). r.carries) (roles_there m))
+      (λ m. and_same _ _ _ _ (and_same _ _ _ _ (ap (λ r. r.carries) (roles_there m))
       (sources_there (depends_within d out i m) (depends_within d steps i m) (within d i m) m)) (within d m j register))
       (between i j) in
       or_same _ _ _ _ (and_same _ _ _ _ (writes_there register i) (ap not written)) through
@@ -71,11 +70,11 @@ module _ (steps : List Step) where
 
   pub address_there : (i j : ℕ) → address_depends out i j ≡ address_depends steps i j
   address_there i j =
-      ap (λ (r : Roles). depends out i j r.address) (roles_there j) ∙ depends_there i j (address_of (instr_at steps j))
+      ap (λ r. depends out i j r.address) (roles_there j) ∙ depends_there i j (address_of (instr_at steps j))
 
   pub data_there : (i j : ℕ) → data_depends out i j ≡ data_depends steps i j
   data_there i j =
-      ap (λ (r : Roles). depends out i j r.«data») (roles_there j) ∙ depends_there i j (data_of (instr_at steps j))
+      ap (λ r. depends out i j r.«data») (roles_there j) ∙ depends_there i j (data_of (instr_at steps j))
 
   pub control_there : (i j : ℕ) → control_depends out i j ≡ control_depends steps i j
   control_there i j =
