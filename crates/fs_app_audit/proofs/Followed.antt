@@ -1,10 +1,13 @@
 -- What is so of a test whose FENCEs order no memory.
-use Rattle.std.proofs.Common.{◌≡◌, ℕ, List, sym, subst}
+use Rattle.std.proofs.Common.{◌≡◌, ℕ, Bool, List, sym, subst}
 use Rattle.fs_kinds.specs.declared.placement.Entry.{Entry}
 use Rattle.fs_model.specs.declared.test.Test.{Test}
 use Rattle.fs_model.specs.Allows.{Allows, no_fences}
 use Rattle.fs_model.specs.Test.{IsSame}
-use Rattle.fs_model_in_place.specs.InPlace.{IsFollowed, as_written, emptied}
+use Rattle.fs_kinds.specs.declared.slot.Slot.{Slot}
+use Rattle.fs_model_in_place.specs.InPlace.{IsFollowed, as_written, emptied, followed}
+use Rattle.fs_model_in_place.proofs.FollowedLines.{is_followed}
+use Rattle.fs_app_audit.proofs.Weaker.{keeps_no_more}
 use Rattle.fs_model_in_place.proofs.EmptiedExecutions.{followed_ruled_out, same_allowed_in_place}
 use Rattle.fs_model_laws.proofs.FencedSame.{shows_same}
 use Rattle.fs_kinds.specs.PriceTable.{PriceTable, IsPriceTable}
@@ -35,9 +38,17 @@ some_in_place empty t prices os table is same forbidden = (
 )
 
 -- and so do those of which each orders as much as what is advised
-pub followed : (test prices text : List ℕ) (status : Status) (in_place : IsInPlace test prices text status) (u : Test)
+pub ruled_out : (test prices text : List ℕ) (status : Status) (in_place : IsInPlace test prices text status) (u : Test)
     → IsFollowed in_place.findings.test in_place.advised u → Allows u (no_fences u) → ⊥
-followed test prices text status in_place u is =
+ruled_out test prices text status in_place u is =
     let t = in_place.findings.test in
     followed_ruled_out t u in_place.advised is
     (λ h. in_place.cheapest.forbids (allowed_back in_place.empty (emptied t) in_place.advised in_place.same h))
+
+-- whichever lines are followed
+pub lines_ruled_out : (test prices text : List ℕ) (status : Status) (in_place : IsInPlace test prices text status) (lines : Slot → Bool)
+    → Allows (followed lines in_place.findings.test in_place.advised) (no_fences (followed lines in_place.findings.test in_place.advised)) → ⊥
+lines_ruled_out test prices text status in_place lines =
+    let f = in_place.findings in
+    let weaker = keeps_no_more f.prices f.test in_place.advised in_place.cheapest.placement in
+    ruled_out test prices text status in_place (followed lines f.test in_place.advised) (is_followed lines in_place.advised f.test weaker)

@@ -7,3 +7,4 @@ pub mod Rows
 pub mod Searched
 pub mod Offered
 pub mod Followed
+pub mod Weaker

@@ -24,6 +24,26 @@ use Rattle.fs_board_offers.specs.Pruning.{lesser}
 use Rattle.fs_board_offers.specs.Offers.{Offer, Offers, AreOffers, IsPlacement, price_of, is_offered, kind_cost, slots, offer_at, nothing, are_offered}
 use Rattle.fs_app_audit.specs.InPlace.{price_above, written_price, price_below, price_in_place, weighed, weighed_by, weight_there, weight_in_place, offer_in_place, offers_in_place}
 
+-- ---- costs
+
+pub some_weighed : (w : ℕ) (price : Option ℕ) → is_some (weighed w price) ≡ is_some price
+some_weighed w None = refl
+some_weighed w (Some n) = refl
+
+module _ (prices : PriceTable) (codes : List (List Instr)) where
+  pub price_there : (s : Slot) (kind : Kind) → price_of (offer_in_place prices codes s) kind
+      ≡ weighed (weight_in_place prices codes s) (price_in_place prices (written_at codes s) kind)
+  price_there s RR = refl
+  price_there s RW = refl
+  price_there s RRw = refl
+  price_there s WR = refl
+  price_there s WW = refl
+  price_there s WRw = refl
+  price_there s RwR = refl
+  price_there s RwW = refl
+  price_there s RwRw = refl
+  price_there s Tso = refl
+
 -- ---- prices
 
 -- at most the greatest price, if it is one
@@ -132,10 +152,6 @@ module _ (prices : PriceTable) (table : IsPriceTable prices) where
 
   -- ---- offers
 
-  some_weighed : (w : ℕ) (price : Option ℕ) → is_some (weighed w price) ≡ is_some price
-  some_weighed w None = refl
-  some_weighed w (Some n) = refl
-
   none_times : (n : ℕ) → 0 ≡ 0 * n
   none_times n = omega arith
 
@@ -153,26 +169,13 @@ module _ (prices : PriceTable) (table : IsPriceTable prices) where
       omega (arith, same, most)
 
   module _ (codes : List (List Instr)) where
-    price_there : (s : Slot) (kind : Kind) → price_of (offer_in_place prices codes s) kind
-        ≡ weighed (weight_in_place prices codes s) (price_in_place prices (written_at codes s) kind)
-    price_there s RR = refl
-    price_there s RW = refl
-    price_there s RRw = refl
-    price_there s WR = refl
-    price_there s WW = refl
-    price_there s WRw = refl
-    price_there s RwR = refl
-    price_there s RwW = refl
-    price_there s RwRw = refl
-    price_there s Tso = refl
-
     weight_low : (s : Slot) → weight_in_place prices codes s ≤ 1000
     weight_low s = table.weight _
 
     cost_most : (s : Slot) (kind : Option Kind) → kind_cost (offer_in_place prices codes s) kind ≤ 1000000000
     cost_most s None = omega arith
     cost_most s (Some kind) =
-        let same = ap (λ o. unwrap_or o 0) (price_there s kind) in
+        let same = ap (λ o. unwrap_or o 0) (price_there prices codes s kind) in
         let most = weighed_low (weight_in_place prices codes s) (price_in_place prices (written_at codes s) kind) (weight_low s)
         (in_place_low (written_at codes s) kind) in
         omega (arith, same, most)
@@ -200,7 +203,7 @@ module _ (prices : PriceTable) (table : IsPriceTable prices) where
     offered_by : (s : Slot) (own : Option Kind) → written_at codes s ≡ own → is_offered (offer_in_place prices codes s) own ≡ true
     offered_by s None is = refl
     offered_by s (Some own) is =
-        ap is_some (price_there s own)
+        ap is_some (price_there prices codes s own)
         ∙ some_weighed (weight_in_place prices codes s) (price_in_place prices (written_at codes s) own)
         ∙ ap (λ o. is_some (price_in_place prices o own)) is
         ∙ ap is_some (own_price own)

@@ -190,10 +190,7 @@ pub(crate) fn is_content(advice: Option<Advice>) -> bool
 fn changes_nothing(advice: Advice) -> bool
     ensures { result ≡ changes_nothing advice }
 {
-    matches!(
-        advice,
-        Advice::Needed | Advice::Unpriced | Advice::Devices
-    )
+    matches!(advice, Advice::Needed | Advice::Unpriced | Advice::Devices)
 }
 
 fn is_right_code(placement: &Placement, hart: u8, code: &[Instr]) -> bool

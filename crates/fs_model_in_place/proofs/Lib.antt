@@ -5,3 +5,4 @@ pub mod EmptiedDepends
 pub mod WrittenPlaces
 pub mod EmptiedFences
 pub mod EmptiedExecutions
+pub mod FollowedLines

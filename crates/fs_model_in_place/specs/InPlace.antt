@@ -1,5 +1,5 @@
 -- A test whose FENCEs order no memory, and the FENCEs as a placement, each in its own place.
-use Rattle.std.specs.Prelude.{◌≡◌, ℕ, Bool, true, false, is_some, Option, None, Some, option_and_then, List, [], map, filter, length, slice_get, if◌then◌else◌}
+use Rattle.std.specs.Prelude.{◌≡◌, ◌&&◌, ℕ, Bool, true, false, is_some, Option, None, Some, option_and_then, List, [], map, filter, length, slice_get, if◌then◌else◌}
 use Rattle.std.specs.List.{enumerate_from, flat_map, range_with_len, slice_index_or}
 use Rattle.fs_instr.specs.declared.instr.Instr.{Instr}
 use Rattle.fs_instr.specs.declared.instr.Instr.TheVariants.{Fence, FenceTso}
@@ -8,7 +8,9 @@ use Rattle.fs_kinds.specs.declared.kind.Kind.{Kind}
 use Rattle.fs_kinds.specs.declared.kind.Kind.TheVariants.{RR, RW, RRw, WR, WW, WRw, RwR, RwW, RwRw, Tso}
 use Rattle.fs_kinds.specs.declared.placement.Entry.{Entry}
 use Rattle.fs_kinds.specs.declared.slot.Slot.{Slot}
+use Rattle.fs_kinds.specs.Placement.{kind_at}
 use Rattle.fs_model.specs.declared.test.Test.{Test}
+use Rattle.fs_model.specs.Fenced.{fence_of}
 use Rattle.fs_model.specs.Slots.{slot_at}
 use Rattle.fs_model_laws.specs.Strength.{KeepsNoMore}
 
@@ -81,3 +83,22 @@ as_written t = map (λ s. record { slot = s; kind = written_at t.codes s }) (pla
 pub record IsFollowed (t : Test) (p : List Entry) (u : Test) : Type 0 where
   pub rest : emptied u ≡ emptied t
   pub orders : KeepsNoMore p (as_written u)
+
+-- ---- lines that are followed
+
+-- the FENCE of this kind, or for none one that orders no memory
+abbrev pub fence_for : Option Kind → Instr
+fence_for None = Fence devices devices
+fence_for (Some kind) = fence_of kind
+
+-- the instruction where the lines that pass are followed: in these places stand the fences of the placement
+abbrev pub followed_instr : (lines : Slot → Bool) → List Entry → (hart : ℕ) → ℕ × Instr → Instr
+followed_instr lines p hart numbered =
+    if is_fence numbered.1 && lines (slot_at hart numbered.0) then fence_for (kind_at (slot_at hart numbered.0) p) else numbered.1
+
+abbrev pub followed_code : (lines : Slot → Bool) → List Entry → ℕ × List Instr → List Instr
+followed_code lines p numbered = map (followed_instr lines p numbered.0) (enumerate_from 0 numbered.1)
+
+-- all else stays
+abbrev pub followed : (lines : Slot → Bool) → Test → List Entry → Test
+followed lines t p = record t { codes = map (followed_code lines p) (enumerate_from 0 t.codes) }
