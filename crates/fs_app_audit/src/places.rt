@@ -7,6 +7,7 @@ ghost use Rattle.fs_kinds.specs.PriceTable.{most_weight};
 ghost use Rattle.fs_kinds.specs.Slot.{is_rising};
 ghost use Rattle.fs_board_offers.specs.Breaks.{least_of};
 ghost use Rattle.fs_model_in_place.specs.InPlace.{is_place, places, places_in};
+ghost use Rattle.fs_app_audit.specs.Standing.{access_after};
 ghost use Rattle.fs_app_audit.specs.InPlace.{offer_in_place, offers_in_place, price_above, price_below, price_in_place};
 ghost use Rattle.fs_app_audit.specs.InPlace.{weighed, weighed_by, weight_in_place, weight_there, written_cost};
 ghost use Rattle.fs_app_audit.specs.InPlace.{written_price};
