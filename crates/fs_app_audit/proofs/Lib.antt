@@ -8,3 +8,4 @@ pub mod Searched
 pub mod Offered
 pub mod Followed
 pub mod Weaker
+pub mod Answered
