@@ -281,7 +281,8 @@ def in_place(columns, prices, anew):
     """What is to be printed in place, and what is advised in each place of which a line says to change something."""
     places, lines = Places(columns, prices), columns.lines()
     best = dict(zip(places.cells, reference.solved(places, PlacedBreaks)))
-    said = [f"forbidden as written, {places.cost(places.written())}; in place {places.cost(best.values())}; anew {anew}"]
+    costs = places.cost(places.written()), places.cost(best.values()), anew
+    said = ["forbidden as written, %d; in place %d; anew %s" % costs]
     for hart in places.harts:
         for at in [at for at, cell in enumerate(hart.cells) if cell.letters]:
             words = places.words(hart, at, best.get((hart.number, at)))

@@ -15,7 +15,7 @@ use Rattle.fs_model.specs.Condition.{SpeaksOf, condition_of}
 use Rattle.fs_model.specs.Test.{GoesForward, IsBounded, IsTest}
 use Rattle.fs_model_in_place.specs.InPlace.{emptied, emptied_instr}
 use Rattle.fs_model_in_place.proofs.Emptying.{same_of_emptied}
-use Rattle.fs_app_audit.specs.Unfenced.{is_fence, names_devices, is_kept, position, moved, unfenced_code, unfenced, devices, eased_instr, eased_code, eased}
+use Rattle.fs_app_audit.specs.Unfenced.{is_fence, names_devices, is_kept, position, moved, unfenced_code, unfenced, devices, eased_instr, eased}
 
 -- ---- counting what is kept
 

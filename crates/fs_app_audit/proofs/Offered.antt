@@ -1,7 +1,7 @@
 -- What may stand in the places of FENCEs: none costs too much, and the FENCEs as they are written are offered.
-use Rattle.std.proofs.Common.{◌≡◌, ◌*◌, ◌+◌, ◌≤◌, ◌||◌, ◌&&◌, ℕ, zero, suc, min, Bool, true, false, not, cond, Option, None, Some, is_some, unwrap_or, option_map, List, [], ◌∷◌, map, refl, ap, sym, subst, ◌∙◌, arith, if◌then◌else◌}
+use Rattle.std.proofs.Common.{◌≡◌, ◌*◌, ◌≤◌, ◌||◌, ◌&&◌, ℕ, zero, suc, min, Bool, true, false, not, cond, Option, None, Some, is_some, unwrap_or, List, [], ◌∷◌, map, refl, ap, sym, subst, ◌∙◌, arith, if◌then◌else◌}
 use Rattle.std.specs.Prelude.{slice_get, IfSome, IsSome}
-use Rattle.std.specs.List.{list_all, list_any, find, slice_index_or}
+use Rattle.std.specs.List.{list_all, list_any, find}
 use Rattle.std.specs.Option.{option_or}
 use Rattle.std.proofs.lemmas.Bool.{or_left, or_right, false≢true}
 use Rattle.std.proofs.lemmas.Nat.{mul-le}
@@ -11,7 +11,6 @@ use Rattle.fs_kinds.specs.declared.kind.Kind.TheVariants.{RR, RW, RRw, WR, WW, W
 use Rattle.fs_kinds.specs.declared.placement.Entry.{Entry}
 use Rattle.fs_kinds.specs.declared.slot.Slot.{Slot}
 use Rattle.fs_kinds.specs.Kind.{all_kinds, no_stronger}
-use Rattle.fs_kinds.specs.Placement.{slots_of}
 use Rattle.fs_kinds.specs.PriceTable.{PriceTable, IsPriceTable, most_price}
 use Rattle.fs_kinds.specs.PriceTable as priced
 use Rattle.fs_kinds.specs.Slot.{is_rising, is_same_slot}
@@ -20,9 +19,8 @@ use Rattle.fs_model_in_place.specs.InPlace.{as_written, places, written_at}
 use Rattle.fs_model_in_place.proofs.WrittenPlaces.{with_each, slots_of_each, rising-places}
 use Rattle.fs_model_laws.proofs.PlacedPairs.{same_slot, itself}
 use Rattle.fs_board_offers.specs.Breaks.{least_of, lesser_of}
-use Rattle.fs_board_offers.specs.Pruning.{lesser}
-use Rattle.fs_board_offers.specs.Offers.{Offer, Offers, AreOffers, IsPlacement, price_of, is_offered, kind_cost, slots, offer_at, nothing, are_offered}
-use Rattle.fs_app_audit.specs.InPlace.{price_above, written_price, price_below, price_in_place, weighed, weighed_by, weight_there, weight_in_place, offer_in_place, offers_in_place}
+use Rattle.fs_board_offers.specs.Offers.{Offer, AreOffers, IsPlacement, price_of, is_offered, kind_cost, slots, offer_at, nothing, are_offered}
+use Rattle.fs_app_audit.specs.InPlace.{price_above, written_price, price_below, price_in_place, weighed, weight_in_place, offer_in_place, offers_in_place}
 
 -- ---- costs
 

@@ -1,7 +1,7 @@
 -- What is offered in a place orders no more than the FENCE that is written there.
-use Rattle.std.proofs.Common.{◌≡◌, ◌∙◌, ◌&&◌, Bool, true, false, not, cond, Option, None, Some, is_some, unwrap_or, List, [], ◌∷◌, map, refl, ap, sym, subst, if◌then◌else◌}
+use Rattle.std.proofs.Common.{◌≡◌, ◌∙◌, Bool, true, false, not, cond, Option, None, Some, is_some, unwrap_or, List, [], ◌∷◌, map, refl, ap, sym, subst, if◌then◌else◌}
 use Rattle.std.specs.Prelude.{option_and_then}
-use Rattle.std.specs.List.{list_all, find}
+use Rattle.std.specs.List.{find}
 use Rattle.std.proofs.lemmas.Bool.{and_parts, false≢true}
 use Rattle.fs_instr.specs.declared.instr.Instr.{Instr}
 use Rattle.fs_kinds.specs.declared.kind.Kind.{Kind}
@@ -18,7 +18,7 @@ use Rattle.fs_model_in_place.proofs.WrittenPlaces.{written_is}
 use Rattle.fs_model_laws.specs.Strength.{KeepsNoMore}
 use Rattle.fs_model_laws.proofs.PlacedPairs.{same_slot, subset_at}
 use Rattle.fs_board_offers.specs.Offers.{Offers, IsPlacement, price_of, is_offered, offer_at, nothing, are_offered}
-use Rattle.fs_app_audit.specs.InPlace.{price_below, price_in_place, weighed, weight_in_place, written_price, offer_in_place, offers_in_place}
+use Rattle.fs_app_audit.specs.InPlace.{price_below, price_in_place, weight_in_place, written_price, offer_in_place, offers_in_place}
 use Rattle.fs_app_audit.proofs.Offered.{price_there, some_weighed}
 
 abbrev IsKept : Option Kind → Option Kind → Type 0

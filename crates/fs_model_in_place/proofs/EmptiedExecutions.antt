@@ -2,7 +2,6 @@
 use Rattle.std.proofs.Common.{◌≡◌, ◌↔◌, ℕ, zero, suc, ◌+◌, ◌<◌, List, [], ◌∷◌, length, map, refl, ap, sym, subst, ◌∙◌, arith}
 use Rattle.std.specs.List.{slice_index_or}
 use Rattle.std.proofs.lemmas.List.{length-map}
-use Rattle.fs_instr.specs.declared.instr.Instr.{Instr}
 use Rattle.fs_kinds.specs.declared.placement.Entry.{Entry}
 use Rattle.fs_model.specs.declared.hart.Hart.{Hart}
 use Rattle.fs_model.specs.declared.step.Step.{Step}
@@ -15,7 +14,6 @@ use Rattle.fs_model.specs.Execution.{Execution, IsExecution, IsTrace, ObeysAxiom
 use Rattle.fs_model.specs.Shows.{is_outcome, final_register, final_word, has_outcome}
 use Rattle.fs_model.specs.Allows.{Allows, Shows, no_fences}
 use Rattle.fs_model_axioms.proofs.Registers.{holds_same}
-use Rattle.fs_model_laws.specs.Strength.{KeepsNoMore}
 use Rattle.fs_model_laws.proofs.FencedAlike.{Alike, alike_back, axioms_there, final_word_same}
 use Rattle.fs_model_laws.proofs.FencedLaw.{same_allowed}
 use Rattle.fs_model_laws.proofs.FencedOperations.{index_mapped}

@@ -1,5 +1,5 @@
 -- Fences placed before FENCEs that order no memory order what the FENCEs did.
-use Rattle.std.proofs.Common.{◌≡◌, ℕ, zero, suc, ◌+◌, ◌-◌, ◌<◌, Bool, true, false, ◌||◌, List, [], ◌∷◌, length, map, Option, None, Some, refl, ap, sym, ◌∙◌, arith}
+use Rattle.std.proofs.Common.{◌≡◌, ℕ, zero, suc, ◌+◌, ◌-◌, ◌<◌, Bool, true, false, ◌||◌, List, [], length, map, Option, None, Some, refl, ap, sym, ◌∙◌, arith}
 use Rattle.std.specs.Prelude.{is_some, option_map, option_and_then, unwrap_or, slice_get}
 use Rattle.std.specs.List.{list_any, range_with_len}
 use Rattle.std.proofs.lemmas.Bool.{false≢true}
@@ -22,14 +22,14 @@ use Rattle.fs_model.specs.Operations.{PreExecution, accesses, operation, place, 
 use Rattle.fs_model.specs.Dependencies.{address_depends, data_depends, control_depends}
 use Rattle.fs_model.specs.Fences.{instr_orders, kind_orders, placed_before, placed_between, fence_between}
 use Rattle.fs_model.specs.Trace.{Accesses}
-use Rattle.fs_model.specs.Execution.{code_of, registers_of, initial_words, IsTrace}
+use Rattle.fs_model.specs.Execution.{code_of, registers_of, IsTrace}
 use Rattle.fs_model.specs.Trace.{start_with}
 use Rattle.fs_model.proofs.ProgramOrder.{in_po}
 use Rattle.fs_model.proofs.WhichOperation.{of_hart}
 use Rattle.fs_model_laws.proofs.FencedAlike.{Alike}
 use Rattle.fs_model_laws.proofs.FencedDepends.{none_passes}
 use Rattle.fs_model_laws.proofs.FencedSpread.{any_same, or_false}
-use Rattle.fs_model_in_place.specs.InPlace.{memory_kind, as_written, emptied}
+use Rattle.fs_model_in_place.specs.InPlace.{memory_kind, as_written}
 use Rattle.fs_model_in_place.proofs.Emptying.{emptied_step, same_of_emptied, by_kind, emptied_orders}
 use Rattle.fs_model_in_place.proofs.EmptiedRuns.{IsOfCode, of_code}
 use Rattle.fs_model_in_place.proofs.EmptiedOperations.{emptied_operation, emptied_pre, accesses_emptied, operation_emptied, place_same, classes_same, hart_same, order_same, run_same}

@@ -1,6 +1,6 @@
 -- A test in which some lines are followed is the same but for its FENCEs, which order no less than what is advised.
 use Rattle.std.proofs.Common.{◌≡◌, ℕ, zero, suc, ◌+◌, Bool, true, false, ◌&&◌, List, [], ◌∷◌, map, Option, None, Some, refl, ap, sym, subst, ◌∙◌, arith, if◌then◌else◌}
-use Rattle.std.specs.Prelude.{is_some, option_and_then, option_map, slice_get}
+use Rattle.std.specs.Prelude.{option_and_then, option_map, slice_get}
 use Rattle.std.specs.List.{enumerate_from, slice_index_or}
 use Rattle.fs_instr.specs.declared.instr.Instr.{Instr}
 use Rattle.fs_instr.specs.declared.instr.Instr.TheVariants.{Fence}
@@ -15,7 +15,7 @@ use Rattle.fs_model.specs.Fenced.{fence_of}
 use Rattle.fs_model.specs.Slots.{slot_at}
 use Rattle.fs_model_laws.specs.Strength.{KeepsNoMore}
 use Rattle.fs_model_laws.proofs.FencedOperations.{index_numbered}
-use Rattle.fs_model_in_place.specs.InPlace.{memory_kind, is_fence, devices, emptied_instr, emptied_code, emptied, kind_there, written_at, as_written, IsFollowed, fence_for, followed_instr, followed_code, followed}
+use Rattle.fs_model_in_place.specs.InPlace.{memory_kind, is_fence, devices, emptied_instr, emptied_code, kind_there, written_at, as_written, IsFollowed, fence_for, followed_instr, followed_code, followed}
 use Rattle.fs_model_in_place.proofs.WrittenPlaces.{written_is}
 
 kind_of_fence : (kind : Kind) → memory_kind (fence_of kind) ≡ Some kind

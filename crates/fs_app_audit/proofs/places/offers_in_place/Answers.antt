@@ -1,4 +1,4 @@
-use Rattle.std.proofs.Common.{◌≡◌, ◌∙◌, ap, map, sym, subst}
+use Rattle.std.proofs.Common.{◌∙◌, ap, map, sym, subst}
 use Rattle.fs_board_offers.specs.Offers.{AreOffers}
 use Rattle.fs_app_audit.specs.InPlace.{offer_in_place}
 use Rattle.fs_app_audit.proofs.Offered.{are_offers_in_place}

@@ -1,4 +1,4 @@
-use Rattle.std.proofs.Common.{◌++◌, ◌∙◌, arith, ap, flat_map, sym, subst, true, ◌≡◌}
+use Rattle.std.proofs.Common.{◌++◌, ◌∙◌, arith, ap, flat_map}
 use Rattle.fs_kinds.specs.Slot.{is_rising}
 use Rattle.fs_model.proofs.Numbered.{numbered_end, numbered_flat}
 use Rattle.fs_model_in_place.specs.InPlace.{places_in}
