@@ -15,6 +15,7 @@ use Rattle.fs_app_test.specs.declared.said.Kind.{Kind}
 use Rattle.fs_app_test.specs.declared.said.Kind.TheVariants.{Forbidden, Vacuous, Faulty}
 use Rattle.fs_app_test.specs.SaidVerdicts.{IsForbidden, IsTestedAs, Says}
 use Rattle.fs_app_audit.specs.Audit.{IsTested, IsUnansweredInPlace, IsFirstAuditFault, of_anew, of_places, of_test}
+use Rattle.fs_app_audit.specs.InPlace.{offers_in_place}
 use Rattle.fs_app_audit.specs.declared.asked.Purpose.TheVariants.{Advise}
 use Rattle.fs_app_audit.proofs.FirstFaults.{audit-memory}
 
@@ -48,7 +49,7 @@ module _ (test prices : List ℕ) (limit : ℕ) (table : PriceTable) (priced : A
     (tested : IsTested t) where
   -- why there is nothing in place
   abbrev IsFaultInPlace : Fault → Type 0
-  IsFaultInPlace f = IsTestFault test f ⊎ ((u : Test) × IsSame u (emptied t) × IsUnansweredInPlace u f)
+  IsFaultInPlace f = IsTestFault test f ⊎ ((u : Test) × IsSame u (emptied t) × IsUnansweredInPlace u (offers_in_place table t.codes) limit f)
 
   pub fault-in-place : (f : Fault) → (f ≢ Memory → IsFaultInPlace f) → IsFirstAuditFault test prices limit f
   fault-in-place f h = elim (is_memory f) [

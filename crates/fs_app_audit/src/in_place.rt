@@ -59,7 +59,7 @@ fn advised_of(
     requires some { (p : Items EntryValue) × IsPlacement offers p × (Allows (arc_value test.now) p → ⊥) }
     requires most { limit ≤ 1000000 }
     ensures ok { IfOk result (λ p. IsCheapest (arc_value test.now) offers p) }
-    ensures err { IfErr result (λ f. f ≢ Fault.Memory → IsUnansweredInPlace (arc_value test.now) f) }
+    ensures err { IfErr result (λ f. f ≢ Fault.Memory → IsUnansweredInPlace (arc_value test.now) offers limit f) }
 {
     let problem = Problem::shared(alloc, Arc::try_clone(test)?)?;
     let found = cheapest(alloc, offers, problem, limit)?;
@@ -83,7 +83,8 @@ pub(crate) fn find_in_place(
     ensures cheapest { IfOk result (λ found.
         IsCheapest (arc_value found.empty) (offers_in_place prices.now own.now.codes) found.advised) }
     ensures fault { IfErr result (λ f. f ≢ Fault.Memory
-        → IsTestFault bytes.now f ⊎ ((u : Tests) × IsSame u (emptied own.now) × IsUnansweredInPlace u f)) }
+        → IsTestFault bytes.now f ⊎ ((u : Tests) × IsSame u (emptied own.now)
+        × IsUnansweredInPlace u (offers_in_place prices.now own.now.codes) limit f)) }
 {
     let codes = own.codes.as_slice();
     let _table = prices.of(Kind::RwRw);

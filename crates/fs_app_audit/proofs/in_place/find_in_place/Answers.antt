@@ -2,6 +2,7 @@ use Rattle.std.proofs.Common.{◌≡◌, ◌∙◌, ap, inl, inr, subst}
 use Rattle.std.specs.Arc.{arc_value}
 use Rattle.fs_board_offers.specs.Offers.{Offers, IsCheapest}
 use Rattle.fs_app_place_order.proofs.Faults.{IfErr-handed}
+use Rattle.fs_app_audit.specs.Audit.{IsUnansweredInPlace}
 use Rattle.fs_app_audit.specs.InPlace.{offers_in_place}
 use Rattle.fs_app_audit.proofs.Followed.{some_in_place}
 use Rattle.fs_app_audit.proofs.in_place.find_in_place.Goals as goal
@@ -12,8 +13,14 @@ returns-in_err-empty-clause-fault c =
 
 pub returns-in_err-advised-clause-fault : goal.returns-in_err-advised-clause-fault
 returns-in_err-advised-clause-fault c =
+    let is = c.in_ok-asked.ensures ∙ ap (offers_in_place c.args.prices.now) c.as_slice-codes.ensures in
+    let empty = arc_value c.in_ok-empty.empty in
     IfErr-handed c.from_residual-in_err-advised.result _ _ c.from_residual-in_err-advised.ensures.1
-    (λ other. inr (arc_value c.in_ok-empty.empty, c.in_ok-empty.ensures.same _ c.requires.reads, c.in_err-advised.ensures.err other))
+    (λ other. inr (
+      empty,
+      c.in_ok-empty.ensures.same _ c.requires.reads,
+      subst (λ (os : Offers). IsUnansweredInPlace empty os c.args.limit _) is (c.in_err-advised.ensures.err other),
+    ))
 
 pub advised_of-requires-clause-some : goal.advised_of-requires-clause-some
 advised_of-requires-clause-some c =
