@@ -1,7 +1,7 @@
 //! What the command `audit` answers, from the bytes of its files to the text that is printed: which FENCE instructions
-//! of a test are needed to rule its outcome out at the least cost, in their places or anew. In place it tries the test in
-//! which they order no memory; anew the test without them, but for those that name devices, and the test in which these
-//! order no memory.
+//! of a test are needed to rule its outcome out at the least cost, in their places or anew. In place it tries the test
+//! in which they order no memory; anew the test without them, but for those that name devices, and the test in which
+//! these order no memory.
 #![tactic(auto)]
 
 mod advice;

@@ -15,9 +15,9 @@ pub fn written_means_placement()
 {}
 
 /// A law: where fences in the places of a test's FENCEs rule its outcome out, so does each test that is the same but
-/// for its FENCEs, of which each orders all that the fence in its place does. Such a test is the one in which some lines
-/// of `audit` are followed and the other FENCEs stay, where none of these fences orders more than the FENCE in its place.
-/// A FENCE that goes stands there as `fence io,io`.
+/// for its FENCEs, of which each orders all that the fence in its place does. Such a test is the one in which some of
+/// the fences are taken over and the other FENCEs stay, where none of these fences orders more than the FENCE in its
+/// place. A FENCE that goes stands there as `fence io,io`.
 pub fn followed_lines_rule_out()
     ensures alike { (t u : Test) (p : List Entry) → IsFollowed t p u → (Allows (emptied t) p → ⊥)
         → Allows u (no_fences u) → ⊥ }

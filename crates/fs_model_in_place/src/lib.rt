@@ -1,5 +1,5 @@
-//! What a test means whose FENCEs order no memory, where they are placed: that of the test itself. So `audit` may search
-//! among fences in the places of those that are written. The functions do nothing: each stands for the law that it
+//! What a test means whose FENCEs order no memory, where they are placed: what the test itself does. So a search may go
+//! over fences in the places of those that are written. The functions do nothing: each stands for the law that it
 //! promises.
 #![tactic(auto)]
 
