@@ -99,11 +99,12 @@ pub record AnswersCheck (check : Check) (papers : Papers) (output : Output) : Ty
   pub told : IsTold (check.why && is_yes output.status) (IsAnswerWhy papers.test.bytes.items papers.evidence.bytes.items) below
   pub text : string_bytes output.text ≡ in_form check.json lines object ++ below
 
--- the text, but for what is told below it, and the status are those of the same lines
+-- the text, but for what is told of the tests below it, and the status are those of the same lines
 pub record AnswersLines (test : Test) (output : Output) : Type 0 where
   pub lines : List Line
+  pub tests : List (List ℕ)
   pub below : List ℕ
-  pub told : IsTold test.why AreTold below
+  pub told : IsTold test.why (AreTold lines tests) below
   pub text : string_bytes output.text
       ≡ in_form test.json (report_text (is_some test.expect) lines) (json_text (is_some test.expect) lines) ++ below
   pub ends : output.status ≡ report_status (is_some test.expect) lines

@@ -4,6 +4,8 @@
 #![tactic(auto)]
 
 #[cfg(test)]
+mod anywhere;
+#[cfg(test)]
 mod condition;
 #[cfg(test)]
 mod executions;
