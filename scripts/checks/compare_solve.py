@@ -2,7 +2,7 @@
 scripts/transcripts/known.table, and on the tests and price lists that scripts/litmus.py makes.
 
 With 1, 4 and 16 workers it must print the same bytes, and write the same certificate beside an answer, to which `check`
-says yes. (In no test do others join the first worker; crates/fs_tests has such.) What differs is printed with the
+says yes. (In no test do others join the first worker; crates/fs_tests_search has such.) What differs is printed with the
 test."""
 import itertools
 import os

@@ -1,0 +1,27 @@
+//! Tests of what no command shows by itself, on litmus tests as text, up to the verdict on a placement: the reader's
+//! layers, slots, runs and laws; the checker of executions, hunts, and judges. They stand apart, so that no crate is
+//! proved twice for their sake.
+#![tactic(auto)]
+
+#[cfg(test)]
+mod condition;
+#[cfg(test)]
+mod executions;
+#[cfg(test)]
+mod form;
+#[cfg(test)]
+mod hunts;
+#[cfg(test)]
+mod judges;
+#[cfg(test)]
+mod kept;
+#[cfg(test)]
+mod laws;
+#[cfg(test)]
+mod runs;
+#[cfg(test)]
+mod slots;
+#[cfg(test)]
+mod texts;
+#[cfg(test)]
+mod traces;
