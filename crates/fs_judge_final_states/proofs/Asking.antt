@@ -17,7 +17,7 @@ use Rattle.fs_judge_final_states.specs.declared.part.Atom.{Atom}
 use Rattle.fs_judge_final_states.specs.declared.place.Place.{Place}
 use Rattle.fs_judge_final_states.specs.declared.state.State.{State}
 use Rattle.fs_judge_final_states.specs.States.{word_of, IsPlaceOf, IsState}
-use Rattle.fs_judge_final_states.specs.inner.Parts.{is_in, with_condition, AsksFor, EndsIn, IsFoundIn}
+use Rattle.fs_judge_final_states.specs.inner.Parts.{is_in, with_condition, AsksFor, EndsIn, EndsWithin, IsFoundIn}
 use Rattle.fs_judge.proofs.Conditions.{back, candidate_fault, execution, given}
 
 -- what holds of the error handed on holds of the result
@@ -76,6 +76,10 @@ module _ (t : Test) (places : List Place) (part : List Atom) (asked : Test) (ask
         ),
         sym (says ∙ ap (is_in part) own.3) ∙ own.2.outcome,
       )
+
+  -- whatever it asks for, a state of another part in which it ends
+  pub near_in : (p : List Entry) (other : List Atom) (state : State) → EndsWithin asked p places other state → IsFoundIn t p places other state
+  near_in p other state h = ((found_in p state h.0).0, h.1)
 
   pub none_in : (p : List Entry) → (Allows asked p → ⊥) → (s : List ℕ) → IsState t p places s → is_in part s ≡ true → ⊥
   none_in p forbidden s h inside =

@@ -3,4 +3,5 @@ mod Kept
 pub mod Balanced
 pub mod Asking
 pub mod Covered
+mod Learning
 mod Many

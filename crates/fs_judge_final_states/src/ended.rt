@@ -1,6 +1,6 @@
 //! The state in which the execution of a witness ends.
 
-ghost use Rattle.std.specs.Prelude.{◌≡◌, All, map, IfOk, IsOkUnless};
+ghost use Rattle.std.specs.Prelude.{◌≡◌, All, map, IfNone, IfOk, IfSome, IsOkUnless};
 ghost use Rattle.fs_kinds.specs.declared.fault.Fault.TheVariants.{Memory};
 ghost use Rattle.fs_model.specs.Test.{IsBounded, IsStart};
 ghost use Rattle.fs_model.specs.Witness.{Witness as Witnesses};
@@ -8,7 +8,6 @@ ghost use Rattle.fs_cert_evidence.specs.Shown.{IsShownBy};
 ghost use Rattle.fs_cert_evidence.specs.WitnessFile.{KeepsWitness, in_range};
 ghost use Rattle.fs_model_axioms.specs.Final.{AreFinal};
 ghost use Rattle.fs_check.specs.Ordered.{IsOrdered, execution_in};
-ghost use Rattle.fs_judge.specs.Verdicts.{IsShownWith};
 ghost use Rattle.fs_judge_final_states.specs.States.{word_at, state_of};
 ghost use Rattle.fs_judge_final_states.specs.inner.Parts.{EndsIn};
 
@@ -20,6 +19,20 @@ use fs_kinds::{Fault, List, OperationName, Placement};
 use fs_model::Test;
 use fs_model_axioms::{final_register, final_word};
 use std::alloc::{AllocError, Global};
+
+/// A state, and the execution that ends in it.
+#[derive(Drop)]
+pub(crate) struct Found {
+    pub(crate) state: State,
+    pub(crate) ordered: OrderedCandidate,
+}
+
+/// The words in which an execution ends, and the execution.
+#[derive(Drop)]
+struct Ending {
+    words: List<u32>,
+    ordered: OrderedCandidate,
+}
 
 /// The name, which each byte can be part of.
 fn named(name: OperationName) -> Option<OperationName>
@@ -74,39 +87,44 @@ fn words_at(
     Ok(List::new(words))
 }
 
-/// The words at the places in which the execution of the witness ends.
-fn words_of(
+/// How the execution of the witness ends, where it gives one that shows the outcome.
+fn ending_of(
     alloc: Global,
     test: &Test,
     placement: &Placement,
     places: &[Place],
     file: &WitnessFile,
-) -> Result<List<u32>, Fault>
+) -> Result<Option<Ending>, Fault>
     requires test { IsBounded test.now }
     requires starts { All IsStart test.now.starts }
-    requires shown { (w : Witnesses) × KeepsWitness file.now w × IsShownBy test.now placement.now w }
-    ensures ok { (w : Witnesses) → KeepsWitness file.now w → IfOk result (EndsIn test.now placement.now places.now w) }
+    ensures some { (w : Witnesses) → KeepsWitness file.now w → IfOk result (λ found.
+        IfSome found (λ e. EndsIn test.now placement.now places.now w e.words)) }
+    ensures none { (w : Witnesses) → KeepsWitness file.now w → IfOk result (λ found.
+        IfNone found (IsShownBy test.now placement.now w → ⊥)) }
     ensures err { IsOkUnless result Memory }
 {
     let Some(ordered) = shown_by(alloc, test, placement, file)? else {
-        unreachable!()
+        return Ok(None);
     };
-    Ok(words_at(alloc, test, &ordered, places)?)
+    let words = words_at(alloc, test, &ordered, places)?;
+    Ok(Some(Ending { words, ordered }))
 }
 
-/// The state in which the execution of the witness ends. The cost is that of `shown_by`, and for each place at
-/// most linear in the operations. The error is F19.
+/// The state in which the execution of the witness ends, where it gives one that shows the test's outcome; of its
+/// widths nothing is kept. The cost is that of `shown_by`, and for each place at most linear in the operations. The
+/// error is F19.
 pub(crate) fn ended(
     alloc: Global,
     test: &Test,
     placement: &Placement,
     places: &[Place],
     witness: Witness,
-) -> Result<State, Fault>
+) -> Result<Option<Found>, Fault>
     requires test { IsBounded test.now }
     requires starts { All IsStart test.now.starts }
-    requires shown { IsShownWith test.now placement.now witness }
-    ensures ok { IfOk result (λ state. EndsIn test.now placement.now places.now state.witness.witness state.words) }
+    ensures some { IfOk result (λ found. IfSome found
+        (λ e. EndsIn test.now placement.now places.now e.state.witness.witness e.state.words)) }
+    ensures none { IfOk result (λ found. IfNone found (IsShownBy test.now placement.now witness.witness → ⊥)) }
     ensures err { IsOkUnless result Memory }
 {
     let Witness {
@@ -114,19 +132,23 @@ pub(crate) fn ended(
         order,
         widths,
     } = witness;
+    drop(widths);
     let names = Names::new(all_named(alloc, order.as_slice())?);
     let file = WitnessFile {
         choices,
         order: names,
     };
-    let words = words_of(alloc, test, placement, places, &file)?;
-    let choices = file.choices;
-    Ok(State {
-        words,
-        witness: Witness {
-            choices,
-            order,
-            widths,
-        },
-    })
+    let Some(ending) = ending_of(alloc, test, placement, places, &file)? else {
+        return Ok(None);
+    };
+    let Ending { words, ordered } = ending;
+    let witness = Witness {
+        choices: file.choices,
+        order,
+        widths: List::new(Vec::new(alloc)),
+    };
+    Ok(Some(Found {
+        state: State { words, witness },
+        ordered,
+    }))
 }

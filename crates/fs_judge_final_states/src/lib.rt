@@ -2,10 +2,14 @@
 #![tactic(auto)]
 
 mod asked;
+mod barren;
 mod condition;
 mod ended;
 mod known;
 mod listing;
+mod lore;
+mod moved;
+mod nearby;
 mod part;
 mod place;
 mod sought;

@@ -1,6 +1,6 @@
 //! The list of all final states.
 
-ghost use Rattle.std.specs.Prelude.{◌≡◌, ◌≢◌, ◌≤◌, ◌++◌, ◌∷◌, [], List, All, length, IfOk, IfErr, OnOk};
+ghost use Rattle.std.specs.Prelude.{◌≡◌, ◌≢◌, ◌≤◌, ◌++◌, ◌∷◌, [], List, All, length, IfOk, IfErr, OnOk, IsOkUnless};
 ghost use Rattle.std.specs.Arc.{arc_value};
 ghost use Rattle.fs_kinds.specs.declared.fault.Fault.{Fault as Faults};
 ghost use Rattle.fs_kinds.specs.declared.placement.Entry.{Entry};
@@ -14,12 +14,12 @@ ghost use Rattle.fs_model.specs.TooMany.{IsRunFault};
 ghost use Rattle.fs_cert_evidence.specs.CandidateFaults.{IsCandidateFault};
 ghost use Rattle.fs_judge_final_states.specs.States.{AreStates, ArePlacesOf, IsShownState, IsStatesFault, most_states};
 ghost use Rattle.fs_judge_final_states.specs.States.{words_of};
-ghost use Rattle.fs_judge_final_states.specs.inner.Parts.{states_in, IsListed};
+ghost use Rattle.fs_judge_final_states.specs.inner.Parts.{states_in, IsListed, IsLore};
 
 use crate::known::{Known, keep, listed};
+use crate::lore::{Lore, found_in, no_lore};
 use crate::part::Part;
 use crate::place::Place;
-use crate::sought::sought;
 use crate::splitting::split;
 use crate::state::State;
 use fs_judge::Problem;
@@ -31,23 +31,30 @@ use std::sync::Arc;
 /// How many states a list may have.
 const MOST_STATES: usize = 200_000;
 
-// The states that are known, and the parts that may have others: each other state is in one of them.
+// The states that are known, the parts that may have others (each other state is in one of them), and what is learned.
 #[derive(Drop)]
 struct Listing {
     known: Known,
     parts: Vec<Part>,
+    lore: Lore,
 }
 
 /// All states, before any is known: one part has them all.
-fn begun(alloc: Global) -> Result<Listing, AllocError>
-    ensures { (t : Tests) (p : List Entry) (places : List Places)
-        → IfOk result (λ l. IsListed t p places (states_in l.known) l.parts.items) }
+fn begun(alloc: Global, test: &Test, places: &[Place]) -> Result<Listing, Fault>
+    requires bounded { IsBounded test.now }
+    requires places { ArePlacesOf test.now places.now }
+    ensures listed { (p : List Entry)
+        → IfOk result (λ l. IsListed test.now p places.now (states_in l.known) l.parts.items) }
+    ensures lore { (p : List Entry)
+        → IfOk result (λ l. IsLore test.now p places.now (arc_value l.lore.whole) l.lore.barren.items) }
+    ensures err { IsOkUnless result Memory }
 {
+    let lore = no_lore(alloc, test, places)?;
     let known = Known::new(alloc);
     let mut parts = Vec::new(alloc);
     let all: Part = List::new(Vec::new(alloc));
     parts.push(all)?;
-    Ok(Listing { known, parts })
+    Ok(Listing { known, parts, lore })
 }
 
 /// Asks for a state in the part. Where there is one it is known from then on, and what is left of the part beside it is
@@ -64,11 +71,17 @@ fn advance(
     requires places { ArePlacesOf problem.now places.now }
     requires listed { IsListed problem.now placement.now places.now (states_in listing.old.known)
         (listing.old.parts.items ++ part ∷ []) }
+    requires lore { IsLore problem.now placement.now places.now (arc_value listing.old.lore.whole)
+        listing.old.lore.barren.items }
     ensures ok { OnOk result
         (IsListed problem.now placement.now places.now (states_in listing.new.known) listing.new.parts.items) }
+    ensures lore { OnOk result (IsLore problem.now placement.now places.now (arc_value listing.new.lore.whole)
+        listing.new.lore.barren.items) }
     ensures err { IfErr result (λ f. f ≢ Memory → IsCandidateFault problem.now f) }
 {
-    if let Some(state) = sought(alloc, problem, placement, places, part.as_slice())? {
+    let lore = &mut listing.lore;
+    let found = found_in(alloc, problem, placement, places, lore, part.as_slice())?;
+    if let Some(state) = found {
         split(alloc, &mut listing.parts, part, state.words.as_slice())?;
         keep(alloc, &mut listing.known, state)?;
     }
@@ -90,7 +103,7 @@ fn all_states(
     ensures few { IfOk result (λ found. length found ≤ most_states) }
     ensures err { IfErr result (λ f. f ≢ Memory → IsStatesFault problem.now placement.now places.now f) }
 {
-    let mut listing = begun(alloc)?;
+    let mut listing = begun(alloc, problem.test(), places)?;
     for _ in 0..u64::MAX {
         if listing.known.len() > MOST_STATES {
             return Err(Fault::TooManyCandidates);
@@ -112,9 +125,12 @@ fn all_states(
 /// more and there are too many candidates or lists of runs, where no hunt gives a verdict and there are too many
 /// candidates, or where there are more than 200,000 states; or F19.
 ///
-/// The cost: that of `Problem::new` of fs_judge, and a verdict for each state, and for each beginning of a state that
-/// isn't whole, on the test with another condition. Verdicts share the runs alone: each is that of `Problem::asking`
-/// and `Problem::judged`. Each state is kept in a number of steps that is logarithmic in the states.
+/// The cost: that of `Problem::new` of fs_judge; and for each state, and for each beginning of a state that isn't whole,
+/// at most four checks of an execution, by `shown_by` of fs_check, and a verdict on the test with another condition.
+/// Where a state is found near the last one, by the check of an execution in which one operation stands elsewhere, no
+/// verdict is asked, nor where a short hunt has shown that a place has no other words. Verdicts share the runs alone:
+/// each is that of `Problem::asking` and `Problem::judged`. Each state is kept in a number of steps that is logarithmic
+/// in the states.
 pub fn states(
     alloc: Global,
     test: &Arc<Test>,

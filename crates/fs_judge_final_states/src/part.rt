@@ -1,8 +1,9 @@
 //! Parts of the states of a test: those that have some words at some places, and don't have others at others.
 
-ghost use Rattle.std.specs.Prelude.{◌≡◌, ◌++◌, ◌∷◌, [], true, false, filter, not, ◌==◌, IfOk};
+ghost use Rattle.std.specs.Prelude.{◌≡◌, ◌++◌, ◌∷◌, [], true, false, filter, not, ◌==◌, slice_get, IfOk, Some};
 ghost use Rattle.std.specs.List.{list_any};
-ghost use Rattle.fs_judge_final_states.specs.inner.Parts.{is_fixing, is_open_at};
+ghost use Rattle.fs_model.specs.Numbers.{is_same};
+ghost use Rattle.fs_judge_final_states.specs.inner.Parts.{as_wanted, is_at, is_fixing, is_in, is_open_at, is_so};
 
 use fs_kinds::List;
 use std::alloc::{AllocError, Global};
@@ -17,6 +18,13 @@ pub(crate) struct Atom {
 
 /// The states of which all these are true.
 pub(crate) type Part = List<Atom>;
+
+/// The truth value, turned round where it isn't wanted.
+pub(crate) fn as_wanted(wanted: bool, found: bool) -> bool
+    ensures { result ≡ as_wanted wanted found }
+{
+    if wanted { found } else { !found }
+}
 
 /// Does the atom say which word the place has?
 fn is_fixing(index: usize, atom: &Atom) -> bool
@@ -84,4 +92,46 @@ pub(crate) fn without_word(
         is: false,
     })?;
     Ok(List::new(atoms))
+}
+
+fn is_at(index: usize, atom: &Atom) -> bool
+    ensures { result ≡ is_at index atom.now }
+{
+    atom.index == index
+}
+
+/// What the part says of this place alone.
+pub(crate) fn said_at(alloc: Global, part: &[Atom], index: usize) -> Result<Part, AllocError>
+    ensures { IfOk result (λ made. made ≡ filter (is_at index) part.now) }
+{
+    let atoms: Vec<Atom> = part
+        .iter()
+        .copied()
+        .filter(|atom| is_at(index, atom))
+        .collect(alloc)?;
+    Ok(List::new(atoms))
+}
+
+/// Does it have the word there?
+fn has_word(words: &[u32], index: usize, word: u32) -> bool
+    ensures { result ≡ is_same (slice_get words.now index) (Some word) }
+{
+    match words.get(index) {
+        Some(found) => *found == word,
+        None => false,
+    }
+}
+
+/// Is the atom true of the state?
+fn is_so(words: &[u32], atom: &Atom) -> bool
+    ensures { result ≡ is_so words.now atom.now }
+{
+    as_wanted(atom.is, has_word(words, atom.index, atom.word))
+}
+
+/// Is the state in the part?
+pub(crate) fn is_in(part: &[Atom], words: &[u32]) -> bool
+    ensures { result ≡ is_in part.now words.now }
+{
+    part.iter().all(|atom| is_so(words, atom))
 }

@@ -13,15 +13,17 @@ ghost use Rattle.fs_judge_final_states.specs.inner.Parts.{is_in, AsksFor, EndsIn
 
 use crate::asked::asked;
 use crate::condition::condition;
-use crate::ended::ended;
+use crate::ended::{Found, ended};
 use crate::part::Atom;
 use crate::place::Place;
-use crate::state::State;
 use fs_judge::{Problem, Verdict};
 use fs_kinds::{Fault, Placement};
 use fs_model::Test;
 use std::alloc::Global;
 use std::sync::Arc;
+
+/// How many inferences a short hunt may make.
+const FEW_INFERENCES: usize = 16;
 
 /// A state in which the problem's test shows its outcome with these fences; none where it can't.
 fn shown_state(
@@ -29,23 +31,31 @@ fn shown_state(
     problem: &Problem,
     placement: &Placement,
     places: &[Place],
-) -> Result<Option<State>, Fault>
+) -> Result<Option<Found>, Fault>
     requires { slots_of placement.now ≡ slots problem.now }
     ensures some { IfOk result (λ found. IfSome found
-        (λ state. EndsIn problem.now placement.now places.now state.witness.witness state.words)) }
+        (λ f. EndsIn problem.now placement.now places.now f.state.witness.witness f.state.words)) }
     ensures none { IfOk result (λ found. IfNone found (Allows problem.now placement.now → ⊥)) }
     ensures err { IfErr result (λ f. f ≢ Memory → IsCandidateFault problem.now f) }
 {
     match problem.judged(alloc, placement, &[])? {
         Verdict::Forbids(_) => Ok(None),
         Verdict::Allowed(witness) => {
-            Ok(Some(ended(alloc, problem.test(), placement, places, witness)?))
+            let Some(found) = ended(alloc, problem.test(), placement, places, witness)? else {
+                unreachable!()
+            };
+            Ok(Some(found))
         }
     }
 }
 
-/// The test, asking for a state in the part.
-fn asking(alloc: Global, test: &Test, places: &[Place], part: &[Atom]) -> Result<Arc<Test>, Fault>
+/// The test, asking for a state in the part. Linear in the test and the part. The error is F19.
+pub(crate) fn asking(
+    alloc: Global,
+    test: &Test,
+    places: &[Place],
+    part: &[Atom],
+) -> Result<Arc<Test>, Fault>
     requires bounded { IsBounded test.now }
     requires places { ArePlacesOf test.now places.now }
     requires part { IsPartOf (length places.now) part.now }
@@ -66,11 +76,12 @@ pub(crate) fn sought(
     placement: &Placement,
     places: &[Place],
     part: &[Atom],
-) -> Result<Option<State>, Fault>
+) -> Result<Option<Found>, Fault>
     requires placement { slots_of placement.now ≡ slots problem.now }
     requires places { ArePlacesOf problem.now places.now }
     requires part { IsPartOf (length places.now) part.now }
-    ensures some { IfOk result (λ found. IfSome found (IsFoundIn problem.now placement.now places.now part.now)) }
+    ensures some { IfOk result (λ found. IfSome found
+        (λ f. IsFoundIn problem.now placement.now places.now part.now f.state)) }
     ensures none { IfOk result (λ found. IfNone found ((s : List ℕ) → IsState problem.now placement.now places.now s
         → is_in part.now s ≡ true → ⊥)) }
     ensures err { IfErr result (λ f. f ≢ Memory → IsCandidateFault problem.now f) }
@@ -78,4 +89,24 @@ pub(crate) fn sought(
     let asked = asking(alloc, problem.test(), places, part)?;
     let asking_problem = problem.asking(alloc, asked)?;
     shown_state(alloc, &asking_problem, placement, places)
+}
+
+/// Does a short hunt show that the part has no states? The cost is that of copying the test, of `Problem::asking`, and
+/// of such a hunt. The error is F19.
+pub(crate) fn has_none(
+    alloc: Global,
+    problem: &Problem,
+    placement: &Placement,
+    places: &[Place],
+    part: &[Atom],
+) -> Result<bool, Fault>
+    requires places { ArePlacesOf problem.now places.now }
+    requires part { IsPartOf (length places.now) part.now }
+    ensures ok { IfOk result (λ none. none ≡ true → (s : List ℕ) → IsState problem.now placement.now places.now s
+        → is_in part.now s ≡ true → ⊥) }
+    ensures err { IsOkUnless result Memory }
+{
+    let asked = asking(alloc, problem.test(), places, part)?;
+    let asking_problem = problem.asking(alloc, asked)?;
+    asking_problem.is_refuted_within(alloc, placement, FEW_INFERENCES)
 }

@@ -1,5 +1,5 @@
 -- Parts of the states that words at some of the places single out, and the test that asks for one of them.
-use Rattle.std.specs.Prelude.{◌≡◌, ℕ, ◌<◌, ◌==◌, ◌⊎◌, Bool, true, false, not, ◌&&◌, Some, List, All, length, map, slice_get, Vec}
+use Rattle.std.specs.Prelude.{◌≡◌, ℕ, ◌<◌, ◌==◌, ◌⊎◌, Bool, true, false, not, ◌&&◌, Some, List, [], All, length, map, slice_get, Vec}
 use Rattle.std.specs.BTreeMap.{BTreeMap}
 use Rattle.std.specs.declared.alloc.Global.{Global}
 use Rattle.std.specs.List.{Contains, list_all, list_any}
@@ -48,6 +48,17 @@ is_open_at part index = not (list_any (is_fixing index) part)
 abbrev pub IsPartOf : ℕ → List Atom → Type 0
 IsPartOf places part = All (λ atom. atom.index < places) part
 
+-- it speaks of the place of this number
+abbrev pub is_at : ℕ → Atom → Bool
+is_at index atom = atom.index == index
+
+abbrev pub is_same_atom : Atom → Atom → Bool
+is_same_atom one other = (one.index == other.index) && (one.word == other.word) && as_wanted one.is other.is
+
+-- the part says all that the wider one says
+abbrev pub is_within : (part wider : List Atom) → Bool
+is_within part wider = list_all (λ atom. list_any (is_same_atom atom) part) wider
+
 -- the test, asking for a state in which this condition is true
 abbrev pub with_condition : Outcome → Test → Test
 with_condition condition t = record t { quantifier = Exists; condition = condition }
@@ -66,6 +77,10 @@ pub record AsksFor (t : Test) (places : List Place) (part : List Atom) (asked : 
 -- the witness gives an execution that shows the outcome with these fences and ends in the state
 abbrev pub EndsIn : Test → List Entry → List Place → Witness → List ℕ → Type 0
 EndsIn t p places w s = (e : Execution) × IsOfWitness t w e × Shows t p e × (state_of t places e ≡ s)
+
+-- the execution of the state's witness does so, and the state is in the part
+abbrev pub EndsWithin : Test → List Entry → List Place → List Atom → State → Type 0
+EndsWithin t p places part state = EndsIn t p places state.witness.witness state.words × (is_in part state.words ≡ true)
 
 -- its execution ends in it, and it is in the part
 abbrev pub IsFoundIn : Test → List Entry → List Place → List Atom → State → Type 0
@@ -91,6 +106,16 @@ pub record IsListed (t : Test) (p : List Entry) (places : List Place) (known : L
   pub shown : All (IsShownState t p places) known
   pub asked : All (IsPartOf (length places)) parts
   pub covered : (s : List ℕ) → IsState t p places s → Contains (words_of known) s ⊎ IsLeft parts s
+
+-- no state is in any of these parts
+abbrev pub AreBarren : Test → List Entry → List Place → List (List Atom) → Type 0
+AreBarren t p places parts = (s : List ℕ) → IsState t p places s → IsLeft parts s → ⊥
+
+-- what is learned: the test that asks for any state, and parts that have none
+pub record IsLore (t : Test) (p : List Entry) (places : List Place) (whole : Test) (barren : List (List Atom)) : Type 0
+  where
+    pub asks : AsksFor t places [] whole
+    pub none : AreBarren t p places barren
 
 -- what follows when a part is split by a state in it: its states are this one, or left
 pub record SplitsBy (part : List Atom) (state : List ℕ) (old new : List (List Atom)) : Type 0 where

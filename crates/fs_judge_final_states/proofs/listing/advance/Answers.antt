@@ -17,7 +17,7 @@ returns-in_ok-keep-clause-ok c =
     let state = c.in-Some.state in
     let found : IsFoundIn t p places part state =
     subst (λ (atoms : List Atom). IsFoundIn t p places atoms state) c.as_slice.ensures
-    (subst (λ (one : Option State). IfSome one (IsFoundIn t p places c.as_slice.result.now)) c.in-Some.is c.in_ok-state.ensures.some) in
+    (subst (λ (one : Option State). IfSome one (IsFoundIn t p places c.as_slice.result.now)) c.in-Some.is c.in_ok-found.ensures.some) in
     let splits : SplitsBy part state.words parts c.split.new.parts.items =
     subst (λ (words : List ℕ). SplitsBy part words parts c.split.new.parts.items) c.as_slice-in-Some.ensures c.in_ok-split.ensures in
     let kept = c.in_ok-keep.ensures in
@@ -31,6 +31,6 @@ returns-in_default-clause-ok c =
     let places = c.args.places.now in
     let none : (s : List ℕ) → IsState t p places s → is_in c.as_slice.result.now s ≡ true → ⊥ =
     subst (λ (found : Option State). IfNone found ((s : List ℕ) → IsState t p places s → is_in c.as_slice.result.now s ≡ true → ⊥))
-    c.in_default.is c.in_ok-state.ensures.none in
+    c.in_default.is c.in_ok-found.ensures.none in
     dropped t p places (states_in c.args.listing.now.known) c.args.listing.now.parts.items c.args.part c.requires.listed
     (subst (λ (atoms : List Atom). (s : List ℕ) → IsState t p places s → is_in atoms s ≡ true → ⊥) c.as_slice.ensures none)

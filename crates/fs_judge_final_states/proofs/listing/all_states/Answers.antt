@@ -16,12 +16,12 @@ returns-in_default-clause-ok c =
     let known = states_in c.loop.listing.known in
     let none = none_left c.loop.listing.parts.items c.pop.new.self.items _ c.in_default.ensures.cases.0 c.pop.ensures.rest c.in_default.ensures.items in
     subst (λ (ks : List State). AreStates t p places (words_of ks)) (sym c.in_ok-listed.ensures)
-    (ends t p places known (subst (λ (parts : List (List Atom)). IsListed t p places known parts) none c.loop.invariant))
+    (ends t p places known (subst (λ (parts : List (List Atom)). IsListed t p places known parts) none c.loop.invariant.0))
 
 pub returns-in_default-clause-shown : goal.returns-in_default-clause-shown
 returns-in_default-clause-shown c =
     subst (λ (ks : List State). All (IsShownState c.args.problem.now c.args.placement.now c.args.places.now) ks)
-    (sym c.in_ok-listed.ensures) c.loop.invariant.shown
+    (sym c.in_ok-listed.ensures) c.loop.invariant.0.shown
 
 pub returns-then-len-gt-MOST_STATES-clause-err : goal.returns-then-len-gt-MOST_STATES-clause-err
 returns-then-len-gt-MOST_STATES-clause-err c =
@@ -30,5 +30,5 @@ returns-then-len-gt-MOST_STATES-clause-err c =
     let more : most_states < length (states_in known) = omega (arith, c.if-len-gt-MOST_STATES.true, c.len.ensures.len, long) in
     λ other. inr (
       refl,
-      (c.requires.clean, many c.args.problem.now c.args.placement.now c.args.places.now most_states (states_in known) c.loop.listing.parts.items c.loop.invariant more),
+      (c.requires.clean, many c.args.problem.now c.args.placement.now c.args.places.now most_states (states_in known) c.loop.listing.parts.items c.loop.invariant.0 more),
     )

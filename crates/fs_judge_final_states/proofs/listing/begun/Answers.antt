@@ -5,8 +5,10 @@ use Rattle.fs_judge_final_states.specs.inner.Parts.{state_in, IsListed}
 use Rattle.fs_judge_final_states.proofs.Covered.{begins}
 use Rattle.fs_judge_final_states.proofs.listing.begun.Goals as goal
 
-pub returns : goal.returns
-returns c = λ t p places.
+pub returns-clause-listed : goal.returns-clause-listed
+returns-clause-listed c = λ p.
+    let t = c.args.test.now in
+    let places = c.args.places.now in
     let whole : c.new-all.result ≡ [] = c.new-all.ensures ∙ c.new.ensures.items in
     let parts : c.push.new.self.items ≡ [] ∷ [] =
     c.in_ok-push.ensures.items

@@ -1,0 +1,59 @@
+-- A part that says all that a wider one says lies within it; and what is learned of parts without states.
+use Rattle.std.proofs.Common.{◌≡◌, ◌∙◌, ap, sym, refl, subst, ℕ, ◌<◌, Bool, true, false, ◌==◌, ◌&&◌, Some, List, [], ◌∷◌, ◌++◌, All, length, get_or, inl, inr}
+use Rattle.std.specs.Prelude.{slice_get}
+use Rattle.std.specs.List.{list_any}
+use Rattle.std.proofs.lemmas.Bool.{false≢true, and_parts, and_from, or_cases, eqb-true}
+use Rattle.std.proofs.lemmas.List.Folds.{list_any_at}
+use Rattle.fs_kinds.specs.declared.placement.Entry.{Entry}
+use Rattle.fs_model.specs.declared.test.Test.{Test}
+use Rattle.fs_model.specs.Numbers.{is_same}
+use Rattle.fs_judge_final_states.specs.declared.part.Atom.{Atom}
+use Rattle.fs_judge_final_states.specs.declared.place.Place.{Place}
+use Rattle.fs_judge_final_states.specs.States.{IsState}
+use Rattle.fs_judge_final_states.specs.inner.Parts.{as_wanted, is_so, is_in, is_same_atom, is_within, AreBarren, AsksFor, IsLeft, IsLore}
+use Rattle.fs_judge_final_states.proofs.Halves.{left_cases}
+
+same_truth : (wanted found : Bool) → as_wanted wanted found ≡ true → found ≡ wanted
+same_truth true found h = h
+same_truth false true h = absurd (false≢true h)
+same_truth false false h = refl
+
+same_so : (one other : Atom) (s : List ℕ) → is_same_atom one other ≡ true → is_so s other ≡ true → is_so s one ≡ true
+same_so one other s h so =
+    let parts = and_parts (one.index == other.index) ((one.word == other.word) && as_wanted one.is other.is) h in
+    let rest = and_parts (one.word == other.word) (as_wanted one.is other.is) parts.1 in
+    subst (λ (i : ℕ). as_wanted one.is (is_same (slice_get s i) (Some one.word)) ≡ true) (sym (eqb-true one.index other.index parts.0))
+    (subst (λ (w : ℕ). as_wanted one.is (is_same (slice_get s other.index) (Some w)) ≡ true) (sym (eqb-true one.word other.word rest.0))
+    (subst (λ (b : Bool). as_wanted b (is_same (slice_get s other.index) (Some other.word)) ≡ true) (same_truth one.is other.is rest.1) so))
+
+has_so : (part : List Atom) (atom : Atom) (s : List ℕ) → list_any (is_same_atom atom) part ≡ true → is_in part s ≡ true → is_so s atom ≡ true
+has_so [] atom s h inside = absurd (false≢true h)
+has_so (other ∷ part) atom s h inside =
+    let parts = and_parts (is_so s other) (is_in part s) inside in
+    elim (or_cases (is_same_atom atom other) (list_any (is_same_atom atom) part) h) [
+      | inl here ↦ same_so atom other s here parts.0
+      | inr later ↦ has_so part atom s later parts.1
+    ]
+
+pub wider_in : (part wider : List Atom) (s : List ℕ) → is_within part wider ≡ true → is_in part s ≡ true → is_in wider s ≡ true
+wider_in part [] s h inside = refl
+wider_in part (atom ∷ wider) s h inside =
+    let parts = and_parts (list_any (is_same_atom atom) part) (is_within part wider) h in
+    and_from (is_so s atom) (is_in wider s) (has_so part atom s parts.0 inside) (wider_in part wider s parts.1 inside)
+
+pub left_within : (barren : List (List Atom)) (i : ℕ) (d : List Atom) (part : List Atom) (s : List ℕ) → i < length barren
+    → is_within part (get_or barren i d) ≡ true → is_in part s ≡ true → IsLeft barren s
+left_within barren i d part s low within inside =
+    list_any_at (λ x. is_in x s) barren i d low (wider_in part (get_or barren i d) s within inside)
+
+module _ (t : Test) (p : List Entry) (places : List Place) (whole : Test) where
+  pub no_lore : AsksFor t places [] whole → IsLore t p places whole []
+  no_lore asks = record { asks = asks; none = λ s is left. absurd (false≢true left) }
+
+  pub learned : (barren : List (List Atom)) (own : List Atom) → IsLore t p places whole barren
+      → ((s : List ℕ) → IsState t p places s → is_in own s ≡ true → ⊥) → IsLore t p places whole (barren ++ own ∷ [])
+  learned barren own lore empty = record {
+    asks = lore.asks;
+    none =
+        λ s is left. elim (left_cases barren own s left) [ inl before ↦ lore.none s is before | inr inside ↦ empty s is inside ];
+  }
