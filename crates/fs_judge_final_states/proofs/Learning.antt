@@ -20,11 +20,11 @@ same_truth false false h = refl
 
 same_so : (one other : Atom) (s : List ℕ) → is_same_atom one other ≡ true → is_so s other ≡ true → is_so s one ≡ true
 same_so one other s h so =
-    let parts = and_parts (one.index == other.index) ((one.word == other.word) && as_wanted one.is other.is) h in
-    let rest = and_parts (one.word == other.word) (as_wanted one.is other.is) parts.1 in
-    subst (λ (i : ℕ). as_wanted one.is (is_same (slice_get s i) (Some one.word)) ≡ true) (sym (eqb-true one.index other.index parts.0))
-    (subst (λ (w : ℕ). as_wanted one.is (is_same (slice_get s other.index) (Some w)) ≡ true) (sym (eqb-true one.word other.word rest.0))
-    (subst (λ (b : Bool). as_wanted b (is_same (slice_get s other.index) (Some other.word)) ≡ true) (same_truth one.is other.is rest.1) so))
+    let parts = and_parts ((one.index == other.index) && (one.word == other.word)) (as_wanted one.is other.is) h in
+    let here = and_parts (one.index == other.index) (one.word == other.word) parts.0 in
+    subst (λ (i : ℕ). as_wanted one.is (is_same (slice_get s i) (Some one.word)) ≡ true) (sym (eqb-true one.index other.index here.0))
+    (subst (λ (w : ℕ). as_wanted one.is (is_same (slice_get s other.index) (Some w)) ≡ true) (sym (eqb-true one.word other.word here.1))
+    (subst (λ (b : Bool). as_wanted b (is_same (slice_get s other.index) (Some other.word)) ≡ true) (same_truth one.is other.is parts.1) so))
 
 has_so : (part : List Atom) (atom : Atom) (s : List ℕ) → list_any (is_same_atom atom) part ≡ true → is_in part s ≡ true → is_so s atom ≡ true
 has_so [] atom s h inside = absurd (false≢true h)
@@ -41,10 +41,11 @@ wider_in part (atom ∷ wider) s h inside =
     let parts = and_parts (list_any (is_same_atom atom) part) (is_within part wider) h in
     and_from (is_so s atom) (is_in wider s) (has_so part atom s parts.0 inside) (wider_in part wider s parts.1 inside)
 
-pub left_within : (barren : List (List Atom)) (i : ℕ) (d : List Atom) (part : List Atom) (s : List ℕ) → i < length barren
-    → is_within part (get_or barren i d) ≡ true → is_in part s ≡ true → IsLeft barren s
-left_within barren i d part s low within inside =
-    list_any_at (λ x. is_in x s) barren i d low (wider_in part (get_or barren i d) s within inside)
+pub left_within : (barren : List (List Atom)) (i : ℕ) (wider part : List Atom) (s : List ℕ) → i < length barren → wider ≡ get_or barren i wider
+    → is_within part wider ≡ true → is_in part s ≡ true → IsLeft barren s
+left_within barren i wider part s low is within inside =
+    list_any_at (λ x. is_in x s) barren i wider low
+    (subst (λ (x : List Atom). is_in x s ≡ true) is (wider_in part wider s within inside))
 
 module _ (t : Test) (p : List Entry) (places : List Place) (whole : Test) where
   pub no_lore : AsksFor t places [] whole → IsLore t p places whole []

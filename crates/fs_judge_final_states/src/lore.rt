@@ -25,12 +25,15 @@ use fs_model::Test;
 use std::alloc::Global;
 use std::sync::Arc;
 
+/// Up to how many words it is asked whether a place has others.
+const MOST_WORDS: usize = 64;
+
 /// What helps to find a state of a part, or that there is none.
 #[derive(Drop)]
 pub(crate) struct Lore {
     /// The test, asking for any state.
     pub(crate) whole: Arc<Test>,
-    /// Parts that have no states, each about one place.
+    /// Parts that have no states, each about one place and few words of it.
     pub(crate) barren: Vec<Part>,
     /// For each place of how many words it was last asked whether it has others.
     tried: Vec<usize>,
@@ -59,8 +62,11 @@ pub(crate) fn no_lore(alloc: Global, test: &Test, places: &[Place]) -> Result<Lo
     })
 }
 
-/// Was the place never asked of so many words? From now on it was.
+/// Was the place never asked of so many words, and are they few? From now on it was.
 fn is_untried(tried: &mut Vec<usize>, index: usize, words: usize) -> bool {
+    if words > MOST_WORDS {
+        return false;
+    }
     if let Some(most) = tried.get_mut(index) {
         if *most < words {
             *most = words;
@@ -71,6 +77,7 @@ fn is_untried(tried: &mut Vec<usize>, index: usize, words: usize) -> bool {
 }
 
 /// The part has no states: keeps what it says of its last place alone, if a short hunt shows that this has none either.
+/// Of each place that is asked once for each number of words, up to `MOST_WORDS`.
 fn learn(
     alloc: Global,
     problem: &Problem,

@@ -66,7 +66,18 @@ fn push_loads(
     Ok(())
 }
 
-/// Adds the move of the store behind the last one to its location.
+/// The last operation that loads a word into the hart's register.
+fn last_load(operations: &[Operation], hart: u8, reg: Reg) -> Option<usize> {
+    let mut last = None;
+    for (number, operation) in operations.iter().enumerate() {
+        if loads_into(operation, hart, reg) {
+            last = Some(number);
+        }
+    }
+    last
+}
+
+/// Adds the move of the store behind the last operation.
 fn push_store(
     moves: &mut Vec<Move>,
     base: &OrderedCandidate,
@@ -94,8 +105,25 @@ fn push_store(
     Ok(())
 }
 
-/// The moves by which the place may come to have another word that the part allows: loads into a register, or stores
-/// to a location.
+/// Adds the moves of the stores to the location.
+fn push_stores(
+    moves: &mut Vec<Move>,
+    base: &OrderedCandidate,
+    location: u8,
+    part: &[Atom],
+    index: usize,
+) -> Result<(), AllocError> {
+    let address = Some(Location::address(location));
+    for (number, operation) in base.candidate.operations.iter().enumerate() {
+        if operation.address == address {
+            push_store(moves, base, number, part, index)?;
+        }
+    }
+    Ok(())
+}
+
+/// The first few moves by which the place may come to have another word that the part allows: of the last load into the
+/// register, or of the stores to the location. For each store at most linear in the part.
 pub(crate) fn moves_for(
     alloc: Global,
     base: &OrderedCandidate,
@@ -104,20 +132,14 @@ pub(crate) fn moves_for(
     index: usize,
 ) -> Result<Vec<Move>, AllocError> {
     let mut moves = Vec::new(alloc);
-    let operations = base.candidate.operations.as_slice();
-    for (number, operation) in operations.iter().enumerate() {
-        match place {
-            Place::Register { hart, reg } => {
-                if loads_into(operation, hart, reg) {
-                    push_loads(&mut moves, operations, number, part, index)?;
-                }
-            }
-            Place::Location(location) => {
-                if operation.address == Some(Location::address(location)) {
-                    push_store(&mut moves, base, number, part, index)?;
-                }
+    match place {
+        Place::Register { hart, reg } => {
+            let operations = base.candidate.operations.as_slice();
+            if let Some(load) = last_load(operations, hart, reg) {
+                push_loads(&mut moves, operations, load, part, index)?;
             }
         }
+        Place::Location(location) => push_stores(&mut moves, base, location, part, index)?,
     }
     moves.truncate(MOST_MOVES);
     Ok(moves)
