@@ -2,7 +2,7 @@
 3, nothing on standard output and `fault F19 Memory` on standard error (of `states` below the faults of files), or end
 as it does with ample memory, but perhaps without messages that explain faults. It leaves no part of a certificate, and
 a whole one where it has answered. The command lines are in scripts/transcripts/refused.table. (In none do other threads
-join the first; crates/fs_tests_search has such.)
+join the first; crates/fs_tests_search has such.) Some command lines there have the most requests that they may make.
 
 Then come the calls of the program `fs_tests_out_of_memory`. Where the gate hasn't built that, or a source is newer, it
 is built now; with --quick they are left out then. A run of one part of it makes that part's calls, and makes a call
@@ -62,6 +62,13 @@ def is_left_well(said, words, path):
     if os.path.exists(path):
         return rvfence("check", *words[1:3], path, cwd=TOP, stdin=read(TEST)).out.startswith("yes\n")
     return path not in words or said.status not in (0, 1)
+
+
+def count_requests(check, library, words, most):
+    """Looks whether a command line, which ends with status 0, makes no more requests than these."""
+    said, requests = refusing(library, [program(), *words], cwd=TOP)
+    is_right = said.status == 0 and 0 < requests <= most
+    check(f"{' '.join(words)}: at most {most} requests", is_right, f"{requests}, and status {said.status}")
 
 
 def refuse(check, library, words, status, is_together):
@@ -138,8 +145,11 @@ def try_part(check, library, part):
 
 def check(run):
     library = compiled("checks/refuse.c", run.folder, "-shared", "-fPIC")
-    for way, status, *words in map(str.split, rows("refused")):
-        refuse(run.check, library, words, int(status), way == "together")
+    for way, number, *words in map(str.split, rows("refused")):
+        if way == "most":
+            count_requests(run.check, library, words, int(number))
+        else:
+            refuse(run.check, library, words, int(number), way == "together")
     if run.options.quick and not are_built():
         print("the calls by themselves are left out: the gate builds the program that makes them")
         return

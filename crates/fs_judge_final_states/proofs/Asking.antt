@@ -98,6 +98,9 @@ module _ (t : Test) (places : List Place) (part : List Atom) (asked : Test) (ask
       back (λ u. IsCandidateFault u f) (candidate_fault f) t (with_condition asks_for.condition t)
       (subst (λ (u : Test). IsCandidateFault u f) asks_for.same h)
 
+pub at_some : {X : Type 0} {found : Option X} {x : X} → found ≡ Some x → (P : X → Type 0) → IfSome found P → P x
+at_some is P h = subst (λ o. IfSome o P) is h
+
 if_some : {X : Type 0} (found : Option X) (P Q : X → Type 0) → ((x : X) → P x → Q x) → IfSome found P → IfSome found Q
 if_some None P Q f h = tt
 if_some (Some x) P Q f h = f x h

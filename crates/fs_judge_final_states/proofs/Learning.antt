@@ -1,5 +1,5 @@
 -- A part that says all that a wider one says lies within it; and what is learned of parts without states.
-use Rattle.std.proofs.Common.{◌≡◌, ◌∙◌, ap, sym, refl, subst, ℕ, ◌<◌, Bool, true, false, ◌==◌, ◌&&◌, Some, List, [], ◌∷◌, ◌++◌, All, length, get_or, inl, inr}
+use Rattle.std.proofs.Common.{◌≡◌, sym, refl, subst, ℕ, ◌<◌, Bool, true, false, ◌==◌, ◌&&◌, Some, List, [], ◌∷◌, ◌++◌, length, get_or, inl, inr}
 use Rattle.std.specs.Prelude.{slice_get}
 use Rattle.std.specs.List.{list_any}
 use Rattle.std.proofs.lemmas.Bool.{false≢true, and_parts, and_from, or_cases, eqb-true}
@@ -10,7 +10,7 @@ use Rattle.fs_model.specs.Numbers.{is_same}
 use Rattle.fs_judge_final_states.specs.declared.part.Atom.{Atom}
 use Rattle.fs_judge_final_states.specs.declared.place.Place.{Place}
 use Rattle.fs_judge_final_states.specs.States.{IsState}
-use Rattle.fs_judge_final_states.specs.inner.Parts.{as_wanted, is_so, is_in, is_same_atom, is_within, AreBarren, AsksFor, IsLeft, IsLore}
+use Rattle.fs_judge_final_states.specs.inner.Parts.{as_wanted, is_so, is_in, is_same_atom, is_within, AsksFor, IsLeft, IsLore}
 use Rattle.fs_judge_final_states.proofs.Halves.{left_cases}
 
 same_truth : (wanted found : Bool) → as_wanted wanted found ≡ true → found ≡ wanted

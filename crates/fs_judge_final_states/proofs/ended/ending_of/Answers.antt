@@ -1,6 +1,6 @@
 use Rattle.std.proofs.Common.{Option, sym, subst}
-use Rattle.std.specs.Prelude.{IfNone, IfSome}
-use Rattle.fs_cert_evidence.specs.Shown.{IsShownBy, ShowsAs}
+use Rattle.std.specs.Prelude.{IfSome}
+use Rattle.fs_cert_evidence.specs.Shown.{ShowsAs}
 use Rattle.fs_check.specs.Ordered.{execution_in}
 use Rattle.fs_check.specs.declared.ordered.OrderedCandidate.{OrderedCandidate}
 use Rattle.fs_judge_final_states.proofs.ended.ending_of.Goals as goal

@@ -1,12 +1,25 @@
 use Rattle.std.proofs.Common.{sym, subst, refl, inr, arith, ◌<◌, length, List, All}
+use Rattle.std.specs.Arc.{arc_value}
 use Rattle.std.proofs.lemmas.List.{length-map}
+use Rattle.fs_model.specs.declared.test.Test.{Test}
 use Rattle.fs_judge_final_states.specs.declared.part.Atom.{Atom}
 use Rattle.fs_judge_final_states.specs.declared.state.State.{State}
 use Rattle.fs_judge_final_states.specs.States.{most_states, AreStates, IsShownState, words_of}
-use Rattle.fs_judge_final_states.specs.inner.Parts.{state_in, states_in, IsListed}
+use Rattle.fs_judge_final_states.specs.inner.Parts.{state_in, states_in, IsListed, IsLore}
 use Rattle.fs_judge_final_states.proofs.Covered.{ends, none_left}
 use Rattle.fs_judge_final_states.proofs.Many.{many}
 use Rattle.fs_judge_final_states.proofs.listing.all_states.Goals as goal
+
+pub loop-init : goal.loop-init
+loop-init c =
+    let p = c.args.placement.now in
+    let places = c.args.places.now in
+    let listing = c.in_ok-listing.listing in (
+      subst (λ (t : Test). IsListed t p places (states_in listing.known) listing.parts.items) c.test.ensures.value
+          (c.in_ok-listing.ensures.listed p),
+      subst (λ (t : Test). IsLore t p places (arc_value listing.lore.whole) listing.lore.barren.items) c.test.ensures.value
+          (c.in_ok-listing.ensures.lore p),
+    )
 
 pub returns-in_default-clause-ok : goal.returns-in_default-clause-ok
 returns-in_default-clause-ok c =

@@ -11,7 +11,8 @@ returns-clause-some c =
     let asked = c.in_ok-asking_problem.asking_problem in
     let asks_for = asks_as_well c.test.result.now t places part (arc_value c.in_ok-asked.asked) asked c.test.ensures.value
     c.in_ok-asking_problem.ensures.value c.in_ok-asked.ensures.ok in
-    ok_some c.shown_state.result _ _ (found_in t places part asked asks_for c.args.placement.now) c.shown_state.ensures.some
+    ok_some c.shown_state.result _ _ (λ found. found_in t places part asked asks_for c.args.placement.now found.state)
+    c.shown_state.ensures.some
 
 pub returns-clause-none : goal.returns-clause-none
 returns-clause-none c =
