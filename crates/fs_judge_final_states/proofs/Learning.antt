@@ -1,17 +1,12 @@
--- A part that says all that a wider one says lies within it; and what is learned of parts without states.
-use Rattle.std.proofs.Common.{◌≡◌, sym, refl, subst, ℕ, ◌<◌, Bool, true, false, ◌==◌, ◌&&◌, Some, List, [], ◌∷◌, ◌++◌, length, get_or, inl, inr}
+-- A part that says all that a wider one says lies within it.
+use Rattle.std.proofs.Common.{◌≡◌, sym, refl, subst, ℕ, ◌<◌, Bool, true, false, ◌==◌, ◌&&◌, Some, List, [], ◌∷◌, length, get_or, inl, inr}
 use Rattle.std.specs.Prelude.{slice_get}
 use Rattle.std.specs.List.{list_any}
 use Rattle.std.proofs.lemmas.Bool.{false≢true, and_parts, and_from, or_cases, eqb-true}
 use Rattle.std.proofs.lemmas.List.Folds.{list_any_at}
-use Rattle.fs_kinds.specs.declared.placement.Entry.{Entry}
-use Rattle.fs_model.specs.declared.test.Test.{Test}
 use Rattle.fs_model.specs.Numbers.{is_same}
 use Rattle.fs_judge_final_states.specs.declared.part.Atom.{Atom}
-use Rattle.fs_judge_final_states.specs.declared.place.Place.{Place}
-use Rattle.fs_judge_final_states.specs.States.{IsState}
-use Rattle.fs_judge_final_states.specs.inner.Parts.{as_wanted, is_so, is_in, is_same_atom, is_within, AsksFor, IsLeft, IsLore}
-use Rattle.fs_judge_final_states.proofs.Halves.{left_cases}
+use Rattle.fs_judge_final_states.specs.inner.Parts.{as_wanted, is_so, is_in, is_same_atom, is_within, IsLeft}
 
 same_truth : (wanted found : Bool) → as_wanted wanted found ≡ true → found ≡ wanted
 same_truth true found h = h
@@ -46,15 +41,3 @@ pub left_within : (barren : List (List Atom)) (i : ℕ) (wider part : List Atom)
 left_within barren i wider part s low is within inside =
     list_any_at (λ x. is_in x s) barren i wider low
     (subst (λ (x : List Atom). is_in x s ≡ true) is (wider_in part wider s within inside))
-
-module _ (t : Test) (p : List Entry) (places : List Place) (whole : Test) where
-  pub no_lore : AsksFor t places [] whole → IsLore t p places whole []
-  no_lore asks = record { asks = asks; none = λ s is left. absurd (false≢true left) }
-
-  pub learned : (barren : List (List Atom)) (own : List Atom) → IsLore t p places whole barren
-      → ((s : List ℕ) → IsState t p places s → is_in own s ≡ true → ⊥) → IsLore t p places whole (barren ++ own ∷ [])
-  learned barren own lore empty = record {
-    asks = lore.asks;
-    none =
-        λ s is left. elim (left_cases barren own s left) [ inl before ↦ lore.none s is before | inr inside ↦ empty s is inside ];
-  }
