@@ -324,7 +324,7 @@ fn best(
 // ---- all of it
 
 /// The test that the bytes are, to be shared.
-fn read_shared(alloc: Global, bytes: &[u8]) -> Result<Arc<Test>, Fault>
+pub(crate) fn read_shared(alloc: Global, bytes: &[u8]) -> Result<Arc<Test>, Fault>
     ensures ok { IfOk result (λ test. Reads bytes.now (arc_value test)) }
     ensures test { IfOk result (λ test. IsTest (arc_value test)) }
     ensures err { IfErr result (λ f. f ≢ Fault.Memory → IsTestFault bytes.now f) }
@@ -385,7 +385,7 @@ fn bare_question(
 }
 
 /// What is found of a test that was judged as it is written.
-fn find_judged(
+pub(crate) fn find_judged(
     alloc: Global,
     purpose: Purpose,
     bytes: &[u8],
