@@ -9,12 +9,13 @@ use Rattle.fs_model.specs.Witness.{Witness}
 use Rattle.fs_litmus.specs.Faults.{IsTestFault}
 use Rattle.fs_litmus.specs.Reads.{Reads}
 use Rattle.fs_model_in_place.specs.InPlace.{emptied}
+use Rattle.fs_board_search.specs.Answers.{IsLimitFault}
 use Rattle.fs_app_place_order.specs.Place.{ArePricesOf}
 use Rattle.fs_app_place_order.proofs.Faults.{is_memory}
 use Rattle.fs_app_test.specs.declared.said.Kind.{Kind}
 use Rattle.fs_app_test.specs.declared.said.Kind.TheVariants.{Forbidden, Vacuous, Faulty}
 use Rattle.fs_app_test.specs.SaidVerdicts.{IsForbidden, IsTestedAs, Says}
-use Rattle.fs_app_audit.specs.Audit.{IsTested, IsUnansweredInPlace, IsFirstAuditFault, of_anew, of_places, of_test}
+use Rattle.fs_app_audit.specs.Audit.{IsTested, IsFirstAuditFault, of_anew, of_places, of_test}
 use Rattle.fs_app_audit.specs.InPlace.{offers_in_place}
 use Rattle.fs_app_audit.specs.declared.asked.Purpose.TheVariants.{Advise}
 use Rattle.fs_app_audit.proofs.FirstFaults.{audit-memory}
@@ -49,7 +50,7 @@ module _ (test prices : List ℕ) (limit : ℕ) (table : PriceTable) (priced : A
     (tested : IsTested t) where
   -- why there is nothing in place
   abbrev IsFaultInPlace : Fault → Type 0
-  IsFaultInPlace f = IsTestFault test f ⊎ ((u : Test) × IsSame u (emptied t) × IsUnansweredInPlace u (offers_in_place table t.codes) limit f)
+  IsFaultInPlace f = IsTestFault test f ⊎ ((u : Test) × IsSame u (emptied t) × IsLimitFault (record { test = u; offers = offers_in_place table t.codes }) limit f)
 
   pub fault-in-place : (f : Fault) → (f ≢ Memory → IsFaultInPlace f) → IsFirstAuditFault test prices limit f
   fault-in-place f h = elim (is_memory f) [

@@ -1,9 +1,9 @@
 -- What `audit` answers, in place and anew, and its fault.
-use Rattle.std.specs.Prelude.{◌≡◌, ◌⊎◌, ◌<◌, ◌==◌, ◌&&◌, ◌||◌, not, ℕ, Bool, true, false, Option, None, Some, is_none, List, [], ◌∷◌, ◌++◌, if◌then◌else◌}
+use Rattle.std.specs.Prelude.{◌≡◌, ◌⊎◌, ◌==◌, ◌&&◌, ◌||◌, not, ℕ, Bool, true, false, Option, None, Some, is_none, List, [], ◌∷◌, ◌++◌, if◌then◌else◌}
 use Rattle.std.specs.List.{flat_map, enumerate_from, list_all}
 use Rattle.fs_instr.specs.declared.instr.Instr.{Instr}
 use Rattle.fs_kinds.specs.declared.fault.Fault.{Fault}
-use Rattle.fs_kinds.specs.declared.fault.Fault.TheVariants.{Memory, NodeLimit}
+use Rattle.fs_kinds.specs.declared.fault.Fault.TheVariants.{Memory}
 use Rattle.fs_kinds.specs.declared.kind.Kind.{Kind as FenceKind}
 use Rattle.fs_kinds.specs.declared.placement.Entry.{Entry}
 use Rattle.fs_kinds.specs.declared.slot.Slot.{Slot}
@@ -18,10 +18,8 @@ use Rattle.fs_model.specs.Placed.{fits}
 use Rattle.fs_model.specs.Printed.{printed}
 use Rattle.fs_model.specs.Witness.{Witness}
 use Rattle.fs_model_in_place.specs.InPlace.{emptied}
-use Rattle.fs_board_offers.specs.Offers.{Offers}
 use Rattle.fs_board_offers.specs.Offers as offers
-use Rattle.fs_board_offers.specs.Sizes.{whole_tree}
-use Rattle.fs_cert_evidence.specs.CandidateFaults.{IsCandidateFault}
+use Rattle.fs_board_search.specs.Answers.{IsLimitFault}
 use Rattle.fs_cert_evidence.specs.Certificate.{IsLeastCost}
 use Rattle.fs_cert_evidence.specs.Sizes.{IsUnanswered}
 use Rattle.fs_app_io.specs.declared.status.Status.{Status}
@@ -226,16 +224,11 @@ pub data IsFirstFault (purpose : Purpose) (test prices : List ℕ) (limit : ℕ)
 abbrev pub IsFirstAnewFault : (test prices : List ℕ) (limit : ℕ) → Fault → Type 0
 IsFirstAnewFault = IsFirstFault Advise
 
--- why there is no answer in place: the tree of all placements may have more nodes than the limit, or the candidates
--- can't be listed
-abbrev pub IsUnansweredInPlace : Test → Offers → (limit : ℕ) → Fault → Type 0
-IsUnansweredInPlace t offers limit f = ((f ≡ NodeLimit) × (limit < whole_tree offers)) ⊎ IsCandidateFault t f
-
 -- the same faults; and where the test is forbidden as it is written, those of the search in place
 pub data IsFirstAuditFault (test prices : List ℕ) (limit : ℕ) : Fault → Type 0 where
   of_anew : {fault : Fault} → IsFirstAnewFault test prices limit fault → IsFirstAuditFault test prices limit fault
   of_places : {fault : Fault} (table : PriceTable) (t u : Test) → ArePricesOf prices table → Reads test t → IsTested t
-      → IsSame u (emptied t) → IsUnansweredInPlace u (offers_in_place table t.codes) limit fault
+      → IsSame u (emptied t) → IsLimitFault (record { test = u; offers = offers_in_place table t.codes }) limit fault
       → IsFirstAuditFault test prices limit fault
 
 abbrev pub IsFirstMendedFault : (test prices : List ℕ) (limit : ℕ) → Fault → Type 0

@@ -82,15 +82,19 @@ abbrev pub stays : Option ℕ → Advice
 stays None = Unpriced
 stays (Some price) = Needed
 
+-- of one that goes
+abbrev pub goes : (is_between : Bool) → Advice
+goes is_between = if is_between then NotNeeded else Idle
+
 -- of one of this kind where the placement has this
-abbrev pub advice_by : PriceTable → (own : Kind) → Option Kind → Advice
-advice_by prices own None = NotNeeded
-advice_by prices own (Some kind) = if no_stronger own kind then stays (price_of prices own) else Enough kind
+abbrev pub advice_by : PriceTable → (is_between : Bool) → (own : Kind) → Option Kind → Advice
+advice_by prices is_between own None = goes is_between
+advice_by prices is_between own (Some kind) = if no_stronger own kind then stays (price_of prices own) else Enough kind
 
 abbrev pub advice_there : PriceTable → List Entry → (hart : ℕ) → List Instr → (at : ℕ) → (own : Option Kind) → Option Advice
 advice_there prices p hart code at None = if is_at is_device_fence code at then Some Devices else None
 advice_there prices p hart code at (Some own) =
-    Some (if is_between_accesses code at then advice_by prices own (kind_at (slot_at hart at) p) else Idle)
+    Some (advice_by prices (is_between_accesses code at) own (kind_at (slot_at hart at) p))
 
 -- of instruction `at`
 abbrev pub advice_in_place : PriceTable → List Entry → (hart : ℕ) → List Instr → (at : ℕ) → Option Advice

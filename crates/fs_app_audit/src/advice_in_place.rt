@@ -2,7 +2,7 @@
 
 ghost use Rattle.std.specs.Prelude.{◌≡◌, ◌≤◌, ◌<◌, All, length};
 ghost use Rattle.fs_kinds.specs.Limits.{most_harts, most_instructions, most_numbered};
-ghost use Rattle.fs_app_audit.specs.InPlace.{advice_by, advice_there, advice_in_place, are_kept, is_kept_code, stays};
+ghost use Rattle.fs_app_audit.specs.InPlace.{advice_by, advice_there, advice_in_place, are_kept, goes, is_kept_code, stays};
 
 use crate::advice::{Advice, code_of, is_content, is_device_fence_at, kind_there};
 use crate::standing::is_between_accesses;
@@ -20,12 +20,23 @@ fn stays(price: Option<u32>) -> Advice
     }
 }
 
+/// Of a FENCE that goes, which stands between accesses or not.
+fn goes(is_between: bool) -> Advice
+    ensures { result ≡ goes is_between }
+{
+    if is_between {
+        Advice::NotNeeded
+    } else {
+        Advice::Idle
+    }
+}
+
 /// Of a FENCE of this kind where the placement has this.
-fn advice_by(prices: &Prices, own: Kind, kind: Option<Kind>) -> Advice
-    ensures { result ≡ advice_by prices.now own kind }
+fn advice_by(prices: &Prices, is_between: bool, own: Kind, kind: Option<Kind>) -> Advice
+    ensures { result ≡ advice_by prices.now is_between own kind }
 {
     let Some(kind) = kind else {
-        return Advice::NotNeeded;
+        return goes(is_between);
     };
     if own.no_stronger(kind) {
         stays(prices.of(own))
@@ -52,11 +63,9 @@ fn advice_there(
             None
         };
     };
-    if is_between_accesses(code, usize::from(at)) {
-        Some(advice_by(prices, own, placement.get(Slot { hart, at })))
-    } else {
-        Some(Advice::Idle)
-    }
+    let is_between = is_between_accesses(code, usize::from(at));
+    let kind = placement.get(Slot { hart, at });
+    Some(advice_by(prices, is_between, own, kind))
 }
 
 /// What is advised of instruction `at`, mostly nothing. Linear in the code's length, and in that of the placement.

@@ -7,18 +7,17 @@ ghost use Rattle.fs_model.specs.declared.test.Test.{Test as Tests};
 ghost use Rattle.fs_model.specs.Allows.{Allows};
 ghost use Rattle.fs_model.specs.Test.{IsBounded, IsSame, IsStart};
 ghost use Rattle.fs_board_offers.specs.Offers.{IsCheapest, IsPlacement};
+ghost use Rattle.fs_board_search.specs.Answers.{IsLimitFault};
 ghost use Rattle.fs_litmus.specs.Faults.{IsTestFault};
 ghost use Rattle.fs_litmus.specs.Reads.{Reads};
 ghost use Rattle.fs_model_in_place.specs.InPlace.{emptied};
 ghost use Rattle.fs_app_test.specs.SaidVerdicts.{IsForbidden};
-ghost use Rattle.fs_app_audit.specs.Audit.{IsUnansweredInPlace};
 ghost use Rattle.fs_app_audit.specs.InPlace.{offers_in_place};
 
 use crate::emptied;
 use crate::places::offers_in_place;
-use crate::stand_in::cheapest;
-use fs_board_offers::Offers;
-use fs_board_search::Problem;
+use fs_board_offers::{Offers, Question};
+use fs_board_search::{Unwatched, cheapest, problem_of};
 use fs_kinds::{Fault, Kind, Placement, Prices};
 use fs_litmus::{Test, read_test};
 use std::alloc::Global;
@@ -59,10 +58,13 @@ fn advised_of(
     requires some { (p : Items EntryValue) × IsPlacement offers p × (Allows (arc_value test.now) p → ⊥) }
     requires most { limit ≤ 1000000 }
     ensures ok { IfOk result (λ p. IsCheapest (arc_value test.now) offers p) }
-    ensures err { IfErr result (λ f. f ≢ Fault.Memory → IsUnansweredInPlace (arc_value test.now) offers limit f) }
+    ensures err { IfErr result (λ f. f ≢ Fault.Memory
+        → IsLimitFault (record { test = arc_value test.now; offers = offers }) limit f) }
 {
-    let problem = Problem::shared(alloc, Arc::try_clone(test)?)?;
-    let found = cheapest(alloc, offers, problem, limit)?;
+    let asked = Question::new(Arc::try_clone(test)?, offers);
+    let question = Arc::new(alloc, asked)?;
+    let problem = problem_of(alloc, &question)?;
+    let found = cheapest(alloc, question, problem, limit, &mut Unwatched)?;
     found.placement.copy()
 }
 
@@ -84,7 +86,7 @@ pub(crate) fn find_in_place(
         IsCheapest (arc_value found.empty) (offers_in_place prices.now own.now.codes) found.advised) }
     ensures fault { IfErr result (λ f. f ≢ Fault.Memory
         → IsTestFault bytes.now f ⊎ ((u : Tests) × IsSame u (emptied own.now)
-        × IsUnansweredInPlace u (offers_in_place prices.now own.now.codes) limit f)) }
+        × IsLimitFault (record { test = u; offers = offers_in_place prices.now own.now.codes }) limit f)) }
 {
     let codes = own.codes.as_slice();
     let _table = prices.of(Kind::RwRw);

@@ -19,7 +19,6 @@ mod removal;
 mod report;
 mod report_in_place;
 pub mod slices;
-mod stand_in;
 mod standing;
 
 pub use advice::Advice;

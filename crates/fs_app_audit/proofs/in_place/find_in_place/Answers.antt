@@ -2,7 +2,7 @@ use Rattle.std.proofs.Common.{◌≡◌, ◌∙◌, ap, inl, inr, subst}
 use Rattle.std.specs.Arc.{arc_value}
 use Rattle.fs_board_offers.specs.Offers.{Offers, IsCheapest}
 use Rattle.fs_app_place_order.proofs.Faults.{IfErr-handed}
-use Rattle.fs_app_audit.specs.Audit.{IsUnansweredInPlace}
+use Rattle.fs_board_search.specs.Answers.{IsLimitFault}
 use Rattle.fs_app_audit.specs.InPlace.{offers_in_place}
 use Rattle.fs_app_audit.proofs.Followed.{some_in_place}
 use Rattle.fs_app_audit.proofs.in_place.find_in_place.Goals as goal
@@ -19,7 +19,7 @@ returns-in_err-advised-clause-fault c =
     (λ other. inr (
       empty,
       c.in_ok-empty.ensures.same _ c.requires.reads,
-      subst (λ (os : Offers). IsUnansweredInPlace empty os c.args.limit _) is (c.in_err-advised.ensures.err other),
+      subst (λ (os : Offers). IsLimitFault (record { test = empty; offers = os }) c.args.limit _) is (c.in_err-advised.ensures.err other),
     ))
 
 pub advised_of-requires-clause-some : goal.advised_of-requires-clause-some
