@@ -1,6 +1,8 @@
 -- What is so of a test whose FENCEs order no memory.
-use Rattle.std.proofs.Common.{◌≡◌, ℕ, Bool, List, sym, subst}
+use Rattle.std.proofs.Common.{◌≡◌, ℕ, Bool, Option, None, Some, List, sym, subst}
+use Rattle.fs_kinds.specs.declared.kind.Kind.{Kind}
 use Rattle.fs_kinds.specs.declared.placement.Entry.{Entry}
+use Rattle.fs_kinds.specs.Placement.{kind_at, with_kind}
 use Rattle.fs_model.specs.declared.test.Test.{Test}
 use Rattle.fs_model.specs.Allows.{Allows, no_fences}
 use Rattle.fs_model.specs.Test.{IsSame}
@@ -13,6 +15,7 @@ use Rattle.fs_model_laws.proofs.FencedSame.{shows_same}
 use Rattle.fs_kinds.specs.PriceTable.{PriceTable, IsPriceTable}
 use Rattle.fs_board_offers.specs.Offers.{Offers, IsPlacement}
 use Rattle.fs_app_audit.specs.InPlace.{offers_in_place}
+use Rattle.fs_app_audit.proofs.Needed.{each-needed}
 use Rattle.fs_app_audit.proofs.Offered.{written_placement}
 use Rattle.fs_app_io.specs.declared.status.Status.{Status}
 use Rattle.fs_app_audit.specs.Audit.{IsInPlace}
@@ -52,3 +55,11 @@ lines_ruled_out test prices text status in_place lines =
     let f = in_place.findings in
     let weaker = keeps_no_more f.prices f.test in_place.advised in_place.cheapest.placement in
     ruled_out test prices text status in_place (followed lines f.test in_place.advised) (is_followed lines in_place.advised f.test weaker)
+
+-- what stays is needed
+pub needed : (test prices text : List ℕ) (status : Status) (in_place : IsInPlace test prices text status) (place : Slot) (kind : Kind)
+    → kind_at place in_place.advised ≡ Some kind → Allows (emptied in_place.findings.test) (with_kind place None in_place.advised)
+needed test prices text status in_place place kind at =
+    let f = in_place.findings in
+    allowed_alike in_place.empty (emptied f.test) (with_kind place None in_place.advised) in_place.same
+    (each-needed in_place.empty (offers_in_place f.prices f.test.codes) in_place.advised place kind in_place.cheapest at)

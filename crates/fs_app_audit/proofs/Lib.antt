@@ -9,3 +9,4 @@ pub mod Offered
 pub mod Followed
 pub mod Weaker
 pub mod Answered
+pub mod Needed

@@ -1,10 +1,12 @@
 //! What the lines of `audit` are good for.
 
-ghost use Rattle.std.specs.Prelude.{ℕ, Bool, List};
+ghost use Rattle.std.specs.Prelude.{◌≡◌, ℕ, Bool, List, None, Some};
+ghost use Rattle.fs_kinds.specs.declared.kind.Kind.{Kind};
 ghost use Rattle.fs_kinds.specs.declared.slot.Slot.{Slot};
+ghost use Rattle.fs_kinds.specs.Placement.{kind_at, with_kind};
 ghost use Rattle.fs_model.specs.declared.test.Test.{Test};
 ghost use Rattle.fs_model.specs.Allows.{Allows, no_fences};
-ghost use Rattle.fs_model_in_place.specs.InPlace.{IsFollowed, followed};
+ghost use Rattle.fs_model_in_place.specs.InPlace.{IsFollowed, emptied, followed};
 ghost use Rattle.fs_app_io.specs.declared.status.Status.{Status};
 ghost use Rattle.fs_app_audit.specs.Audit.{IsInPlace};
 
@@ -18,4 +20,12 @@ pub fn lines_can_be_followed()
     ensures alike { (test prices text : List ℕ) (status : Status) (in_place : IsInPlace test prices text status)
         (u : Test)
         → IsFollowed in_place.findings.test in_place.advised u → Allows u (no_fences u) → ⊥ }
+{}
+
+/// A law: each fence that `audit` advises in place of a FENCE is needed, be it the FENCE or a weaker kind. Without it, the
+/// others as advised, some execution shows the outcome.
+pub fn advised_fences_are_needed()
+    ensures { (test prices text : List ℕ) (status : Status) (in_place : IsInPlace test prices text status) (place : Slot)
+        (kind : Kind) → kind_at place in_place.advised ≡ Some kind
+        → Allows (emptied in_place.findings.test) (with_kind place None in_place.advised) }
 {}

@@ -26,5 +26,5 @@ pub use asked::Purpose;
 pub use audit::{run_anew, run_audit, run_mended};
 pub use easing::eased;
 pub use emptying::emptied;
-pub use laws::lines_can_be_followed;
+pub use laws::{advised_fences_are_needed, lines_can_be_followed};
 pub use removal::{is_fence, memory_kind, names_devices, position, unfenced};

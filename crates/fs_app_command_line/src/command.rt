@@ -220,9 +220,10 @@ Behind these words `for memory` stands where a FENCE has i or o among its letter
 orders of devices isn't judged. `(no price)` stands where PRICES lack the kind of a FENCE
 that stays: it costs what the cheapest kind does that orders as much.
 
-Follow all of the lines or some: the outcome stays ruled out. As many FENCEs stay as they
-are as the least cost allows. Lines and instructions are those of the file; instructions
-count from 0, FENCEs too. Weights of PRICES go by instructions of the test without FENCEs.
+Follow all of the lines or some: the outcome stays ruled out. Where several fences cost
+the least, FENCEs stay as they are first. Lines and instructions are those of the file;
+instructions count from 0, FENCEs too. Weights of PRICES go by instructions of the test
+without FENCEs.
 
 Where the outcome can happen as the test is written, and with --anew, the test without its
 FENCEs is searched as by `solve`, and the lines compare: `K instead` advises a kind of which
