@@ -354,10 +354,15 @@ def compare(run, name, wanted, files, text, *words):
     run.check(name, wanted == found, f"{text}\nwanted: {wanted}\nfound:  {found}")
 
 
-def check_followed(run, name, files, columns, changed, chance):
+def left_over(lines):
+    """What is said in the lines by which a fence changes."""
+    return [line[28:] for line in lines if not re.search(STAYS, line)]
+
+
+def check_followed(run, name, files, columns, changed, said):
     """Follows each line by itself, all of them, and sets of them by chance: the outcome stays ruled out, and the lines
     that are left say the same."""
-    places = list(changed)
+    places, chance = list(changed), random.Random(name)
     sets = [[place] for place in places] + [places] * (len(places) > 1)
     sets += [chance.sample(places, chance.randint(2, len(places) - 1)) for _ in range(3) if len(places) > 2]
     for chosen in sets:
@@ -365,10 +370,10 @@ def check_followed(run, name, files, columns, changed, chance):
         file = written(files[0].replace("test.litmus", "followed.litmus"), text.text())
         verdict = rvfence("test", file).out.split()
         run.expect(f"{name}: {chosen} followed", "forbidden", verdict[1] if len(verdict) > 1 else "")
-        if len(chosen) == len(places):
+        if len(chosen) > 1 or len(places) == 1:
             again = rvfence("audit", "-q", file, files[1])
-            left = [line for line in again.out.splitlines()[1:] if not re.search(STAYS, line)]
-            run.expect(f"{name}: audited again", [], left)
+            left = [words for place, words in zip(places, left_over(said)) if place not in chosen]
+            run.expect(f"{name}: {chosen} audited again", left, left_over(again.out.splitlines()[1:]))
 
 
 def check_in_place(run, name, files, columns, kind, prices, wanted):
@@ -386,7 +391,7 @@ def check_in_place(run, name, files, columns, kind, prices, wanted):
         said, changed = in_place(columns, model.prices_of(prices), anew)
         compare(run, f"{name} in place", said, files, text)
         run.kinds.update("in place: " + re.sub("^[rwtso]+,?[rw]* ", "K ", line[28:]) for line in said[0][1:])
-        check_followed(run, name, files, columns, changed, random.Random(name))
+        check_followed(run, name, files, columns, changed, said[0][1:])
 
 
 def check(run):
