@@ -263,11 +263,11 @@ class Breaks:
         return tuple(options[number] for options, number in zip(self.options, best[0][1])) if 0 in best else None
 
 
-def solved(problem, breaking=Breaks):
+def solved(problem):
     """The first cheapest placement that forbids the outcome; or None. Each round takes the best placement that breaks
     all executions known so far. Where it leaves a candidate without a cycle that is an execution more to break; else
     it forbids the outcome, and nothing better does, since that would leave one of the known executions."""
-    breaks = breaking(problem)
+    breaks = Breaks(problem)
     while True:
         placement = breaks.cheapest()
         live = None if placement is None else problem.survivor(placement)

@@ -265,22 +265,10 @@ class Places(reference.Problem):
         return f"not needed{about}" if advised is None else f"{advised} is enough{about}"
 
 
-class PlacedBreaks(reference.Breaks):
-    """The same where each place has options of its own."""
-
-    def add(self, kept):
-        self.executions.append([{kind for kind in self.problem.options(at) if kind and not model.PAIRS[kind] <= pairs}
-                                for at, pairs in enumerate(kept)])
-
-    def useful(self, at, left):
-        self.options = self.problem.options(at)
-        return super().useful(at, left)
-
-
 def in_place(columns, prices, anew):
     """What is to be printed in place, and what is advised in each place of which a line says to change something."""
     places, lines = Places(columns, prices), columns.lines()
-    best = dict(zip(places.cells, reference.solved(places, PlacedBreaks)))
+    best = dict(zip(places.cells, reference.solved(places)))
     costs = places.cost(places.written()), places.cost(best.values()), anew
     said = ["forbidden as written, %d; in place %d; anew %s" % costs]
     for hart in places.harts:

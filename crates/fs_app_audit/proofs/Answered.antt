@@ -1,5 +1,5 @@
 -- What is said of a test as it is written, and which answer that makes.
-use Rattle.std.proofs.Common.{◌≡◌, ◌≢◌, ◌⊎◌, ℕ, List, Option, None, Some, inl, inr, subst}
+use Rattle.std.proofs.Common.{◌≡◌, ◌≢◌, ◌⊎◌, ℕ, List, Option, None, Some, Result, Ok, Err, IfErr, IsOkUnless, inl, inr, sym, subst}
 use Rattle.fs_kinds.specs.declared.fault.Fault.{Fault}
 use Rattle.fs_kinds.specs.declared.fault.Fault.TheVariants.{Memory}
 use Rattle.fs_kinds.specs.PriceTable.{PriceTable}
@@ -15,7 +15,7 @@ use Rattle.fs_app_place_order.proofs.Faults.{is_memory}
 use Rattle.fs_app_test.specs.declared.said.Kind.{Kind}
 use Rattle.fs_app_test.specs.declared.said.Kind.TheVariants.{Forbidden, Vacuous, Faulty}
 use Rattle.fs_app_test.specs.SaidVerdicts.{IsForbidden, IsTestedAs, Says}
-use Rattle.fs_app_audit.specs.Audit.{IsTested, IsFirstAuditFault, of_anew, of_places, of_test}
+use Rattle.fs_app_audit.specs.Audit.{IsTested, IsFirstAuditFault, of_anew, of_memory, of_places, of_test}
 use Rattle.fs_app_audit.specs.InPlace.{offers_in_place}
 use Rattle.fs_app_audit.specs.declared.asked.Purpose.TheVariants.{Advise}
 use Rattle.fs_app_audit.proofs.FirstFaults.{audit-memory}
@@ -45,6 +45,11 @@ pub never_faulty : (t : Test) (k : Kind) (why : List ℕ) (w : Option Witness) �
 never_faulty t k why w is h = says_fault t why w (subst (λ (j : Kind). IsTestedAs t j why w) is h).says
 
 -- ---- faults
+
+pub memory-audited : {T : Type 0} (test : List ℕ) (limit : ℕ) (table : PriceTable) (r : Result T Fault) → IsOkUnless r Memory
+    → IfErr r (λ f. (prices : List ℕ) → ArePricesOf prices table → IsFirstAuditFault test prices limit f)
+memory-audited test limit table (Ok x) h = tt
+memory-audited test limit table (Err f) h = λ prices priced. subst (IsFirstAuditFault test prices limit) (sym h) (of_anew of_memory)
 
 module _ (test prices : List ℕ) (limit : ℕ) (table : PriceTable) (priced : ArePricesOf prices table) (t : Test) (reads : Reads test t)
     (tested : IsTested t) where

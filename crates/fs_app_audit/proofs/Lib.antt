@@ -10,3 +10,4 @@ pub mod Followed
 pub mod Weaker
 pub mod Answered
 pub mod Needed
+pub mod Shown

@@ -97,8 +97,10 @@ module _ (offers : Offers) (s : Slot) where
   unfolding bare
   less-by e p kind true same at paid rest =
       let own = own-cost e kind same at in
-      sum-less _ (entry_cost offers e) _ _ refl (omega (arith, own, paid)) (cost-no-more p)
-  less-by e p kind false same at paid rest = sum-later (entry_cost offers e) (entry_cost offers e) _ _ refl (rest at)
+      let paid-here : 0 < entry_cost offers e = omega (arith, own, paid) in
+      sum-less 0 (entry_cost offers e) (cost offers (with_kind s None p)) (cost offers p) refl paid-here (cost-no-more p)
+  less-by e p kind false same at paid rest =
+      sum-later (entry_cost offers e) (entry_cost offers e) (cost offers (with_kind s None p)) (cost offers p) refl (rest at)
 
   less : (p : List Entry) (kind : Kind) → kind_at s p ≡ Some kind → 0 < kind_cost (offer_at offers s) (Some kind)
       → cost offers (with_kind s None p) < cost offers p
@@ -120,8 +122,10 @@ module _ (offers : Offers) (s : Slot) where
   earlier-by e p kind true same at free rest =
       let own = own-rank e kind same at in
       let behind = late (is_kind (offer_at offers s).written kind) (kind_cost (offer_at offers s) (Some kind)) (table_index kind) free in
-      first-less _ _ (precedes offers (with_kind s None p) p) (omega (arith, own, behind))
-  earlier-by e p kind false same at free rest = first-same _ _ (precedes offers (with_kind s None p) p) refl (rest at)
+      let earlier-here : 1 < rank_at offers e = omega (arith, own, behind) in
+      first-less 1 (rank_at offers e) (precedes offers (with_kind s None p) p) earlier-here
+  earlier-by e p kind false same at free rest =
+      first-same (rank_at offers e) (rank_at offers e) (precedes offers (with_kind s None p) p) refl (rest at)
 
   earlier : (p : List Entry) (kind : Kind) → kind_at s p ≡ Some kind → kind_cost (offer_at offers s) (Some kind) ≡ 0
       → precedes offers (with_kind s None p) p ≡ true
@@ -134,7 +138,9 @@ module _ (offers : Offers) (s : Slot) where
   better-by : (p : List Entry) (kind : Kind) (n : ℕ) → kind_cost (offer_at offers s) (Some kind) ≡ n → kind_at s p ≡ Some kind
       → is_better offers (with_kind s None p) p ≡ true
   better-by p kind zero is at = no-more _ _ (precedes offers (with_kind s None p) p) (cost-no-more p) (earlier p kind at is)
-  better-by p kind (suc n) is at = first-less _ _ (precedes offers (with_kind s None p) p) (less p kind at (omega (arith, is)))
+  better-by p kind (suc n) is at =
+      let paid : 0 < kind_cost (offer_at offers s) (Some kind) = omega (arith, is) in
+      first-less (cost offers (with_kind s None p)) (cost offers p) (precedes offers (with_kind s None p) p) (less p kind at paid)
 
   bare-placement : (p : List Entry) → IsPlacement offers p → IsPlacement offers (with_kind s None p)
   bare-placement p is = record { slots = slots_of-with_kind s None p ∙ is.slots; offered = offered-bare p is.offered }

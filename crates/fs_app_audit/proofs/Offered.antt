@@ -28,6 +28,19 @@ pub some_weighed : (w : ℕ) (price : Option ℕ) → is_some (weighed w price) 
 some_weighed w None = refl
 some_weighed w (Some n) = refl
 
+-- what may stand in a place that weighs this, of a FENCE of this kind
+abbrev offer_with : PriceTable → Slot → (weight : ℕ) → (own : Option Kind) → Offer
+offer_with prices s weight own = record {
+  slot = s;
+  costs = map (λ kind. weighed weight (price_in_place prices own kind)) all_kinds;
+  written = own;
+}
+
+pub offer_same : (prices : PriceTable) (codes : List (List Instr)) (s : Slot) (weight : ℕ) (own : Option Kind)
+    → weight ≡ weight_in_place prices codes s → own ≡ written_at codes s → offer_with prices s weight own ≡ offer_in_place prices codes s
+offer_same prices codes s weight own weighs is =
+    ap (λ n. offer_with prices s n own) weighs ∙ ap (offer_with prices s (weight_in_place prices codes s)) is
+
 module _ (prices : PriceTable) (codes : List (List Instr)) where
   pub price_there : (s : Slot) (kind : Kind) → price_of (offer_in_place prices codes s) kind
       ≡ weighed (weight_in_place prices codes s) (price_in_place prices (written_at codes s) kind)
@@ -128,7 +141,7 @@ module _ (prices : PriceTable) (table : IsPriceTable prices) where
   above_top Tso = refl
 
   is_there : (o : Option ℕ) → IsSome o → is_some o ≡ true
-  is_there None h = absurd h
+  is_there None h = absurd (false≢true h)
   is_there (Some n) h = refl
 
   some_written : (own : Kind) → is_some (written_price prices own) ≡ true

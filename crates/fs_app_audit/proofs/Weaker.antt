@@ -1,5 +1,5 @@
 -- What is offered in a place orders no more than the FENCE that is written there.
-use Rattle.std.proofs.Common.{◌≡◌, ◌∙◌, Bool, true, false, not, cond, Option, None, Some, is_some, unwrap_or, List, [], ◌∷◌, map, refl, ap, sym, subst, if◌then◌else◌}
+use Rattle.std.proofs.Common.{◌≡◌, ◌∙◌, ℕ, Bool, true, false, not, cond, Option, None, Some, is_some, unwrap_or, List, [], ◌∷◌, map, refl, ap, sym, subst, if◌then◌else◌}
 use Rattle.std.specs.Prelude.{option_and_then}
 use Rattle.std.specs.List.{find}
 use Rattle.std.proofs.lemmas.Bool.{and_parts, false≢true}
@@ -46,7 +46,7 @@ placed_offered offers (e ∷ p) s kind all is =
 -- ---- in places
 
 module _ (prices : PriceTable) (codes : List (List Instr)) where
-  weaker_by : (own kind : Kind) (c : Bool) (rest : _) → no_stronger kind own ≡ c → is_some (if not c then None else rest) ≡ true
+  weaker_by : (own kind : Kind) (c : Bool) (rest : Option ℕ) → no_stronger kind own ≡ c → is_some (if not c then None else rest) ≡ true
       → no_stronger kind own ≡ true
   weaker_by own kind true rest is h = is
   weaker_by own kind false rest is h = absurd (false≢true h)
@@ -57,7 +57,7 @@ module _ (prices : PriceTable) (codes : List (List Instr)) where
       (if no_stronger own kind then written_price prices own else priced.price_of prices kind) refl h
 
   kept_by : (own : Option Kind) (kind : Kind) → is_some (price_in_place prices own kind) ≡ true → IsKept (Some kind) own
-  kept_by None kind h = absurd (false≢true h)
+  kept_by None kind h pair kept = absurd (false≢true h)
   kept_by (Some own) kind h pair kept = subset_at (pairs_of kind) (pairs_of own) (below_weaker own kind h) pair kept
 
   offer_kept : (s : Slot) (kind : Kind) → is_some (price_of (offer_in_place prices codes s) kind) ≡ true → IsKept (Some kind) (written_at codes s)
@@ -83,8 +83,8 @@ module _ (prices : PriceTable) (codes : List (List Instr)) where
   kept_at : (p : List Entry) → are_offered (offers_in_place prices codes) p ≡ true → (s : Slot) (o : Option Kind) → kind_at s p ≡ o
       → IsKept o (written_at codes s)
   kept_at p all s None is pair kept = absurd (false≢true kept)
-  kept_at p all s (Some kind) is =
-      offer_kept s kind (offered_there (places codes) s kind (placed_offered (offers_in_place prices codes) p s kind all is))
+  kept_at p all s (Some kind) is pair kept =
+      offer_kept s kind (offered_there (places codes) s kind (placed_offered (offers_in_place prices codes) p s kind all is)) pair kept
 
 pub keeps_no_more : (prices : PriceTable) (t : Test) (p : List Entry) → IsPlacement (offers_in_place prices t.codes) p
     → KeepsNoMore p (as_written t)

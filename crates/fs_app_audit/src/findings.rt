@@ -401,6 +401,9 @@ pub(crate) fn find_judged(
     requires most { limit ≤ 1000000 }
     ensures found { IfOk result (λ found. (file : Items ℕ) → ArePricesOf file prices
         → AreFound purpose bytes.now file (findings_of found)) }
+    ensures own { IfOk result (λ found. arc_value found.written.test ≡ arc_value written.test) }
+    ensures kind { IfOk result (λ found. found.written.kind ≡ written.kind) }
+    ensures prices { IfOk result (λ found. (arc_value found.question).prices ≡ prices) }
     ensures sound { IfOk result IsSound }
     ensures fault { IfErr result (λ f. (file : Items ℕ) → ArePricesOf file prices
         → IsFirstFault purpose bytes.now file limit f) }

@@ -20,7 +20,7 @@ use fs_board_offers::{Offers, Question};
 use fs_board_search::{Unwatched, cheapest, problem_of};
 use fs_kinds::{Fault, Kind, Placement, Prices};
 use fs_litmus::{Test, read_test};
-use std::alloc::Global;
+use std::alloc::{AllocError, Global};
 use std::sync::Arc;
 
 /// What was found in place.
@@ -46,6 +46,34 @@ fn read_emptied(alloc: Global, bytes: &[u8]) -> Result<Arc<Test>, Fault>
     Ok(Arc::new(alloc, made)?)
 }
 
+/// The first of the cheapest of the offers of a question that rule the outcome out, where some do.
+fn searched(alloc: Global, question: Arc<Question>, limit: usize) -> Result<Placement, Fault>
+    requires bounded { IsBounded (arc_value question).test }
+    requires starts { All IsStart (arc_value question).test.starts }
+    requires some { (p : Items EntryValue) × IsPlacement (arc_value question).offers p
+        × (Allows (arc_value question).test p → ⊥) }
+    requires most { limit ≤ 1000000 }
+    ensures ok { IfOk result (λ p. IsCheapest (arc_value question).test (arc_value question).offers p) }
+    ensures err { IfErr result (λ f. f ≢ Fault.Memory → IsLimitFault (arc_value question) limit f) }
+{
+    let problem = problem_of(alloc, &question)?;
+    let found = cheapest(alloc, question, problem, limit, &mut Unwatched)?;
+    found.placement.copy()
+}
+
+/// The test with these offers.
+fn asked_in_place(
+    alloc: Global,
+    test: &Arc<Test>,
+    offers: Offers,
+) -> Result<Arc<Question>, AllocError>
+    ensures { IfOk result (λ question. arc_value question
+        ≡ record { test = arc_value test.now; offers = offers }) }
+{
+    let test = Arc::try_clone(test)?;
+    Ok(Arc::new(alloc, Question::new(test, offers))?)
+}
+
 /// The first of the cheapest of these offers that rule the outcome out, where some do.
 fn advised_of(
     alloc: Global,
@@ -61,11 +89,8 @@ fn advised_of(
     ensures err { IfErr result (λ f. f ≢ Fault.Memory
         → IsLimitFault (record { test = arc_value test.now; offers = offers }) limit f) }
 {
-    let asked = Question::new(Arc::try_clone(test)?, offers);
-    let question = Arc::new(alloc, asked)?;
-    let problem = problem_of(alloc, &question)?;
-    let found = cheapest(alloc, question, problem, limit, &mut Unwatched)?;
-    found.placement.copy()
+    let question = asked_in_place(alloc, test, offers)?;
+    searched(alloc, question, limit)
 }
 
 /// What is found in place of a test that is forbidden as it is written, at these prices.

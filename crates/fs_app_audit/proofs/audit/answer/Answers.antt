@@ -4,7 +4,7 @@ use Rattle.std.proofs.lemmas.Result.{IfErr-weaker, IfOk-weaker}
 use Rattle.fs_app_test.specs.declared.said.Kind.{Kind}
 use Rattle.fs_app_test.specs.SaidVerdicts.{IsTestedAs, witness_in}
 use Rattle.fs_app_audit.specs.Audit.{of_forbidden, of_allowed, of_anew}
-use Rattle.fs_app_audit.proofs.Answered.{never_faulty}
+use Rattle.fs_app_audit.proofs.Answered.{memory-audited, never_faulty}
 use Rattle.fs_app_audit.proofs.audit.answer.Goals as goal
 
 pub answer_in_place-requires-clause-tested : goal.answer_in_place-requires-clause-tested
@@ -37,3 +37,7 @@ returns-in-Allowed-clause-fault c =
 
 pub unreachable-requires : goal.unreachable-requires
 unreachable-requires c = absurd (never_faulty _ _ _ _ c.in-Faulty.is c.requires.tested)
+
+pub returns-in-Vacuous-clause-fault : goal.returns-in-Vacuous-clause-fault
+returns-in-Vacuous-clause-fault c =
+    memory-audited c.args.bytes.now c.args.limit c.args.prices c.answer_vacuous.result c.answer_vacuous.ensures.err
