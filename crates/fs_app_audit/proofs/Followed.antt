@@ -1,5 +1,5 @@
 -- What is so of a test whose FENCEs order no memory.
-use Rattle.std.proofs.Common.{◌≡◌, ℕ, Bool, Option, None, Some, List, sym, subst}
+use Rattle.std.proofs.Common.{◌≡◌, ℕ, Bool, None, Some, List, sym, subst}
 use Rattle.fs_kinds.specs.declared.kind.Kind.{Kind}
 use Rattle.fs_kinds.specs.declared.placement.Entry.{Entry}
 use Rattle.fs_kinds.specs.Placement.{kind_at, with_kind}

@@ -1,5 +1,5 @@
 -- Fences in places without one of them are better.
-use Rattle.std.proofs.Common.{◌≡◌, ◌∙◌, ℕ, zero, suc, ◌+◌, ◌<◌, ◌≤◌, ◌&&◌, nat_lt, Bool, true, false, cond, Option, None, Some, List, [], ◌∷◌, inl, inr, refl, ap, sym, arith, if◌then◌else◌}
+use Rattle.std.proofs.Common.{◌≡◌, ◌∙◌, ℕ, zero, suc, ◌+◌, ◌<◌, ◌≤◌, ◌&&◌, nat_lt, Bool, true, false, cond, Option, None, Some, List, [], ◌∷◌, inl, inr, refl, ap, arith, if◌then◌else◌}
 use Rattle.std.specs.Prelude.{option_and_then}
 use Rattle.std.specs.List.{find}
 use Rattle.std.proofs.lemmas.Bool.{and_from, and_parts}
@@ -15,7 +15,7 @@ use Rattle.fs_model.specs.declared.test.Test.{Test}
 use Rattle.fs_model.specs.Allows.{Allows}
 use Rattle.fs_model_laws.proofs.PlacedPairs.{same_slot}
 use Rattle.fs_model_laws.proofs.Ranked.{by_first, first-less, first-same, order}
-use Rattle.fs_board_offers.specs.Offers.{Offer, Offers, IsCheapest, IsPlacement, are_offered, cost, entry_cost, is_better, is_kind, is_offered, kind_cost, offer_at, precedes, rank_at, rank_in}
+use Rattle.fs_board_offers.specs.Offers.{Offers, IsCheapest, IsPlacement, are_offered, cost, entry_cost, is_better, is_kind, is_offered, kind_cost, offer_at, precedes, rank_at, rank_in}
 
 -- a first number that is no greater, and then a test that holds
 no-more : (m n : ℕ) (b : Bool) → m ≤ n → b ≡ true → by_first m n b ≡ true

@@ -16,7 +16,7 @@ use Rattle.fs_model.specs.Printed.{ended}
 use Rattle.fs_model.specs.Slots.{slot_at}
 use Rattle.fs_model_in_place.specs.InPlace.{kind_there, places, written_at}
 use Rattle.fs_board_offers.specs.Breaks.{least_of}
-use Rattle.fs_board_offers.specs.Offers.{Offer, Offers, cost, kind_cost}
+use Rattle.fs_board_offers.specs.Offers.{Offer, Offers, kind_cost}
 use Rattle.fs_app_io.specs.declared.status.Status.{Status}
 use Rattle.fs_app_io.specs.declared.status.Status.TheVariants as status
 use Rattle.fs_app_audit.specs.Standing.{access_after, is_at, is_between_accesses}

@@ -2,7 +2,8 @@
 
 ghost use Rattle.std.specs.Prelude.{◌≡◌, ◌≤◌, ◌<◌, All, length};
 ghost use Rattle.fs_kinds.specs.Limits.{most_harts, most_instructions, most_numbered};
-ghost use Rattle.fs_app_audit.specs.InPlace.{advice_by, advice_there, advice_in_place, are_kept, goes, is_kept_code, stays};
+ghost use Rattle.fs_app_audit.specs.InPlace.{advice_by, advice_there, advice_in_place, are_kept, goes, is_kept_code};
+ghost use Rattle.fs_app_audit.specs.InPlace.{stays};
 
 use crate::advice::{Advice, code_of, is_content, is_device_fence_at, kind_there};
 use crate::standing::is_between_accesses;

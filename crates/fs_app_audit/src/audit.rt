@@ -11,7 +11,8 @@ ghost use Rattle.fs_model.specs.Witness.{Witness as Shown};
 ghost use Rattle.fs_litmus.specs.Reads.{Reads};
 ghost use Rattle.fs_app_place_order.specs.Place.{ArePricesOf};
 ghost use Rattle.fs_app_test.specs.SaidVerdicts.{IsTestedAs, witness_in};
-ghost use Rattle.fs_app_audit.specs.Audit.{IsAnew, IsAudited, IsInPlace, IsMended, audit_text, fenced_text, in_place_text};
+ghost use Rattle.fs_app_audit.specs.Audit.{IsAnew, IsAudited, IsInPlace, IsMended, audit_text, fenced_text};
+ghost use Rattle.fs_app_audit.specs.Audit.{in_place_text};
 ghost use Rattle.fs_app_audit.specs.Audit.{IsFirstAnewFault, IsFirstAuditFault, IsFirstMendedFault};
 ghost use Rattle.fs_app_audit.specs.InPlace.{in_place_status, offers_in_place, vacuous_line, written_cost};
 ghost use Rattle.fs_app_audit.specs.Report.{audit_status};
@@ -32,17 +33,17 @@ use std::sync::Arc;
 
 /// What `audit` prints in place, for a test file and a file of prices, of a test that is forbidden as it is written. In
 /// the places of its FENCEs that order memory those fences are found that rule the outcome out at the least cost; there
-/// may stand none, the FENCE that is written, and each kind with a price that orders less. Of several cheapest ones they
-/// are those that differ first in that a FENCE stays that costs something, or else in that none stands there. A first
-/// line has what the FENCEs cost as they are written, what these fences cost, and what the cheapest fences that
+/// may stand none, the FENCE that is written, and each kind with a price that orders less. Of several cheapest ones
+/// they are those that differ first in that a FENCE stays that costs something, or else in that none stands there. A
+/// first line has what the FENCEs cost as they are written, what these fences cost, and what the cheapest fences that
 /// `run_anew` finds. Then comes a line for each FENCE, by hart and place. The status is 0 where each stays, else 1.
 ///
 /// Of a test that is vacuous one line says what its FENCEs cost, and why; the status is 4. Of one whose outcome is
 /// possible the answer is that of `run_anew`. The files are bytes as they were read. One worker searches, and the call
 /// ends.
 ///
-/// The faults are those of `run_anew`, and in place those of the search of the test in which FENCEs order no memory. The
-/// cost is that of `run_anew`, of reading the test once more, and of the search in place.
+/// The faults are those of `run_anew`, and in place those of the search of the test in which FENCEs order no memory.
+/// The cost is that of `run_anew`, of reading the test once more, and of the search in place.
 pub fn run_audit(alloc: Global, test: &[u8], prices: &[u8], limit: usize) -> Result<Output, Fault>
     requires least { 1 ≤ limit }
     requires most { limit ≤ 1000000 }
@@ -188,12 +189,12 @@ fn answer_anew(
 }
 
 /// What `audit --anew` prints for a test file and a file of prices. Its FENCE instructions that order memory are taken
-/// out, or order none where they name devices, and fences are found that rule the outcome out over the slots of that test, and
-/// of which none cost less: those that are written, as far as each stands at a slot, if they do and each of them costs
-/// something; or else the first of the cheapest. A first line says whether the outcome is possible as the test is
-/// written, what its FENCEs cost, where each stands at a slot of its own with a kind that has a price, and what the
-/// cheapest fences cost. Then come a line for each FENCE and for each fence that is missing, by hart and place, with
-/// the line of the file. The status is 4 where the outcome is vacuous, else 1 where it is possible or there is
+/// out, or order none where they name devices, and fences are found that rule the outcome out over the slots of that
+/// test, and of which none cost less: those that are written, as far as each stands at a slot, if they do and each of
+/// them costs something; or else the first of the cheapest. A first line says whether the outcome is possible as the
+/// test is written, what its FENCEs cost, where each stands at a slot of its own with a kind that has a price, and what
+/// the cheapest fences cost. Then come a line for each FENCE and for each fence that is missing, by hart and place,
+/// with the line of the file. The status is 4 where the outcome is vacuous, else 1 where it is possible or there is
 /// something to change, else 0. The files are bytes as they were read. One worker searches, and the call ends.
 ///
 /// The first fault in this order: `BadPrices` and `NoTop`; those of a test file by number and then line; those of

@@ -1,4 +1,4 @@
-use Rattle.std.proofs.Common.{◌≡◌, ◌∙◌, ap, sym, subst}
+use Rattle.std.proofs.Common.{◌∙◌, ap, sym, subst}
 use Rattle.std.specs.Arc.{arc_value}
 use Rattle.fs_kinds.specs.PriceTable.{PriceTable}
 use Rattle.fs_model.specs.declared.test.Test.{Test}
@@ -66,4 +66,4 @@ returns-clause-answer c = λ file priced. (
       shown = c.in_ok-output_in_place.ensures.text;
       ends = c.in_ok-output_in_place.ensures.status;
     }
-)
+    )

@@ -8,7 +8,7 @@ use Rattle.fs_app_audit.proofs.audit.output_in_place.Goals as goal
 
 pub returns-clause-text : goal.returns-clause-text
 returns-clause-text c =
-    let table = ap (λ (q : Priced). q.prices) c.deref.ensures in
+    let table = ap (λ (q : Priced). q.prices) (c.behind-found.view_is ∙ c.deref.ensures) in
     let codes = c.as_slice-codes.ensures ∙ ap (λ (t : Test). t.codes) c.deref-2.ensures in
     let all = c.written_cost-written.ensures.value ∙ ap written_cost c.as_slice.ensures.value in
     c.in_ok-push_str.ensures.bytes

@@ -1,4 +1,4 @@
-use Rattle.std.proofs.Common.{◌≡◌, ◌≢◌, List, sym, subst}
+use Rattle.std.proofs.Common.{◌≢◌, List, sym, subst}
 use Rattle.std.specs.Prelude.{All, IfErr, IfOk}
 use Rattle.fs_kinds.specs.declared.fault.Fault.TheVariants.{Memory}
 use Rattle.fs_kinds.specs.declared.placement.Entry.{Entry}

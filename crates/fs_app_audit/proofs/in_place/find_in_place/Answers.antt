@@ -1,4 +1,4 @@
-use Rattle.std.proofs.Common.{◌≡◌, ◌∙◌, ap, inl, inr, subst}
+use Rattle.std.proofs.Common.{◌∙◌, ap, inl, inr, subst}
 use Rattle.std.specs.Arc.{arc_value}
 use Rattle.fs_board_offers.specs.Offers.{Offers, IsCheapest}
 use Rattle.fs_app_place_order.proofs.Faults.{IfErr-handed}
