@@ -1,9 +1,12 @@
 """Compares `rvfence audit` with plain Python on tests with fences: those of scripts/litmus.py, into which more fences
 are put by chance, and in which the label that branches go to stands somewhere behind them.
 
-The fences are taken out of the text here, cell by cell. What `--write` prints has the fences that are due, is judged
-by `test`, and written once more: then it stays as it is. Where no fence names devices it is audited, too: nothing can
-go, and the cost is what was said. What differs is printed with the test."""
+In place, each line by itself is followed, all are, and some sets of them: `test` says `forbidden` of each such text,
+and `audit` has the lines that are left.
+
+With `--anew` the fences are taken out of the text here, cell by cell. What `--write` prints has the fences that are
+due, is judged by `test`, and written once more: then it stays as it is. Where no fence names devices it is audited,
+too: nothing can go, and the cost is what was said. What differs is printed with the test."""
 import copy
 import itertools
 import random
@@ -18,6 +21,7 @@ from verdicts import verdict_of
 LABEL = "OUT:"
 EASED = "fence io,io"                                           # orders no memory
 STATUS = {"vacuous": 4, "allowed": 1}
+STAYS = "  (needed.*|not for memory)$"                            # a line by which a fence stays as it is
 DEVICES = ["fence i,r", "fence o,w", "fence iorw,iorw", "fence iorw,w", "fence io,io", "fence.i"]
 
 
@@ -207,6 +211,93 @@ def by_reference(columns, data):
     return kind, (said, advised.status(kind)), mended
 
 
+class Places(reference.Problem):
+    """The places of the fences of these columns, which order no memory, with what may stand in each."""
+
+    def __init__(self, columns, prices):
+        self.harts = [Hart(number, column, code) for number, (column, code)
+                      in enumerate(zip(columns.cells, model.test_of(columns.text().encode()).code))]
+        self.cells = {(hart.number, at): hart.cells[at] for hart in self.harts for at in hart.fences}
+        self.costs = [self.costs_at(self.harts[hart], at, prices) for hart, at in self.cells]
+        emptied = columns.changed(lambda cell: cell if cell.kind is None else Cell(f"{cell.label} {EASED}".strip()))
+        test = model.test_of(emptied.text().encode())
+        test.slots = lambda: list(self.cells)
+        super().__init__(test, prices)
+
+    @staticmethod
+    def costs_at(hart, at, prices):
+        """What each kind costs that may stand in a place."""
+        own, access = hart.cells[at].kind, hart.access_of(at)
+        slot = hart.slot(at + 1 if access is None else access)
+        enough = own if own in prices.offered else min(
+            (kind for kind in prices.offered if model.PAIRS[own] <= model.PAIRS[kind]),
+            key=lambda kind: prices.price[kind])
+        weaker = [kind for kind in prices.offered if model.PAIRS[kind] < model.PAIRS[own]]
+        return {own: prices.at(slot, enough), **{kind: prices.at(slot, kind) for kind in weaker}}
+
+    def options(self, at):
+        """What may stand in the place of this number, in the order of precedence."""
+        own = list(self.cells.values())[at].kind
+        kinds = [kind for kind in model.KINDS if kind in self.costs[at]]
+        if not self.costs[at][own]:
+            return [None, *kinds]
+        return [own, None, *[kind for kind in kinds if kind != own]]
+
+    def price(self, at, kind):
+        return 0 if kind is None else self.costs[at][kind]
+
+    def cost(self, placement):
+        return sum(self.price(at, kind) for at, kind in enumerate(placement))
+
+    def written(self):
+        return tuple(cell.kind for cell in self.cells.values())
+
+    def words(self, hart, at, advised):
+        """What is said of the fence at this instruction, where this is advised in its place."""
+        cell = hart.cells[at]
+        if cell.kind is None:
+            return "not for memory"
+        about = " for memory" if cell.stays else ""
+        if not (any(hart.memory[:at]) and any(hart.memory[at:])):
+            return f"orders nothing{about}"
+        if advised == cell.kind:
+            return f"needed{about}" + " (no price)" * (cell.kind not in self.prices.offered)
+        return f"not needed{about}" if advised is None else f"{advised} is enough{about}"
+
+
+def in_place(columns, prices, anew):
+    """What is to be printed in place, and what is advised in each place of which a line says to change something."""
+    places, lines = Places(columns, prices), columns.lines()
+    best = dict(zip(places.cells, reference.solved(places)))
+    costs = places.cost(places.written()), places.cost(best.values()), anew
+    said = ["forbidden as written, %d; in place %d; anew %s" % costs]
+    for hart in places.harts:
+        for at in [at for at, cell in enumerate(hart.cells) if cell.letters]:
+            words = places.words(hart, at, best.get((hart.number, at)))
+            said.append(f"{f'line {lines[hart.number][at]}':8}  {f'P{hart.number}:{at}':5}  "
+                        f"{hart.cells[at].letters:9}  {words}")
+    changed = {place: kind for place, kind in best.items() if kind != places.cells[place].kind}
+    is_right = all(re.search(STAYS, line) for line in said[1:])
+    return (said, 0 if is_right else 1), changed
+
+
+def followed(columns, lines):
+    """The columns where these places have what is advised there; what goes leaves its label."""
+    made = copy.copy(columns)
+    made.cells = []
+    for hart, column in enumerate(columns.cells):
+        instructions = iter(range(len(column)))
+        numbered = [(cell, next(instructions) if cell.bare else None) for cell in column]
+        cells = [Cell(f"{cell.label} {'' if lines[hart, at] is None else fence_of(lines[hart, at])}".strip())
+                 if (hart, at) in lines else cell for cell, at in numbered]
+        made.cells.append([cell for cell in cells if str(cell)])
+    return made
+
+
+def fence_of(kind):
+    return "fence.tso" if kind == "tso" else f"fence {kind}"
+
+
 def fences_of(text):
     """Of each hart the fences of a printed test, in their places: of each cell its letters, or None."""
     return [[cell.letters for cell in column if cell.bare] for column in Columns(re.sub("L[0-9]+:", LABEL, text)).cells]
@@ -238,23 +329,68 @@ def check_mended(run, name, files, columns, kind, mended):
     again = rvfence("audit", file, files[1], "--write")
     run.expect(f"{name}: written again", (said.out, STATUS.get(wanted, 0)), (again.out, again.status))
     if not any(cell.stays for column in columns.cells for cell in column):
-        again = rvfence("audit", file, files[1])
+        again = rvfence("audit", file, files[1], "--anew")
         first = f"{wanted} as written, {mended.best_cost}; cheapest {mended.best_cost}"
         run.expect(f"{name}: the audit of it", first, again.out.split("\n")[0])
         run.expect(f"{name}: its status", STATUS.get(wanted, 0), again.status)
 
 
+def compare(run, name, wanted, files, text, *words):
+    """Compares what `audit` prints of these files, of a test and prices, with what is to be printed."""
+    said = rvfence("audit", "-q", *files, *words)
+    found = ((said.out + said.err).splitlines(), said.status)
+    run.check(name, wanted == found, f"{text}\nwanted: {wanted}\nfound:  {found}")
+
+
+def left_over(lines):
+    """What is said in the lines by which a fence changes."""
+    return [line[28:] for line in lines if not re.search(STAYS, line)]
+
+
+def check_followed(run, name, files, columns, changed, said):
+    """Follows each line by itself, all of them, and sets of them by chance: the outcome stays ruled out, and the lines
+    that are left say the same."""
+    places, chance = list(changed), random.Random(name)
+    sets = [[place] for place in places] + [places] * (len(places) > 1)
+    sets += [chance.sample(places, chance.randint(2, len(places) - 1)) for _ in range(3) if len(places) > 2]
+    for chosen in sets:
+        text = followed(columns, {place: changed[place] for place in chosen})
+        file = written(files[0].replace("test.litmus", "followed.litmus"), text.text())
+        verdict = rvfence("test", file).out.split()
+        run.expect(f"{name}: {chosen} followed", "forbidden", verdict[1] if len(verdict) > 1 else "")
+        if len(chosen) > 1 or len(places) == 1:
+            again = rvfence("audit", "-q", file, files[1])
+            left = [words for place, words in zip(places, left_over(said)) if place not in chosen]
+            run.expect(f"{name}: {chosen} audited again", left, left_over(again.out.splitlines()[1:]))
+
+
+def check_in_place(run, name, files, columns, kind, prices, wanted):
+    """Compares what is printed in place; `wanted` is what is to be printed with `--anew`."""
+    text = columns.text() + prices.decode()
+    if kind == "allowed":
+        compare(run, f"{name} in place", wanted, files, text)
+    elif kind == "vacuous":
+        places = Places(columns, model.prices_of(prices))
+        why = rvfence("test", files[0]).out.splitlines()[0].split("vacuous    ", 1)[-1]
+        line = f"vacuous as written, {places.cost(places.written())}; {why}"
+        compare(run, f"{name} in place", ([line], STATUS[kind]), files, text)
+    else:
+        anew = wanted[0][0].rsplit(" ", 1)[-1]
+        said, changed = in_place(columns, model.prices_of(prices), anew)
+        compare(run, f"{name} in place", said, files, text)
+        run.kinds.update("in place: " + re.sub("^[rwtso]+,?[rw]* ", "K ", line[28:]) for line in said[0][1:])
+        check_followed(run, name, files, columns, changed, said[0][1:])
+
+
 def check(run):
     for number in run.numbers():
         columns, prices = made(number)
-        text = columns.text()
+        name = f"made test {number}"
         kind, wanted, mended = by_reference(columns, prices)
-        files = [written(run.path("test.litmus"), text), written(run.path("prices.json"), prices)]
-        said = rvfence("audit", "-q", *files)
-        found = ((said.out + said.err).splitlines(), said.status)
-        lists = [text, prices.decode(), f"\nwanted: {wanted}", f"\nfound:  {found}"]
-        run.check(f"made test {number}", wanted == found, "".join(lists))
+        files = [written(run.path("test.litmus"), columns.text()), written(run.path("prices.json"), prices)]
+        compare(run, name, wanted, files, columns.text() + prices.decode(), "--anew")
         if kind is not None:
             run.kinds[kind] += 1
             run.kinds.update(re.sub("^[rwtso]+,?[rw]* ", "K ", line[28:]) for line in wanted[0][1:])
-            check_mended(run, f"made test {number}", files, columns, kind, mended)
+            check_mended(run, name, files, columns, kind, mended)
+            check_in_place(run, name, files, columns, kind, prices, wanted)

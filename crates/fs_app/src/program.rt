@@ -18,7 +18,7 @@ use crate::progress::Progress;
 use crate::states::{answer_log, answer_states};
 use crate::telling::{answer_why, is_yes, order_why, solve_why, tests_why, with_below};
 use clap::error::ErrorKind;
-use fs_app_audit::{run_audit, run_mended};
+use fs_app_audit::{run_anew, run_audit, run_mended};
 use fs_app_check::{Checked, run_check};
 use fs_app_command_line::{
     Audit, Check, Expectations, MOST_NODES, MOST_WORKERS, Order, Place, Request, Solve, Task, Test,
@@ -589,26 +589,29 @@ fn answer_audit<'a, R: Files + Input + AllocGlobal>(
     papers.read_prices(rt, audit.prices)?;
     // the command line has no other numbers; here it is said once more for the proof
     let limit = audit.nodes.clamp(1, MOST_NODES) as usize;
-    audited(rt.alloc(), papers, audit.write, limit)
+    audited(rt.alloc(), papers, audit.write, audit.anew, limit)
 }
 
-/// What is said of the FENCEs of the test that was read, or that test mended.
+/// What is said of the FENCEs of the test that was read, in place or anew, or that test mended.
 fn audited(
     alloc: Global,
     papers: &Papers<'_>,
     is_mended: bool,
+    is_anew: bool,
     limit: usize,
 ) -> Result<Output, Fault>
     requires least { 1 ≤ limit }
     requires most { limit ≤ 1000000 }
-    ensures answer { IfOk result (λ output. IsAuditText is_mended papers.now.test.bytes.items
+    ensures answer { IfOk result (λ output. IsAuditText is_mended is_anew papers.now.test.bytes.items
         papers.now.prices.bytes.items (string_bytes output.text) output.status) }
     ensures fault { IfErr result
-        (IsAuditFault is_mended papers.now.test.bytes.items papers.now.prices.bytes.items limit) }
+        (IsAuditFault is_mended is_anew papers.now.test.bytes.items papers.now.prices.bytes.items limit) }
 {
     let (test, prices) = (&papers.test.bytes, &papers.prices.bytes);
     if is_mended {
         run_mended(alloc, test, prices, limit)
+    } else if is_anew {
+        run_anew(alloc, test, prices, limit)
     } else {
         run_audit(alloc, test, prices, limit)
     }

@@ -13,7 +13,9 @@ use Rattle.fs_instr.specs.declared.letters.Letters.{Letters}
 use Rattle.fs_model.specs.declared.test.Test.{Test}
 use Rattle.fs_model.specs.Condition.{SpeaksOf, condition_of}
 use Rattle.fs_model.specs.Test.{GoesForward, IsBounded, IsTest}
-use Rattle.fs_app_audit.specs.Unfenced.{is_fence, names_devices, is_kept, position, moved, unfenced_code, unfenced, devices, eased_instr, eased_code, eased}
+use Rattle.fs_model_in_place.specs.InPlace.{emptied, emptied_instr}
+use Rattle.fs_model_in_place.proofs.Emptying.{same_of_emptied}
+use Rattle.fs_app_audit.specs.Unfenced.{is_fence, names_devices, is_kept, position, moved, unfenced_code, unfenced, devices, eased_instr, eased}
 
 -- ---- counting what is kept
 
@@ -252,29 +254,30 @@ eased_as f same (instr.Lr ann rd a) = refl
 eased_as f same (instr.Sc ann rd v a) = refl
 eased_as f same (instr.Amo o ann rd v a) = refl
 
-same_targets : (code : List Instr) (at : ℕ)
-    → option_and_then target_of (slice_get (eased_code code) at) ≡ option_and_then target_of (slice_get code at)
-same_targets [] at = refl
-same_targets (x ∷ xs) zero = eased_as target_of (λ b a. refl) x
-same_targets (x ∷ xs) (suc at) = same_targets xs at
+-- where each instruction goes to the same place as before, and is an access as before
+module _ (f : Instr → Instr) (targets : (i : Instr) → target_of (f i) ≡ target_of i) (memory : (i : Instr) → is_memory (f i) ≡ is_memory i) where
+  same_targets : (code : List Instr) (at : ℕ)
+      → option_and_then target_of (slice_get (map f code) at) ≡ option_and_then target_of (slice_get code at)
+  same_targets [] at = refl
+  same_targets (x ∷ xs) zero = targets x
+  same_targets (x ∷ xs) (suc at) = same_targets xs at
 
-forward_eased : (code : List Instr) → GoesForward code → GoesForward (eased_code code)
-forward_eased code h at target e =
-    let one = h at target (sym (same_targets code at) ∙ e) in
-    let low = one.0 in
-    let most = one.1 in
-    let long = length-map code eased_instr in
-    (omega (arith, low), omega (arith, most, long))
+  forward_each : (code : List Instr) → GoesForward code → GoesForward (map f code)
+  forward_each code h at target e =
+      let one = h at target (sym (same_targets code at) ∙ e) in
+      let low = one.0 in
+      let most = one.1 in
+      let long = length-map code f in
+      (omega (arith, low), omega (arith, most, long))
 
-accesses_eased : (code : List Instr) → count_by is_memory (eased_code code) ≡ count_by is_memory code
-accesses_eased [] = refl
-accesses_eased (x ∷ xs) =
-    let is = sum_by-cons (λ (i : Instr). cond {A = ℕ} (is_memory i) 1 0) (eased_instr x) (eased_code xs) in
-    let was = sum_by-cons (λ (i : Instr). cond {A = ℕ} (is_memory i) 1 0) x xs in
-    let one : cond (is_memory (eased_instr x)) 1 0 ≡ cond (is_memory x) 1 0 =
-    ap (λ b. cond {A = ℕ} b 1 0) (eased_as is_memory (λ b a. refl) x) in
-    let rest = accesses_eased xs in
-    omega (arith, is, was, one, rest)
+  accesses_each : (code : List Instr) → count_by is_memory (map f code) ≡ count_by is_memory code
+  accesses_each [] = refl
+  accesses_each (x ∷ xs) =
+      let is = sum_by-cons (λ (i : Instr). cond {A = ℕ} (is_memory i) 1 0) (f x) (map f xs) in
+      let was = sum_by-cons (λ (i : Instr). cond {A = ℕ} (is_memory i) 1 0) x xs in
+      let one : cond (is_memory (f x)) 1 0 ≡ cond (is_memory x) 1 0 = ap (λ b. cond {A = ℕ} b 1 0) (memory x) in
+      let rest = accesses_each xs in
+      omega (arith, is, was, one, rest)
 
 -- ---- all harts
 
@@ -318,8 +321,18 @@ module _ (f : List Instr → List Instr) (forward : (code : List Instr) → Goes
 pub bounded_unfenced : (t : Test) → IsBounded t → IsBounded (unfenced t)
 bounded_unfenced = bounded_mapped unfenced_code forward_unfenced accesses_unfenced shorter
 
+bounded_each : (f : Instr → Instr) → ((i : Instr) → target_of (f i) ≡ target_of i) → ((i : Instr) → is_memory (f i) ≡ is_memory i)
+    → (t : Test) → IsBounded t → IsBounded (record t { codes = map (λ code. map f code) t.codes })
+bounded_each f targets memory =
+    bounded_mapped (λ code. map f code) (forward_each f targets memory) (accesses_each f targets memory)
+    (λ code. let long = length-map code f in omega (arith, long))
+
 pub bounded_eased : (t : Test) → IsBounded t → IsBounded (eased t)
-bounded_eased = bounded_mapped eased_code forward_eased accesses_eased (λ code. let long = length-map code eased_instr in omega (arith, long))
+bounded_eased = bounded_each eased_instr (eased_as target_of (λ b a. refl)) (eased_as is_memory (λ b a. refl))
+
+pub bounded_emptied : (t : Test) → IsBounded t → IsBounded (emptied t)
+bounded_emptied =
+    bounded_each emptied_instr (same_of_emptied target_of (λ b a. refl) refl) (same_of_emptied is_memory (λ b a. refl) refl)
 
 -- ---- the table
 

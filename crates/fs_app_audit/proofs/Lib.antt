@@ -5,3 +5,9 @@ pub mod Taken
 pub mod FirstFaults
 pub mod Rows
 pub mod Searched
+pub mod Offered
+pub mod Followed
+pub mod Weaker
+pub mod Answered
+pub mod Needed
+pub mod Shown

@@ -3,6 +3,7 @@ use Rattle.std.proofs.Common.{◌≡◌, ap, map, refl, List}
 use Rattle.fs_instr.specs.declared.instr.Instr.{Instr}
 use Rattle.fs_model.specs.declared.test.Test.{Test}
 use Rattle.fs_model.specs.Test.{IsBounded, IsSame}
+use Rattle.fs_model_in_place.specs.InPlace.{emptied, emptied_code}
 use Rattle.fs_app_audit.specs.Unfenced.{eased_code, unfenced, unfenced_code}
 use Rattle.fs_app_audit.specs.Audit.{asked, bare}
 use Rattle.fs_app_audit.specs.declared.asked.Purpose.{Purpose}
@@ -39,3 +40,6 @@ mapped_same f t u h = record {
 pub same_bare : (p : Purpose) (t u : Test) → IsSame t u → IsSame (bare p t) (bare p u)
 same_bare Advise t u h = mapped_same eased_code (unfenced t) (unfenced u) (mapped_same unfenced_code t u h)
 same_bare Write t u h = mapped_same unfenced_code t u h
+
+pub same_emptied : (t u : Test) → IsSame t u → IsSame (emptied t) (emptied u)
+same_emptied t u h = mapped_same emptied_code t u h

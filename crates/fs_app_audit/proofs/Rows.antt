@@ -32,3 +32,21 @@ parts k c b kind cost best first second third =
     ∙ ap (λ x. ended (x ++ (codes " as written" ++ (c ++ (codes "; " ++ b))))) first
     ∙ ap (λ x. ended (kind ++ (codes " as written" ++ (x ++ (codes "; " ++ b))))) second
     ∙ ap (λ x. ended (kind ++ (codes " as written" ++ (cost ++ (codes "; " ++ x))))) third
+
+-- ---- the first line in place
+
+ended_costs : (w p f : List ℕ)
+    → codes "forbidden as written, " ++ (w ++ (codes "; in place " ++ (p ++ (codes "; " ++ (f ++ codes "\n")))))
+    ≡ ended (codes "forbidden as written, " ++ (w ++ (codes "; in place " ++ (p ++ (codes "; " ++ f)))))
+ended_costs w p f = simp append_assoc refl
+
+pub costs : (w p f found : List ℕ) → f ≡ found
+    → codes "forbidden as written, " ++ (w ++ (codes "; in place " ++ (p ++ (codes "; " ++ (f ++ codes "\n")))))
+    ≡ ended (codes "forbidden as written, " ++ (w ++ (codes "; in place " ++ (p ++ (codes "; " ++ found)))))
+costs w p f found same =
+    ended_costs w p f ∙ ap (λ x. ended (codes "forbidden as written, " ++ (w ++ (codes "; in place " ++ (p ++ (codes "; " ++ x)))))) same
+
+pub vacuous_parts : (w y : List ℕ)
+    → codes "vacuous as written, " ++ (w ++ (codes "; " ++ (y ++ codes "\n")))
+    ≡ ended (codes "vacuous as written, " ++ (w ++ (codes "; " ++ y)))
+vacuous_parts w y = simp append_assoc refl

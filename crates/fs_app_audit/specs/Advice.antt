@@ -1,6 +1,6 @@
 -- What is advised of each FENCE of a code, and of each access that lacks one, by a placement over the slots of the
 -- unfenced test.
-use Rattle.std.specs.Prelude.{ℕ, Bool, true, false, Option, None, Some, option_and_then, is_none, List, [], length, slice_get, if◌then◌else◌}
+use Rattle.std.specs.Prelude.{ℕ, Bool, true, false, Option, None, Some, is_none, List, [], length, if◌then◌else◌}
 use Rattle.std.specs.List.{list_all, slice_index_or}
 use Rattle.fs_instr.specs.declared.instr.Instr.{Instr}
 use Rattle.fs_instr.specs.declared.instr.Instr.TheVariants.{Fence, FenceI}
@@ -10,10 +10,11 @@ use Rattle.fs_kinds.specs.declared.slot.Slot.{Slot}
 use Rattle.fs_kinds.specs.Placement.{has_slot, kind_at}
 use Rattle.fs_model.specs.Numbers.{is_same, numbers_below}
 use Rattle.fs_model.specs.Slots.{slot_at, is_memory_at}
-use Rattle.fs_app_audit.specs.Unfenced.{memory_kind, position}
+pub use Rattle.fs_model_in_place.specs.InPlace.{kind_there}
+use Rattle.fs_app_audit.specs.Unfenced.{position}
 use Rattle.fs_app_audit.specs.Standing.{is_at, is_fence_at, access_after, answering, covers, is_of, is_between_accesses}
 use Rattle.fs_app_audit.specs.declared.advice.Advice.{Advice}
-use Rattle.fs_app_audit.specs.declared.advice.Advice.TheVariants.{Needed, Enough, Instead, NotNeeded, NoSlot, Idle, Devices, Missing}
+use Rattle.fs_app_audit.specs.declared.advice.Advice.TheVariants.{Needed, Unpriced, Enough, Instead, NotNeeded, NoSlot, Idle, Devices, Missing}
 
 -- a FENCE that orders no memory, or fence.i
 abbrev pub is_device_fence : Instr → Bool
@@ -24,10 +25,6 @@ is_device_fence _ = false
 -- of the FENCE that stands for this kind, by its own
 abbrev pub graded : Kind → Option Kind → Advice
 graded kind own = if is_of kind own then Needed else if covers kind own then Enough kind else Instead kind
-
--- the kind of the FENCE there
-abbrev pub kind_there : List Instr → ℕ → Option Kind
-kind_there code at = option_and_then memory_kind (slice_get code at)
 
 -- of a FENCE at a slot where the placement has this
 abbrev pub advice_for : List Instr → (at access : ℕ) → Option Kind → Advice
@@ -66,6 +63,7 @@ advice_of p hart code at =
 -- there is nothing to change
 abbrev pub changes_nothing : Advice → Bool
 changes_nothing Needed = true
+changes_nothing Unpriced = true
 changes_nothing Devices = true
 changes_nothing _ = false
 

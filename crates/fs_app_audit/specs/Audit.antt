@@ -1,4 +1,4 @@
--- What `audit` answers, and its fault.
+-- What `audit` answers, in place and anew, and its fault.
 use Rattle.std.specs.Prelude.{◌≡◌, ◌⊎◌, ◌==◌, ◌&&◌, ◌||◌, not, ℕ, Bool, true, false, Option, None, Some, is_none, List, [], ◌∷◌, ◌++◌, if◌then◌else◌}
 use Rattle.std.specs.List.{flat_map, enumerate_from, list_all}
 use Rattle.fs_instr.specs.declared.instr.Instr.{Instr}
@@ -17,14 +17,19 @@ use Rattle.fs_model.specs.Fenced.{fenced}
 use Rattle.fs_model.specs.Placed.{fits}
 use Rattle.fs_model.specs.Printed.{printed}
 use Rattle.fs_model.specs.Witness.{Witness}
+use Rattle.fs_model_in_place.specs.InPlace.{emptied}
+use Rattle.fs_board_offers.specs.Offers as offers
+use Rattle.fs_board_search.specs.Answers.{IsLimitFault}
 use Rattle.fs_cert_evidence.specs.Certificate.{IsLeastCost}
 use Rattle.fs_cert_evidence.specs.Sizes.{IsUnanswered}
 use Rattle.fs_app_io.specs.declared.status.Status.{Status}
+use Rattle.fs_app_io.specs.declared.status.Status.TheVariants as ending
 use Rattle.fs_litmus.specs.Reads.{Reads}
 use Rattle.fs_litmus.specs.Lines.{StandIn}
 use Rattle.fs_litmus.specs.Faults.{IsTestFault}
 use Rattle.fs_app_place_order.specs.Place.{ArePricesOf, IsPricesFault}
 use Rattle.fs_app_test.specs.declared.said.Kind.{Kind}
+use Rattle.fs_app_test.specs.declared.said.Kind.TheVariants as verdict
 use Rattle.fs_app_test.specs.SaidVerdicts.{IsFaultOf, IsTestedAs}
 use Rattle.fs_app_audit.specs.Unfenced.{eased, is_fence, memory_kind, unfenced}
 use Rattle.fs_app_audit.specs.Advice.{slot_of}
@@ -32,6 +37,7 @@ use Rattle.fs_app_audit.specs.declared.asked.Purpose.{Purpose}
 use Rattle.fs_app_audit.specs.declared.asked.Purpose.TheVariants.{Advise, Write}
 use Rattle.fs_app_audit.specs.Standing.{access_after}
 use Rattle.fs_app_audit.specs.Report.{audit_status, below, first_line}
+use Rattle.fs_app_audit.specs.InPlace.{anew_text, costs_line, in_place_status, lines_in_place, offers_in_place, vacuous_line, written_cost}
 
 -- ---- what is asked of a test
 
@@ -140,7 +146,8 @@ pub record AreFound (purpose : Purpose) (test prices : List ℕ) (f : Findings) 
 abbrev pub audit_text : Findings → List ℕ
 audit_text f = first_line f.kind f.prices (if f.all then Some f.written else None) f.best ++ below f.lines f.test.codes f.best
 
-pub record IsAudited (test prices text : List ℕ) (status : Status) : Type 0 where
+-- what `--anew` prints
+pub record IsAnew (test prices text : List ℕ) (status : Status) : Type 0 where
   pub findings : Findings
   pub found : AreFound Advise test prices findings
   pub shown : text ≡ audit_text findings
@@ -157,6 +164,44 @@ pub record IsMended (test prices text : List ℕ) (status : Status) : Type 0 whe
   pub found : AreFound Write test prices findings
   pub shown : text ≡ fenced_text findings.bare findings.best
   pub ends : status ≡ audit_status findings.kind findings.codes findings.best
+
+-- ---- in place
+
+-- the first line, and the lines of the FENCEs
+abbrev pub in_place_text : Findings → List Entry → List ℕ
+in_place_text f p =
+    costs_line (written_cost (offers_in_place f.prices f.test.codes)) (offers.cost (offers_in_place f.prices f.test.codes) p) (anew_text f.prices f.best)
+    ++ lines_in_place f.prices f.lines f.test.codes p
+
+-- The test is forbidden as it is written. In the test whose FENCEs order no memory, these fences in their places are the
+-- cheapest that rule the outcome out, of several the first.
+pub record IsInPlace (test prices text : List ℕ) (status : Status) : Type 0 where
+  pub findings : Findings
+  pub found : AreFound Advise test prices findings
+  pub forbidden : findings.kind ≡ verdict.Forbidden
+  pub empty : Test
+  pub same : IsSame empty (emptied findings.test)
+  pub advised : List Entry
+  pub cheapest : offers.IsCheapest empty (offers_in_place findings.prices findings.test.codes) advised
+  pub shown : text ≡ in_place_text findings advised
+  pub ends : status ≡ in_place_status findings.prices findings.test.codes advised
+
+-- what it costs, and why it is vacuous
+pub record IsVacuousAudit (test prices text : List ℕ) (status : Status) : Type 0 where
+  pub own : Test
+  pub reads : Reads test own
+  pub table : PriceTable
+  pub priced : ArePricesOf prices table
+  pub why : List ℕ
+  pub tested : IsTestedAs own verdict.Vacuous why None
+  pub shown : text ≡ vacuous_line (written_cost (offers_in_place table own.codes)) why
+  pub ends : status ≡ ending.Vacuous
+
+-- what is printed, by what the test is as it is written
+pub data IsAudited (test prices text : List ℕ) (status : Status) : Type 0 where
+  of_forbidden : IsInPlace test prices text status → IsAudited test prices text status
+  of_vacuous : IsVacuousAudit test prices text status → IsAudited test prices text status
+  of_allowed : (anew : IsAnew test prices text status) → anew.findings.kind ≡ verdict.Allowed → IsAudited test prices text status
 
 -- ---- the fault
 
@@ -176,8 +221,15 @@ pub data IsFirstFault (purpose : Purpose) (test prices : List ℕ) (limit : ℕ)
       → IsSame u (bare purpose t) → IsUnanswered u table limit fault → IsFirstFault purpose test prices limit fault
   of_memory : IsFirstFault purpose test prices limit Memory
 
-abbrev pub IsFirstAuditFault : (test prices : List ℕ) (limit : ℕ) → Fault → Type 0
-IsFirstAuditFault = IsFirstFault Advise
+abbrev pub IsFirstAnewFault : (test prices : List ℕ) (limit : ℕ) → Fault → Type 0
+IsFirstAnewFault = IsFirstFault Advise
+
+-- the same faults; and where the test is forbidden as it is written, those of the search in place
+pub data IsFirstAuditFault (test prices : List ℕ) (limit : ℕ) : Fault → Type 0 where
+  of_anew : {fault : Fault} → IsFirstAnewFault test prices limit fault → IsFirstAuditFault test prices limit fault
+  of_places : {fault : Fault} (table : PriceTable) (t u : Test) → ArePricesOf prices table → Reads test t → IsTested t
+      → IsSame u (emptied t) → IsLimitFault (record { test = u; offers = offers_in_place table t.codes }) limit fault
+      → IsFirstAuditFault test prices limit fault
 
 abbrev pub IsFirstMendedFault : (test prices : List ℕ) (limit : ℕ) → Fault → Type 0
 IsFirstMendedFault = IsFirstFault Write

@@ -1,4 +1,4 @@
--- What `audit` prints, and its exit status.
+-- What `audit --anew` prints, and its exit status.
 use Rattle.std.specs.Prelude.{ℕ, List, [], ◌++◌, codes, Bool, false, Option, None, Some, if◌then◌else◌}
 use Rattle.std.specs.Fmt.{decimal}
 use Rattle.std.specs.List.{flat_map, enumerate_from, slice_index_or}
@@ -18,7 +18,7 @@ use Rattle.fs_app_test.specs.Report.{kind_text, padded}
 use Rattle.fs_app_audit.specs.Unfenced.{names_devices}
 use Rattle.fs_app_audit.specs.Advice.{advice_of, is_right}
 use Rattle.fs_app_audit.specs.declared.advice.Advice.{Advice}
-use Rattle.fs_app_audit.specs.declared.advice.Advice.TheVariants.{Needed, Enough, Instead, NotNeeded, NoSlot, Idle, Devices, Missing}
+use Rattle.fs_app_audit.specs.declared.advice.Advice.TheVariants.{Needed, Unpriced, Enough, Instead, NotNeeded, NoSlot, Idle, Devices, Missing}
 
 -- ---- a line
 
@@ -35,6 +35,7 @@ about i = if names_devices i then codes " for memory" else []
 
 abbrev pub advice_text : Instr → Advice → List ℕ
 advice_text i Needed = codes "needed" ++ about i
+advice_text i Unpriced = codes "needed" ++ (about i ++ codes " (no price)")
 advice_text i (Enough k) = word k ++ (codes " is enough" ++ about i)
 advice_text i (Instead k) = word k ++ (codes " instead" ++ about i)
 advice_text i NotNeeded = codes "not needed" ++ about i

@@ -23,6 +23,8 @@ use fs_litmus::Code;
 pub enum Advice {
     /// It is one of these fences.
     Needed,
+    /// It is one of these fences, of a kind without a price.
+    Unpriced,
     /// This kind, which orders less, is enough in its place.
     Enough(Kind),
     /// This kind is one of these fences, in its place. It doesn't order all that this kind orders.
@@ -46,7 +48,7 @@ fn is_device_fence(instr: Instr) -> bool
     matches!(instr, Instr::Fence { .. } | Instr::FenceI)
 }
 
-fn is_device_fence_at(code: &[Instr], at: usize) -> bool
+pub(crate) fn is_device_fence_at(code: &[Instr], at: usize) -> bool
     ensures { result ≡ is_at is_device_fence code.now at }
 {
     match code.get(at) {
@@ -69,7 +71,7 @@ fn graded(kind: Kind, own: Option<Kind>) -> Advice
 }
 
 /// The kind of the FENCE there.
-fn kind_there(code: &[Instr], at: usize) -> Option<Kind>
+pub(crate) fn kind_there(code: &[Instr], at: usize) -> Option<Kind>
     ensures { result ≡ kind_there code.now at }
 {
     match code.get(at) {
@@ -176,7 +178,7 @@ pub(crate) fn advice_of(
 }
 
 /// Is there nothing to change?
-fn is_content(advice: Option<Advice>) -> bool
+pub(crate) fn is_content(advice: Option<Advice>) -> bool
     ensures { result ≡ is_content advice }
 {
     match advice {
@@ -188,7 +190,7 @@ fn is_content(advice: Option<Advice>) -> bool
 fn changes_nothing(advice: Advice) -> bool
     ensures { result ≡ changes_nothing advice }
 {
-    matches!(advice, Advice::Needed | Advice::Devices)
+    matches!(advice, Advice::Needed | Advice::Unpriced | Advice::Devices)
 }
 
 fn is_right_code(placement: &Placement, hart: u8, code: &[Instr]) -> bool
@@ -199,7 +201,7 @@ fn is_right_code(placement: &Placement, hart: u8, code: &[Instr]) -> bool
 }
 
 /// The code of the hart.
-fn code_of(codes: &[Code], hart: usize) -> &[Instr]
+pub(crate) fn code_of(codes: &[Code], hart: usize) -> &[Instr]
     ensures { result.now ≡ slice_index_or codes.now hart [] }
 {
     if hart < codes.len() {

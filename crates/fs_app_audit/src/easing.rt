@@ -9,7 +9,7 @@ use fs_model::{Code, Codes, Test};
 use std::alloc::{AllocError, Global};
 
 /// `io`.
-const DEVICES: Letters = Letters {
+pub(crate) const DEVICES: Letters = Letters {
     input: true,
     output: true,
     reads: false,

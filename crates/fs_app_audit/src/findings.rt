@@ -324,7 +324,7 @@ fn best(
 // ---- all of it
 
 /// The test that the bytes are, to be shared.
-fn read_shared(alloc: Global, bytes: &[u8]) -> Result<Arc<Test>, Fault>
+pub(crate) fn read_shared(alloc: Global, bytes: &[u8]) -> Result<Arc<Test>, Fault>
     ensures ok { IfOk result (λ test. Reads bytes.now (arc_value test)) }
     ensures test { IfOk result (λ test. IsTest (arc_value test)) }
     ensures err { IfErr result (λ f. f ≢ Fault.Memory → IsTestFault bytes.now f) }
@@ -385,7 +385,7 @@ fn bare_question(
 }
 
 /// What is found of a test that was judged as it is written.
-fn find_judged(
+pub(crate) fn find_judged(
     alloc: Global,
     purpose: Purpose,
     bytes: &[u8],
@@ -401,6 +401,9 @@ fn find_judged(
     requires most { limit ≤ 1000000 }
     ensures found { IfOk result (λ found. (file : Items ℕ) → ArePricesOf file prices
         → AreFound purpose bytes.now file (findings_of found)) }
+    ensures own { IfOk result (λ found. arc_value found.written.test ≡ arc_value written.test) }
+    ensures kind { IfOk result (λ found. found.written.kind ≡ written.kind) }
+    ensures prices { IfOk result (λ found. (arc_value found.question).prices ≡ prices) }
     ensures sound { IfOk result IsSound }
     ensures fault { IfErr result (λ f. (file : Items ℕ) → ArePricesOf file prices
         → IsFirstFault purpose bytes.now file limit f) }

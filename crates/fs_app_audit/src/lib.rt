@@ -1,21 +1,30 @@
 //! What the command `audit` answers, from the bytes of its files to the text that is printed: which FENCE instructions
-//! of a test are needed to rule its outcome out at the least cost, and which are missing. It tries the test without its
-//! FENCE instructions, but for those that name devices, and the test in which these order no memory.
+//! of a test are needed to rule its outcome out at the least cost, in their places or anew. In place it tries the test
+//! in which they order no memory; anew the test without them, but for those that name devices, and the test in which
+//! these order no memory.
 #![tactic(auto)]
 
 mod advice;
+mod advice_in_place;
 mod asked;
 mod audit;
 mod easing;
+mod emptying;
 mod findings;
+mod in_place;
+mod laws;
+mod places;
 mod priced;
 mod removal;
 mod report;
+mod report_in_place;
 pub mod slices;
 mod standing;
 
 pub use advice::Advice;
 pub use asked::Purpose;
-pub use audit::{run_audit, run_mended};
+pub use audit::{run_anew, run_audit, run_mended};
 pub use easing::eased;
+pub use emptying::emptied;
+pub use laws::{advised_fences_are_needed, lines_can_be_followed};
 pub use removal::{is_fence, memory_kind, names_devices, position, unfenced};

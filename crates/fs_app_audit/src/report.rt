@@ -1,4 +1,4 @@
-//! What `audit` prints, and its exit status.
+//! What `audit --anew` prints, and its exit status.
 
 ghost use Rattle.std.specs.Prelude.{◌≡◌, ◌≤◌, ◌++◌, [], All, codes, decimal, length, option_copied, IfOk, IfSome};
 ghost use Rattle.std.specs.Prelude.{IsTrue, string_bytes};
@@ -58,6 +58,7 @@ fn advice_text(alloc: Global, instr: Instr, advice: Advice) -> Result<String, Al
     let about = about(instr);
     match advice {
         Advice::Needed => format!(in alloc; "needed{}", about),
+        Advice::Unpriced => format!(in alloc; "needed{} (no price)", about),
         Advice::Enough(kind) => format!(in alloc; "{} is enough{}", kind.name(), about),
         Advice::Instead(kind) => format!(in alloc; "{} instead{}", kind.name(), about),
         Advice::NotNeeded => format!(in alloc; "not needed{}", about),
@@ -123,13 +124,13 @@ fn lines_of_hart(lines: &[List<usize>], hart: u8) -> &[usize]
 }
 
 /// The line of the file in which instruction `at` of the hart stands.
-fn line_of(lines: &[List<usize>], hart: u8, at: usize) -> usize
+pub(crate) fn line_of(lines: &[List<usize>], hart: u8, at: usize) -> usize
     ensures { result ≡ line_of lines.now hart at }
 {
     lines_of_hart(lines, hart).get(at).copied().unwrap_or(0)
 }
 
-fn advised(
+pub(crate) fn advised(
     alloc: Global,
     line: usize,
     place: OperationName,

@@ -201,41 +201,41 @@ needs more nodes (F16).";
 const AUDIT_ABOUT: &str = "Which fences of a litmus test are needed, and which are missing?";
 
 const AUDIT_HELP: &str = "\
-Takes the FENCE instructions out of the test, finds the cheapest fences that rule its
-outcome out, and compares. The first line says whether the outcome can happen as the test
-is written, what its FENCEs cost, and what the cheapest fences cost. Then comes a line for
-each FENCE, and for each fence that is missing:
+Finds the cheapest fences that rule the test's outcome out in the places of its FENCEs: in
+each there may stand none, the FENCE, or a kind that orders less. The first line has what
+they cost as written, in place, and found anew, anywhere. Then comes a line for each FENCE:
 
   $ rvfence audit examples/tests/SB-fenced.litmus examples/prices.json
-  forbidden as written, 20; cheapest 18
+  forbidden as written, 20; in place 18; anew 18
   line 11   P0:2   rw,rw      w,r is enough
   line 11   P1:2   rw,rw      w,r is enough
 
-  needed          it is one of the cheapest fences
+  needed          without it, and the others as advised, the outcome can happen
   K is enough     kind K, which orders less, is enough in its place
-  K instead       kind K, some of which it doesn't order, is advised in its place
-  not needed      no fence is needed there, or another FENCE stands for it
+  not needed      it can go
   orders nothing  no access stands before it, or none behind it
-  at no slot      a label or a branch stands between it and the next access
   not for memory  it orders devices alone, and stays
-  K is missing    a fence of kind K is needed before this instruction
 
 Behind these words `for memory` stands where a FENCE has i or o among its letters: what it
-orders of devices isn't judged.
+orders of devices isn't judged. `(no price)` stands where PRICES lack the kind of a FENCE
+that stays: it costs what the cheapest kind does that orders as much.
 
-Followed together the lines rule the outcome out at the least cost; one alone may not.
+Follow all of the lines or some: the outcome stays ruled out. Where several fences cost
+the least, FENCEs stay as they are first. Lines and instructions are those of the file;
+instructions count from 0, FENCEs too. Weights of PRICES go by instructions of the test
+without FENCEs.
 
-Lines and instructions are those of the file; instructions count from 0, FENCEs too. A
-FENCE belongs to the next access behind it. Where the FENCEs rule the outcome out and cost
-as little as any that do, they are the cheapest; else these are those of `solve` for the
-test without FENCEs, by whose instructions the weights of PRICES go. What the FENCEs cost
-is left out where one has no price or no slot of its own.
+Where the outcome can happen as the test is written, and with --anew, the test without its
+FENCEs is searched as by `solve`, and the lines compare: `K instead` advises a kind of which
+the FENCE doesn't order all, `K is missing` asks for a fence before this instruction, and
+`at no slot` says that a label or a branch stands behind the FENCE. Follow these together.
+Where the outcome is vacuous there are no lines.
 
 With --write the test is printed with the cheapest fences in place of its own.
 FENCEs with i or o among their letters stay as they are.
 
 Exit status:
-  0  each FENCE is needed, and none is missing
+  0  each FENCE is needed
   1  there is something to change, or the outcome can happen as the test is written
   2  a fault, a line on standard error as `fault F11 NoTop` and a message that explains
      it, or a bad command line
@@ -355,6 +355,8 @@ const WITHOUT_HELP: &str =
     "Tell an execution without each fence, or the one beside `none`; not with --json";
 
 const SHELL_HELP: &str = "Which shell is to read it";
+
+const ANEW_HELP: &str = "Compare with the cheapest fences in the test without FENCEs";
 
 const WRITE_HELP: &str = "Print the test with the cheapest fences in place of its own";
 
@@ -494,6 +496,8 @@ pub struct Solve<'a> {
 pub struct Audit<'a> {
     pub test: &'a str,
     pub prices: &'a str,
+    /// Whether the FENCEs are to be compared with fences that are found anew.
+    pub anew: bool,
     /// Whether the mended test is to be printed.
     pub write: bool,
     /// How many nodes the search may make: from 1 to 1,000,000.
@@ -633,6 +637,7 @@ fn audit_of<'a>(found: &ArgMatches<'a>) -> Audit<'a> {
     Audit {
         test: found.get_str("FILE").unwrap_or(""),
         prices: found.get_str("PRICES").unwrap_or(""),
+        anew: found.get_flag("anew"),
         write: found.get_flag("write"),
         nodes: found.get_one::<u32>("nodes").unwrap_or(MOST_NODES),
     }
@@ -776,7 +781,9 @@ fn audit_command<'a>(alloc: Global) -> Result<Command<'a>, AllocError> {
         .after_help(AUDIT_HELP);
     let command = with_argument(Ok(command), required(alloc, "FILE", FILE_HELP));
     let command = with_argument(command, required(alloc, "PRICES", PRICES_HELP));
-    let command = with_argument(command, flag(alloc, "write", WRITE_HELP));
+    let command = with_argument(command, flag(alloc, "anew", ANEW_HELP));
+    let write = flag(alloc, "write", WRITE_HELP).conflicts_with("anew")?;
+    let command = with_argument(command, write);
     let command = with_argument(command, nodes(alloc, NODES_HELP));
     with_voice(alloc, command)
 }
