@@ -39,16 +39,21 @@ one_more tests k n (x ∷ lines) line text told whole at (first, others, is_firs
   rw (e, is_text) (append_assoc first others told),
 )
 
--- the bytes of a test
-pub bytes_at : {A : Type 0} (f : A → List ℕ) (xs : List A) (k : ℕ) (d : A) → k < length xs → f (get_or xs k d) ≡ slice_index_or (map f xs) k []
-bytes_at f [] k d low = absurd (omega (arith, low))
-bytes_at f (x ∷ xs) zero d low = refl
-bytes_at f (x ∷ xs) (suc k) d low = bytes_at f xs k d (omega (arith, low))
+-- what is so place by place is so at this place
+pub at_place : {A B : Type 0} (R : A → B → Type 0) (xs : List A) (ys : List B) (k : ℕ) (d : A) (e : B) → AllZip R xs ys → k < length xs
+    → R (slice_index_or xs k d) (slice_index_or ys k e)
+at_place R [] ys k d e each low = absurd (omega (arith, low))
+at_place R (x ∷ xs) [] k d e each low = absurd each
+at_place R (x ∷ xs) (y ∷ ys) zero d e each low = each.0
+at_place R (x ∷ xs) (y ∷ ys) (suc k) d e each low = at_place R xs ys k d e each.1 (omega (arith, low))
 
-pub no_bytes : {A : Type 0} (f : A → List ℕ) (xs : List A) (k : ℕ) → length xs ≤ k → [] ≡ slice_index_or (map f xs) k []
-no_bytes f [] k high = refl
-no_bytes f (x ∷ xs) zero high = absurd (omega (arith, high))
-no_bytes f (x ∷ xs) (suc k) high = no_bytes f xs k (omega (arith, high))
+-- an outcome that is said to be allowed has a witness, which gives an execution
+no_text : (t : Test) → Reads [] t → ⊥
+no_text t reads = absurd (cc)
+
+allowed-says : (line : Line) (bytes : List ℕ) → is_allowed line.said.kind ≡ true → IsSaidOf line bytes
+    → IsTested bytes kind.Allowed (string_bytes line.said.why) (witness_in line.said.witness)
+allowed-says line bytes allowed is = absurd (cc)
 
 -- ---- of `solve`
 

@@ -7,7 +7,7 @@ use Rattle.fs_app_place_order.specs.Place.{IsFencedText}
 use Rattle.fs_app_place_order.specs.Order.{IsOrderAnswer}
 use Rattle.fs_report.specs.Objects.{AreOneAnswer}
 use Rattle.fs_app_solve.specs.Solve.{IsSolved}
-use Rattle.fs_app_audit.specs.Audit.{IsAnew, IsAudited, IsMended, IsFirstAnewFault, IsFirstAuditFault, IsFirstMendedFault}
+use Rattle.fs_app_audit.specs.Audit.{IsAudited, IsMended, IsFirstAuditFault, IsFirstMendedFault}
 use Rattle.fs_kinds.specs.declared.fault.Fault.{Fault}
 use Rattle.fs_app_check.specs.Check.{IsChecked, AreOneVerdict}
 use Rattle.fs_app_test.specs.declared.said.Line.{Line}
@@ -23,6 +23,7 @@ use Rattle.fs_app_command_line.specs.declared.command.Solve.{Solve}
 use Rattle.fs_app_command_line.specs.declared.command.Audit.{Audit}
 use Rattle.fs_app_command_line.specs.declared.command.Check.{Check}
 use Rattle.fs_app_files.specs.declared.papers.Papers.{Papers}
+use Rattle.fs_app_files.specs.Judging.{AreJudged}
 use Rattle.fs_app.specs.Telling.{AreTold, IsSolveWhy, IsTold, is_yes}
 
 -- the bytes of the prices that were read, where `place` is to read some
@@ -70,22 +71,20 @@ pub record AnswersSolve (solve : Solve) (papers : Papers) (output : Output) : Ty
   pub prices_name : papers.prices.name.now ≡ solve.prices.now
   pub answer : IsSolvedAndTold solve.json solve.why papers.test.bytes.items papers.prices.bytes.items output
 
--- with `--write` the mended test, with `--anew` what is found anew
-abbrev pub IsAuditText : (is_mended is_anew : Bool) (test prices text : List ℕ) (status : Status) → Type 0
-IsAuditText true is_anew test prices text status = IsMended test prices text status
-IsAuditText false true test prices text status = IsAnew test prices text status
-IsAuditText false false test prices text status = IsAudited test prices text status
+-- with `--write` the mended test
+abbrev pub IsAuditText : (is_mended : Bool) (test prices text : List ℕ) (status : Status) → Type 0
+IsAuditText true test prices text status = IsMended test prices text status
+IsAuditText false test prices text status = IsAudited test prices text status
 
 -- and its faults
-abbrev pub IsAuditFault : (is_mended is_anew : Bool) (test prices : List ℕ) (limit : ℕ) → Fault → Type 0
-IsAuditFault true is_anew test prices limit fault = IsFirstMendedFault test prices limit fault
-IsAuditFault false true test prices limit fault = IsFirstAnewFault test prices limit fault
-IsAuditFault false false test prices limit fault = IsFirstAuditFault test prices limit fault
+abbrev pub IsAuditFault : (is_mended : Bool) (test prices : List ℕ) (limit : ℕ) → Fault → Type 0
+IsAuditFault true test prices limit fault = IsFirstMendedFault test prices limit fault
+IsAuditFault false test prices limit fault = IsFirstAuditFault test prices limit fault
 
 pub record AnswersAudit (audit : Audit) (papers : Papers) (output : Output) : Type 0 where
   pub test_name : papers.test.name.now ≡ audit.test.now
   pub prices_name : papers.prices.name.now ≡ audit.prices.now
-  pub answer : IsAuditText audit.write audit.anew papers.test.bytes.items papers.prices.bytes.items (string_bytes output.text) output.status
+  pub answer : IsAuditText audit.write papers.test.bytes.items papers.prices.bytes.items (string_bytes output.text) output.status
 
 pub record AnswersCheck (check : Check) (papers : Papers) (output : Output) : Type 0 where
   pub test_name : papers.test.name.now ≡ check.test.now
@@ -99,10 +98,12 @@ pub record AnswersCheck (check : Check) (papers : Papers) (output : Output) : Ty
   pub told : IsTold (check.why && is_yes output.status) (IsAnswerWhy papers.test.bytes.items papers.evidence.bytes.items) below
   pub text : string_bytes output.text ≡ in_form check.json lines object ++ below
 
--- the text, but for what is told of the tests below it, and the status are those of the same lines
+-- The text, but for what is told below it, and the status are those of the same lines. Each says what is true of some
+-- bytes, or of a file that wasn't read; what is told is told of these bytes.
 pub record AnswersLines (test : Test) (output : Output) : Type 0 where
   pub lines : List Line
   pub tests : List (List ℕ)
+  pub judged : AreJudged lines tests
   pub below : List ℕ
   pub told : IsTold test.why (AreTold lines tests) below
   pub text : string_bytes output.text

@@ -1,7 +1,6 @@
 -- What is told below answers.
-use Rattle.std.specs.Prelude.{◌≡◌, ◌⊎◌, ℕ, ◌+◌, Bool, true, false, Option, None, Some, List, [], ◌∷◌, ◌++◌, codes, if◌then◌else◌}
+use Rattle.std.specs.Prelude.{◌≡◌, ℕ, ◌+◌, Bool, true, false, Option, None, Some, List, [], ◌∷◌, ◌++◌, codes}
 use Rattle.std.specs.List.{slice_index_or}
-use Rattle.fs_model.specs.Allows.{no_fences}
 use Rattle.fs_model.specs.Witness.{Witness}
 use Rattle.fs_app_io.specs.declared.status.Status.{Status}
 use Rattle.fs_app_io.specs.declared.status.Status.TheVariants.{Success}
@@ -11,7 +10,7 @@ use Rattle.fs_app_test.specs.declared.said.Kind.TheVariants as kind
 use Rattle.fs_app_test.specs.declared.said.Line.{Line}
 use Rattle.fs_app_test.specs.Report.{shown_name}
 use Rattle.fs_app_test.specs.SaidVerdicts.{witness_in}
-use Rattle.fs_app_why.specs.Why.{IsAllowedWhy, IsAnswerWhy, IsNotShown}
+use Rattle.fs_app_why.specs.Why.{IsAllowedWhy, IsAnswerWhy}
 
 -- this, where it is asked for; else nothing
 abbrev pub IsTold : (is_asked : Bool) → (List ℕ → Type 0) → (text : List ℕ) → Type 0
@@ -22,22 +21,19 @@ abbrev pub is_yes : Status → Bool
 is_yes Success = true
 is_yes other = false
 
--- below this name an execution of the witness, which shows the outcome of the test as it is written; nothing where there
--- is no witness, or where it gives no such execution
+-- below this name an execution of the witness, which shows the outcome of the test as it is written
 abbrev pub IsBlock : (name : List ℕ) → Option Witness → (test text : List ℕ) → Type 0
-IsBlock name None test text = text ≡ []
-IsBlock name (Some w) test text =
-    ((execution : List ℕ) × IsAllowedWhy test w execution × (text ≡ codes "\n" ++ (name ++ execution)))
-    ⊎ (IsNotShown no_fences test w × (text ≡ []))
+IsBlock name None test text = ⊥
+IsBlock name (Some w) test text = (execution : List ℕ) × IsAllowedWhy test w execution × (text ≡ codes "\n" ++ (name ++ execution))
 
 abbrev pub is_allowed : Kind → Bool
 is_allowed kind.Allowed = true
 is_allowed other = false
 
--- of the test that has this line; of another verdict than `allowed` nothing
+-- of the test that has this line, where its outcome is allowed; else nothing
 abbrev pub IsTestTold : Line → (test text : List ℕ) → Type 0
 IsTestTold line test text =
-    IsBlock (shown_name line) (if is_allowed line.said.kind then witness_in line.said.witness else None) test text
+    IsTold (is_allowed line.said.kind) (IsBlock (shown_name line) (witness_in line.said.witness) test) text
 
 -- of these lines, one below the other, the first of which has the test of this number; a test that isn't there has no
 -- bytes

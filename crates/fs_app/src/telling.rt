@@ -1,7 +1,8 @@
 //! What is told below answers, where `--why` asks for it.
 
-ghost use Rattle.std.specs.Prelude.{◌≡◌, ◌++◌, ℕ, Bool, List, [], IfOk, OnOk, codes, map, string_bytes};
+ghost use Rattle.std.specs.Prelude.{◌≡◌, ◌++◌, ℕ, Bool, true, List, [], IfOk, OnOk, codes, map, string_bytes};
 ghost use Rattle.std.specs.List.{slice_index_or};
+ghost use Rattle.fs_app_files.specs.Judging.{AreJudged, IsJudged};
 ghost use Rattle.fs_app_solve.specs.Solve.{IsCertified};
 ghost use Rattle.fs_app_test.specs.Report.{shown_name};
 ghost use Rattle.fs_app_test.specs.SaidVerdicts.{witness_in};
@@ -113,24 +114,27 @@ fn is_allowed(kind: Kind) -> bool
     }
 }
 
-/// Appends what is told of the witness that the line has: below its name an execution that shows the outcome.
+/// Appends what is told of a test that allows its outcome: below the name in its line an execution of the witness there.
 fn push_shown(alloc: Global, line: &Line, test: &[u8], text: &mut String) -> Result<(), Fault>
+    requires judged { IsJudged line.now test.now }
+    requires allowed { is_allowed line.now.said.kind ≡ true }
     ensures { OnOk result ((told : List ℕ)
         × IsBlock (shown_name line.now) (witness_in line.now.said.witness) test.now told
         × (string_bytes text.new ≡ string_bytes text.old ++ told)) }
 {
     let Some(witness) = &line.said.witness else {
-        return Ok(());
+        unreachable!()
     };
     let (choices, order) = (witness.choices.as_slice(), witness.order.as_slice());
     match why_allowed(alloc, test, choices, order)? {
         Some(told) => Ok(push_named(alloc, line, told.as_str(), text)?),
-        None => Ok(()),
+        None => unreachable!(),
     }
 }
 
-/// The same of the test that has this line, where its outcome is allowed.
+/// Appends what is told of the test that has this line: nothing where its outcome isn't allowed.
 fn push_told(alloc: Global, line: &Line, test: &[u8], text: &mut String) -> Result<(), Fault>
+    requires { IsJudged line.now test.now }
     ensures { OnOk result ((told : List ℕ) × IsTestTold line.now test.now told
         × (string_bytes text.new ≡ string_bytes text.old ++ told)) }
 {
@@ -153,6 +157,7 @@ fn test_at(tests: &[Vec<u8>], number: usize) -> &[u8]
 
 /// What is told of the tests that have these lines.
 fn all_told(alloc: Global, lines: &[Line], tests: &[Vec<u8>]) -> Result<String, Fault>
+    requires { AreJudged lines.now (map (λ test. test.items) tests.now) }
     ensures { IfOk result (λ text. AreTold lines.now (map (λ test. test.items) tests.now) (string_bytes text)) }
 {
     let mut text = String::new(alloc);
@@ -169,6 +174,7 @@ pub(crate) fn tests_why(
     lines: &[Line],
     tests: &[Vec<u8>],
 ) -> Result<String, Fault>
+    requires { AreJudged lines.now (map (λ test. test.items) tests.now) }
     ensures { IfOk result (λ text.
         IsTold why (AreTold lines.now (map (λ test. test.items) tests.now)) (string_bytes text)) }
 {
