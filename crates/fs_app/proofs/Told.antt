@@ -1,6 +1,6 @@
 -- What is told below answers.
-use Rattle.std.proofs.Common.{◌≡◌, ◌∙◌, ℕ, zero, suc, ◌+◌, ◌<◌, ◌≤◌, Bool, true, false, List, [], ◌∷◌, ◌++◌, append_assoc, arith, ap, get_or, length, map, refl, sym, subst, string_bytes}
-use Rattle.std.specs.List.{slice_index_or}
+use Rattle.std.proofs.Common.{◌≡◌, ◌∙◌, ℕ, zero, suc, ◌+◌, ◌<◌, Bool, true, false, List, [], ◌∷◌, ◌++◌, append_assoc, arith, ap, length, refl, sym, subst, string_bytes}
+use Rattle.std.specs.List.{AllZip, slice_index_or}
 use Rattle.std.proofs.lemmas.List.{append-nil}
 use Rattle.fs_app_io.specs.declared.status.Output.{Output}
 use Rattle.fs_app_io.specs.declared.status.Status.{Status}
@@ -46,14 +46,6 @@ at_place R [] ys k d e each low = absurd (omega (arith, low))
 at_place R (x ∷ xs) [] k d e each low = absurd each
 at_place R (x ∷ xs) (y ∷ ys) zero d e each low = each.0
 at_place R (x ∷ xs) (y ∷ ys) (suc k) d e each low = at_place R xs ys k d e each.1 (omega (arith, low))
-
--- an outcome that is said to be allowed has a witness, which gives an execution
-no_text : (t : Test) → Reads [] t → ⊥
-no_text t reads = absurd (cc)
-
-allowed-says : (line : Line) (bytes : List ℕ) → is_allowed line.said.kind ≡ true → IsSaidOf line bytes
-    → IsTested bytes kind.Allowed (string_bytes line.said.why) (witness_in line.said.witness)
-allowed-says line bytes allowed is = absurd (cc)
 
 -- ---- of `solve`
 

@@ -63,12 +63,7 @@ impl Model for Tested {
 }
 
 /// What is said of a file that was read.
-fn tested_bytes(
-    alloc: Global,
-    name: &str,
-    bytes: Vec<u8>,
-    keeps: bool,
-) -> Result<Tested, Fault> {
+fn tested_bytes(alloc: Global, name: &str, bytes: Vec<u8>, keeps: bool) -> Result<Tested, Fault> {
     let kept = if keeps {
         Vec::from_slice(alloc, &bytes)?
     } else {

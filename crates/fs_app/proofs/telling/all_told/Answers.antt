@@ -1,8 +1,20 @@
 use Rattle.std.proofs.Common.{◌≡◌, ◌∙◌, ℕ, ◌+◌, ◌<◌, List, [], ◌∷◌, ◌++◌, ap, arith, length, map, string_bytes, subst, sym, take}
-use Rattle.std.proofs.lemmas.List.{length-take-le, take_all, take_more}
+use Rattle.std.specs.List.{slice_index_or}
+use Rattle.std.proofs.lemmas.List.{length-take-le, take_more}
+use Rattle.fs_app_files.specs.Judging.{IsJudged}
 use Rattle.fs_app.specs.Telling.{AreTold, IsTestTold}
-use Rattle.fs_app.proofs.Told.{one_more}
+use Rattle.fs_app.proofs.Told.{at_place, one_more}
 use Rattle.fs_app.proofs.telling.all_told.Goals as goal
+
+pub push_told-requires : goal.push_told-requires
+push_told-requires c =
+    let lines = c.args.lines.now in
+    let tests = map (λ test. test.items) c.args.tests.now in
+    let n = c.loop-number.number in
+    let line = c.index-lines-number.result in
+    subst (λ bytes. IsJudged line bytes) (sym c.test_at.ensures)
+    (subst (λ this. IsJudged this (slice_index_or tests n [])) (sym c.index-lines-number.is)
+    (at_place IsJudged lines tests n line [] c.requires (omega arith)))
 
 pub loop-number-preserved : goal.loop-number-preserved
 loop-number-preserved c =
@@ -18,9 +30,3 @@ loop-number-preserved c =
     (sym (take_more lines n line low ∙ ap (λ those. take n lines ++ those ∷ []) (sym c.index-lines-number.is)))
     (one_more tests 0 n (take n lines) line (string_bytes c.loop-number.text) told.0 whole long c.loop-number.invariant
     (subst (λ bytes. IsTestTold line bytes told.0) c.test_at.ensures told.1) told.2)
-
-pub returns : goal.returns
-returns c =
-    let tests = map (λ test. test.items) c.args.tests.now in
-    subst (λ those. AreTold those tests (string_bytes c.loop-number.text)) (take_all c.loop-number.number c.args.lines.now (omega arith))
-    c.loop-number.invariant
