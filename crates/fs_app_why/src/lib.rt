@@ -2,6 +2,7 @@
 //! operations that overtake others of their hart.
 #![tactic(auto)]
 
+mod alike;
 mod answered;
 mod ends;
 mod marks;
