@@ -125,12 +125,12 @@ fn all_states(
 /// more and there are too many candidates or lists of runs, where no hunt gives a verdict and there are too many
 /// candidates, or where there are more than 200,000 states; or F19.
 ///
-/// The cost: that of `Problem::new` of fs_judge; and for each state, and for each beginning of a state that isn't whole,
-/// at most four checks of an execution, by `shown_by` of fs_check, and a verdict on the test with another condition.
-/// Where a state is found near the last one, by the check of an execution in which one operation stands elsewhere, no
-/// verdict is asked, nor where a short hunt has shown that a place has no other words. Verdicts share the runs alone:
-/// each is that of `Problem::asking` and `Problem::judged`. Each state is kept in a number of steps that is logarithmic
-/// in the states.
+/// The cost: that of `Problem::new` of fs_judge; and for each state, and for each beginning of a state that isn't
+/// whole, at most four checks of an execution, by `shown_by` of fs_check, and a verdict on the test with another
+/// condition. Where a state is found near the last one, by the check of an execution in which one operation stands
+/// elsewhere, no verdict is asked, nor where a short hunt has shown that a place has no other words; of such hunts
+/// there are at most 64 for each place. Verdicts share the runs alone: each is that of `Problem::asking` and
+/// `Problem::judged`. Each state is kept in a number of steps that is logarithmic in the states.
 pub fn states(
     alloc: Global,
     test: &Arc<Test>,

@@ -1,6 +1,7 @@
 //! What is learned while states are looked for.
 
-ghost use Rattle.std.specs.Prelude.{◌≡◌, ◌≢◌, true, ℕ, List, All, length, IfErr, IfNone, IfOk, IfSome, OnOk, IsOkUnless};
+ghost use Rattle.std.specs.Prelude.{◌≡◌, ◌≢◌, true, ℕ, List, All, length};
+ghost use Rattle.std.specs.Prelude.{IfErr, IfNone, IfOk, IfSome, OnOk, IsOkUnless};
 ghost use Rattle.std.specs.Arc.{arc_value};
 ghost use Rattle.fs_kinds.specs.declared.fault.Fault.TheVariants.{Memory};
 ghost use Rattle.fs_kinds.specs.declared.placement.Entry.{Entry};
@@ -76,8 +77,8 @@ fn is_untried(tried: &mut Vec<usize>, index: usize, words: usize) -> bool {
     false
 }
 
-/// The part has no states: keeps what it says of its last place alone, if a short hunt shows that this has none either.
-/// Of each place that is asked once for each number of words, up to `MOST_WORDS`.
+/// The part has no states: keeps what it says of its last place alone, if a short hunt shows that this has none
+/// either. Of each place that is asked once for each number of words, up to `MOST_WORDS`.
 fn learn(
     alloc: Global,
     problem: &Problem,

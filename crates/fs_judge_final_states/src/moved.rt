@@ -13,8 +13,8 @@ use std::alloc::{AllocError, Global};
 /// How many moves are tried.
 const MOST_MOVES: usize = 4;
 
-/// An operation that is moved behind another one, or before all where that is an initial store; and what it loads then,
-/// where it loads.
+/// An operation that is moved behind another one, or before all where that is an initial store; and what it loads
+/// then, where it loads.
 #[derive(Clone, Copy)]
 pub(crate) struct Move {
     moved: usize,
@@ -122,8 +122,8 @@ fn push_stores(
     Ok(())
 }
 
-/// The first few moves by which the place may come to have another word that the part allows: of the last load into the
-/// register, or of the stores to the location. For each store at most linear in the part.
+/// The first few moves by which the place may come to have another word that the part allows: of the last load into
+/// the register, or of the stores to the location. For each store at most linear in the part.
 pub(crate) fn moves_for(
     alloc: Global,
     base: &OrderedCandidate,

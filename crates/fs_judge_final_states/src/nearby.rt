@@ -15,8 +15,8 @@ use fs_kinds::{Fault, Placement};
 use fs_model::Test;
 use std::alloc::{AllocError, Global};
 
-/// The state in which the execution of the witness ends, where it gives one that shows the test's outcome, and the state
-/// is in the part.
+/// The state in which the execution of the witness ends, where it gives one that shows the test's outcome, and the
+/// state is in the part.
 fn found_by(
     alloc: Global,
     test: &Test,
