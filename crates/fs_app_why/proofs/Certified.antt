@@ -1,18 +1,24 @@
 -- The witnesses of a certificate, and what is kept of them.
-use Rattle.std.proofs.Common.{◌≡◌, ℕ, zero, suc, List, [], ◌∷◌, ◌++◌, Option, None, Some, append_assoc, arith, refl, sym, ap, subst, unwrap_or, ◌∙◌, inl, inr}
+use Rattle.std.proofs.Common.{◌≡◌, ℕ, zero, suc, true, List, [], ◌∷◌, ◌++◌, Option, None, Some, IsTrue, length, get_or, append_assoc, arith, refl, sym, ap, subst, unwrap_or, ◌∙◌}
 use Rattle.std.specs.List.{AllZip}
+use Rattle.std.specs.Prelude.{◌<◌, IsSomeAnd, MatchOption, slice_get}
+use Rattle.std.proofs.lemmas.Bool.{and_from, eq-eqb}
 use Rattle.std.proofs.lemmas.List.{append-nil}
-use Rattle.std.specs.Prelude.{slice_get}
-use Rattle.fs_kinds.specs.declared.kind.Kind.{Kind}
+use Rattle.std.proofs.lemmas.List.Folds.{list_any_at}
+use Rattle.std.proofs.lemmas.Slice.Zip.{AllZip-left, AllZip-right}
 use Rattle.fs_kinds.specs.declared.placement.Entry.{Entry}
 use Rattle.fs_kinds.specs.declared.slot.Slot.{Slot}
-use Rattle.fs_kinds.specs.Placement.{with_kind}
+use Rattle.fs_kinds.specs.Placement.{has_slot}
+use Rattle.fs_kinds.specs.Slot.{is_same_slot}
 use Rattle.fs_model.specs.declared.test.Test.{Test}
 use Rattle.fs_model.specs.Witness.{Witness}
 use Rattle.fs_cert_evidence.specs.declared.witness.WitnessFile.{WitnessFile as File}
 use Rattle.fs_cert_evidence.specs.WitnessFile.{KeepsWitness}
-use Rattle.fs_app_why.specs.inner.Told.{NoneShows, SayWitnesses}
-use Rattle.fs_app_why.specs.Why.{NoWitnessShows, TellsEntry, TellsFences, TellsSlot}
+use Rattle.fs_check.specs.declared.ordered.OrderedCandidate.{OrderedCandidate}
+use Rattle.fs_check.specs.Ordered.{execution_in}
+use Rattle.fs_app_why.specs.inner.Told.{IsOfFirst, NoneShows}
+use Rattle.fs_app_why.specs.Reordered.{IsFirstShown, IsToldOf}
+use Rattle.fs_app_why.specs.Why.{NoWitnessShows, TellsEntry, TellsFences}
 
 -- the first file that is kept is of the first witness
 pub first_witness : (files : List File) (ws : List Witness) (file : File) → AllZip KeepsWitness files ws → slice_get files 0 ≡ Some file
@@ -29,14 +35,6 @@ no_witness [] (w ∷ ws) kept e = absurd kept
 no_witness (f ∷ files) [] kept e = refl
 no_witness (f ∷ files) (w ∷ ws) kept e = cc
 
--- what is kept of witnesses says them
-pub say_witnesses : (files : List File) (ws : List Witness) → AllZip KeepsWitness files ws → SayWitnesses files
-say_witnesses [] [] kept k file e = cc
-say_witnesses [] (w ∷ ws) kept k file e = absurd kept
-say_witnesses (f ∷ files) [] kept k file e = absurd kept
-say_witnesses (f ∷ files) (w ∷ ws) kept zero file e = (w, subst (λ g. KeepsWitness g w) (ap (λ o. unwrap_or o f) e) kept.0)
-say_witnesses (f ∷ files) (w ∷ ws) kept (suc k) file e = say_witnesses files ws kept.1 k file e
-
 pub no_witness_shows : (t : Test) (p : List Entry) (files : List File) (ws : List Witness) → AllZip KeepsWitness files ws → NoneShows t files p
     → NoWitnessShows t ws p
 no_witness_shows t p files [] kept none w (k, lt, at) shown = absurd (omega (arith, lt))
@@ -46,25 +44,55 @@ no_witness_shows t p (f ∷ files) (v ∷ ws) kept none w (zero, lt, at) shown =
 no_witness_shows t p (f ∷ files) (v ∷ ws) kept none w (suc k, lt, at) shown =
     no_witness_shows t p files ws kept.1 (λ i g e. none (suc i) g e) w (k, omega (arith, lt), at) shown
 
+-- ---- by their numbers
+
+some_and : {A : Type 0} (o : Option A) (P : A → Type 0) → IsSomeAnd o P → (x : A) × (o ≡ Some x) × P x
+some_and None P h = absurd h
+some_and (Some x) P h = (x, refl, h)
+
+kept_at : (files : List File) (ws : List Witness) (k : ℕ) (file : File) → AllZip KeepsWitness files ws → slice_get files k ≡ Some file
+    → (w : Witness) × (slice_get ws k ≡ Some w) × KeepsWitness file w
+kept_at files ws k file kept at =
+    some_and (slice_get ws k) (KeepsWitness file)
+    (subst (λ o. MatchOption o (Unit {0}) (λ x. IsSomeAnd (slice_get ws k) (KeepsWitness x))) at (AllZip-left KeepsWitness files ws kept k))
+
+kept_by : (files : List File) (ws : List Witness) (k : ℕ) (w : Witness) → AllZip KeepsWitness files ws → slice_get ws k ≡ Some w
+    → (file : File) × (slice_get files k ≡ Some file) × KeepsWitness file w
+kept_by files ws k w kept at =
+    some_and (slice_get files k) (λ file. KeepsWitness file w)
+    (subst (λ o. MatchOption o (Unit {0}) (λ y. IsSomeAnd (slice_get files k) (λ x. KeepsWitness x y))) at (AllZip-right KeepsWitness files ws kept k))
+
+-- what is told of the first file that shows the outcome is told of the first witness that does
+pub first_told : (t : Test) (p : List Entry) (files : List File) (ws : List Witness) (o : OrderedCandidate) → AllZip KeepsWitness files ws
+    → IsOfFirst t p files o → (w : Witness) × IsFirstShown t p ws w × IsToldOf t p w (execution_in o)
+first_told t p files ws o kept first =
+    let here = kept_at files ws first.number first.file kept first.at in (
+      here.0,
+      record {
+        number = first.number;
+        at = here.1;
+        earlier = λ k v less at shown.
+            let there = kept_by files ws k v kept at in first.earlier k there.0 less there.1 v there.2 shown;
+      },
+      first.is_of here.0 here.2,
+    )
+
 -- ---- what is told of fences
 
-module _ (t : Test) (lines : List (List ℕ)) (p : List Entry) where
-  slot_weaker : (N M : List Entry → Type 0) → ((q : List Entry) → N q → M q) → (slot : Slot) (kind : Option Kind) (text : List ℕ)
-      → TellsSlot t lines N p slot kind text → TellsSlot t lines M p slot kind text
-  slot_weaker N M f slot None text told = told
-  slot_weaker N M f slot (Some kind) text told =
-      elim told [ inl shown ↦ inl shown | inr none ↦ inr (f (with_kind slot None p) none.0, none.1) ]
+-- a placement has the slot of each of its entries
+pub has_own : (p items : List Entry) (k : ℕ) (d : Entry) → items ≡ p → k < length items → IsTrue (has_slot (get_or items k d).slot p)
+has_own p items k d same low =
+    subst (λ (q : List Entry). IsTrue (has_slot (get_or items k d).slot q)) same
+    (list_any_at (λ e. is_same_slot e.slot (get_or items k d).slot) items k d low (itself (get_or items k d).slot))
+  where
+    itself : (s : Slot) → is_same_slot s s ≡ true
+    itself s = and_from _ _ (eq-eqb s.hart s.hart refl) (eq-eqb s.at s.at refl)
 
-  pub fences_weaker : (N M : List Entry → Type 0) → ((q : List Entry) → N q → M q) → (entries : List Entry) (text : List ℕ)
-      → TellsFences t lines N p entries text → TellsFences t lines M p entries text
-  fences_weaker N M f [] text told = told
-  fences_weaker N M f (entry ∷ entries) text (first, others, is, are, e) =
-      (first, others, slot_weaker N M f entry.slot entry.kind first is, fences_weaker N M f entries others are, e)
-
+module _ (t : Test) (lines : List (List ℕ)) (ws : List Witness) (N : List Entry → Type 0) (p : List Entry) where
   -- one entry more
-  pub fences_more : (N : List Entry → Type 0) (entries : List Entry) (entry : Entry) (text told whole : List ℕ)
-      → TellsFences t lines N p entries text → TellsEntry t lines N p entry told → whole ≡ text ++ told
-      → TellsFences t lines N p (entries ++ entry ∷ []) whole
-  fences_more N [] entry text told whole none is e = (told, [], is, refl, e ∙ ap (λ before. before ++ told) none ∙ sym (append-nil told))
-  fences_more N (x ∷ entries) entry text told whole (first, others, is_first, are, is_text) is e =
-      (first, others ++ told, is_first, fences_more N entries entry others told (others ++ told) are is refl, rw (e, is_text) (append_assoc first others told))
+  pub fences_more : (entries : List Entry) (entry : Entry) (text told whole : List ℕ)
+      → TellsFences t lines ws N p entries text → TellsEntry t lines ws N p entry told → whole ≡ text ++ told
+      → TellsFences t lines ws N p (entries ++ entry ∷ []) whole
+  fences_more [] entry text told whole none is e = (told, [], is, refl, e ∙ ap (λ before. before ++ told) none ∙ sym (append-nil told))
+  fences_more (x ∷ entries) entry text told whole (first, others, is_first, are, is_text) is e =
+      (first, others ++ told, is_first, fences_more entries entry others told (others ++ told) are is refl, rw (e, is_text) (append_assoc first others told))

@@ -1,3 +1,5 @@
 pub mod Certified
-pub mod Showing
+pub mod Faults
+pub mod Numbered
+pub mod Reordering
 pub mod Telling

@@ -4,7 +4,6 @@ use Rattle.std.specs.Prelude.{if◌then◌else◌}
 use Rattle.fs_kinds.specs.declared.placement.Entry.{Entry}
 use Rattle.fs_model.specs.declared.operation.Operation.{Operation}
 use Rattle.fs_model.specs.declared.test.Test.{Test}
-use Rattle.fs_model.specs.Allows.{Shows}
 use Rattle.fs_model.specs.Witness.{Witness}
 use Rattle.fs_model.specs.Numbers.{numbers_below}
 use Rattle.fs_model.specs.Source.{source_in}
@@ -15,6 +14,7 @@ use Rattle.fs_check.specs.declared.ordered.OrderedCandidate.{OrderedCandidate}
 use Rattle.fs_check.specs.Ordered.{IsOrdered, runs_in}
 use Rattle.fs_app_why.specs.declared.told.Told.{Told}
 use Rattle.fs_app_why.specs.inner.Told.{TellsExecution}
+use Rattle.fs_app_why.specs.Reordered.{IsToldOf}
 use Rattle.fs_app_why.specs.Why.{IsExecutionTold, IsNotShown}
 use Rattle.fs_app_why.specs.Traces.{told_of, early_text, late_text, mark_text, marks_early, operation_at, passed, passing, places}
 
@@ -45,22 +45,22 @@ module _ (lines : List (List ℕ)) (told : Told) (a : ℕ) where
 
 -- ---- from the test that was read to its bytes
 
-module _ (fences : Test → List Entry) (heading bytes : List ℕ) (t : Test) (p : List Entry) (lines : List (List ℕ)) where
-  told_of_bytes : Reads bytes t → StandIn bytes lines → p ≡ fences t → (text : List ℕ) → TellsExecution t p lines heading text
-      → IsExecutionTold fences heading bytes text
+module _ (fences : Test → List Entry) (heading bytes : List ℕ) (w : Witness) (t : Test) (p : List Entry) (lines : List (List ℕ)) where
+  told_of_bytes : Reads bytes t → StandIn bytes lines → p ≡ fences t → (text : List ℕ) → TellsExecution t p lines heading w text
+      → IsExecutionTold fences heading bytes w text
   told_of_bytes reads stand is text told = record {
     the_test = t;
     lines = lines;
     execution = told.execution;
     reads = reads;
     stand = stand;
-    shows = subst (λ q. Shows t q told.execution) is told.shows;
+    is_of = subst (λ q. IsToldOf t q w told.execution) is told.is_of;
     told = told.told;
   }
 
   pub told_if_some : {A : Type 0} (text_of : A → List ℕ) (found : Option A) → Reads bytes t → StandIn bytes lines → p ≡ fences t
-      → IfSome found (λ text. TellsExecution t p lines heading (text_of text))
-      → IfSome found (λ text. IsExecutionTold fences heading bytes (text_of text))
+      → IfSome found (λ text. TellsExecution t p lines heading w (text_of text))
+      → IfSome found (λ text. IsExecutionTold fences heading bytes w (text_of text))
   told_if_some text_of (Some text) reads stand is told = told_of_bytes reads stand is (text_of text) told
   told_if_some text_of None reads stand is told = tt
 

@@ -1,7 +1,9 @@
--- What `--why` prints below an answer.
+-- What `--why` prints below an answer, and the fault that it answers.
 use Rattle.std.specs.Prelude.{◌≡◌, ◌⊎◌, ℕ, List, [], ◌∷◌, ◌++◌, length, Option, None, Some, codes, slice_get}
 use Rattle.std.specs.Fmt.{decimal}
 use Rattle.std.specs.List.{Contains, slice_index_or}
+use Rattle.fs_kinds.specs.declared.fault.Fault.{Fault}
+use Rattle.fs_kinds.specs.declared.fault.Fault.TheVariants.{BadCertificate, BadFence, Memory}
 use Rattle.fs_kinds.specs.declared.kind.Kind.{Kind}
 use Rattle.fs_kinds.specs.declared.placement.Entry.{Entry}
 use Rattle.fs_kinds.specs.declared.slot.Slot.{Slot}
@@ -9,17 +11,20 @@ use Rattle.fs_kinds.specs.Kind.{word}
 use Rattle.fs_kinds.specs.Placement.{with_kind}
 use Rattle.fs_kinds.specs.Slot.{slot_name}
 use Rattle.fs_model.specs.declared.test.Test.{Test}
-use Rattle.fs_model.specs.Allows.{Shows, no_fences, full_fences}
+use Rattle.fs_model.specs.Allows.{no_fences, full_fences}
 use Rattle.fs_model.specs.Execution.{Execution}
 use Rattle.fs_model.specs.Placed.{IsPlaced}
 use Rattle.fs_model.specs.Slots.{slots}
 use Rattle.fs_model.specs.Witness.{Witness}
 use Rattle.fs_litmus.specs.Reads.{Reads}
+use Rattle.fs_litmus.specs.Faults.{IsTestFault}
 use Rattle.fs_litmus.specs.Lines.{StandIn}
 use Rattle.fs_cert_evidence.specs.Certificate.{Answer, Certificate, Fenced, NoneForbids}
 use Rattle.fs_cert_evidence.specs.CertificateFile.{IsCertificateFile}
 use Rattle.fs_cert_evidence.specs.Shown.{ShowsAs, IsShownBy}
 use Rattle.fs_cert_evidence.specs.WitnessFile.{IsWitnessFile}
+use Rattle.fs_app_place_order.specs.Place.{IsBadFences}
+use Rattle.fs_app_why.specs.Reordered.{IsFirstShown, IsToldOf}
 use Rattle.fs_app_why.specs.Traces.{trace_text}
 use Rattle.fs_app_why.specs.Words.{line_of, text_of_instr}
 
@@ -52,14 +57,14 @@ abbrev pub none_heading : List ℕ
 none_heading =
     codes "\nThe outcome can be whatever fences are placed. With rw,rw at every slot, in the order of memory:\n"
 
--- with the fences that this gives
-pub record IsExecutionTold (fences : Test → List Entry) (heading test text : List ℕ) : Type 0 where
+-- of the witness, with the fences that this gives
+pub record IsExecutionTold (fences : Test → List Entry) (heading test : List ℕ) (w : Witness) (text : List ℕ) : Type 0 where
   pub the_test : Test
   pub lines : List (List ℕ)
   pub execution : Execution
   pub reads : Reads test the_test
   pub stand : StandIn test lines
-  pub shows : Shows the_test (fences the_test) execution
+  pub is_of : IsToldOf the_test (fences the_test) w execution
   pub told : text ≡ heading ++ trace_text the_test lines execution
 
 -- the witness gives none
@@ -69,11 +74,11 @@ pub record IsNotShown (fences : Test → List Entry) (test : List ℕ) (w : Witn
   pub shown : IsShownBy the_test (fences the_test) w → ⊥
 
 -- as it is written
-abbrev pub IsAllowedWhy : (test text : List ℕ) → Type 0
+abbrev pub IsAllowedWhy : (test : List ℕ) → Witness → (text : List ℕ) → Type 0
 IsAllowedWhy = IsExecutionTold no_fences allowed_heading
 
 -- with rw,rw in every slot
-abbrev pub IsNoneWhy : (test text : List ℕ) → Type 0
+abbrev pub IsNoneWhy : (test : List ℕ) → Witness → (text : List ℕ) → Type 0
 IsNoneWhy = IsExecutionTold full_fences none_heading
 
 -- ---- of fences, an execution without each
@@ -90,13 +95,17 @@ fence_line t lines slot kind =
 abbrev pub without_heading : List ℕ
 without_heading = codes "Without it, in the order of memory:\n"
 
-module _ (t : Test) (lines : List (List ℕ)) (NoneDoes : List Entry → Type 0) (p : List Entry) where
-  -- an execution that shows the outcome without the fence in this slot; none where nothing does so
+-- none of these witnesses shows the outcome with these fences
+abbrev pub NoWitnessShows : Test → List Witness → List Entry → Type 0
+NoWitnessShows t ws p = (w : Witness) → Contains ws w → IsShownBy t p w → ⊥
+
+module _ (t : Test) (lines : List (List ℕ)) (ws : List Witness) (IsUntold : List Entry → Type 0) (p : List Entry) where
+  -- an execution of the first witness that shows the outcome without the fence in this slot; or the fence's line alone
   abbrev pub TellsWithout : Slot → Kind → (text : List ℕ) → Type 0
   TellsWithout slot kind text =
-      ((e : Execution) × Shows t (with_kind slot None p) e
+      ((w : Witness) × (e : Execution) × IsFirstShown t (with_kind slot None p) ws w × IsToldOf t (with_kind slot None p) w e
       × (text ≡ fence_line t lines slot kind ++ (without_heading ++ trace_text t lines e)))
-      ⊎ (NoneDoes (with_kind slot None p) × (text ≡ fence_line t lines slot kind))
+      ⊎ (IsUntold (with_kind slot None p) × (text ≡ fence_line t lines slot kind))
 
   -- of a slot without a fence nothing
   abbrev pub TellsSlot : Slot → Option Kind → (text : List ℕ) → Type 0
@@ -112,11 +121,8 @@ module _ (t : Test) (lines : List (List ℕ)) (NoneDoes : List Entry → Type 0)
   TellsFences (entry ∷ entries) text =
       (told : List ℕ) × (others : List ℕ) × TellsEntry entry told × TellsFences entries others × (text ≡ told ++ others)
 
--- none of these witnesses shows the outcome with these fences
-abbrev pub NoWitnessShows : Test → List Witness → List Entry → Type 0
-NoWitnessShows t ws p = (w : Witness) → Contains ws w → IsShownBy t p w → ⊥
-
--- the words name fences in the test's slots; of each an execution without it, where one of the witnesses gives one
+-- The words name fences in the test's slots. Of each an execution without it; its line alone only where none of the
+-- witnesses gives one.
 pub record TellsAllFences (test : List ℕ) (words : List (List ℕ)) (ws : List Witness) (text : List ℕ) : Type 0 where
   pub the_test : Test
   pub lines : List (List ℕ)
@@ -124,7 +130,7 @@ pub record TellsAllFences (test : List ℕ) (words : List (List ℕ)) (ws : List
   pub reads : Reads test the_test
   pub stand : StandIn test lines
   pub placed : IsPlaced None (slots the_test) words (Some placement)
-  pub told : TellsFences the_test lines (NoWitnessShows the_test ws) placement placement text
+  pub told : TellsFences the_test lines ws (NoWitnessShows the_test ws) placement placement text
 
 -- ---- of an answer that a certificate says
 
@@ -132,9 +138,24 @@ pub record TellsAllFences (test : List ℕ) (words : List (List ℕ)) (ws : List
 abbrev pub TellsAnswer : (test : List ℕ) → Answer → List Witness → (text : List ℕ) → Type 0
 TellsAnswer test (Fenced cost fences) witnesses text = TellsAllFences test fences witnesses text
 TellsAnswer test NoneForbids [] text = text ≡ []
-TellsAnswer test NoneForbids (w ∷ ws) text = IsNoneWhy test text ⊎ (IsNotShown full_fences test w × (text ≡ []))
+TellsAnswer test NoneForbids (w ∷ ws) text = IsNoneWhy test w text ⊎ (IsNotShown full_fences test w × (text ≡ []))
 
 pub record IsAnswerWhy (test certificate text : List ℕ) : Type 0 where
   pub said : Certificate
   pub file : IsCertificateFile certificate said
   pub tells : TellsAnswer test said.answer said.witnesses text
+
+-- the words of the answer's fences don't fit the test
+abbrev pub IsBadAnswer : (test : List ℕ) → Answer → Type 0
+IsBadAnswer test (Fenced cost fences) = (t : Test) × Reads test t × IsBadFences None t fences
+IsBadAnswer test NoneForbids = ⊥
+
+-- the first fault: of the certificate, else of the test, else of the words; want of memory may come in place of any
+-- answer
+pub data IsFirstWhyFault (test certificate : List ℕ) : Fault → Type 0 where
+  of_certificate : ((c : Certificate) → IsCertificateFile certificate c → ⊥) → IsFirstWhyFault test certificate BadCertificate
+  of_test : {fault : Fault} (c : Certificate) → IsCertificateFile certificate c → IsTestFault test fault
+      → IsFirstWhyFault test certificate fault
+  of_fences : (c : Certificate) → IsCertificateFile certificate c → IsBadAnswer test c.answer
+      → IsFirstWhyFault test certificate BadFence
+  of_memory : IsFirstWhyFault test certificate Memory

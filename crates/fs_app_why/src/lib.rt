@@ -2,7 +2,10 @@
 //! operations that overtake others of their hart.
 #![tactic(auto)]
 
+mod alike;
 mod answered;
+mod arrows;
+mod contradictions;
 mod ends;
 mod marks;
 mod nearer;

@@ -4,10 +4,14 @@ ghost use Rattle.std.specs.Prelude.{◌≡◌, All, map, IfOk, IfSome, IfNone, I
 ghost use Rattle.fs_kinds.specs.declared.fault.Fault.TheVariants.{Memory};
 ghost use Rattle.fs_model.specs.Test.{IsBounded, IsStart};
 ghost use Rattle.fs_model.specs.Witness.{Witness};
-ghost use Rattle.fs_cert_evidence.specs.Shown.{IsShownBy};
+ghost use Rattle.fs_model_axioms.specs.Final.{AreFinal};
+ghost use Rattle.fs_cert_evidence.specs.Shown.{IsShownBy, ShowsAs};
 ghost use Rattle.fs_cert_evidence.specs.WitnessFile.{KeepsWitness, in_range};
-ghost use Rattle.fs_app_why.specs.inner.Told.{IsShowing};
+ghost use Rattle.fs_check.specs.Ordered.{IsOrdered, execution_in};
+ghost use Rattle.fs_report.specs.Given.{given};
+ghost use Rattle.fs_app_why.specs.Reordered.{IsToldOf};
 
+use crate::alike::is_alike;
 use crate::relation::nearer_order;
 use fs_cert_evidence::{ChoiceLists, Choices, Names, WitnessFile};
 use fs_check::{OrderedCandidate, shown_by};
@@ -57,24 +61,6 @@ pub(crate) fn file_of(
     Ok(WitnessFile { choices, order })
 }
 
-/// The execution that the witness gives, if it shows the outcome with these fences. The cost is that of `shown_by`.
-pub(crate) fn shown(
-    alloc: Global,
-    test: &Test,
-    placement: &Placement,
-    file: &WitnessFile,
-) -> Result<Option<OrderedCandidate>, Fault>
-    requires test { IsBounded test.now }
-    requires starts { All IsStart test.now.starts }
-    requires says { (w : Witness) × KeepsWitness file.now w }
-    ensures some { IfOk result (λ found. IfSome found (IsShowing test.now placement.now)) }
-    ensures none { (w : Witness) → KeepsWitness file.now w → IfOk result (λ found.
-        IfNone found (IsShownBy test.now placement.now w → ⊥)) }
-    ensures err { IsOkUnless result Memory }
-{
-    shown_by(alloc, test, placement, file)
-}
-
 /// The execution that these choices and this order give, if it shows the outcome with these fences.
 fn shown_in(
     alloc: Global,
@@ -85,11 +71,39 @@ fn shown_in(
 ) -> Result<Option<OrderedCandidate>, Fault>
     requires test { IsBounded test.now }
     requires starts { All IsStart test.now.starts }
-    ensures some { IfOk result (λ found. IfSome found (IsShowing test.now placement.now)) }
+    ensures ordered { IfOk result (λ found. IfSome found (IsOrdered test.now)) }
+    ensures last { IfOk result (λ found. IfSome found (λ o. AreFinal test.now o.candidate.traces)) }
+    ensures some { IfOk result (λ found. IfSome found
+        (λ o. ShowsAs test.now placement.now (given choices.now order.now) (execution_in o))) }
     ensures err { IsOkUnless result Memory }
 {
     let file = file_of(alloc, choices, order)?;
-    shown(alloc, test, placement, &file)
+    shown_by(alloc, test, placement, &file)
+}
+
+/// The same, where it also has the sources and coherence orders of the other one.
+fn reordered(
+    alloc: Global,
+    test: &Test,
+    placement: &Placement,
+    choices: &[Choices],
+    order: &[OperationName],
+    found: &OrderedCandidate,
+) -> Result<Option<OrderedCandidate>, Fault>
+    requires test { IsBounded test.now }
+    requires starts { All IsStart test.now.starts }
+    requires found { IsOrdered test.now found.now }
+    ensures ordered { IfOk result (λ other. IfSome other (IsOrdered test.now)) }
+    ensures last { IfOk result (λ other. IfSome other (λ o. AreFinal test.now o.candidate.traces)) }
+    ensures some { (w : Witness) → w.choices ≡ choices.now → ShowsAs test.now placement.now w (execution_in found.now)
+        → IfOk result (λ other. IfSome other (λ o. IsToldOf test.now placement.now w (execution_in o))) }
+    ensures err { IsOkUnless result Memory }
+{
+    let Some(other) = shown_in(alloc, test, placement, choices, order)? else {
+        return Ok(None);
+    };
+    let same = is_alike(alloc, test, found, &other)?;
+    if same { Ok(Some(other)) } else { Ok(None) }
 }
 
 /// An execution that shows the outcome with these fences: with the choices, sources and coherence orders of the one
@@ -105,16 +119,26 @@ pub(crate) fn nearer(
 ) -> Result<Option<OrderedCandidate>, Fault>
     requires test { IsBounded test.now }
     requires starts { All IsStart test.now.starts }
-    requires says { (w : Witness) × KeepsWitness file.now w }
-    ensures some { IfOk result (λ found. IfSome found (IsShowing test.now placement.now)) }
+    ensures ordered { IfOk result (λ found. IfSome found (IsOrdered test.now)) }
+    ensures last { IfOk result (λ found. IfSome found (λ o. AreFinal test.now o.candidate.traces)) }
+    ensures some { (w : Witness) → KeepsWitness file.now w → IfOk result (λ found.
+        IfSome found (λ o. IsToldOf test.now placement.now w (execution_in o))) }
     ensures none { (w : Witness) → KeepsWitness file.now w → IfOk result (λ found.
         IfNone found (IsShownBy test.now placement.now w → ⊥)) }
+    ensures err { IsOkUnless result Memory }
 {
-    let Some(found) = shown(alloc, test, placement, file)? else {
+    let Some(found) = shown_by(alloc, test, placement, file)? else {
         return Ok(None);
     };
     let order = nearer_order(alloc, placement, slot, &found)?;
-    match shown_in(alloc, test, placement, file.choices.as_slice(), &order)? {
+    match reordered(
+        alloc,
+        test,
+        placement,
+        file.choices.as_slice(),
+        &order,
+        &found,
+    )? {
         Some(nearer) => Ok(Some(nearer)),
         None => Ok(Some(found)),
     }

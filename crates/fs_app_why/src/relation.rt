@@ -1,7 +1,8 @@
 //! Which operations of an execution must come to memory before which, and an order that keeps this and most of program
 //! order. What it finds is judged once more, so nothing is promised of it.
 
-ghost use Rattle.std.specs.Prelude.{◌<◌, ◌≤◌, length};
+ghost use Rattle.std.specs.Prelude.{◌<◌, ◌≤◌, length, IsOkUnless};
+ghost use Rattle.fs_kinds.specs.declared.fault.Fault.TheVariants.{Memory};
 
 use fs_cand_witness::{Rows, base_rows, fence_rows, has_order, operation_name, sides_of};
 use fs_check::OrderedCandidate;
@@ -49,6 +50,7 @@ fn add_overwritten(rows: &mut Rows, ordered: &OrderedCandidate, n: usize)
 fn judged(alloc: Global, placement: &Placement, ordered: &OrderedCandidate) -> Result<Rows, Fault>
     requires operations { length ordered.now.candidate.operations ≤ 64 }
     requires harts { length ordered.now.candidate.traces ≤ 8 }
+    ensures { IsOkUnless result Memory }
 {
     let candidate = &ordered.candidate;
     let mut rows = base_rows(candidate);
@@ -217,7 +219,9 @@ pub(crate) fn nearer_order(
     placement: &Placement,
     slot: Option<Slot>,
     ordered: &OrderedCandidate,
-) -> Result<Vec<OperationName>, Fault> {
+) -> Result<Vec<OperationName>, Fault>
+    ensures { IsOkUnless result Memory }
+{
     let candidate = &ordered.candidate;
     let n = candidate.operations.len();
     if n > MOST_OPERATIONS || candidate.traces.len() > MOST_HARTS {

@@ -1,15 +1,20 @@
 //! What each fence of an answer is for: an execution without it.
 
-ghost use Rattle.std.specs.Prelude.{◌≡◌, ◌++◌, [], None, IfOk, IfSome, IfNone, string_bytes};
-ghost use Rattle.std.specs.List.{slice_index_or};
+ghost use Rattle.std.specs.Prelude.{◌≡◌, ◌++◌, List as Items, [], None, IfOk, IfSome, IfNone, IsOkUnless, IsTrue};
+ghost use Rattle.std.specs.Prelude.{string_bytes};
+ghost use Rattle.std.specs.List.{AllZip, slice_index_or};
 ghost use Rattle.fs_instr.specs.Writing.{instr_text};
-ghost use Rattle.fs_kinds.specs.Placement.{with_kind};
+ghost use Rattle.fs_kinds.specs.declared.fault.Fault.TheVariants.{Memory};
+ghost use Rattle.fs_kinds.specs.Placement.{has_slot, with_kind};
 ghost use Rattle.fs_model.specs.Test.{IsTest};
+ghost use Rattle.fs_model.specs.Witness.{Witness};
 ghost use Rattle.fs_model_axioms.specs.Final.{AreFinal};
+ghost use Rattle.fs_cert_evidence.specs.WitnessFile.{KeepsWitness};
 ghost use Rattle.fs_check.specs.Ordered.{IsOrdered, execution_in};
-ghost use Rattle.fs_app_why.specs.inner.Told.{IsShowing, NoneShows, SayWitnesses};
+ghost use Rattle.fs_app_why.specs.inner.Told.{IsOfFirst, NoneShows};
 ghost use Rattle.fs_app_why.specs.Traces.{trace_text};
-ghost use Rattle.fs_app_why.specs.Why.{TellsEntry, TellsFences, TellsWithout, fence_line, instr_at, without_heading};
+ghost use Rattle.fs_app_why.specs.Why.{NoWitnessShows, TellsEntry, TellsFences, TellsWithout, fence_line, instr_at};
+ghost use Rattle.fs_app_why.specs.Why.{without_heading};
 
 use crate::nearer::nearer;
 use crate::trace::trace_text;
@@ -23,7 +28,9 @@ use std::alloc::{AllocError, Global};
 
 /// The placement with no fence in the slot.
 fn without(placement: &Placement, slot: Slot) -> Result<Placement, Fault>
-    ensures { IfOk result (λ other. other ≡ with_kind slot None placement.now) }
+    requires { IsTrue (has_slot slot placement.now) }
+    ensures ok { IfOk result (λ other. other ≡ with_kind slot None placement.now) }
+    ensures err { IsOkUnless result Memory }
 {
     let mut other = placement.copy()?;
     other.with(slot, None)?;
@@ -31,7 +38,7 @@ fn without(placement: &Placement, slot: Slot) -> Result<Placement, Fault>
 }
 
 /// The execution of the first of the witnesses that shows the outcome with these fences, with more of program order
-/// where that can be kept; what a fence in the slot would order is given up before all else.
+/// where that can be kept; what a fence in the slot would order is given up before all else. The error is F19.
 fn first_shown(
     alloc: Global,
     test: &Test,
@@ -39,10 +46,12 @@ fn first_shown(
     slot: Slot,
     files: &[WitnessFile],
 ) -> Result<Option<OrderedCandidate>, Fault>
-    requires test { IsTest test.now }
-    requires says { SayWitnesses files.now }
-    ensures some { IfOk result (λ found. IfSome found (IsShowing test.now placement.now)) }
+    requires { IsTest test.now }
+    ensures ordered { IfOk result (λ found. IfSome found (IsOrdered test.now)) }
+    ensures last { IfOk result (λ found. IfSome found (λ o. AreFinal test.now o.candidate.traces)) }
+    ensures some { IfOk result (λ found. IfSome found (IsOfFirst test.now placement.now files.now)) }
     ensures none { IfOk result (λ found. IfNone found (NoneShows test.now files.now placement.now)) }
+    ensures err { IsOkUnless result Memory }
 {
     for file in files {
         if let Some(found) = nearer(alloc, test, placement, Some(slot), file)? {
@@ -52,7 +61,7 @@ fn first_shown(
     Ok(None)
 }
 
-fn code_of(test: &Test, hart: u8) -> &[Instr]
+pub(crate) fn code_of(test: &Test, hart: u8) -> &[Instr]
     ensures { result.now ≡ slice_index_or test.now.codes hart [] }
 {
     let codes = test.codes.as_slice();
@@ -63,7 +72,7 @@ fn code_of(test: &Test, hart: u8) -> &[Instr]
     }
 }
 
-fn instr_text(alloc: Global, instr: Instr) -> Result<String, AllocError>
+pub(crate) fn instr_text(alloc: Global, instr: Instr) -> Result<String, AllocError>
     ensures { IfOk result (λ text. string_bytes text ≡ instr_text instr) }
 {
     let mut text = String::new(alloc);
@@ -133,10 +142,11 @@ fn fence_text(
     fence: (Slot, Kind),
 ) -> Result<String, Fault>
     requires test { IsTest test.now }
-    requires says { SayWitnesses files.now }
-    ensures { IfOk result (λ text.
-        TellsWithout test.now lines.now (NoneShows test.now files.now) placement.now fence.0 fence.1
+    requires there { IsTrue (has_slot fence.0 placement.now) }
+    ensures told { (ws : Items Witness) → AllZip KeepsWitness files.now ws → IfOk result (λ text.
+        TellsWithout test.now lines.now ws (NoWitnessShows test.now ws) placement.now fence.0 fence.1
         (string_bytes text)) }
+    ensures err { IsOkUnless result Memory }
 {
     let mut text = fence_line(alloc, test, lines, fence.0, fence.1)?;
     let other = without(placement, fence.0)?;
@@ -160,9 +170,10 @@ fn entry_text(
     entry: Entry,
 ) -> Result<String, Fault>
     requires test { IsTest test.now }
-    requires says { SayWitnesses files.now }
-    ensures { IfOk result (λ text.
-        TellsEntry test.now lines.now (NoneShows test.now files.now) placement.now entry (string_bytes text)) }
+    requires there { IsTrue (has_slot entry.slot placement.now) }
+    ensures told { (ws : Items Witness) → AllZip KeepsWitness files.now ws → IfOk result (λ text.
+        TellsEntry test.now lines.now ws (NoWitnessShows test.now ws) placement.now entry (string_bytes text)) }
+    ensures err { IsOkUnless result Memory }
 {
     match entry.kind {
         Some(kind) => fence_text(alloc, test, lines, placement, files, (entry.slot, kind)),
@@ -171,7 +182,7 @@ fn entry_text(
 }
 
 /// What is told of each fence, in the order of their slots: where one of the witnesses shows the outcome without it, that
-/// execution.
+/// execution. The error is F19.
 pub(crate) fn fences_text(
     alloc: Global,
     test: &Test,
@@ -179,10 +190,11 @@ pub(crate) fn fences_text(
     placement: &Placement,
     files: &[WitnessFile],
 ) -> Result<String, Fault>
-    requires test { IsTest test.now }
-    requires says { SayWitnesses files.now }
-    ensures { IfOk result (λ text. TellsFences test.now lines.now (NoneShows test.now files.now) placement.now
-        placement.now (string_bytes text)) }
+    requires { IsTest test.now }
+    ensures told { (ws : Items Witness) → AllZip KeepsWitness files.now ws → IfOk result (λ text.
+        TellsFences test.now lines.now ws (NoWitnessShows test.now ws) placement.now placement.now
+        (string_bytes text)) }
+    ensures err { IsOkUnless result Memory }
 {
     let mut text = String::new(alloc);
     for entry in placement.as_slice() {

@@ -15,3 +15,4 @@ pub mod Faults
 pub mod Judged
 pub mod OneFile
 pub mod Covering
+pub mod Bare

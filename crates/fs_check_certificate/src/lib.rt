@@ -20,4 +20,4 @@ mod witness;
 pub use bounds::{Bounding, judge_bounded, refutes};
 pub use certificate_verdict::{CheckVerdict, check};
 pub use held::{Held, hold};
-pub use laws::{file_says_one_certificate, valid_is_right};
+pub use laws::{fences_have_executions, file_says_one_certificate, valid_is_right};

@@ -1,11 +1,19 @@
-use Rattle.std.proofs.Common.{length, subst, sym}
+use Rattle.std.proofs.Common.{Err, ap, length, subst, sym}
 use Rattle.std.proofs.lemmas.Result.{IfOk-weaker}
 use Rattle.fs_litmus.specs.Lines.{StandIn}
+use Rattle.fs_model.specs.Witness.{Witness}
 use Rattle.fs_cert_evidence.specs.WitnessFile.{IsWitnessFile}
+use Rattle.fs_app_place_order.specs.Order.{of_memory}
+use Rattle.fs_app_place_order.proofs.Faults.{IfErr-handed}
+use Rattle.fs_app_place_order.proofs.OrderFaults.{order-fences, order-memory, order-test, order-witness}
+use Rattle.fs_app_why.proofs.Faults.{memory_is}
 use Rattle.fs_app_why.proofs.order.why_order.Goals as goal
 
-pub returns : goal.returns
-returns c =
+pub lines_of-requires : goal.lines_of-requires
+lines_of-requires c = (c.in_ok-read.read, c.in_ok-read.ensures.ok)
+
+pub returns-clause-told : goal.returns-clause-told
+returns-clause-told c =
     let file = c.in_ok-file.ensures.ok in
     IfOk-weaker c.given_text.result _ _
     (λ text told. record {
@@ -19,4 +27,28 @@ returns c =
       says = subst (λ codes. IsWitnessFile (length codes) c.args.witness.now file.0) c.as_slice.ensures file.1;
       told = told;
     })
-    (c.given_text.ensures file.0 file.2)
+    (c.given_text.ensures.told file.0 file.2)
+
+pub returns-clause-fault : goal.returns-clause-fault
+returns-clause-fault c = memory_is c.given_text.result _ of_memory c.given_text.ensures.err
+
+pub returns-in_err-read-clause-fault : goal.returns-in_err-read-clause-fault
+returns-in_err-read-clause-fault c =
+    IfErr-handed c.from_residual.result _ _ c.from_residual.ensures.1 (order-test _ _ _ _ c.in_err-read.ensures.err)
+
+pub returns-in_err-placement-clause-fault : goal.returns-in_err-placement-clause-fault
+returns-in_err-placement-clause-fault c =
+    IfErr-handed c.from_residual-in_err-placement.result _ _ c.from_residual-in_err-placement.ensures.1
+    (order-fences _ _ _ _ _ c.in_ok-read.ensures.ok (λ e. c.in_err-placement.ensures.bad_fence (ap (λ f. Err f) e)) c.in_err-placement.ensures.err)
+
+pub returns-in_err-file-clause-fault : goal.returns-in_err-file-clause-fault
+returns-in_err-file-clause-fault c =
+    IfErr-handed c.from_residual-in_err-file.result _ _ c.from_residual-in_err-file.ensures.1
+    (order-witness _ _ _ _ _ _ c.in_ok-read.ensures.ok c.in_ok-placement.ensures.ok
+    (λ e. subst (λ codes. (w : Witness) → IsWitnessFile (length codes) c.args.witness.now w → ⊥) c.as_slice.ensures
+    (c.in_err-file.ensures.bad (ap (λ f. Err f) e))) c.in_err-file.ensures.err)
+
+pub returns-in_err-lines-clause-fault : goal.returns-in_err-lines-clause-fault
+returns-in_err-lines-clause-fault c =
+    IfErr-handed c.from_residual-in_err-lines.result _ _ c.from_residual-in_err-lines.ensures.1
+    (order-memory _ _ _ _ c.in_err-lines.ensures.err)

@@ -5,21 +5,22 @@ use Rattle.fs_report.specs.Given.{given}
 use Rattle.fs_cert_evidence.specs.WitnessFile.{KeepsWitness}
 use Rattle.fs_litmus.specs.Lines.{StandIn}
 use Rattle.fs_app_why.specs.Why.{allowed_heading}
+use Rattle.fs_app_why.proofs.Faults.{memory_or}
 use Rattle.fs_app_why.proofs.Telling.{not_shown_if_none, told_if_some}
 use Rattle.fs_app_why.proofs.possible.why_allowed.Goals as goal
 
-pub told-requires-clause-says : goal.told-requires-clause-says
-told-requires-clause-says c = (
-  given c.args.choices.now c.args.order.now,
-  record { choices = c.in_ok-file.ensures.choices; order = c.in_ok-file.ensures.order },
-)
+pub lines_of-requires : goal.lines_of-requires
+lines_of-requires c = (c.in_ok-read.read, c.in_ok-read.ensures.ok)
 
 pub returns-clause-some : goal.returns-clause-some
 returns-clause-some c =
+    let w = given c.args.choices.now c.args.order.now in
+    let keeps : KeepsWitness c.in_ok-file.file w =
+    record { choices = c.in_ok-file.ensures.choices; order = c.in_ok-file.ensures.order } in
     IfOk-weaker c.told.result _ _
-    (λ found. told_if_some no_fences allowed_heading c.args.test.now c.in_ok-read.read c.in_ok-placement.placement c.deref.result.now
-    string_bytes found c.in_ok-read.ensures.ok (subst (StandIn c.args.test.now) (sym c.deref.ensures.value) c.in_ok-lines.ensures.ok) c.in_ok-placement.ensures)
-    c.told.ensures.some
+    (λ found. told_if_some no_fences allowed_heading c.args.test.now w c.in_ok-read.read c.in_ok-placement.placement c.deref.result.now
+    string_bytes found c.in_ok-read.ensures.ok (subst (StandIn c.args.test.now) (sym c.deref.ensures.value) c.in_ok-lines.ensures.ok) c.in_ok-placement.ensures.ok)
+    (c.told.ensures.some w keeps)
 
 pub returns-clause-none : goal.returns-clause-none
 returns-clause-none c =
@@ -28,5 +29,8 @@ returns-clause-none c =
     record { choices = c.in_ok-file.ensures.choices; order = c.in_ok-file.ensures.order } in
     IfOk-weaker c.told.result _ _
     (λ found. not_shown_if_none no_fences c.args.test.now c.in_ok-read.read c.in_ok-placement.placement w found c.in_ok-read.ensures.ok
-    c.in_ok-placement.ensures)
+    c.in_ok-placement.ensures.ok)
     (c.told.ensures.none w keeps)
+
+pub returns-clause-fault : goal.returns-clause-fault
+returns-clause-fault c = memory_or c.told.result _ c.told.ensures.err

@@ -1,6 +1,6 @@
 use Rattle.std.proofs.Common.{◌∙◌, length, arith}
 use Rattle.fs_cand_witness.specs.Naming.{name_at}
-use Rattle.fs_app_why.proofs.Showing.{name_more, all_names}
+use Rattle.fs_app_why.proofs.Numbered.{name_more, all_names}
 use Rattle.fs_app_why.proofs.told.names.Goals as goal
 
 pub loop-a-preserved : goal.loop-a-preserved

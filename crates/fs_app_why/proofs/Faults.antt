@@ -1,0 +1,62 @@
+-- Which fault is answered.
+use Rattle.std.proofs.Common.{◌≡◌, ◌≢◌, ◌⊎◌, inl, inr, ℕ, List, None, Result, Ok, Err, IfErr, sym, subst}
+use Rattle.std.specs.Prelude.{IsOkUnless}
+use Rattle.fs_kinds.specs.declared.fault.Fault.{Fault}
+use Rattle.fs_kinds.specs.declared.fault.Fault.TheVariants.{BadCertificate, BadFence, Memory}
+use Rattle.fs_model.specs.declared.test.Test.{Test}
+use Rattle.fs_litmus.specs.Reads.{Reads}
+use Rattle.fs_litmus.specs.Faults.{IsBroken, IsTestFault}
+use Rattle.fs_litmus.proofs.FrontFaults.{unbroken}
+use Rattle.fs_cert_evidence.specs.Certificate.{Certificate}
+use Rattle.fs_cert_evidence.specs.CertificateFile.{IsCertificateFile}
+use Rattle.fs_app_place_order.specs.Place.{IsBadFences}
+use Rattle.fs_app_place_order.proofs.Faults.{is_memory}
+use Rattle.fs_app_why.specs.Why.{IsBadAnswer, IsFirstWhyFault, of_certificate, of_test, of_fences, of_memory}
+
+-- bytes that read as a test are of the form
+of_form : (bytes : List ℕ) (t : Test) (f : Fault) → Reads bytes t → (f ≢ Memory → (line : ℕ) × IsBroken bytes line) → f ≡ Memory
+of_form bytes t f reads broken = elim (is_memory f) [
+  | inl e ↦ e
+  | inr n ↦ (let there = broken n in absurd (unbroken bytes reads.form reads.syntax_of there.0 reads.has_form there.1))
+]
+
+pub memory_only : {T : Type 0} (bytes : List ℕ) (t : Test) (r : Result T Fault) → Reads bytes t
+    → IfErr r (λ f. f ≢ Memory → (line : ℕ) × IsBroken bytes line) → IsOkUnless r Memory
+memory_only bytes t (Ok x) reads broken = tt
+memory_only bytes t (Err f) reads broken = of_form bytes t f reads broken
+
+-- want of memory meets what is said of all other faults
+pub memory_or : {T : Type 0} (r : Result T Fault) (P : Fault → Type 0) → IsOkUnless r Memory → IfErr r (λ f. f ≢ Memory → P f)
+memory_or (Ok x) P e = tt
+memory_or (Err f) P e = λ n. absurd (n e)
+
+pub memory_is : {T : Type 0} (r : Result T Fault) (P : Fault → Type 0) → P Memory → IsOkUnless r Memory → IfErr r P
+memory_is (Ok x) P is e = tt
+memory_is (Err f) P is e = subst P (sym e) is
+
+-- ---- of words
+
+pub of_words : (bytes : List ℕ) (t : Test) (words : List (List ℕ)) (f : Fault) → Reads bytes t → (f ≡ BadFence → IsBadFences None t words)
+    → (f ≡ BadFence) ⊎ (f ≡ Memory) → f ≢ Memory
+    → IsTestFault bytes f ⊎ ((f ≡ BadFence) × ((u : Test) × Reads bytes u × IsBadFences None u words))
+of_words bytes t words f reads bad other known = elim other [ inl e ↦ inr (e, (t, reads, bad e)) | inr e ↦ absurd (known e) ]
+
+-- ---- of certificates
+
+module _ (test certificate : List ℕ) where
+  pub why_certificate : (f : Fault) → (f ≡ BadCertificate → (c : Certificate) → IsCertificateFile certificate c → ⊥)
+      → (f ≡ BadCertificate) ⊎ (f ≡ Memory) → IsFirstWhyFault test certificate f
+  why_certificate f bad other = elim other [
+    | inl e ↦ subst (IsFirstWhyFault test certificate) (sym e) (of_certificate (bad e))
+    | inr e ↦ subst (IsFirstWhyFault test certificate) (sym e) of_memory
+  ]
+
+  pub why_answered : (c : Certificate) (f : Fault) → IsCertificateFile certificate c
+      → (f ≢ Memory → IsTestFault test f ⊎ ((f ≡ BadFence) × IsBadAnswer test c.answer)) → IsFirstWhyFault test certificate f
+  why_answered c f is h = elim (is_memory f) [
+    | inl e ↦ subst (IsFirstWhyFault test certificate) (sym e) of_memory
+    | inr n ↦ elim (h n) [
+      | inl fault ↦ of_test c is fault
+      | inr bad ↦ subst (IsFirstWhyFault test certificate) (sym bad.0) (of_fences c is bad.1)
+    ]
+  ]

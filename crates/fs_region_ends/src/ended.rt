@@ -1,0 +1,271 @@
+//! An end of a refutation as a chain.
+
+ghost use Rattle.std.specs.Prelude.{◌≡◌, ◌++◌, ◌∷◌, [], drop, map, IfOk, OnOk};
+ghost use Rattle.std.specs.List.{zip};
+ghost use Rattle.fs_region_refutation.specs.Views.{region_of};
+ghost use Rattle.fs_region_ends.specs.Chains.{around, chain_by, chain_of, code_cause, cycle_link, due, link_of};
+ghost use Rattle.fs_region_ends.specs.Chains.{parted_steps, reversed_steps, sole_of, stale_steps};
+ghost use Rattle.fs_region_ends.specs.declared.chain.Arrow.TheVariants.{Because};
+ghost use Rattle.fs_region_ends.specs.declared.chain.Shape.TheVariants as kind;
+
+use crate::chain::{Arrow, Chain, ChainLink, Leading, Shape};
+use crate::fences::{Between, Fence, ordering};
+use crate::known::Known;
+use fs_cert_evidence::{Cause, Inference, Link};
+use fs_kinds::{List, OperationName, Placement};
+use fs_region_refutation::{Basis, Region};
+use fs_region_runs::Source;
+use std::alloc::{AllocError, Global};
+
+/// The only one of them.
+fn sole_of(fences: &[Fence]) -> Option<Fence>
+    ensures { result ≡ sole_of fences.now }
+{
+    match fences {
+        [fence] => Some(*fence),
+        _ => None,
+    }
+}
+
+/// The fences to which the arrow is due.
+fn due(
+    alloc: Global,
+    basis: &Basis,
+    placement: &Placement,
+    region: &Region<'_>,
+    arrow: Arrow,
+    names: (OperationName, OperationName),
+) -> Result<Vec<Fence>, AllocError>
+    ensures { IfOk result (λ fences. fences.items
+        ≡ due basis.now placement.now (region_of region.now) arrow names.0 names.1) }
+{
+    let (first, second) = names;
+    match arrow {
+        Arrow::Because(Cause::Rule4) => {
+            let runs = region.runs(first.hart);
+            ordering(alloc, basis.test(), placement, Between { first, second, runs })
+        }
+        _ => Ok(Vec::new(alloc)),
+    }
+}
+
+/// The link from an operation to the next one.
+fn link(
+    alloc: Global,
+    basis: &Basis,
+    placement: &Placement,
+    region: &Region<'_>,
+    arrow: Arrow,
+    names: (OperationName, OperationName),
+) -> Result<ChainLink, AllocError>
+    ensures { IfOk result (λ link.
+        link ≡ link_of basis.now placement.now (region_of region.now) names.0 arrow names.1) }
+{
+    let fences = due(alloc, basis, placement, region, arrow, names)?;
+    Ok(ChainLink {
+        name: names.0,
+        next: names.1,
+        known: Known::of(region, names.0),
+        arrow,
+        fence: fences.first().copied(),
+        sole: sole_of(&fences),
+    })
+}
+
+/// The arrow of the link's cause.
+fn arrow_of(link: &Link) -> Arrow
+    ensures { result ≡ Because (code_cause link.now.cause) }
+{
+    Arrow::Because(link.cause)
+}
+
+/// Appends the link of a cycle to the next one.
+fn push_link(
+    alloc: Global,
+    basis: &Basis,
+    placement: &Placement,
+    region: &Region<'_>,
+    links: (&Link, &Link),
+    made: &mut Vec<ChainLink>,
+) -> Result<(), AllocError>
+    ensures { OnOk result (made.new.items ≡ made.old.items
+        ++ cycle_link basis.now placement.now (region_of region.now) (links.0.now, links.1.now) ∷ []) }
+{
+    let (from, next) = links;
+    let names = (from.operation, next.operation);
+    made.push(link(alloc, basis, placement, region, arrow_of(from), names)?)
+}
+
+/// The links of a cycle, of which this is the first.
+fn cycle_links(
+    alloc: Global,
+    basis: &Basis,
+    placement: &Placement,
+    region: &Region<'_>,
+    links: &[Link],
+    first: &Link,
+) -> Result<List<ChainLink>, AllocError>
+    ensures { IfOk result (λ made. made ≡ map (cycle_link basis.now placement.now (region_of region.now))
+        (zip links.now (drop 1 links.now ++ first.now ∷ []))) }
+{
+    let mut made = Vec::new(alloc);
+    for (number, link) in links.iter().enumerate() {
+        let next = links.get(number + 1).unwrap_or(first);
+        push_link(alloc, basis, placement, region, (link, next), &mut made)?;
+    }
+    Ok(List::new(made))
+}
+
+/// The chain of a cycle.
+fn cycle(
+    alloc: Global,
+    basis: &Basis,
+    placement: &Placement,
+    region: &Region<'_>,
+    links: &[Link],
+) -> Result<Chain, AllocError>
+    ensures { IfOk result (λ chain. chain ≡ record { shape = kind.Cycle;
+        links = map (cycle_link basis.now placement.now (region_of region.now)) (around links.now) }) }
+{
+    let links = match links.first() {
+        Some(first) => cycle_links(alloc, basis, placement, region, links, first)?,
+        None => List::new(Vec::new(alloc)),
+    };
+    Ok(Chain {
+        shape: Shape::Cycle,
+        links,
+    })
+}
+
+/// A chain of these operations, each with what leads to the next one.
+fn chain(
+    alloc: Global,
+    basis: &Basis,
+    placement: &Placement,
+    region: &Region<'_>,
+    shape: Shape,
+    steps: &[Leading],
+) -> Result<Chain, AllocError>
+    ensures { IfOk result (λ chain. chain ≡ chain_by basis.now placement.now (region_of region.now) shape steps.now) }
+{
+    let mut made = Vec::new(alloc);
+    for step in steps {
+        let names = (step.name, step.next);
+        made.push(link(alloc, basis, placement, region, step.arrow, names)?)?;
+    }
+    Ok(Chain {
+        shape,
+        links: List::new(made),
+    })
+}
+
+fn leading(name: OperationName, arrow: Arrow, next: OperationName) -> Leading
+    ensures { result ≡ record { name = name; arrow = arrow; next = next } }
+{
+    Leading { name, arrow, next }
+}
+
+fn because(name: OperationName, cause: Cause, next: OperationName) -> Leading
+    ensures { result ≡ record { name = name; arrow = Because cause; next = next } }
+{
+    Leading {
+        name,
+        arrow: Arrow::Because(cause),
+        next,
+    }
+}
+
+/// That the store of a pair comes before what the pair's load returns.
+fn reversed(
+    alloc: Global,
+    basis: &Basis,
+    placement: &Placement,
+    region: &Region<'_>,
+    load: OperationName,
+    store: OperationName,
+) -> Result<Chain, AllocError>
+    ensures { IfOk result (λ chain. chain ≡ chain_by basis.now placement.now (region_of region.now) kind.Cycle
+        (reversed_steps basis.now placement.now (region_of region.now) load store)) }
+{
+    let last = because(load, Cause::Rule8, store);
+    if let Some(Source::From(source)) = region.source(load) {
+        let steps = [
+            because(store, Cause::Coherence, source),
+            because(source, Cause::ReadsFrom, load),
+            last,
+        ];
+        return chain(alloc, basis, placement, region, Shape::Cycle, &steps);
+    }
+    let steps = [because(store, Cause::Coherence, load), last];
+    chain(alloc, basis, placement, region, Shape::Cycle, &steps)
+}
+
+/// That a load returns what an own store before it overwrites.
+fn stale(
+    alloc: Global,
+    basis: &Basis,
+    placement: &Placement,
+    region: &Region<'_>,
+    load: OperationName,
+    store: OperationName,
+) -> Result<Chain, AllocError>
+    ensures { IfOk result (λ chain. chain ≡ chain_by basis.now placement.now (region_of region.now) kind.Stale
+        (stale_steps basis.now placement.now (region_of region.now) load store)) }
+{
+    let steps = [
+        leading(store, Arrow::Forgotten, load),
+        leading(load, Arrow::End, load),
+    ];
+    chain(alloc, basis, placement, region, Shape::Stale, &steps)
+}
+
+/// That a store comes between those of a pair.
+fn parted(
+    alloc: Global,
+    basis: &Basis,
+    placement: &Placement,
+    region: &Region<'_>,
+    pair: (OperationName, OperationName),
+    other: OperationName,
+) -> Result<Chain, AllocError>
+    ensures { IfOk result (λ chain. chain ≡ chain_by basis.now placement.now (region_of region.now) kind.NotAtomic
+        (parted_steps basis.now placement.now (region_of region.now) pair.0 pair.1 other)) }
+{
+    let (load, store) = pair;
+    let steps = [
+        because(load, Cause::FromReads, other),
+        because(other, Cause::Coherence, store),
+        leading(store, Arrow::Pair(load), store),
+    ];
+    chain(alloc, basis, placement, region, Shape::NotAtomic, &steps)
+}
+
+/// Appends the chain of the inference, if it is an end.
+pub(crate) fn push_end(
+    alloc: Global,
+    basis: &Basis,
+    placement: &Placement,
+    region: &Region<'_>,
+    inference: &Inference,
+    made: &mut Vec<Chain>,
+) -> Result<(), AllocError>
+    ensures { OnOk result (made.new.items ≡ made.old.items
+        ++ chain_of basis.now placement.now (region_of region.now) inference.now) }
+{
+    match inference {
+        Inference::Cycle(links) => {
+            made.push(cycle(alloc, basis, placement, region, links.as_slice())?)
+        }
+        Inference::Stale { load, store } => {
+            made.push(stale(alloc, basis, placement, region, *load, *store)?)
+        }
+        Inference::Reversed { load, store } => {
+            made.push(reversed(alloc, basis, placement, region, *load, *store)?)
+        }
+        Inference::Parted { load, store, other } => {
+            let pair = (*load, *store);
+            made.push(parted(alloc, basis, placement, region, pair, *other)?)
+        }
+        _ => Ok(()),
+    }
+}
