@@ -5,12 +5,10 @@ use Rattle.fs_kinds.specs.declared.placement.Entry.{Entry}
 use Rattle.fs_kinds.specs.declared.reason.OperationName.{OperationName as Name}
 use Rattle.fs_model.specs.declared.test.Test.{Test}
 use Rattle.fs_model.specs.Preserved as rule
-use Rattle.fs_cert_evidence.specs.Certificate.{Link}
+use Rattle.fs_cert_evidence.specs.Certificate.{Inference, Link, Cycle, Stale, Reversed, Parted}
 use Rattle.fs_cert_evidence.specs.Judged.{Cause, Preserved, ReadsFrom, Coherence, FromReads}
 use Rattle.fs_cert_evidence.specs.declared.evidence.Cause.{Cause as CodeCause}
 use Rattle.fs_cert_evidence.specs.declared.evidence.Cause.TheVariants as cause
-use Rattle.fs_cert_evidence.specs.declared.inference.Inference.{Inference}
-use Rattle.fs_cert_evidence.specs.declared.inference.Inference.TheVariants.{Cycle, Stale, Reversed, Parted}
 use Rattle.fs_cert_evidence.specs.Regions.{Region, Source, Initial, From}
 use Rattle.fs_region_ends.specs.declared.chain.Arrow.{Arrow}
 use Rattle.fs_region_ends.specs.declared.chain.Arrow.TheVariants.{Because, Forgotten, Pair, End}

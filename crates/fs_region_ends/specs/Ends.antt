@@ -1,9 +1,7 @@
 -- Where a refutation ends: the regions to which it comes, each with the inference that ends it.
 use Rattle.std.specs.Prelude.{List, [], ◌∷◌, ◌++◌}
 use Rattle.fs_model.specs.declared.test.Test.{Test}
-use Rattle.fs_cert_evidence.specs.declared.inference.Inference.{Inference}
-use Rattle.fs_cert_evidence.specs.declared.inference.Inference.TheVariants.{Cycle, Stale, Reversed, Parted}
-use Rattle.fs_cert_evidence.specs.Inferences.{inference_of}
+use Rattle.fs_cert_evidence.specs.Certificate.{Inference, Cycle, Stale, Reversed, Parted}
 use Rattle.fs_cert_evidence.specs.Regions.{Region}
 use Rattle.fs_cert_evidence.specs.Trees.{left_after}
 
@@ -21,4 +19,4 @@ module _ (t : Test) where
   ends [] inferences = []
   ends (region ∷ regions) [] = []
   ends (region ∷ regions) (inference ∷ inferences) =
-      end_of region inference ++ ends (left_after t region (inference_of inference) ++ regions) inferences
+      end_of region inference ++ ends (left_after t region inference ++ regions) inferences

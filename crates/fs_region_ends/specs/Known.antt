@@ -6,8 +6,8 @@ use Rattle.fs_model.specs.declared.step.Step.{Step}
 use Rattle.fs_model.specs.Numbers.{is_same}
 use Rattle.fs_cert_evidence.specs.Musts.{has_source}
 use Rattle.fs_cert_evidence.specs.Regions.{Region, Initial, address_at, loaded_at, stored_at}
-use Rattle.fs_region_ends.specs.declared.known.Asked.{Asked}
-use Rattle.fs_region_ends.specs.declared.known.Asked.TheVariants as asked
+use Rattle.fs_region_ends.specs.declared.known.Which.{Which}
+use Rattle.fs_region_ends.specs.declared.known.Which.TheVariants as which
 use Rattle.fs_region_ends.specs.declared.known.Known.{Known}
 
 -- the word on which all of the runs agree
@@ -19,15 +19,15 @@ agreed asked [] = None
 agreed asked (run ∷ runs) = option_and_then (agreed_on asked (run ∷ runs)) (asked run)
 
 -- what a run says of the operation at a position
-abbrev pub asked_of : Asked → ℕ → List Step → Option ℕ
-asked_of asked.Address at run = address_at run at
-asked_of asked.Loaded at run = loaded_at run at
-asked_of asked.Stored at run = stored_at run at
+abbrev pub word_of : Which → ℕ → List Step → Option ℕ
+word_of which.Address at run = address_at run at
+word_of which.Loaded at run = loaded_at run at
+word_of which.Stored at run = stored_at run at
 
 abbrev pub known_of : Region → Name → Known
 known_of region name = record {
-  address = agreed (asked_of asked.Address name.at) (region.runs name.hart);
-  loaded = agreed (asked_of asked.Loaded name.at) (region.runs name.hart);
-  stored = agreed (asked_of asked.Stored name.at) (region.runs name.hart);
+  address = agreed (word_of which.Address name.at) (region.runs name.hart);
+  loaded = agreed (word_of which.Loaded name.at) (region.runs name.hart);
+  stored = agreed (word_of which.Stored name.at) (region.runs name.hart);
   is_initial = has_source (region.source name) Initial;
 }

@@ -2,6 +2,7 @@
 
 ghost use Rattle.std.specs.Prelude.{◌≡◌, ◌++◌, ◌∷◌, [], drop, map, IfOk, OnOk};
 ghost use Rattle.std.specs.List.{zip};
+ghost use Rattle.fs_cert_evidence.specs.Inferences.{inference_of};
 ghost use Rattle.fs_region_refutation.specs.Views.{region_of};
 ghost use Rattle.fs_region_ends.specs.Chains.{around, chain_by, chain_of, code_cause, cycle_link, due, link_of};
 ghost use Rattle.fs_region_ends.specs.Chains.{parted_steps, reversed_steps, sole_of, stale_steps};
@@ -43,7 +44,16 @@ fn due(
     match arrow {
         Arrow::Because(Cause::Rule4) => {
             let runs = region.runs(first.hart);
-            ordering(alloc, basis.test(), placement, Between { first, second, runs })
+            ordering(
+                alloc,
+                basis.test(),
+                placement,
+                Between {
+                    first,
+                    second,
+                    runs,
+                },
+            )
         }
         _ => Ok(Vec::new(alloc)),
     }
@@ -93,7 +103,8 @@ fn push_link(
 {
     let (from, next) = links;
     let names = (from.operation, next.operation);
-    made.push(link(alloc, basis, placement, region, arrow_of(from), names)?)
+    made.push(link(alloc, basis, placement, region, arrow_of(from), names)?)?;
+    Ok(())
 }
 
 /// The links of a cycle, of which this is the first.
@@ -124,8 +135,10 @@ fn cycle(
     region: &Region<'_>,
     links: &[Link],
 ) -> Result<Chain, AllocError>
-    ensures { IfOk result (λ chain. chain ≡ record { shape = kind.Cycle;
-        links = map (cycle_link basis.now placement.now (region_of region.now)) (around links.now) }) }
+    ensures { IfOk result (λ chain. chain ≡ record {
+      shape = kind.Cycle;
+      links = map (cycle_link basis.now placement.now (region_of region.now)) (around links.now);
+    }) }
 {
     let links = match links.first() {
         Some(first) => cycle_links(alloc, basis, placement, region, links, first)?,
@@ -250,22 +263,20 @@ pub(crate) fn push_end(
     made: &mut Vec<Chain>,
 ) -> Result<(), AllocError>
     ensures { OnOk result (made.new.items ≡ made.old.items
-        ++ chain_of basis.now placement.now (region_of region.now) inference.now) }
+        ++ chain_of basis.now placement.now (region_of region.now) (inference_of inference.now)) }
 {
-    match inference {
-        Inference::Cycle(links) => {
-            made.push(cycle(alloc, basis, placement, region, links.as_slice())?)
-        }
-        Inference::Stale { load, store } => {
-            made.push(stale(alloc, basis, placement, region, *load, *store)?)
-        }
+    let chain = match inference {
+        Inference::Cycle(links) => cycle(alloc, basis, placement, region, links.as_slice())?,
+        Inference::Stale { load, store } => stale(alloc, basis, placement, region, *load, *store)?,
         Inference::Reversed { load, store } => {
-            made.push(reversed(alloc, basis, placement, region, *load, *store)?)
+            reversed(alloc, basis, placement, region, *load, *store)?
         }
         Inference::Parted { load, store, other } => {
             let pair = (*load, *store);
-            made.push(parted(alloc, basis, placement, region, pair, *other)?)
+            parted(alloc, basis, placement, region, pair, *other)?
         }
-        _ => Ok(()),
-    }
+        _ => return Ok(()),
+    };
+    made.push(chain)?;
+    Ok(())
 }

@@ -157,7 +157,11 @@ fn push_at(
     ensures { OnOk result (fences.new.items ≡ fences.old.items
         ++ ordering_at test.now placement.now (runs_of between.runs.now) between.first between.second at) }
 {
-    let Between { first, second, runs } = between;
+    let Between {
+        first,
+        second,
+        runs,
+    } = between;
     let placed = placed_at(placement, first.hart, at);
     push_if(placed, runs, first.at, second.at, fences)?;
     let written = written_at(test, first.hart, at);

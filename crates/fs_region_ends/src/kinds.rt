@@ -256,7 +256,8 @@ fn add(
     if place < kinds.len() {
         kinds[place].add(alloc, chain)
     } else {
-        kinds.push(ChainKind::of(alloc, chain)?)
+        kinds.push(ChainKind::of(alloc, chain)?)?;
+        Ok(())
     }
 }
 

@@ -6,7 +6,7 @@ ghost use Rattle.fs_model.specs.Numbers.{is_same};
 ghost use Rattle.fs_cert_evidence.specs.Musts.{has_source};
 ghost use Rattle.fs_cert_evidence.specs.Regions.{Initial};
 ghost use Rattle.fs_region_refutation.specs.Views.{known_source, region_of, runs_of};
-ghost use Rattle.fs_region_ends.specs.Known.{agreed, asked_of, known_of};
+ghost use Rattle.fs_region_ends.specs.Known.{agreed, word_of, known_of};
 
 use fs_kinds::OperationName;
 use fs_region_refutation::Region;
@@ -27,7 +27,7 @@ pub struct Known {
 
 /// What may be asked of an operation.
 #[derive(Clone, Copy)]
-pub enum Asked {
+pub enum Which {
     /// Where it accesses.
     Address,
     Loaded,
@@ -35,38 +35,38 @@ pub enum Asked {
 }
 
 /// What the run says of the operation there.
-fn asked(run: &Lone, what: Asked, at: u8) -> Option<u32>
-    ensures { result ≡ asked_of what at run.now.steps }
+fn word_at(run: &Lone, what: Which, at: u8) -> Option<u32>
+    ensures { result ≡ word_of what at run.now.steps }
 {
     match what {
-        Asked::Address => run.address_at(at),
-        Asked::Loaded => run.loaded_at(at),
-        Asked::Stored => run.stored_at(at),
+        Which::Address => run.address_at(at),
+        Which::Loaded => run.loaded_at(at),
+        Which::Stored => run.stored_at(at),
     }
 }
 
-fn is_so(run: &Lone, what: Asked, at: u8, word: u32) -> bool
-    ensures { result ≡ is_same (asked_of what at run.now.steps) (Some word) }
+fn is_so(run: &Lone, what: Which, at: u8, word: u32) -> bool
+    ensures { result ≡ is_same (word_of what at run.now.steps) (Some word) }
 {
-    match asked(run, what, at) {
+    match word_at(run, what, at) {
         Some(other) => other == word,
         None => false,
     }
 }
 
 /// Is it so in each of the runs?
-fn all_so(runs: &[&Lone], what: Asked, at: u8, word: u32) -> bool
-    ensures { result ≡ list_all (λ run. is_same (asked_of what at run) (Some word)) (runs_of runs.now) }
+fn all_so(runs: &[&Lone], what: Which, at: u8, word: u32) -> bool
+    ensures { result ≡ list_all (λ run. is_same (word_of what at run) (Some word)) (runs_of runs.now) }
 {
     runs.iter().all(|run| is_so(run, what, at, word))
 }
 
 /// The word on which all of the runs agree.
-fn agreed(runs: &[&Lone], what: Asked, at: u8) -> Option<u32>
-    ensures { result ≡ agreed (asked_of what at) (runs_of runs.now) }
+fn agreed(runs: &[&Lone], what: Which, at: u8) -> Option<u32>
+    ensures { result ≡ agreed (word_of what at) (runs_of runs.now) }
 {
     let (first, _) = runs.split_first()?;
-    let word = asked(first, what, at)?;
+    let word = word_at(first, what, at)?;
     if all_so(runs, what, at, word) {
         Some(word)
     } else {
@@ -90,9 +90,9 @@ impl Known {
     {
         let runs = region.runs(name.hart);
         Known {
-            address: agreed(runs, Asked::Address, name.at),
-            loaded: agreed(runs, Asked::Loaded, name.at),
-            stored: agreed(runs, Asked::Stored, name.at),
+            address: agreed(runs, Which::Address, name.at),
+            loaded: agreed(runs, Which::Loaded, name.at),
+            stored: agreed(runs, Which::Stored, name.at),
             is_initial: is_initial(region.source(name)),
         }
     }

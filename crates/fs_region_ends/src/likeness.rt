@@ -79,8 +79,7 @@ fn shape_number(shape: Shape) -> u8
 fn is_same_link(first: ChainLink, second: ChainLink) -> bool
     ensures { result ≡ is_same_link (first, second) }
 {
-    is_same_name(first.name, second.name)
-        && arrow_number(first.arrow) == arrow_number(second.arrow)
+    is_same_name(first.name, second.name) && arrow_number(first.arrow) == arrow_number(second.arrow)
 }
 
 fn have_one_form(first: &Chain, second: &Chain) -> bool
@@ -141,7 +140,10 @@ fn is_like_link(texts: &[List<Name>], first: ChainLink, second: ChainLink) -> bo
 fn share_harts(x: (ChainLink, ChainLink), y: (ChainLink, ChainLink)) -> bool
     ensures { result ≡ share_harts x y }
 {
-    let (here, there) = (x.0.name.hart == y.0.name.hart, x.1.name.hart == y.1.name.hart);
+    let (here, there) = (
+        x.0.name.hart == y.0.name.hart,
+        x.1.name.hart == y.1.name.hart,
+    );
     here && there || !here && !there
 }
 

@@ -75,7 +75,7 @@ pub fn chains(
     inferences: &[Inference],
 ) -> Result<Vec<Chain>, Fault>
     ensures { IfOk result (λ made. (runs : ℕ → Items (Items Step)) × AreItsRuns basis.now runs
-        × (made.items ≡ chains_of basis.now placement.now (ends basis.now (roots basis.now runs) inferences.now))) }
+        × (made.items ≡ chains_of basis.now placement.now (ends basis.now (roots basis.now runs) (map inference_of inferences.now)))) }
 {
     let truth = is_outcome(basis.test().quantifier);
     let mut made = Vec::new(alloc);
