@@ -1,12 +1,14 @@
 -- What is told below answers.
-use Rattle.std.proofs.Common.{◌≡◌, ℕ, Bool, true, false, List, [], ◌++◌, refl, sym, subst, string_bytes}
+use Rattle.std.proofs.Common.{◌≡◌, ◌∙◌, ℕ, zero, suc, ◌+◌, ◌<◌, Bool, true, false, List, [], ◌∷◌, ◌++◌, append_assoc, arith, ap, length, refl, sym, subst, string_bytes}
+use Rattle.std.specs.List.{AllZip, slice_index_or}
 use Rattle.std.proofs.lemmas.List.{append-nil}
 use Rattle.fs_app_io.specs.declared.status.Output.{Output}
 use Rattle.fs_app_io.specs.declared.status.Status.{Status}
 use Rattle.fs_app_solve.specs.Solve.{IsCertified}
 use Rattle.fs_app_why.specs.Why.{IsAnswerWhy}
 use Rattle.fs_app.specs.Answers.{IsSolvedAndTold, IsSolvedIn}
-use Rattle.fs_app.specs.Telling.{IsTold, AreTold, IsSolveWhy, IsTestTold, of_one_more}
+use Rattle.fs_app_test.specs.declared.said.Line.{Line}
+use Rattle.fs_app.specs.Telling.{AreToldFrom, IsSolveWhy, IsTestTold, IsTold}
 
 -- where it isn't asked for nothing is told
 pub untold : (why : Bool) (P : List ℕ → Type 0) → why ≡ false → IsTold why P []
@@ -17,8 +19,33 @@ retold : (why : Bool) (P Q : List ℕ → Type 0) (text : List ℕ) → ((text :
 retold true P Q text f is = f text is
 retold false P Q text f is = is
 
-pub one_more : (before text : List ℕ) (block : List ℕ) → IsTestTold block → text ≡ before ++ block → AreTold before → AreTold text
-one_more before text block is e before_told = of_one_more before block text before_told is e
+-- ---- of tests
+
+pub one_more : (tests : List (List ℕ)) (k n : ℕ) (lines : List Line) (line : Line) (text told whole : List ℕ) → k + length lines ≡ n
+    → AreToldFrom k lines tests text → IsTestTold line (slice_index_or tests n []) told → whole ≡ text ++ told
+    → AreToldFrom k (lines ++ line ∷ []) tests whole
+one_more tests k n [] line text told whole at none is e = (
+  told,
+  [],
+  subst (λ (m : ℕ). IsTestTold line (slice_index_or tests m []) told) (sym (let here : k ≡ n = omega (arith, at) in here)) is,
+  refl,
+  e ∙ ap (λ before. before ++ told) none ∙ sym (append-nil told),
+)
+one_more tests k n (x ∷ lines) line text told whole at (first, others, is_first, are, is_text) is e = (
+  first,
+  others ++ told,
+  is_first,
+  one_more tests (k + 1) n lines line others told (others ++ told) (omega (arith, at)) are is refl,
+  rw (e, is_text) (append_assoc first others told),
+)
+
+-- what is so place by place is so at this place
+pub at_place : {A B : Type 0} (R : A → B → Type 0) (xs : List A) (ys : List B) (k : ℕ) (d : A) (e : B) → AllZip R xs ys → k < length xs
+    → R (slice_index_or xs k d) (slice_index_or ys k e)
+at_place R [] ys k d e each low = absurd (omega (arith, low))
+at_place R (x ∷ xs) [] k d e each low = absurd each
+at_place R (x ∷ xs) (y ∷ ys) zero d e each low = each.0
+at_place R (x ∷ xs) (y ∷ ys) (suc k) d e each low = at_place R xs ys k d e each.1 (omega (arith, low))
 
 -- ---- of `solve`
 

@@ -23,6 +23,7 @@ use Rattle.fs_app_command_line.specs.declared.command.Solve.{Solve}
 use Rattle.fs_app_command_line.specs.declared.command.Audit.{Audit}
 use Rattle.fs_app_command_line.specs.declared.command.Check.{Check}
 use Rattle.fs_app_files.specs.declared.papers.Papers.{Papers}
+use Rattle.fs_app_files.specs.Judging.{AreJudged}
 use Rattle.fs_app.specs.Telling.{AreTold, IsSolveWhy, IsTold, is_yes}
 
 -- the bytes of the prices that were read, where `place` is to read some
@@ -97,11 +98,14 @@ pub record AnswersCheck (check : Check) (papers : Papers) (output : Output) : Ty
   pub told : IsTold (check.why && is_yes output.status) (IsAnswerWhy papers.test.bytes.items papers.evidence.bytes.items) below
   pub text : string_bytes output.text ≡ in_form check.json lines object ++ below
 
--- the text, but for what is told below it, and the status are those of the same lines
+-- The text, but for what is told below it, and the status are those of the same lines. Each says what is true of some
+-- bytes, or of a file that wasn't read; what is told is told of these bytes.
 pub record AnswersLines (test : Test) (output : Output) : Type 0 where
   pub lines : List Line
+  pub tests : List (List ℕ)
+  pub judged : AreJudged lines tests
   pub below : List ℕ
-  pub told : IsTold test.why AreTold below
+  pub told : IsTold test.why (AreTold lines tests) below
   pub text : string_bytes output.text
       ≡ in_form test.json (report_text (is_some test.expect) lines) (json_text (is_some test.expect) lines) ++ below
   pub ends : output.status ≡ report_status (is_some test.expect) lines

@@ -1,8 +1,15 @@
 -- What is told below answers.
-use Rattle.std.specs.Prelude.{◌≡◌, ℕ, Bool, true, false, List, [], ◌++◌, codes}
+use Rattle.std.specs.Prelude.{◌≡◌, ℕ, ◌+◌, Bool, true, false, Option, None, Some, List, [], ◌∷◌, ◌++◌, codes}
+use Rattle.std.specs.List.{slice_index_or}
+use Rattle.fs_model.specs.Witness.{Witness}
 use Rattle.fs_app_io.specs.declared.status.Status.{Status}
 use Rattle.fs_app_io.specs.declared.status.Status.TheVariants.{Success}
 use Rattle.fs_app_solve.specs.Solve.{IsCertified}
+use Rattle.fs_app_test.specs.declared.said.Kind.{Kind}
+use Rattle.fs_app_test.specs.declared.said.Kind.TheVariants as kind
+use Rattle.fs_app_test.specs.declared.said.Line.{Line}
+use Rattle.fs_app_test.specs.Report.{shown_name}
+use Rattle.fs_app_test.specs.SaidVerdicts.{witness_in}
 use Rattle.fs_app_why.specs.Why.{IsAllowedWhy, IsAnswerWhy}
 
 -- this, where it is asked for; else nothing
@@ -14,18 +21,30 @@ abbrev pub is_yes : Status → Bool
 is_yes Success = true
 is_yes other = false
 
--- of a test: an execution that shows its outcome, below a name
-pub record IsTestTold (text : List ℕ) : Type 0 where
-  pub test : List ℕ
-  pub name : List ℕ
-  pub execution : List ℕ
-  pub is_execution : IsAllowedWhy test execution
-  pub below : text ≡ codes "\n" ++ (name ++ execution)
+-- below this name an execution of the witness, which shows the outcome of the test as it is written
+abbrev pub IsBlock : (name : List ℕ) → Option Witness → (test text : List ℕ) → Type 0
+IsBlock name None test text = ⊥
+IsBlock name (Some w) test text = (execution : List ℕ) × IsAllowedWhy test w execution × (text ≡ codes "\n" ++ (name ++ execution))
 
--- of tests, one below the other
-pub data AreTold : (text : List ℕ) → Type 0 where
-  of_none : AreTold []
-  of_one_more : (before told text : List ℕ) → AreTold before → IsTestTold told → text ≡ before ++ told → AreTold text
+abbrev pub is_allowed : Kind → Bool
+is_allowed kind.Allowed = true
+is_allowed other = false
+
+-- of the test that has this line, where its outcome is allowed; else nothing
+abbrev pub IsTestTold : Line → (test text : List ℕ) → Type 0
+IsTestTold line test text =
+    IsTold (is_allowed line.said.kind) (IsBlock (shown_name line) (witness_in line.said.witness) test) text
+
+-- of these lines, one below the other, the first of which has the test of this number; a test that isn't there has no
+-- bytes
+abbrev pub AreToldFrom : ℕ → List Line → (tests : List (List ℕ)) → (text : List ℕ) → Type 0
+AreToldFrom k [] tests text = text ≡ []
+AreToldFrom k (line ∷ lines) tests text =
+    (told : List ℕ) × (others : List ℕ) × IsTestTold line (slice_index_or tests k []) told
+    × AreToldFrom (k + 1) lines tests others × (text ≡ told ++ others)
+
+abbrev pub AreTold : List Line → (tests : List (List ℕ)) → (text : List ℕ) → Type 0
+AreTold = AreToldFrom 0
 
 -- of an answer in these lines: what a certificate of it gives
 pub record IsSolveWhy (test prices lines : List ℕ) (status : Status) (text : List ℕ) : Type 0 where

@@ -4,6 +4,7 @@ ghost use Rattle.std.specs.Prelude.{◌≡◌, ◌≤◌, ℕ, List, [], IfOk, I
 ghost use Rattle.std.specs.Arc.{arc_value};
 ghost use Rattle.std.specs.Option.{option_copied};
 ghost use Rattle.fs_app_io.specs.declared.status.Status.TheVariants.{Success, Denied, Failure as Failed};
+ghost use Rattle.fs_app_files.specs.Judging.{AreJudged};
 ghost use Rattle.fs_app_place_order.specs.Place.{IsFencedText, IsFirstPlaceFault};
 ghost use Rattle.fs_app_place_order.specs.Order.{IsOrderAnswer, IsFirstOrderFault};
 ghost use Rattle.fs_app_solve.specs.Found.{IsFound, Prints, lines_of};
@@ -348,6 +349,7 @@ fn tests_output(
     judged: &Judged,
     are_there: bool,
 ) -> Result<Output, Fault>
+    requires { AreJudged judged.now.lines.items (map (λ test. test.items) judged.now.tests.items) }
     ensures { IfOk result (AnswersTest test.now) }
 {
     let output = lines_output(alloc, test, judged)?;
@@ -359,6 +361,7 @@ fn tests_output(
 
 /// The lines in print, and what is told below them.
 fn lines_output(alloc: Global, test: &Test<'_>, judged: &Judged) -> Result<Output, Fault>
+    requires { AreJudged judged.now.lines.items (map (λ test. test.items) judged.now.tests.items) }
     ensures { IfOk result (AnswersLines test.now) }
 {
     let said = said_output(alloc, test, &judged.lines)?;

@@ -1,15 +1,19 @@
 //! What is told below answers, where `--why` asks for it.
 
-ghost use Rattle.std.specs.Prelude.{◌≡◌, ◌++◌, ℕ, Bool, List, IfOk, OnOk, codes, map, string_bytes};
+ghost use Rattle.std.specs.Prelude.{◌≡◌, ◌++◌, ℕ, Bool, true, List, [], IfOk, OnOk, codes, map, string_bytes};
+ghost use Rattle.std.specs.List.{slice_index_or};
+ghost use Rattle.fs_app_files.specs.Judging.{AreJudged, IsJudged};
 ghost use Rattle.fs_app_solve.specs.Solve.{IsCertified};
-ghost use Rattle.fs_app_why.specs.Why.{IsAllowedWhy, IsAnswerWhy, IsOrderWhy};
+ghost use Rattle.fs_app_test.specs.Report.{shown_name};
+ghost use Rattle.fs_app_test.specs.SaidVerdicts.{witness_in};
+ghost use Rattle.fs_app_why.specs.Why.{IsAnswerWhy, IsOrderWhy};
 ghost use Rattle.fs_app.specs.Answers.{IsSolvedAndTold, IsSolvedIn};
-ghost use Rattle.fs_app.specs.Telling.{AreTold, IsTold, is_yes};
+ghost use Rattle.fs_app.specs.Telling.{AreTold, IsBlock, IsTestTold, IsTold, is_allowed, is_yes};
 
 use fs_app_error_messages::shown_name;
 use fs_app_files::Papers;
 use fs_app_io::{Output, Status};
-use fs_app_test::Line;
+use fs_app_test::{Kind, Line};
 use fs_app_why::{why_allowed, why_answer, why_order};
 use fs_kinds::Fault;
 use std::alloc::{AllocError, Global};
@@ -93,35 +97,72 @@ fn push_below(name: &str, told: &str, text: &mut String) -> Result<(), AllocErro
 
 /// Appends the execution below the name in the line, as it is shown.
 fn push_named(alloc: Global, line: &Line, told: &str, text: &mut String) -> Result<(), AllocError>
-    requires { (test : List ℕ) × IsAllowedWhy test told.now }
-    ensures { OnOk result (AreTold (string_bytes text.old) → AreTold (string_bytes text.new)) }
+    ensures { OnOk result (string_bytes text.new
+        ≡ string_bytes text.old ++ (codes "\n" ++ (shown_name line.now ++ told.now))) }
 {
     let name = shown_name(alloc, line.name.as_str())?;
     push_below(name.as_str(), told, text)
 }
 
-/// Appends what is told of the test, which has this line: below its name an execution that shows its outcome, where that
-/// is allowed.
-fn push_told(alloc: Global, line: &Line, test: &[u8], text: &mut String) -> Result<(), Fault>
-    ensures { OnOk result (AreTold (string_bytes text.old) → AreTold (string_bytes text.new)) }
+/// Is the outcome allowed?
+fn is_allowed(kind: Kind) -> bool
+    ensures { result ≡ is_allowed kind }
+{
+    match kind {
+        Kind::Allowed => true,
+        Kind::Forbidden | Kind::Vacuous | Kind::Faulty => false,
+    }
+}
+
+/// Appends what is told of a test that allows its outcome: below the name in its line an execution of the witness there.
+fn push_shown(alloc: Global, line: &Line, test: &[u8], text: &mut String) -> Result<(), Fault>
+    requires judged { IsJudged line.now test.now }
+    requires allowed { is_allowed line.now.said.kind ≡ true }
+    ensures { OnOk result ((told : List ℕ)
+        × IsBlock (shown_name line.now) (witness_in line.now.said.witness) test.now told
+        × (string_bytes text.new ≡ string_bytes text.old ++ told)) }
 {
     let Some(witness) = &line.said.witness else {
-        return Ok(());
+        unreachable!()
     };
     let (choices, order) = (witness.choices.as_slice(), witness.order.as_slice());
     match why_allowed(alloc, test, choices, order)? {
         Some(told) => Ok(push_named(alloc, line, told.as_str(), text)?),
-        None => Ok(()),
+        None => unreachable!(),
+    }
+}
+
+/// Appends what is told of the test that has this line: nothing where its outcome isn't allowed.
+fn push_told(alloc: Global, line: &Line, test: &[u8], text: &mut String) -> Result<(), Fault>
+    requires { IsJudged line.now test.now }
+    ensures { OnOk result ((told : List ℕ) × IsTestTold line.now test.now told
+        × (string_bytes text.new ≡ string_bytes text.old ++ told)) }
+{
+    if !is_allowed(line.said.kind) {
+        return Ok(());
+    }
+    push_shown(alloc, line, test, text)
+}
+
+/// The bytes of the test of this number; none where there is no such test.
+fn test_at(tests: &[Vec<u8>], number: usize) -> &[u8]
+    ensures { result.now ≡ slice_index_or (map (λ test. test.items) tests.now) number [] }
+{
+    if number < tests.len() {
+        tests[number].as_slice()
+    } else {
+        &[]
     }
 }
 
 /// What is told of the tests that have these lines.
 fn all_told(alloc: Global, lines: &[Line], tests: &[Vec<u8>]) -> Result<String, Fault>
-    ensures { IfOk result (λ text. AreTold (string_bytes text)) }
+    requires { AreJudged lines.now (map (λ test. test.items) tests.now) }
+    ensures { IfOk result (λ text. AreTold lines.now (map (λ test. test.items) tests.now) (string_bytes text)) }
 {
     let mut text = String::new(alloc);
-    for (line, test) in lines.iter().zip(tests.iter()) {
-        push_told(alloc, line, test, &mut text)?;
+    for (number, line) in lines.iter().enumerate() {
+        push_told(alloc, line, test_at(tests, number), &mut text)?;
     }
     Ok(text)
 }
@@ -133,7 +174,9 @@ pub(crate) fn tests_why(
     lines: &[Line],
     tests: &[Vec<u8>],
 ) -> Result<String, Fault>
-    ensures { IfOk result (λ text. IsTold why AreTold (string_bytes text)) }
+    requires { AreJudged lines.now (map (λ test. test.items) tests.now) }
+    ensures { IfOk result (λ text.
+        IsTold why (AreTold lines.now (map (λ test. test.items) tests.now)) (string_bytes text)) }
 {
     if !why {
         return Ok(String::new(alloc));

@@ -1,10 +1,15 @@
 //! What `test` says of files, one after the other or side by side.
+
+ghost use Rattle.std.specs.Prelude.{IfOk, map};
+ghost use Rattle.fs_app_files.specs.Judging.{AreJudged};
+
 use crate::expecting::Expecting;
 use crate::papers::{message_of_file, note_of_file, note_or};
 use fs_app_io::{Missing, Source};
-use fs_app_test::{Expected, Line, test_file};
+use fs_app_test::{Expected, Line, Note, test_file};
 use fs_kinds::Fault;
 use std::alloc::{AllocError, Global};
+use std::marker::Model;
 use std::rt::Files;
 use std::thread;
 use std::thread::Threads;
@@ -36,28 +41,96 @@ pub struct Wants {
 pub struct Judged {
     pub lines: Vec<Line>,
     pub messages: Vec<String>,
-    /// Where tests are kept the bytes of those that have lines, or nothing of one that doesn't allow its outcome.
+    /// Of each line the bytes of its test; nothing where tests aren't kept, or this one doesn't allow its outcome.
     pub tests: Vec<Vec<u8>>,
 }
 
-/// The bytes of the file once more, where they are wanted and there are any.
-fn kept(
+/// A file of which something is said: its line, and its bytes where they are kept. Contracts see neither.
+#[derive(Drop)]
+struct Tested {
+    line: Line,
+    test: Vec<u8>,
+}
+
+impl Model for Tested {
+    ghost use Rattle.fs_app_files.specs.Judging.{IsJudged};
+
+    ghost Value = { Unit {0} };
+
+    ghost view = { λ t. tt };
+
+    ghost invariant = { λ t. IsJudged t.line t.test.items };
+}
+
+/// What is said of a file that was read.
+fn tested_bytes(alloc: Global, name: &str, bytes: Vec<u8>, keeps: bool) -> Result<Tested, Fault> {
+    let kept = if keeps {
+        Vec::from_slice(alloc, &bytes)?
+    } else {
+        Vec::new(alloc)
+    };
+    let line = test_file(alloc, name, Ok(bytes))?;
+    if line.said.witness.is_some() {
+        return Ok(Tested { line, test: kept });
+    }
+    Ok(Tested {
+        line,
+        test: Vec::new(alloc),
+    })
+}
+
+/// What is said of a file that wasn't read, for this fault.
+fn unread(alloc: Global, name: &str, fault: Fault) -> Result<Tested, Fault> {
+    let line = test_file(alloc, name, Err(fault))?;
+    Ok(Tested {
+        line,
+        test: Vec::new(alloc),
+    })
+}
+
+/// What is said of a file.
+fn tested_file(
     alloc: Global,
-    file: &Result<Vec<u8>, Missing>,
-    is_wanted: bool,
-) -> Result<Vec<u8>, AllocError> {
+    name: &str,
+    file: Result<Vec<u8>, Missing>,
+    keeps: bool,
+) -> Result<Tested, Fault> {
     match file {
-        Ok(bytes) if is_wanted => Vec::from_slice(alloc, bytes),
-        _ => Ok(Vec::new(alloc)),
+        Ok(bytes) => tested_bytes(alloc, name, bytes, keeps),
+        Err(why) => unread(alloc, name, why.fault()),
     }
 }
 
-impl Judged {
+impl Tested {
+    /// The same, where this is expected.
+    fn with_expected(self, expected: Option<Expected>) -> Tested {
+        let Tested { line, test } = self;
+        let mut line = line;
+        line.expected = expected;
+        Tested { line, test }
+    }
+
+    /// The same with this note, or where there is none the one that its fault has by itself.
+    fn with_note(self, alloc: Global, note: Option<Note>) -> Result<Tested, Fault> {
+        let Tested { line, test } = self;
+        let mut line = line;
+        line.note = note_or(alloc, note, line.said.fault)?;
+        Ok(Tested { line, test })
+    }
+}
+
+/// What is said of files, in their order, and messages of those that aren't tests, or weren't read.
+#[derive(Drop)]
+struct Batch {
+    files: Vec<Tested>,
+    messages: Vec<String>,
+}
+
+impl Batch {
     fn new(alloc: Global) -> Self {
-        Judged {
-            lines: Vec::new(alloc),
+        Batch {
+            files: Vec::new(alloc),
             messages: Vec::new(alloc),
-            tests: Vec::new(alloc),
         }
     }
 
@@ -77,27 +150,13 @@ impl Judged {
         } else {
             None
         };
-        let bytes = kept(alloc, &file, wants.tests)?;
-        let mut line = test_file(alloc, name, file.map_err(Missing::fault))?;
-        if wants.tests {
-            self.keep(alloc, &line, bytes)?;
-        }
-        if wants.notes {
-            line.note = note_or(alloc, note, line.said.fault)?;
-        }
-        line.expected = expected;
-        self.lines.push(line)?;
-        Ok(())
-    }
-
-    /// Keeps the bytes, or nothing where the test doesn't allow its outcome.
-    fn keep(&mut self, alloc: Global, line: &Line, bytes: Vec<u8>) -> Result<(), AllocError> {
-        let kept = if line.said.witness.is_some() {
-            bytes
+        let tested = tested_file(alloc, name, file, wants.tests)?.with_expected(expected);
+        let noted = if wants.notes {
+            tested.with_note(alloc, note)?
         } else {
-            Vec::new(alloc)
+            tested
         };
-        self.tests.push(kept)?;
+        self.files.push(noted)?;
         Ok(())
     }
 
@@ -108,18 +167,34 @@ impl Judged {
     }
 
     /// Adds what was said of later files.
-    fn add(&mut self, later: Judged) -> Result<(), AllocError> {
-        for line in later.lines {
-            self.lines.push(line)?;
+    fn add(&mut self, later: Batch) -> Result<(), AllocError> {
+        for file in later.files {
+            self.files.push(file)?;
         }
         for message in later.messages {
             self.add_message(Some(message));
         }
-        for test in later.tests {
-            self.tests.push(test)?;
-        }
         Ok(())
     }
+}
+
+/// The lines and the tests.
+fn parted(alloc: Global, batch: Batch) -> Result<Judged, AllocError>
+    ensures { IfOk result (λ judged. AreJudged judged.lines.items (map (λ test. test.items) judged.tests.items)) }
+{
+    let Batch { files, messages } = batch;
+    let mut lines = Vec::new(alloc);
+    let mut tests = Vec::new(alloc);
+    for file in files {
+        let Tested { line, test } = file;
+        lines.push(line)?;
+        tests.push(test)?;
+    }
+    Ok(Judged {
+        lines,
+        messages,
+        tests,
+    })
 }
 
 /// Judges the files, in their order, and explains their faults where that is asked for. With more than one job so many
@@ -131,11 +206,25 @@ pub fn judge_files<R: Files + Input + AllocGlobal + Threads + Sync>(
     jobs: u8,
     wants: Wants,
     expecting: &mut Expecting<'_>,
-) -> Result<Judged, Fault> {
+) -> Result<Judged, Fault>
+    ensures { IfOk result (λ judged. AreJudged judged.lines.items (map (λ test. test.items) judged.tests.items)) }
+{
+    let batch = judge_all(rt, files, jobs, wants, expecting)?;
+    Ok(parted(rt.alloc(), batch)?)
+}
+
+/// What is said of all files.
+fn judge_all<R: Files + Input + AllocGlobal + Threads + Sync>(
+    rt: &R,
+    files: &[Source],
+    jobs: u8,
+    wants: Wants,
+    expecting: &mut Expecting<'_>,
+) -> Result<Batch, Fault> {
     if jobs == 1 {
         return judge_in_turn(rt, files, wants, expecting);
     }
-    let mut judged = Judged::new(rt.alloc());
+    let mut judged = Batch::new(rt.alloc());
     for round in files.chunks(usize::from(jobs.max(1)) * AT_ONCE) {
         let batches = read_batches(rt, round, expecting)?;
         let alloc = rt.alloc();
@@ -155,8 +244,8 @@ fn judge_in_turn<R: Files + Input + AllocGlobal>(
     files: &[Source],
     wants: Wants,
     expecting: &mut Expecting<'_>,
-) -> Result<Judged, Fault> {
-    let mut judged = Judged::new(rt.alloc());
+) -> Result<Batch, Fault> {
+    let mut judged = Batch::new(rt.alloc());
     for source in files {
         judged.judge(rt.alloc(), take(rt, source, expecting)?, wants)?;
     }
@@ -207,8 +296,8 @@ fn read_batch<'a, R: Files + Input + AllocGlobal>(
 }
 
 /// What is said of the files of a batch.
-fn judge_batch(alloc: Global, batch: Vec<Taken<'_>>, wants: Wants) -> Result<Judged, Fault> {
-    let mut judged = Judged::new(alloc);
+fn judge_batch(alloc: Global, batch: Vec<Taken<'_>>, wants: Wants) -> Result<Batch, Fault> {
+    let mut judged = Batch::new(alloc);
     for taken in batch {
         judged.judge(alloc, taken, wants)?;
     }
@@ -216,7 +305,7 @@ fn judge_batch(alloc: Global, batch: Vec<Taken<'_>>, wants: Wants) -> Result<Jud
 }
 
 /// Adds what was said of the batches. An error where a thread had one.
-fn add_batches(judged: &mut Judged, said: Vec<Result<Judged, Fault>>) -> Result<(), Fault> {
+fn add_batches(judged: &mut Batch, said: Vec<Result<Batch, Fault>>) -> Result<(), Fault> {
     for batch in said {
         judged.add(batch?)?;
     }

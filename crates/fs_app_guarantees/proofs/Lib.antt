@@ -36,3 +36,4 @@ mod Truths
 mod WitnessTexts
 mod Witnesses
 mod Yeses
+pub mod FencesTold

@@ -2,6 +2,7 @@ pub mod Agreement
 pub mod Assembly
 pub mod Audits
 pub mod Checked
+pub mod FencesTold
 pub mod Headline
 pub mod Lines
 pub mod Meanings

@@ -1,7 +1,7 @@
-use Rattle.std.proofs.Common.{string_bytes}
+use Rattle.std.proofs.Common.{map, string_bytes, take}
 use Rattle.fs_app.specs.Telling.{AreTold}
 use Rattle.fs_app.proofs.telling.all_told.Given as goal
 
 -- those so far
-abbrev pub invariant-loop-line : goal.invariant-loop-line
-invariant-loop-line l = AreTold (string_bytes l.text)
+abbrev pub invariant-loop-number : goal.invariant-loop-number
+invariant-loop-number l = AreTold (take l.number l.lines) (map (λ test. test.items) l.tests) (string_bytes l.text)

@@ -1,0 +1,8 @@
+use Rattle.fs_app_guarantees.proofs.FencesTold.{checked, solved}
+use Rattle.fs_app_guarantees.proofs.fences.each_fence_is_told.Goals as goal
+
+pub returns-clause-solved : goal.returns-clause-solved
+returns-clause-solved c = solved
+
+pub returns-clause-checked : goal.returns-clause-checked
+returns-clause-checked c test prices lines certificate text said is = checked test prices lines certificate text said is
