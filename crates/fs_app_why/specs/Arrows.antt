@@ -4,7 +4,6 @@ use Rattle.std.specs.Fmt.{decimal}
 use Rattle.std.specs.List.{slice_index_or}
 use Rattle.fs_instr.specs.declared.instr.Instr.{Instr}
 use Rattle.fs_instr.specs.Roles.{is_amo}
-use Rattle.fs_instr.specs.Writing.{instr_text}
 use Rattle.fs_kinds.specs.declared.kind.Classes.{Classes}
 use Rattle.fs_kinds.specs.declared.reason.OperationName.{OperationName as Name}
 use Rattle.fs_kinds.specs.Kind.{word}
@@ -17,7 +16,7 @@ use Rattle.fs_region_ends.specs.declared.chain.Arrow.TheVariants.{Because, Forgo
 use Rattle.fs_region_ends.specs.declared.fences.Fence.{Fence}
 use Rattle.fs_region_ends.specs.declared.fences.Fence.TheVariants.{Placed, Written}
 use Rattle.fs_region_ends.specs.Fences.{fence_orders}
-use Rattle.fs_app_why.specs.Words.{line_of}
+use Rattle.fs_app_why.specs.Words.{line_of, text_of_instr}
 
 -- ---- causes but for rule 4; a comes before b
 
@@ -54,12 +53,12 @@ abbrev pub instr_named : Test → Name → Option Instr
 instr_named t name = slice_get (slice_index_or t.codes name.hart []) name.at
 
 -- a fence, and where it stands
-abbrev pub fence_text : (lines : List (List ℕ)) → Fence → List ℕ
-fence_text lines (Placed slot kind) =
+abbrev pub fence_text : Test → (lines : List (List ℕ)) → Fence → List ℕ
+fence_text t lines (Placed slot kind) =
     codes "fence "
     ++ (word kind ++ (codes " before line " ++ decimal (line_of lines (record { hart = slot.hart; at = slot.at }))))
-fence_text lines (Written hart at instr) =
-    instr_text instr ++ (codes " in line " ++ decimal (line_of lines (record { hart = hart; at = at })))
+fence_text t lines (Written hart at) =
+    text_of_instr (instr_named t (record { hart = hart; at = at })) ++ (codes " in line " ++ decimal (line_of lines (record { hart = hart; at = at })))
 
 abbrev pub loads_alone : Classes
 loads_alone = record { reads = true; writes = false }
@@ -78,13 +77,13 @@ counts_as true true = []
 counts_as false false = []
 
 -- as what an AMO counts before the fence, and behind it
-abbrev pub counts_before : Fence → List ℕ
-counts_before fence =
-    counts_as (fence_orders fence loads_alone loads_and_stores) (fence_orders fence stores_alone loads_and_stores)
+abbrev pub counts_before : Test → Fence → List ℕ
+counts_before t fence =
+    counts_as (fence_orders t fence loads_alone loads_and_stores) (fence_orders t fence stores_alone loads_and_stores)
 
-abbrev pub counts_behind : Fence → List ℕ
-counts_behind fence =
-    counts_as (fence_orders fence loads_and_stores loads_alone) (fence_orders fence loads_and_stores stores_alone)
+abbrev pub counts_behind : Test → Fence → List ℕ
+counts_behind t fence =
+    counts_as (fence_orders t fence loads_and_stores loads_alone) (fence_orders t fence loads_and_stores stores_alone)
 
 abbrev pub if_amo : Option Instr → List ℕ → List ℕ
 if_amo None text = []
@@ -99,8 +98,8 @@ amo_counts t name counts = named_counts name (if_amo (instr_named t name) counts
 abbrev pub rule_4_text : Test → (lines : List (List ℕ)) → Option Fence → (a b : Name) → List ℕ
 rule_4_text t lines None a b = codes "fences (rule 4)"
 rule_4_text t lines (Some fence) a b =
-    fence_text lines fence
-    ++ (codes " (rule 4" ++ (amo_counts t a (counts_before fence) ++ (amo_counts t b (counts_behind fence) ++ codes ")")))
+    fence_text t lines fence
+    ++ (codes " (rule 4" ++ (amo_counts t a (counts_before t fence) ++ (amo_counts t b (counts_behind t fence) ++ codes ")")))
 
 -- ---- all arrows
 

@@ -5,7 +5,6 @@ use Rattle.std.specs.Prelude.{length, map, codes, take, count_by, if◌then◌el
 use Rattle.std.specs.Fmt.{decimal}
 use Rattle.std.specs.List.{enumerate_from, flat_map, list_any, slice_index_or}
 use Rattle.fs_instr.specs.declared.instr.Instr.{Instr}
-use Rattle.fs_instr.specs.Writing.{instr_text}
 use Rattle.fs_kinds.specs.declared.reason.OperationName.{OperationName as Name}
 use Rattle.fs_kinds.specs.ReasonText.{operation_name}
 use Rattle.fs_model.specs.declared.test.Location.{Location}
@@ -96,8 +95,8 @@ module _ (t : Test) (lines : List (List ℕ)) where
 abbrev pub halves_by : Test → ChainLink → Option Fence → Bool
 halves_by t link None = false
 halves_by t link (Some fence) =
-    not (length (if_amo (instr_named t link.name) (counts_before fence)) == 0)
-    || not (length (if_amo (instr_named t link.next) (counts_behind fence)) == 0)
+    not (length (if_amo (instr_named t link.name) (counts_before t fence)) == 0)
+    || not (length (if_amo (instr_named t link.next) (counts_behind t fence)) == 0)
 
 abbrev pub halves_amo : Test → Chain → Bool
 halves_amo t chain = list_any (λ link. halves_by t link link.fence) chain.links
@@ -110,7 +109,7 @@ few_kinds = 6
 -- a number for the fence: its hart's, its place, and whether it is placed or written there
 abbrev pub fence_key : Fence → ℕ
 fence_key (Placed slot kind) = slot.hart * 1024 + slot.at * 2
-fence_key (Written hart at instr) = hart * 1024 + (at * 2 + 1)
+fence_key (Written hart at) = hart * 1024 + (at * 2 + 1)
 
 -- the chain of a kind that is told
 abbrev pub told_chains : ChainKind → List Chain

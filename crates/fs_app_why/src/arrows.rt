@@ -2,17 +2,17 @@
 
 ghost use Rattle.std.specs.Prelude.{◌≡◌, ◌++◌, Some, IfOk, string_bytes};
 ghost use Rattle.fs_instr.specs.Roles.{is_amo};
-ghost use Rattle.fs_region_ends.specs.declared.fences.Fence.TheVariants.{Placed};
 ghost use Rattle.fs_app_why.specs.Arrows.{amo_counts, arrow_text, because_text, cause_text, counts_as, counts_before};
 ghost use Rattle.fs_app_why.specs.Arrows.{counts_behind, fence_text, if_amo, instr_named, named_counts, rule_4_text};
+ghost use Rattle.fs_app_why.specs.Words.{text_of_instr};
 
 use crate::without::{code_of, instr_text};
 use crate::words::line_of;
 use fs_cert_evidence::Cause;
 use fs_instr::Instr;
-use fs_kinds::{Classes, Kind, List, OperationName, Slot};
+use fs_kinds::{Classes, List, OperationName};
 use fs_model::Test;
-use fs_region_ends::{Arrow, Fence};
+use fs_region_ends::{Arrow, Fence, fence_orders};
 use std::alloc::{AllocError, Global};
 
 /// Why a comes before b, but for the fence of rule 4.
@@ -26,13 +26,16 @@ fn cause_text(
 {
     match cause {
         Cause::Rule1 => format!(in alloc;
-            "{} is a store to the same word, behind it in the code (rule 1)", b
+            "{} is a store to the same word, behind it in the code (rule 1)",
+            b
         ),
         Cause::Rule2 => format!(in alloc;
-            "{} loads the same word behind it, from another store (rule 2)", b
+            "{} loads the same word behind it, from another store (rule 2)",
+            b
         ),
         Cause::Rule3 => format!(in alloc;
-            "{} reads what {}, an AMO or sc.w of its own hart, stored (rule 3)", b, a
+            "{} reads what {}, an AMO or sc.w of its own hart, stored (rule 3)",
+            b, a
         ),
         Cause::Rule4 => format!(in alloc; "fences (rule 4)"),
         Cause::Rule5 => format!(in alloc; "{} is an acquire (rule 5)", a),
@@ -43,10 +46,12 @@ fn cause_text(
         Cause::Rule10 => format!(in alloc; "the value of {} comes from {} (rule 10)", b, a),
         Cause::Rule11 => format!(in alloc; "{} is a store behind a branch on {} (rule 11)", b, a),
         Cause::Rule12 => format!(in alloc;
-            "{} reads a store of its hart whose address or value comes from {} (rule 12)", b, a
+            "{} reads a store of its hart whose address or value comes from {} (rule 12)",
+            b, a
         ),
         Cause::Rule13 => format!(in alloc;
-            "{} is a store behind an access whose address comes from {} (rule 13)", b, a
+            "{} is a store behind an access whose address comes from {} (rule 13)",
+            b, a
         ),
         Cause::ReadsFrom => format!(in alloc; "{} reads from it (rf)", b),
         Cause::Coherence => format!(in alloc; "{} overwrites it (co)", b),
@@ -61,32 +66,35 @@ pub(crate) fn instr_named(test: &Test, name: OperationName) -> Option<Instr>
     code_of(test, name.hart).get(usize::from(name.at)).copied()
 }
 
-/// A fence that is placed, and where.
-fn placed_text(
-    alloc: Global,
-    lines: &[List<usize>],
-    slot: Slot,
-    kind: Kind,
-) -> Result<String, AllocError>
-    ensures { IfOk result (λ text. string_bytes text ≡ fence_text lines.now (Placed slot kind)) }
+/// The instruction in print, if there is one.
+fn named_text(alloc: Global, test: &Test, name: OperationName) -> Result<String, AllocError>
+    ensures { IfOk result (λ text. string_bytes text ≡ text_of_instr (instr_named test.now name)) }
 {
-    let name = OperationName {
-        hart: slot.hart,
-        at: slot.at,
-    };
-    let line = line_of(lines, name);
-    format!(in alloc; "fence {} before line {}", kind.name(), line)
+    match instr_named(test, name) {
+        Some(instr) => instr_text(alloc, instr),
+        None => Ok(String::new(alloc)),
+    }
 }
 
 /// A fence, and where it stands.
-fn fence_text(alloc: Global, lines: &[List<usize>], fence: Fence) -> Result<String, AllocError>
-    ensures { IfOk result (λ text. string_bytes text ≡ fence_text lines.now fence) }
+fn fence_text(
+    alloc: Global,
+    test: &Test,
+    lines: &[List<usize>],
+    fence: Fence,
+) -> Result<String, AllocError>
+    ensures { IfOk result (λ text. string_bytes text ≡ fence_text test.now lines.now fence) }
 {
     match fence {
-        Fence::Placed { slot, kind } => placed_text(alloc, lines, slot, kind),
-        Fence::Written { hart, at, instr } => {
-            let text = instr_text(alloc, instr)?;
+        Fence::Placed { slot, kind } => {
+            let (hart, at) = (slot.hart, slot.at);
             let line = line_of(lines, OperationName { hart, at });
+            format!(in alloc; "fence {} before line {}", kind.name(), line)
+        }
+        Fence::Written { hart, at } => {
+            let name = OperationName { hart, at };
+            let text = named_text(alloc, test, name)?;
+            let line = line_of(lines, name);
             format!(in alloc; "{} in line {}", text.as_str(), line)
         }
     }
@@ -119,22 +127,22 @@ fn counts_as(by_load: bool, by_store: bool) -> &'static str
 }
 
 /// As what an AMO counts before the fence.
-pub(crate) fn counts_before(fence: Fence) -> &'static str
-    ensures { result.now ≡ counts_before fence }
+pub(crate) fn counts_before(test: &Test, fence: Fence) -> &'static str
+    ensures { result.now ≡ counts_before test.now fence }
 {
     counts_as(
-        fence.orders(LOADS_ALONE, LOADS_AND_STORES),
-        fence.orders(STORES_ALONE, LOADS_AND_STORES),
+        fence_orders(test, fence, LOADS_ALONE, LOADS_AND_STORES),
+        fence_orders(test, fence, STORES_ALONE, LOADS_AND_STORES),
     )
 }
 
 /// As what an AMO counts behind the fence.
-pub(crate) fn counts_behind(fence: Fence) -> &'static str
-    ensures { result.now ≡ counts_behind fence }
+pub(crate) fn counts_behind(test: &Test, fence: Fence) -> &'static str
+    ensures { result.now ≡ counts_behind test.now fence }
 {
     counts_as(
-        fence.orders(LOADS_AND_STORES, LOADS_ALONE),
-        fence.orders(LOADS_AND_STORES, STORES_ALONE),
+        fence_orders(test, fence, LOADS_AND_STORES, LOADS_ALONE),
+        fence_orders(test, fence, LOADS_AND_STORES, STORES_ALONE),
     )
 }
 
@@ -186,10 +194,15 @@ fn ordered_text(
 ) -> Result<String, AllocError>
     ensures { IfOk result (λ text. string_bytes text ≡ rule_4_text test.now lines.now (Some fence) a b) }
 {
-    let text = fence_text(alloc, lines, fence)?;
-    let first = amo_counts(alloc, test, a, counts_before(fence))?;
-    let second = amo_counts(alloc, test, b, counts_behind(fence))?;
-    format!(in alloc; "{} (rule 4{}{})", text.as_str(), first.as_str(), second.as_str())
+    let text = fence_text(alloc, test, lines, fence)?;
+    let first = amo_counts(alloc, test, a, counts_before(test, fence))?;
+    let second = amo_counts(alloc, test, b, counts_behind(test, fence))?;
+    format!(in alloc;
+        "{} (rule 4{}{})",
+        text.as_str(),
+        first.as_str(),
+        second.as_str()
+    )
 }
 
 /// That a fence orders a before b; which one, where it is known.
@@ -243,10 +256,12 @@ pub(crate) fn arrow_text(
     match arrow {
         Arrow::Because(cause) => because_text(alloc, test, lines, cause, fence, names),
         Arrow::Forgotten => format!(in alloc;
-            "{} stands behind it in the code, and reads what it overwrites (load values)", names.1
+            "{} stands behind it in the code, and reads what it overwrites (load values)",
+            names.1
         ),
         Arrow::Pair(load) => format!(in alloc;
-            "but no store of another hart may come between it and what {} reads (atomicity)", load
+            "but no store of another hart may come between it and what {} reads (atomicity)",
+            load
         ),
         Arrow::End => Ok(String::new(alloc)),
     }

@@ -458,8 +458,8 @@ fn halves_by(test: &Test, link: &ChainLink, fence: Option<Fence>) -> bool
 {
     match fence {
         Some(fence) => {
-            !if_amo(instr_named(test, link.name), counts_before(fence)).is_empty()
-                || !if_amo(instr_named(test, link.next), counts_behind(fence)).is_empty()
+            !if_amo(instr_named(test, link.name), counts_before(test, fence)).is_empty()
+                || !if_amo(instr_named(test, link.next), counts_behind(test, fence)).is_empty()
         }
         None => false,
     }
@@ -469,13 +469,18 @@ fn halves_by(test: &Test, link: &ChainLink, fence: Option<Fence>) -> bool
 fn halves_amo(test: &Test, chain: &Chain) -> bool
     ensures { result ≡ halves_amo test.now chain.now }
 {
-    chain.links.iter().any(|link| halves_by(test, link, link.fence))
+    chain
+        .links
+        .iter()
+        .any(|link| halves_by(test, link, link.fence))
 }
 
 fn kind_halves_amo(test: &Test, kind: &ChainKind) -> bool
     ensures { result ≡ list_any (halves_amo test.now) (told_chains kind.now) }
 {
-    told_chains(kind).iter().any(|chain| halves_amo(test, chain))
+    told_chains(kind)
+        .iter()
+        .any(|chain| halves_amo(test, chain))
 }
 
 fn halves_told(test: &Test, kinds: &[ChainKind], number: usize) -> bool

@@ -5,8 +5,10 @@
 mod alike;
 mod answered;
 mod arrows;
+mod certified;
 mod contradictions;
 mod ends;
+mod forbidden;
 mod marks;
 mod nearer;
 mod order;
@@ -20,5 +22,6 @@ mod without;
 mod words;
 
 pub use answered::why_answer;
+pub use certified::why_certified;
 pub use order::why_order;
 pub use possible::why_allowed;

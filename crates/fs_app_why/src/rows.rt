@@ -159,7 +159,11 @@ pub(crate) fn name_cell(alloc: Global, name: OperationName) -> Result<Name, Allo
     Ok(Name::new(text))
 }
 
-pub(crate) fn line_cell(alloc: Global, lines: &[List<usize>], name: OperationName) -> Result<Name, AllocError>
+pub(crate) fn line_cell(
+    alloc: Global,
+    lines: &[List<usize>],
+    name: OperationName,
+) -> Result<Name, AllocError>
     ensures { IfOk result (λ text. text ≡ codes "line " ++ decimal (line_of lines.now name)) }
 {
     let line = line_of(lines, name);

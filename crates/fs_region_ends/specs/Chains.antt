@@ -46,6 +46,34 @@ sole_of [] = None
 sole_of (fence ∷ []) = Some fence
 sole_of (fence ∷ other ∷ others) = None
 
+-- each with the next one, and the last with the first
+abbrev pub around : List Link → List (Link × Link)
+around links = zip links (drop 1 links ++ take 1 links)
+
+abbrev pub leading : Name → Arrow → (next : Name) → Leading
+leading name arrow next = record { name = name; arrow = arrow; next = next }
+
+-- the pair's store would come before what its load returns, which that comes after
+abbrev pub reversed_by : (load store : Name) → Option Source → List Leading
+reversed_by load store (Some (From source)) =
+    leading store (Because cause.Coherence) source ∷ leading source (Because cause.ReadsFrom) load
+    ∷ leading load (Because cause.Rule8) store ∷ []
+reversed_by load store (Some Initial) =
+    leading store (Because cause.Coherence) load ∷ leading load (Because cause.Rule8) store ∷ []
+reversed_by load store None =
+    leading store (Because cause.Coherence) load ∷ leading load (Because cause.Rule8) store ∷ []
+
+abbrev pub reversed_steps : Region → (load store : Name) → List Leading
+reversed_steps region load store = reversed_by load store (region.source load)
+
+abbrev pub parted_steps : (load store other : Name) → List Leading
+parted_steps load store other =
+    leading load (Because cause.FromReads) other ∷ leading other (Because cause.Coherence) store
+    ∷ leading store (Pair load) store ∷ []
+
+abbrev pub stale_steps : (load store : Name) → List Leading
+stale_steps load store = leading store Forgotten load ∷ leading load End load ∷ []
+
 module _ (t : Test) (p : List Entry) (region : Region) where
   -- the fences to which an arrow is due: those of rule 4
   abbrev pub due : Arrow → Name → Name → List Fence
@@ -65,36 +93,8 @@ module _ (t : Test) (p : List Entry) (region : Region) where
   abbrev pub cycle_link : Link × Link → ChainLink
   cycle_link (from, next) = link_of from.operation (Because (code_cause from.cause)) next.operation
 
-  -- each with the next one, and the last with the first
-  abbrev pub around : List Link → List (Link × Link)
-  around links = zip links (drop 1 links ++ take 1 links)
-
   abbrev pub step_link : Leading → ChainLink
   step_link step = link_of step.name step.arrow step.next
-
-  abbrev pub leading : Name → Arrow → (next : Name) → Leading
-  leading name arrow next = record { name = name; arrow = arrow; next = next }
-
-  -- the pair's store would come before what its load returns, which that comes after
-  abbrev pub reversed_by : (load store : Name) → Option Source → List Leading
-  reversed_by load store (Some (From source)) =
-      leading store (Because cause.Coherence) source ∷ leading source (Because cause.ReadsFrom) load
-      ∷ leading load (Because cause.Rule8) store ∷ []
-  reversed_by load store (Some Initial) =
-      leading store (Because cause.Coherence) load ∷ leading load (Because cause.Rule8) store ∷ []
-  reversed_by load store None =
-      leading store (Because cause.Coherence) load ∷ leading load (Because cause.Rule8) store ∷ []
-
-  abbrev pub reversed_steps : (load store : Name) → List Leading
-  reversed_steps load store = reversed_by load store (region.source load)
-
-  abbrev pub parted_steps : (load store other : Name) → List Leading
-  parted_steps load store other =
-      leading load (Because cause.FromReads) other ∷ leading other (Because cause.Coherence) store
-      ∷ leading store (Pair load) store ∷ []
-
-  abbrev pub stale_steps : (load store : Name) → List Leading
-  stale_steps load store = leading store Forgotten load ∷ leading load End load ∷ []
 
   abbrev pub chain_by : Shape → List Leading → Chain
   chain_by shape steps = record { shape = shape; links = map step_link steps }
@@ -103,7 +103,7 @@ module _ (t : Test) (p : List Entry) (region : Region) where
   abbrev pub chain_of : Inference → List Chain
   chain_of (Cycle links) = record { shape = kind.Cycle; links = map cycle_link (around links) } ∷ []
   chain_of (Stale load store) = chain_by kind.Stale (stale_steps load store) ∷ []
-  chain_of (Reversed load store) = chain_by kind.Cycle (reversed_steps load store) ∷ []
+  chain_of (Reversed load store) = chain_by kind.Cycle (reversed_steps region load store) ∷ []
   chain_of (Parted load store other) = chain_by kind.NotAtomic (parted_steps load store other) ∷ []
   chain_of other = []
 

@@ -165,7 +165,7 @@ met_known a b = record {
 -- as numbers of the fences of one hart
 abbrev pub fence_number : Fence → ℕ
 fence_number (Placed slot kind) = slot.at * 2
-fence_number (Written hart at instr) = at * 2 + 1
+fence_number (Written hart at) = at * 2 + 1
 
 abbrev pub met_fence : Option Fence → Option Fence → Option Fence
 met_fence (Some a) (Some b) = if fence_number a == fence_number b then Some a else None

@@ -82,29 +82,27 @@ fn link(
     })
 }
 
-/// The arrow of the link's cause.
-fn arrow_of(link: &Link) -> Arrow
-    ensures { result ≡ Because (code_cause link.now.cause) }
-{
-    Arrow::Because(link.cause)
-}
-
-/// Appends the link of a cycle to the next one.
-fn push_link(
+/// The link of a cycle to this operation.
+fn cycle_link(
     alloc: Global,
     basis: &Basis,
     placement: &Placement,
     region: &Region<'_>,
-    links: (&Link, &Link),
-    made: &mut Vec<ChainLink>,
-) -> Result<(), AllocError>
-    ensures { OnOk result (made.new.items ≡ made.old.items
-        ++ cycle_link basis.now placement.now (region_of region.now) (links.0.now, links.1.now) ∷ []) }
+    from: &Link,
+    next: OperationName,
+) -> Result<ChainLink, AllocError>
+    ensures { IfOk result (λ link. link ≡ link_of basis.now placement.now (region_of region.now)
+        from.now.operation (Because (code_cause from.now.cause)) next) }
 {
-    let (from, next) = links;
-    let names = (from.operation, next.operation);
-    made.push(link(alloc, basis, placement, region, arrow_of(from), names)?)?;
-    Ok(())
+    let names = (from.operation, next);
+    link(
+        alloc,
+        basis,
+        placement,
+        region,
+        Arrow::Because(from.cause),
+        names,
+    )
 }
 
 /// The links of a cycle, of which this is the first.
@@ -122,7 +120,7 @@ fn cycle_links(
     let mut made = Vec::new(alloc);
     for (number, link) in links.iter().enumerate() {
         let next = links.get(number + 1).unwrap_or(first);
-        push_link(alloc, basis, placement, region, (link, next), &mut made)?;
+        made.push(cycle_link(alloc, basis, placement, region, link, next.operation)?)?;
     }
     Ok(List::new(made))
 }
@@ -198,7 +196,7 @@ fn reversed(
     store: OperationName,
 ) -> Result<Chain, AllocError>
     ensures { IfOk result (λ chain. chain ≡ chain_by basis.now placement.now (region_of region.now) kind.Cycle
-        (reversed_steps basis.now placement.now (region_of region.now) load store)) }
+        (reversed_steps (region_of region.now) load store)) }
 {
     let last = because(load, Cause::Rule8, store);
     if let Some(Source::From(source)) = region.source(load) {
@@ -223,7 +221,7 @@ fn stale(
     store: OperationName,
 ) -> Result<Chain, AllocError>
     ensures { IfOk result (λ chain. chain ≡ chain_by basis.now placement.now (region_of region.now) kind.Stale
-        (stale_steps basis.now placement.now (region_of region.now) load store)) }
+        (stale_steps load store)) }
 {
     let steps = [
         leading(store, Arrow::Forgotten, load),
@@ -242,7 +240,7 @@ fn parted(
     other: OperationName,
 ) -> Result<Chain, AllocError>
     ensures { IfOk result (λ chain. chain ≡ chain_by basis.now placement.now (region_of region.now) kind.NotAtomic
-        (parted_steps basis.now placement.now (region_of region.now) pair.0 pair.1 other)) }
+        (parted_steps pair.0 pair.1 other)) }
 {
     let (load, store) = pair;
     let steps = [

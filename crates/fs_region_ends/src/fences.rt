@@ -1,11 +1,13 @@
 //! Which fences order two operations of a hart in each run that is left.
 
-ghost use Rattle.std.specs.Prelude.{◌≡◌, ◌++◌, IfOk, OnOk};
+ghost use Rattle.std.specs.Prelude.{◌≡◌, ◌++◌, slice_get, IfOk, OnOk};
 ghost use Rattle.std.specs.List.{list_all};
+ghost use Rattle.fs_model.specs.Execution.{code_of};
 ghost use Rattle.fs_model.specs.Fences.{instr_orders};
 ghost use Rattle.fs_region_refutation.specs.Views.{runs_of};
 ghost use Rattle.fs_region_ends.specs.Fences.{classes_at, executes, fence_orders, if_orders, ordering, ordering_at};
 ghost use Rattle.fs_region_ends.specs.Fences.{orders_in, orders_in_all, placed_at, stands_between, written_as, written_at};
+ghost use Rattle.fs_region_ends.specs.Fences.{written_orders};
 
 use fs_instr::Instr;
 use fs_kinds::{Classes, Kind, OperationName, Placement, Slot};
@@ -19,7 +21,7 @@ pub enum Fence {
     /// One that is placed in a slot.
     Placed { slot: Slot, kind: Kind },
     /// A FENCE instruction of the test.
-    Written { hart: u8, at: u8, instr: Instr },
+    Written { hart: u8, at: u8 },
 }
 
 /// What the run's operation there does: whether it loads, and whether it stores.
@@ -53,15 +55,30 @@ fn instr_orders(instr: Instr, first: Classes, second: Classes) -> bool
     }
 }
 
-impl Fence {
-    /// Does it order an operation of these classes before one of those?
-    pub fn orders(self, first: Classes, second: Classes) -> bool
-        ensures { result ≡ fence_orders self first second }
-    {
-        match self {
-            Fence::Placed { kind, .. } => kind.orders(first, second),
-            Fence::Written { instr, .. } => instr_orders(instr, first, second),
-        }
+/// The instruction there, if there is one.
+fn instr_at(test: &Test, hart: u8, at: u8) -> Option<Instr>
+    ensures { result ≡ slice_get (code_of test.now hart) at }
+{
+    let code = test.codes.get(usize::from(hart))?;
+    code.get(usize::from(at)).copied()
+}
+
+fn written_orders(instr: Option<Instr>, first: Classes, second: Classes) -> bool
+    ensures { result ≡ written_orders first second instr }
+{
+    match instr {
+        Some(instr) => instr_orders(instr, first, second),
+        None => false,
+    }
+}
+
+/// Does the fence of the test, or placed in it, order an operation of these classes before one of those?
+pub fn fence_orders(test: &Test, fence: Fence, first: Classes, second: Classes) -> bool
+    ensures { result ≡ fence_orders test.now fence first second }
+{
+    match fence {
+        Fence::Placed { kind, .. } => kind.orders(first, second),
+        Fence::Written { hart, at } => written_orders(instr_at(test, hart, at), first, second),
     }
 }
 
@@ -78,18 +95,19 @@ fn stands_between(fence: Fence, run: &Lone, first: u8, second: u8) -> bool
 }
 
 /// Does it order the two in the run?
-fn orders_in(fence: Fence, run: &Lone, first: u8, second: u8) -> bool
-    ensures { result ≡ orders_in fence first second run.now.steps }
+fn orders_in(test: &Test, fence: Fence, run: &Lone, first: u8, second: u8) -> bool
+    ensures { result ≡ orders_in test.now fence first second run.now.steps }
 {
     stands_between(fence, run, first, second)
-        && fence.orders(classes_at(run, first), classes_at(run, second))
+        && fence_orders(test, fence, classes_at(run, first), classes_at(run, second))
 }
 
 /// Does it in each of the runs?
-fn orders_in_all(fence: Fence, runs: &[&Lone], first: u8, second: u8) -> bool
-    ensures { result ≡ orders_in_all fence first second (runs_of runs.now) }
+fn orders_in_all(test: &Test, fence: Fence, runs: &[&Lone], first: u8, second: u8) -> bool
+    ensures { result ≡ orders_in_all test.now fence first second (runs_of runs.now) }
 {
-    runs.iter().all(|run| orders_in(fence, run, first, second))
+    runs.iter()
+        .all(|run| orders_in(test, fence, run, first, second))
 }
 
 /// The fence that is placed before the instruction.
@@ -106,7 +124,7 @@ fn written_as(hart: u8, at: u8, instr: Instr) -> Option<Fence>
     ensures { result ≡ written_as hart at instr }
 {
     match instr {
-        Instr::Fence { .. } | Instr::FenceTso => Some(Fence::Written { hart, at, instr }),
+        Instr::Fence { .. } | Instr::FenceTso => Some(Fence::Written { hart, at }),
         _ => None,
     }
 }
@@ -115,23 +133,23 @@ fn written_as(hart: u8, at: u8, instr: Instr) -> Option<Fence>
 fn written_at(test: &Test, hart: u8, at: u8) -> Option<Fence>
     ensures { result ≡ written_at test.now hart at }
 {
-    let code = test.codes.get(usize::from(hart))?;
-    let instr = code.get(usize::from(at))?;
-    written_as(hart, at, *instr)
+    let instr = instr_at(test, hart, at)?;
+    written_as(hart, at, instr)
 }
 
 /// Appends the fence, if there is one and it orders the two in each of the runs.
 fn push_if(
+    test: &Test,
     fence: Option<Fence>,
     runs: &[&Lone],
     first: u8,
     second: u8,
     fences: &mut Vec<Fence>,
 ) -> Result<(), AllocError>
-    ensures { OnOk result (fences.new.items ≡ fences.old.items ++ if_orders first second (runs_of runs.now) fence) }
+    ensures { OnOk result (fences.new.items ≡ fences.old.items ++ if_orders test.now first second (runs_of runs.now) fence) }
 {
     if let Some(fence) = fence {
-        if orders_in_all(fence, runs, first, second) {
+        if orders_in_all(test, fence, runs, first, second) {
             fences.push(fence)?;
         }
     }
@@ -163,9 +181,9 @@ fn push_at(
         runs,
     } = between;
     let placed = placed_at(placement, first.hart, at);
-    push_if(placed, runs, first.at, second.at, fences)?;
+    push_if(test, placed, runs, first.at, second.at, fences)?;
     let written = written_at(test, first.hart, at);
-    push_if(written, runs, first.at, second.at, fences)
+    push_if(test, written, runs, first.at, second.at, fences)
 }
 
 /// The fences that order the two operations of a hart in each of the runs, in the order of the code. The instructions

@@ -10,7 +10,7 @@ mod likeness;
 mod walk;
 
 pub use chain::{Arrow, Chain, ChainLink, Shape};
-pub use fences::Fence;
+pub use fences::{Fence, fence_orders};
 pub use kinds::{ChainKind, kinds_of};
 pub use known::Known;
 pub use walk::chains;
