@@ -25,7 +25,7 @@ use Rattle.fs_region_ends.specs.Kinds.{ChainKind}
 use Rattle.fs_app_why.specs.declared.table.Row.{Row}
 use Rattle.fs_app_why.specs.Arrows.{arrow_text, counts_before, counts_behind, if_amo, instr_named}
 use Rattle.fs_app_why.specs.Tables.{table_text}
-use Rattle.fs_app_why.specs.Words.{and_joined, line_of, text_of_instr, word_text}
+use Rattle.fs_app_why.specs.Words.{line_of, text_of_instr, word_text}
 
 -- ---- what an operation does, as far as all runs that are left agree
 
@@ -226,25 +226,3 @@ abbrev pub contradictions_text : Test → (lines : List (List ℕ)) → List Cha
 contradictions_text t lines kinds =
     if length kinds == 0 then nothing_left
     else heading_of (length kinds) ++ (told_text t lines kinds ++ (rest_text kinds ++ amo_text t lines kinds))
-
--- ---- in which of them a fence that is placed is needed: where no other one orders the two in all runs that are left
-
-abbrev pub is_sole : ℕ → ChainKind → Bool
-is_sole key kind =
-    list_any (λ chain. list_any (λ link. is_same (option_map fence_key link.sole) (Some key)) chain.links) kind.instances
-
-abbrev pub number_if : List ChainKind → ℕ → ℕ × ChainKind → List (List ℕ)
-number_if kinds key numbered =
-    if is_told kinds numbered.0 && is_sole key numbered.1 then decimal (numbered.0 + 1) ∷ [] else []
-
-abbrev pub numbers_with : List ChainKind → ℕ → List (List ℕ)
-numbers_with kinds key = flat_map (number_if kinds key) (enumerate_from 0 kinds)
-
-abbrev pub joined_numbers : List (List ℕ) → List ℕ
-joined_numbers numbers =
-    if length numbers == 0 then []
-    else codes ": in cycle" ++ ((if length numbers == 1 then codes " " else codes "s ") ++ and_joined numbers)
-
--- behind the line of the fence of this number
-abbrev pub in_text : List ChainKind → ℕ → List ℕ
-in_text kinds key = joined_numbers (numbers_with kinds key)

@@ -11,10 +11,10 @@ ghost use Rattle.fs_app_why.specs.Arrows.{instr_named};
 ghost use Rattle.fs_app_why.specs.Contradictions.{again, also_text, amo_text, bare_text, below_by, chain_text};
 ghost use Rattle.fs_app_why.specs.Contradictions.{contradictions_text, does_by, does_known, does_there, end_text};
 ghost use Rattle.fs_app_why.specs.Contradictions.{fence_key, halves_amo, halves_by, halves_told, has_fence, has_key};
-ghost use Rattle.fs_app_why.specs.Contradictions.{has_new, headed, heading_of, in_text, initial_text, is_bare};
-ghost use Rattle.fs_app_why.specs.Contradictions.{is_key_among, is_new_by, is_sole, is_text, is_told, is_told_after};
-ghost use Rattle.fs_app_why.specs.Contradictions.{is_untold, joined_numbers, kind_text, kinds_text, link_row};
-ghost use Rattle.fs_app_why.specs.Contradictions.{loaded_text, number_if, numbered_text, numbers_with, others_text};
+ghost use Rattle.fs_app_why.specs.Contradictions.{has_new, headed, heading_of, initial_text, is_bare};
+ghost use Rattle.fs_app_why.specs.Contradictions.{is_key_among, is_new_by, is_text, is_told, is_told_after};
+ghost use Rattle.fs_app_why.specs.Contradictions.{is_untold, kind_text, kinds_text, link_row};
+ghost use Rattle.fs_app_why.specs.Contradictions.{loaded_text, numbered_text, others_text};
 ghost use Rattle.fs_app_why.specs.Contradictions.{rest_by, rest_text, shape_text, told_text};
 ghost use Rattle.fs_app_why.specs.Tables.{table_text};
 ghost use Rattle.fs_app_why.specs.Words.{line_of, text_of_instr};
@@ -23,7 +23,7 @@ use crate::arrows::{arrow_text, counts_before, counts_behind, if_amo, instr_name
 use crate::rows::{line_cell, name_cell};
 use crate::table::{Row, table_text};
 use crate::without::instr_text;
-use crate::words::{and_joined, word_text};
+use crate::words::word_text;
 use fs_app_test::value_text;
 use fs_instr::Instr;
 use fs_kinds::{List, OperationName};
@@ -601,67 +601,4 @@ pub(crate) fn contradictions_text(
         rest.as_str(),
         amo_text(test, kinds)
     )
-}
-
-// ---- in which of them a fence is needed
-
-fn is_sole_in(chain: &Chain, key: u32) -> bool
-    ensures { result ≡ list_any (λ link. is_same (option_map fence_key link.sole) (Some key)) chain.now.links }
-{
-    chain.links.iter().any(|link| is_key(link.sole, key))
-}
-
-/// Is the fence the only one of its kind of chains that orders some two operations?
-fn is_sole(kind: &ChainKind, key: u32) -> bool
-    ensures { result ≡ is_sole key kind.now }
-{
-    kind.instances.iter().any(|chain| is_sole_in(chain, key))
-}
-
-fn push_number(
-    alloc: Global,
-    kinds: &[ChainKind],
-    key: u32,
-    number: usize,
-    kind: &ChainKind,
-    numbers: &mut Vec<Name>,
-) -> Result<(), AllocError>
-    requires { number < length kinds.now }
-    ensures { OnOk result (numbers.new.items ≡ numbers.old.items ++ number_if kinds.now key (number, kind.now)) }
-{
-    if is_told(kinds, number) && is_sole(kind, key) {
-        let text = format!(in alloc; "{}", number + 1)?;
-        numbers.push(Name::new(text))?;
-    }
-    Ok(())
-}
-
-/// The numbers of the told kinds in which the fence is needed.
-fn numbers_with(alloc: Global, kinds: &[ChainKind], key: u32) -> Result<Vec<Name>, AllocError>
-    ensures { IfOk result (λ numbers. numbers.items ≡ numbers_with kinds.now key) }
-{
-    let mut numbers = Vec::new(alloc);
-    for (number, kind) in kinds.iter().enumerate() {
-        push_number(alloc, kinds, key, number, kind, &mut numbers)?;
-    }
-    Ok(numbers)
-}
-
-fn joined_numbers(alloc: Global, numbers: &[Name]) -> Result<String, AllocError>
-    ensures { IfOk result (λ text. string_bytes text ≡ joined_numbers numbers.now) }
-{
-    if numbers.is_empty() {
-        return Ok(String::new(alloc));
-    }
-    let joined = and_joined(alloc, numbers)?;
-    let between = if numbers.len() == 1 { " " } else { "s " };
-    format!(in alloc; ": in cycle{}{}", between, joined.as_str())
-}
-
-/// In which of the told kinds the fence of this number is needed, for the line of the fence.
-pub(crate) fn in_text(alloc: Global, kinds: &[ChainKind], key: u32) -> Result<String, AllocError>
-    ensures { IfOk result (λ text. string_bytes text ≡ in_text kinds.now key) }
-{
-    let numbers = numbers_with(alloc, kinds, key)?;
-    joined_numbers(alloc, &numbers)
 }
