@@ -1,6 +1,6 @@
 -- The ends of a refutation as chains of operations, with what is so of these in each run that is left there.
 use Rattle.std.specs.Prelude.{Option, None, Some, List, [], ◌∷◌, ◌++◌, drop, map, slice_get, take}
-use Rattle.std.specs.List.{flat_map, zip}
+use Rattle.std.specs.List.{flat_map}
 use Rattle.fs_kinds.specs.declared.placement.Entry.{Entry}
 use Rattle.fs_kinds.specs.declared.reason.OperationName.{OperationName as Name}
 use Rattle.fs_model.specs.declared.test.Test.{Test}
@@ -46,9 +46,10 @@ sole_of [] = None
 sole_of (fence ∷ []) = Some fence
 sole_of (fence ∷ other ∷ others) = None
 
--- each with the next one, and the last with the first
-abbrev pub around : List Link → List (Link × Link)
-around links = zip links (drop 1 links ++ take 1 links)
+-- the operation of the first of these links; of none the first of all
+abbrev pub next_of : (first : Name) → List Link → Name
+next_of first [] = first
+next_of first (link ∷ links) = link.operation
 
 abbrev pub leading : Name → Arrow → (next : Name) → Leading
 leading name arrow next = record { name = name; arrow = arrow; next = next }
@@ -90,8 +91,15 @@ module _ (t : Test) (p : List Entry) (region : Region) where
     sole = sole_of (due arrow name next);
   }
 
-  abbrev pub cycle_link : Link × Link → ChainLink
-  cycle_link (from, next) = link_of from.operation (Because (code_cause from.cause)) next.operation
+  -- the links from these operations on; behind the last of them comes the first of all
+  abbrev pub links_to : (first : Name) → List Link → List ChainLink
+  links_to first [] = []
+  links_to first (link ∷ links) =
+      link_of link.operation (Because (code_cause link.cause)) (next_of first links) ∷ links_to first links
+
+  abbrev pub cycle_links : List Link → List ChainLink
+  cycle_links [] = []
+  cycle_links (link ∷ links) = links_to link.operation (link ∷ links)
 
   abbrev pub step_link : Leading → ChainLink
   step_link step = link_of step.name step.arrow step.next
@@ -101,7 +109,7 @@ module _ (t : Test) (p : List Entry) (region : Region) where
 
   -- the chain of an end; of other inferences none
   abbrev pub chain_of : Inference → List Chain
-  chain_of (Cycle links) = record { shape = kind.Cycle; links = map cycle_link (around links) } ∷ []
+  chain_of (Cycle links) = record { shape = kind.Cycle; links = cycle_links links } ∷ []
   chain_of (Stale load store) = chain_by kind.Stale (stale_steps load store) ∷ []
   chain_of (Reversed load store) = chain_by kind.Cycle (reversed_steps region load store) ∷ []
   chain_of (Parted load store other) = chain_by kind.NotAtomic (parted_steps load store other) ∷ []

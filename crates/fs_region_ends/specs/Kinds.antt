@@ -1,6 +1,6 @@
 -- Kinds of chains: those that are the same but for the harts are one.
 use Rattle.std.specs.Prelude.{ℕ, ◌+◌, ◌*◌, ◌==◌, nat_lt, Bool, true, false, ◌&&◌, ◌||◌, not, Option, None, Some, unwrap_or, List, [], ◌∷◌, ◌++◌, drop, fold, length, map, min, slice_set, take, if◌then◌else◌}
-use Rattle.std.specs.List.{insert, list_all, list_any, position_or_len, slice_index_or, zip}
+use Rattle.std.specs.List.{insert, list_all, list_any, position, slice_index_or, zip}
 use Rattle.std.specs.Option.{option_or}
 use Rattle.std.specs.Str.{bytes_eq}
 use Rattle.fs_kinds.specs.declared.reason.OperationName.{OperationName as Name}
@@ -60,15 +60,11 @@ shape_number shape.NotAtomic = 2
 
 -- ---- a cycle from its least operation on
 
--- of links of which the first has number k; the least so far is this one, with number best
-abbrev pub least_from : (least : ChainLink) → (best k : ℕ) → List ChainLink → ℕ
-least_from least best k [] = best
-least_from least best k (link ∷ links) =
-    if is_lesser link.name least.name then least_from link k (k + 1) links else least_from least best (k + 1) links
+abbrev pub is_least_of : List ChainLink → ChainLink → Bool
+is_least_of links link = list_all (λ other. not (is_lesser other.name link.name)) links
 
 abbrev pub least : List ChainLink → ℕ
-least [] = 0
-least (link ∷ links) = least_from link 0 1 links
+least links = unwrap_or (position (is_least_of links) links) 0
 
 abbrev pub turned : ℕ → List ChainLink → List ChainLink
 turned k links = drop k links ++ take k links
@@ -98,6 +94,12 @@ abbrev pub turns : Shape → ℕ → ℕ
 turns shape.Cycle n = n
 turns other n = min 1 n
 
+-- two links of the first chain are of one hart where those of the second are
+abbrev pub share_harts : (x y : ChainLink × ChainLink) → Bool
+share_harts (a, b) (c, d) =
+    (a.name.hart == c.name.hart) && (b.name.hart == d.name.hart)
+    || not (a.name.hart == c.name.hart) && not (b.name.hart == d.name.hart)
+
 -- ---- the same but for the harts; `texts` has the instructions in print, hart by hart
 
 module _ (texts : List (List (List ℕ))) where
@@ -108,12 +110,6 @@ module _ (texts : List (List (List ℕ))) where
   is_like_link (a, b) =
       (a.name.at == b.name.at)
       && ((arrow_number a.arrow == arrow_number b.arrow) && bytes_eq (text_at a.name) (text_at b.name))
-
-  -- two links of the first chain are of one hart where those of the second are
-  abbrev pub share_harts : (x y : ChainLink × ChainLink) → Bool
-  share_harts (a, b) (c, d) =
-      (a.name.hart == c.name.hart) && (b.name.hart == d.name.hart)
-      || not (a.name.hart == c.name.hart) && not (b.name.hart == d.name.hart)
 
   -- one renaming of harts makes the second of the first
   abbrev pub is_renamed : List (ChainLink × ChainLink) → Bool
@@ -176,8 +172,8 @@ either_fence (Some a) b = Some a
 either_fence None b = b
 
 -- a fence that alone orders the two at one end of the refutation is needed there
-abbrev pub met_link : ChainLink × ChainLink → ChainLink
-met_link (a, b) = record {
+abbrev pub met_link : ChainLink → ChainLink → ChainLink
+met_link a b = record {
   name = a.name;
   next = a.next;
   known = met_known a.known b.known;
@@ -186,8 +182,12 @@ met_link (a, b) = record {
   sole = either_fence a.sole b.sole;
 }
 
+abbrev pub met_links : List ChainLink → List ChainLink → List ChainLink
+met_links (a ∷ first) (b ∷ second) = met_link a b ∷ met_links first second
+met_links first second = []
+
 abbrev pub met : Chain → Chain → Chain
-met first second = record { shape = first.shape; links = map met_link (zip first.links second.links) }
+met first second = record { shape = first.shape; links = met_links first.links second.links }
 
 -- ---- kinds
 
@@ -197,16 +197,23 @@ pub record ChainKind : Type 0 where
   pub ends : ℕ
 
 -- the chains of a kind, each once, the least first
-abbrev pub put_at : List Chain → Chain → (k : ℕ) → List Chain
-put_at chains chain k =
-    if nat_lt k (length chains) then slice_set chains k (met (slice_index_or chains k chain) chain)
-    else insert chains (position_or_len (is_less chain) chains) chain
+abbrev pub place_by : {X : Type 0} → (X → Bool) → List X → ℕ
+place_by test xs = unwrap_or (position test xs) (length xs)
 
+abbrev pub put_by : List Chain → Chain → Option ℕ → List Chain
+put_by chains chain (Some k) = slice_set chains k (met (slice_index_or chains k chain) chain)
+put_by chains chain None = insert chains (place_by (is_less chain) chains) chain
+
+-- what is known of it goes to what is known of the same chain
 abbrev pub put : List Chain → Chain → List Chain
-put chains chain = put_at chains chain (position_or_len (λ other. are_same other chain) chains)
+put chains chain = put_by chains chain (position (λ other. are_same other chain) chains)
+
+-- counted up to what a number of the machine holds
+abbrev pub one_more : ℕ → ℕ
+one_more ends = if nat_lt ends 18446744073709551615 then ends + 1 else ends
 
 abbrev pub with_chain : ChainKind → Chain → ChainKind
-with_chain kind chain = record { instances = put kind.instances chain; ends = kind.ends + 1 }
+with_chain kind chain = record { instances = put kind.instances chain; ends = one_more kind.ends }
 
 abbrev pub kind_of : Chain → ChainKind
 kind_of chain = record { instances = chain ∷ []; ends = 1 }
@@ -221,7 +228,7 @@ module _ (texts : List (List (List ℕ))) where
       else kinds ++ kind_of chain ∷ []
 
   abbrev pub add : List ChainKind → Chain → List ChainKind
-  add kinds chain = add_at kinds (normal chain) (position_or_len (is_of (normal chain)) kinds)
+  add kinds chain = add_at kinds (normal chain) (place_by (is_of (normal chain)) kinds)
 
   -- of chains in their order
   abbrev pub unsorted : List Chain → List ChainKind
@@ -236,7 +243,7 @@ abbrev pub is_told_before : ChainKind → ChainKind → Bool
 is_told_before a b = nat_lt b.ends a.ends || (a.ends == b.ends) && is_first_less a.instances b.instances
 
 abbrev pub put_kind : List ChainKind → ChainKind → List ChainKind
-put_kind kinds kind = insert kinds (position_or_len (is_told_before kind) kinds) kind
+put_kind kinds kind = insert kinds (place_by (is_told_before kind) kinds) kind
 
 abbrev pub sorted : List ChainKind → List ChainKind
 sorted kinds = fold put_kind [] kinds

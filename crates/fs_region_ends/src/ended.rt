@@ -1,16 +1,16 @@
 //! An end of a refutation as a chain.
 
-ghost use Rattle.std.specs.Prelude.{◌≡◌, ◌++◌, ◌∷◌, [], drop, map, IfOk, OnOk};
-ghost use Rattle.std.specs.List.{zip};
+ghost use Rattle.std.specs.Prelude.{◌≡◌, ◌++◌, ◌∷◌, [], IfOk, OnOk};
 ghost use Rattle.fs_cert_evidence.specs.Inferences.{inference_of};
 ghost use Rattle.fs_region_refutation.specs.Views.{region_of};
-ghost use Rattle.fs_region_ends.specs.Chains.{around, chain_by, chain_of, code_cause, cycle_link, due, link_of};
+ghost use Rattle.fs_region_ends.specs.Chains.{chain_by, chain_of, code_cause, cycle_links, due, link_of};
+ghost use Rattle.fs_region_ends.specs.Chains.{links_to, next_of};
 ghost use Rattle.fs_region_ends.specs.Chains.{parted_steps, reversed_steps, sole_of, stale_steps};
 ghost use Rattle.fs_region_ends.specs.declared.chain.Arrow.TheVariants.{Because};
 ghost use Rattle.fs_region_ends.specs.declared.chain.Shape.TheVariants as kind;
 
 use crate::chain::{Arrow, Chain, ChainLink, Leading, Shape};
-use crate::fences::{Between, Fence, ordering};
+use crate::fences::{Fence, ordering};
 use crate::known::Known;
 use fs_cert_evidence::{Cause, Inference, Link};
 use fs_kinds::{List, OperationName, Placement};
@@ -44,16 +44,7 @@ fn due(
     match arrow {
         Arrow::Because(Cause::Rule4) => {
             let runs = region.runs(first.hart);
-            ordering(
-                alloc,
-                basis.test(),
-                placement,
-                Between {
-                    first,
-                    second,
-                    runs,
-                },
-            )
+            ordering(alloc, basis.test(), placement, first, second, runs)
         }
         _ => Ok(Vec::new(alloc)),
     }
@@ -82,6 +73,16 @@ fn link(
     })
 }
 
+/// The operation of the first of these links; of none the first of all.
+fn next_of(first: OperationName, links: &[Link]) -> OperationName
+    ensures { result ≡ next_of first links.now }
+{
+    match links.first() {
+        Some(link) => link.operation,
+        None => first,
+    }
+}
+
 /// The link of a cycle to this operation.
 fn cycle_link(
     alloc: Global,
@@ -105,24 +106,26 @@ fn cycle_link(
     )
 }
 
-/// The links of a cycle, of which this is the first.
-fn cycle_links(
+/// The links of a cycle that begins at this operation.
+fn links_to(
     alloc: Global,
     basis: &Basis,
     placement: &Placement,
     region: &Region<'_>,
     links: &[Link],
-    first: &Link,
-) -> Result<List<ChainLink>, AllocError>
-    ensures { IfOk result (λ made. made ≡ map (cycle_link basis.now placement.now (region_of region.now))
-        (zip links.now (drop 1 links.now ++ first.now ∷ []))) }
+    first: OperationName,
+) -> Result<Vec<ChainLink>, AllocError>
+    ensures { IfOk result (λ made.
+        made.items ≡ links_to basis.now placement.now (region_of region.now) first links.now) }
 {
     let mut made = Vec::new(alloc);
-    for (number, link) in links.iter().enumerate() {
-        let next = links.get(number + 1).unwrap_or(first);
-        made.push(cycle_link(alloc, basis, placement, region, link, next.operation)?)?;
+    let mut rest = links;
+    while let Some((link, more)) = rest.split_first() {
+        let next = next_of(first, more);
+        made.push(cycle_link(alloc, basis, placement, region, link, next)?)?;
+        rest = more;
     }
-    Ok(List::new(made))
+    Ok(made)
 }
 
 /// The chain of a cycle.
@@ -135,16 +138,16 @@ fn cycle(
 ) -> Result<Chain, AllocError>
     ensures { IfOk result (λ chain. chain ≡ record {
       shape = kind.Cycle;
-      links = map (cycle_link basis.now placement.now (region_of region.now)) (around links.now);
+      links = cycle_links basis.now placement.now (region_of region.now) links.now;
     }) }
 {
-    let links = match links.first() {
-        Some(first) => cycle_links(alloc, basis, placement, region, links, first)?,
-        None => List::new(Vec::new(alloc)),
+    let made = match links.first() {
+        Some(link) => links_to(alloc, basis, placement, region, links, link.operation)?,
+        None => Vec::new(alloc),
     };
     Ok(Chain {
         shape: Shape::Cycle,
-        links,
+        links: List::new(made),
     })
 }
 

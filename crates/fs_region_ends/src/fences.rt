@@ -156,50 +156,41 @@ fn push_if(
     Ok(())
 }
 
-/// What is asked: the two operations, and the runs that are left of their hart.
-#[derive(Clone, Copy)]
-pub(crate) struct Between<'a, 'r> {
-    pub(crate) first: OperationName,
-    pub(crate) second: OperationName,
-    pub(crate) runs: &'r [&'a Lone],
-}
-
 /// Appends those before the instruction, and that it is.
 fn push_at(
     test: &Test,
     placement: &Placement,
-    between: Between<'_, '_>,
+    names: (OperationName, OperationName),
+    runs: &[&Lone],
     at: u8,
     fences: &mut Vec<Fence>,
 ) -> Result<(), AllocError>
     ensures { OnOk result (fences.new.items ≡ fences.old.items
-        ++ ordering_at test.now placement.now (runs_of between.runs.now) between.first between.second at) }
+        ++ ordering_at test.now placement.now (runs_of runs.now) names.0 names.1 at) }
 {
-    let Between {
-        first,
-        second,
-        runs,
-    } = between;
+    let (first, second) = names;
     let placed = placed_at(placement, first.hart, at);
     push_if(test, placed, runs, first.at, second.at, fences)?;
     let written = written_at(test, first.hart, at);
     push_if(test, written, runs, first.at, second.at, fences)
 }
 
-/// The fences that order the two operations of a hart in each of the runs, in the order of the code. The instructions
-/// between them times the runs.
+/// The fences that order the first operation of a hart before the second in each of these runs of it, in the order of
+/// the code. The instructions between them times the runs.
 pub(crate) fn ordering(
     alloc: Global,
     test: &Test,
     placement: &Placement,
-    between: Between<'_, '_>,
+    first: OperationName,
+    second: OperationName,
+    runs: &[&Lone],
 ) -> Result<Vec<Fence>, AllocError>
     ensures { IfOk result (λ fences. fences.items
-        ≡ ordering test.now placement.now (runs_of between.runs.now) between.first between.second) }
+        ≡ ordering test.now placement.now (runs_of runs.now) first second) }
 {
     let mut fences = Vec::new(alloc);
-    for at in between.first.at..between.second.at {
-        push_at(test, placement, between, at + 1, &mut fences)?;
+    for at in first.at..second.at {
+        push_at(test, placement, (first, second), runs, at + 1, &mut fences)?;
     }
     Ok(fences)
 }

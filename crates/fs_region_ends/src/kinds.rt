@@ -1,8 +1,9 @@
 //! Kinds of chains: those that are the same but for the harts are one.
 
-ghost use Rattle.std.specs.Prelude.{◌≡◌, ◌∷◌, [], map, IfOk, OnOk};
-ghost use Rattle.std.specs.List.{list_any, position_or_len, zip};
-ghost use Rattle.fs_region_ends.specs.Kinds.{add, are_same, either_fence, fence_number, is_less, is_of, is_told_before};
+ghost use Rattle.std.specs.Prelude.{◌≡◌, ◌<◌, length, slice_set, IfOk, OnOk};
+ghost use Rattle.std.specs.List.{insert, position, slice_index_or};
+ghost use Rattle.fs_region_ends.specs.Kinds.{add, are_same, either_fence, fence_number, is_least_of, is_less, is_of};
+ghost use Rattle.fs_region_ends.specs.Kinds.{is_told_before, met_links, place_by};
 ghost use Rattle.fs_region_ends.specs.Kinds.{kind_of, kinds_of, least, met, met_fence, met_known, met_link, met_word};
 ghost use Rattle.fs_region_ends.specs.Kinds.{normal, put, put_kind, sorted, unsorted, with_chain};
 
@@ -32,20 +33,23 @@ impl Model for ChainKind {
     ghost view = { λ k. record { instances = k.instances.items; ends = k.ends } };
 }
 
+fn is_least_of(links: &[ChainLink], link: &ChainLink) -> bool
+    ensures { result ≡ is_least_of links.now link.now }
+{
+    links.iter().all(|other| !is_lesser(other.name, link.name))
+}
+
+fn found_least(links: &[ChainLink]) -> Option<usize>
+    ensures { result ≡ position (is_least_of links.now) links.now }
+{
+    links.iter().position(|link| is_least_of(links, link))
+}
+
 /// The number of the least link.
 fn least(links: &[ChainLink]) -> usize
     ensures { result ≡ least links.now }
 {
-    let Some(first) = links.first() else {
-        return 0;
-    };
-    let (mut best, mut place) = (*first, 0);
-    for (number, link) in links.iter().enumerate() {
-        if is_lesser(link.name, best.name) {
-            (best, place) = (*link, number);
-        }
-    }
-    place
+    found_least(links).unwrap_or(0)
 }
 
 /// The chain from its least operation on, if it is a cycle.
@@ -114,7 +118,7 @@ fn either_fence(first: Option<Fence>, second: Option<Fence>) -> Option<Fence>
 
 /// What is so of a link at both of two ends.
 fn met_link(first: ChainLink, second: ChainLink) -> ChainLink
-    ensures { result ≡ met_link (first, second) }
+    ensures { result ≡ met_link first second }
 {
     ChainLink {
         name: first.name,
@@ -131,13 +135,19 @@ fn met_links(
     first: &[ChainLink],
     second: &[ChainLink],
 ) -> Result<Vec<ChainLink>, AllocError>
-    ensures { IfOk result (λ made. made.items ≡ map met_link (zip first.now second.now)) }
+    ensures { IfOk result (λ made. made.items ≡ met_links first.now second.now) }
 {
-    first
-        .iter()
-        .zip(second.iter())
-        .map(|(a, b)| met_link(*a, *b))
-        .collect(alloc)
+    let mut made = Vec::new(alloc);
+    let (mut first, mut second) = (first, second);
+    while let Some((link, more)) = first.split_first() {
+        let Some((other, rest)) = second.split_first() else {
+            return Ok(made);
+        };
+        made.push(met_link(*link, *other))?;
+        first = more;
+        second = rest;
+    }
+    Ok(made)
 }
 
 /// What is known by both, of two chains with the same links.
@@ -151,36 +161,59 @@ fn met(alloc: Global, first: &Chain, second: &Chain) -> Result<Chain, AllocError
     })
 }
 
-fn place_of(chains: &[Chain], chain: &Chain) -> usize
-    ensures { result ≡ position_or_len (λ other. are_same other chain.now) chains.now }
+fn found(chains: &[Chain], chain: &Chain) -> Option<usize>
+    ensures { result ≡ position (λ other. are_same other chain.now) chains.now }
 {
-    chains
-        .iter()
-        .position(|other| are_same(other, chain))
-        .unwrap_or(chains.len())
+    chains.iter().position(|other| are_same(other, chain))
+}
+
+fn found_greater(chains: &[Chain], chain: &Chain) -> Option<usize>
+    ensures { result ≡ position (is_less chain.now) chains.now }
+{
+    chains.iter().position(|other| is_less(chain, other))
 }
 
 fn place_before(chains: &[Chain], chain: &Chain) -> usize
-    ensures { result ≡ position_or_len (is_less chain.now) chains.now }
+    ensures { result ≡ place_by (is_less chain.now) chains.now }
 {
-    chains
-        .iter()
-        .position(|other| is_less(chain, other))
-        .unwrap_or(chains.len())
+    found_greater(chains, chain).unwrap_or(chains.len())
 }
 
-/// Puts the chain among the others of its kind, or what is known of it to what was known.
-fn put(alloc: Global, chains: &mut Vec<Chain>, chain: Chain) -> Result<(), AllocError>
-    ensures { OnOk result (chains.new.items ≡ put chains.old.items chain) }
+/// Puts what is known of the chain to what is known of the same one there.
+fn put_known(
+    alloc: Global,
+    chains: &mut Vec<Chain>,
+    place: usize,
+    chain: Chain,
+) -> Result<(), AllocError>
+    requires { place < length chains.old.items }
+    ensures { OnOk result (chains.new.items
+        ≡ slice_set chains.old.items place (met (slice_index_or chains.old.items place chain) chain)) }
 {
-    let place = place_of(chains, &chain);
-    if place < chains.len() {
-        chains[place] = met(alloc, &chains[place], &chain)?;
-        return Ok(());
-    }
+    let met = met(alloc, &chains[place], &chain)?;
+    chains[place] = met;
+    Ok(())
+}
+
+/// Puts the chain among the others of its kind.
+fn put_new(chains: &mut Vec<Chain>, chain: Chain) -> Result<(), AllocError>
+    ensures { OnOk result (chains.new.items
+        ≡ insert chains.old.items (place_by (is_less chain) chains.old.items) chain) }
+{
     let place = place_before(chains, &chain);
     chains.insert(place, chain)?;
     Ok(())
+}
+
+/// Puts the chain among the others of its kind, or what is known of it to what was known.
+#[tactic(auto, using(crate::proofs::Places::found_within))]
+fn put(alloc: Global, chains: &mut Vec<Chain>, chain: Chain) -> Result<(), AllocError>
+    ensures { OnOk result (chains.new.items ≡ put chains.old.items chain) }
+{
+    match found(chains, &chain) {
+        Some(place) => put_known(alloc, chains, place, chain),
+        None => put_new(chains, chain),
+    }
 }
 
 impl ChainKind {
@@ -197,7 +230,9 @@ impl ChainKind {
         ensures { OnOk result (self.new ≡ with_chain self.old chain) }
     {
         put(alloc, &mut self.instances, chain)?;
-        self.ends += 1;
+        if self.ends < usize::MAX {
+            self.ends += 1;
+        }
         Ok(())
     }
 
@@ -232,7 +267,7 @@ fn kind_of(
     kinds: &[ChainKind],
     chain: &Chain,
 ) -> Result<usize, AllocError>
-    ensures { IfOk result (λ place. place ≡ position_or_len (is_of texts.now chain.now) kinds.now) }
+    ensures { IfOk result (λ place. place ≡ place_by (is_of texts.now chain.now) kinds.now) }
 {
     for (number, kind) in kinds.iter().enumerate() {
         if kind.has(alloc, texts, chain)? {
@@ -276,14 +311,24 @@ fn unsorted(
     Ok(kinds)
 }
 
+fn found_later(kinds: &[ChainKind], kind: &ChainKind) -> Option<usize>
+    ensures { result ≡ position (is_told_before kind.now) kinds.now }
+{
+    kinds.iter().position(|other| kind.is_told_before(other))
+}
+
+/// The place of the kind among those that are told before and after it.
+fn place_among(kinds: &[ChainKind], kind: &ChainKind) -> usize
+    ensures { result ≡ place_by (is_told_before kind.now) kinds.now }
+{
+    found_later(kinds, kind).unwrap_or(kinds.len())
+}
+
 /// Puts the kind among those that are told before and after it.
 fn put_kind(kinds: &mut Vec<ChainKind>, kind: ChainKind) -> Result<(), AllocError>
     ensures { OnOk result (kinds.new.items ≡ put_kind kinds.old.items kind) }
 {
-    let place = kinds
-        .iter()
-        .position(|other| kind.is_told_before(other))
-        .unwrap_or(kinds.len());
+    let place = place_among(kinds, &kind);
     kinds.insert(place, kind)?;
     Ok(())
 }

@@ -248,11 +248,15 @@ fn number_by(by: Order, link: ChainLink) -> u16
 fn is_lesser_by(by: Order, first: &[ChainLink], second: &[ChainLink]) -> Option<bool>
     ensures { result ≡ is_lesser_by by first.now second.now }
 {
-    for (a, b) in first.iter().zip(second.iter()) {
+    let (mut first, mut second) = (first, second);
+    while let Some((a, more)) = first.split_first() {
+        let (b, rest) = second.split_first()?;
         let (here, there) = (number_by(by, *a), number_by(by, *b));
         if here != there {
             return Some(here < there);
         }
+        first = more;
+        second = rest;
     }
     None
 }

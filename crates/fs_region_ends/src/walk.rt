@@ -1,6 +1,6 @@
 //! The walk over a refutation to its ends.
 
-ghost use Rattle.std.specs.Prelude.{◌≡◌, ◌++◌, ℕ, List as Items, map, IfOk, OnOk};
+ghost use Rattle.std.specs.Prelude.{◌≡◌, ◌++◌, ℕ, List as Items, map, true, IfOk, OnOk};
 ghost use Rattle.fs_model.specs.declared.step.Step.{Step};
 ghost use Rattle.fs_model.specs.declared.test.Test.{Test};
 ghost use Rattle.fs_model.specs.Shows.{is_outcome};
@@ -81,7 +81,8 @@ pub fn chains(
     let mut made = Vec::new(alloc);
     let mut stack = Vec::new(alloc);
     push_all(&mut stack, roots(alloc, basis, truth)?)?;
-    for (_index, inference) in inferences.iter().enumerate() {
+    for (index, inference) in inferences.iter().enumerate() {
+        let _ = index;
         let Some(region) = stack.pop() else {
             return Ok(made);
         };
