@@ -1,5 +1,5 @@
 -- The ends of a refutation as chains of operations, with what is so of these in each run that is left there.
-use Rattle.std.specs.Prelude.{Option, None, Some, List, [], ◌∷◌, ◌++◌, drop, map, slice_get, take}
+use Rattle.std.specs.Prelude.{Option, None, Some, List, [], ◌∷◌, map, slice_get}
 use Rattle.std.specs.List.{flat_map}
 use Rattle.fs_kinds.specs.declared.placement.Entry.{Entry}
 use Rattle.fs_kinds.specs.declared.reason.OperationName.{OperationName as Name}

@@ -1,5 +1,5 @@
 -- Which fences order two operations of a hart in each of some runs.
-use Rattle.std.specs.Prelude.{ℕ, ◌+◌, ◌-◌, ◌==◌, nat_le, nat_lt, Bool, true, false, ◌&&◌, not, Option, None, Some, is_some, option_map, option_and_then, List, [], ◌∷◌, ◌++◌, filter, slice_get, if◌then◌else◌}
+use Rattle.std.specs.Prelude.{ℕ, ◌+◌, ◌-◌, ◌==◌, nat_le, nat_lt, Bool, true, false, ◌&&◌, not, Option, None, Some, is_some, option_map, option_and_then, List, [], ◌∷◌, ◌++◌, slice_get, if◌then◌else◌}
 use Rattle.std.specs.List.{flat_map, list_all, range_with_len}
 use Rattle.fs_kinds.specs.declared.kind.Classes.{Classes}
 use Rattle.fs_kinds.specs.declared.placement.Entry.{Entry}

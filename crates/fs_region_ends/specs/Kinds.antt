@@ -1,5 +1,5 @@
 -- Kinds of chains: those that are the same but for the harts are one.
-use Rattle.std.specs.Prelude.{ℕ, ◌+◌, ◌*◌, ◌==◌, nat_lt, Bool, true, false, ◌&&◌, ◌||◌, not, Option, None, Some, unwrap_or, List, [], ◌∷◌, ◌++◌, drop, fold, length, map, min, slice_set, take, if◌then◌else◌}
+use Rattle.std.specs.Prelude.{ℕ, ◌+◌, ◌*◌, ◌==◌, nat_lt, Bool, false, ◌&&◌, ◌||◌, not, Option, None, Some, unwrap_or, List, [], ◌∷◌, ◌++◌, drop, fold, length, min, slice_set, take, if◌then◌else◌}
 use Rattle.std.specs.List.{insert, list_all, list_any, position, slice_index_or, zip}
 use Rattle.std.specs.Option.{option_or}
 use Rattle.std.specs.Str.{bytes_eq}

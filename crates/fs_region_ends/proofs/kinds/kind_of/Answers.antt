@@ -1,4 +1,4 @@
-use Rattle.std.proofs.Common.{◌≡◌, ◌∙◌, ℕ, ◌<◌, length, sym, ap, arith}
+use Rattle.std.proofs.Common.{◌∙◌, ℕ, ◌<◌, length, sym, ap, arith}
 use Rattle.fs_region_ends.specs.Kinds.{is_of}
 use Rattle.fs_region_ends.proofs.Places.{placed_at, placed_none}
 use Rattle.fs_region_ends.proofs.kinds.kind_of.Goals as goal

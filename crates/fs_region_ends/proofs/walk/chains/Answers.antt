@@ -10,8 +10,7 @@ use Rattle.fs_region_ends.proofs.walk.chains.Goals as goal
 pub loop-index-init : goal.loop-index-init
 loop-index-init c =
     let t = c.args.basis.now in
-    let none : AreOf t c.new-stack.result.items = subst (AreOf t) (sym c.new-stack.ensures.items) (All-nil (IsOf t)) in
-    (
+    let none : AreOf t c.new-stack.result.items = subst (AreOf t) (sym c.new-stack.ensures.items) (All-nil (IsOf t)) in (
       ap (λ made. made ++ left_from t c.args.placement.now (stacked c.push_all.new.stack.items) c.args.inferences.now 0) c.new-made.ensures.items,
       c.in_ok-push_all.ensures.of t c.in_ok-roots.ensures.of none,
     )
