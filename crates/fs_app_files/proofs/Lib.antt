@@ -1,2 +1,2 @@
 pub mod Growing
-pub mod Judged
+pub mod Paired

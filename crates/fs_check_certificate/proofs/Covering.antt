@@ -21,7 +21,7 @@ use Rattle.fs_cert_evidence.specs.Widths.{width, is_within_width, IsExactWidth}
 use Rattle.fs_cert_evidence.specs.Certificate.{Certificate, Version, First, Second, Fourth, Cycles, Listed, Inferred, Item, SplitAt, Costly, Refuted, Bounded}
 use Rattle.fs_cert_evidence.specs.Certificate as priced_answers
 use Rattle.fs_board_offers.specs.Priced as valid_priced
-use Rattle.fs_board_offers.specs.Valid.{Forbid, Refutes, RefutesBy, Covers, IsValid, IsValidFor, IsBest, IsRight, is_costly}
+use Rattle.fs_board_offers.specs.Valid.{Forbid, RefutesBy, Covers, IsValid, IsValidFor, IsBest, IsRight, is_costly}
 use Rattle.fs_board_offers.specs.Bounds.{IsNoBetter}
 use Rattle.fs_model_laws.proofs.Ranked.{first-less}
 use Rattle.fs_board_offers.proofs.Floors.{floor-cost, slots-under}

@@ -1,7 +1,7 @@
 use Rattle.std.proofs.Common.{[], ◌∷◌, map}
 use Rattle.std.proofs.lemmas.List.{map-append}
 use Rattle.fs_app_files.specs.Judging.{IsJudged}
-use Rattle.fs_app_files.proofs.Judged.{one_more}
+use Rattle.fs_app_files.proofs.Paired.{one_more}
 use Rattle.fs_app_files.proofs.judging.parted.Goals as goal
 
 pub loop-file-preserved : goal.loop-file-preserved

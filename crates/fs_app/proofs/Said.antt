@@ -1,0 +1,95 @@
+-- A line that says of some bytes that their outcome is allowed has a witness, which gives an execution that shows it.
+use Rattle.std.proofs.Common.{◌≡◌, ◌∙◌, true, false, Option, None, Some, List, [], ℕ, inl, inr, ap, refl, string_bytes, subst, sym}
+use Rattle.std.proofs.lemmas.Bool.{false≢true}
+use Rattle.fs_kinds.specs.declared.fault.Fault.{Fault}
+use Rattle.fs_model.specs.declared.test.Test.{Test}
+use Rattle.fs_model.specs.Allows.{Shows, no_fences}
+use Rattle.fs_model.specs.Execution.{Execution}
+use Rattle.fs_model.specs.Test.{IsSame}
+use Rattle.fs_model.specs.Witness.{IsOfWitness, Witness}
+use Rattle.fs_model_laws.proofs.FencedSame.{shows_same}
+use Rattle.fs_litmus.specs.Reads.{Reads}
+use Rattle.fs_litmus.proofs.ReadsOnce.{reads_once}
+use Rattle.fs_cert_evidence.specs.Shown.{IsShownBy}
+use Rattle.fs_app_test.specs.declared.said.Kind.{Kind}
+use Rattle.fs_app_test.specs.declared.said.Kind.TheVariants as kind
+use Rattle.fs_app_test.specs.declared.said.Line.{Line}
+use Rattle.fs_app_test.specs.SaidVerdicts.{Says, SaysAllowed, witness_in}
+use Rattle.fs_app_test.specs.Verdicts.{IsTested, NamesFault, SaysOfBytes}
+use Rattle.fs_app_files.specs.Judging.{IsJudged}
+use Rattle.fs_app_why.specs.Why.{IsNotShown}
+use Rattle.fs_app.specs.Telling.{is_allowed}
+
+-- ---- tests that are the same but for where the parts of their conditions lie
+
+same_whole : (t u : Test) → IsSame t u → t ≡ record u { condition = t.condition }
+same_whole t u s =
+    ap (λ x. record t { name = x }) s.name
+    ∙ ap (λ x. record t { name = u.name; codes = x }) s.codes
+    ∙ ap (λ x. record t { name = u.name; codes = u.codes; starts = x }) s.starts
+    ∙ ap (λ x. record u { starts = u.starts; locations = x; quantifier = t.quantifier; condition = t.condition }) s.locations
+    ∙ ap (λ x. record u { quantifier = x; condition = t.condition }) s.quantifier
+
+given_same : (t u : Test) (w : Witness) (e : Execution) → IsSame t u → IsOfWitness t w e → IsOfWitness u w e
+given_same t u w e s h =
+    let here = subst (λ v. IsOfWitness v w e) (same_whole t u s) h in
+    record { lists = here.lists; harts = here.harts; runs = here.runs; order = here.order }
+
+shown_same : (t u : Test) (e : Execution) → IsSame t u → Shows t (no_fences t) e → Shows u (no_fences u) e
+shown_same t u e s h =
+    (shows_same t u (no_fences u) e s).0 (subst (λ p. Shows t p e) (ap no_fences (same_whole t u s)) h)
+
+-- ---- what is said
+
+no_fault : (fault : Fault) (k : Kind) (why : List ℕ) (w : Option Witness) → is_allowed k ≡ true → NamesFault fault k why w → ⊥
+no_fault fault k why w allowed names = false≢true (sym (ap is_allowed names.faulty) ∙ allowed)
+
+tested : (bytes : List ℕ) (k : Kind) (why : List ℕ) (w : Option Witness) → is_allowed k ≡ true → SaysOfBytes bytes k why w
+    → IsTested bytes k why w
+tested bytes k why w allowed (inl is) = is
+tested bytes k why w allowed (inr (fault, first, names)) = absurd (no_fault fault k why w allowed names)
+
+says_allowed : (t : Test) (k : Kind) (why : List ℕ) (w : Option Witness) → is_allowed k ≡ true → Says t k why w
+    → (v : Witness) × (w ≡ Some v) × SaysAllowed t why v
+says_allowed t kind.Allowed why (Some v) allowed says = (v, refl, says)
+says_allowed t kind.Allowed why None allowed says = absurd says
+says_allowed t kind.Forbidden why w allowed says = absurd (false≢true allowed)
+says_allowed t kind.Vacuous why w allowed says = absurd (false≢true allowed)
+says_allowed t kind.Faulty why w allowed says = absurd (false≢true allowed)
+
+module _ (line : Line) (allowed : is_allowed line.said.kind ≡ true) where
+  why : List ℕ
+  why = string_bytes line.said.why
+
+  of_bytes : (bytes : List ℕ) → SaysOfBytes bytes line.said.kind why (witness_in line.said.witness)
+      → (v : Witness) × (witness_in line.said.witness ≡ Some v)
+  of_bytes bytes is =
+      let of = tested bytes line.said.kind why (witness_in line.said.witness) allowed is in
+      let says = says_allowed of.the_test line.said.kind why (witness_in line.said.witness) allowed of.says in
+      (says.0, says.1)
+
+  pub has_witness : (test : List ℕ) → IsJudged line test → (v : Witness) × (witness_in line.said.witness ≡ Some v)
+  has_witness test (inl is) = of_bytes test is
+  has_witness test (inr (none, inl (bytes, is))) = of_bytes bytes is
+  has_witness test (inr (none, inr (fault, names))) =
+      absurd (no_fault fault line.said.kind why (witness_in line.said.witness) allowed names)
+
+  no_text : (t : Test) → Reads [] t → ⊥
+  no_text t reads = absurd (let none = reads.has_form.has_tokens.after_title in cc)
+
+  some_once : (w : Option Witness) (v u : Witness) → w ≡ Some v → w ≡ Some u → v ≡ u
+  some_once w v u e k = cc
+
+  pub is_shown : (test : List ℕ) (w : Witness) → IsJudged line test → witness_in line.said.witness ≡ Some w
+      → IsNotShown no_fences test w → ⊥
+  is_shown test w (inr (none, rest)) has not = no_text not.the_test (subst (λ bytes. Reads bytes not.the_test) none not.reads)
+  is_shown test w (inl is) has not =
+      let of = tested test line.said.kind why (witness_in line.said.witness) allowed is in
+      let says = says_allowed of.the_test line.said.kind why (witness_in line.said.witness) allowed of.says in
+      let one : says.0 ≡ w = some_once _ says.0 w says.1 has in
+      let same = reads_once test of.the_test not.the_test of.reads not.reads in
+      let e = says.2.execution in
+      not.shown (e, (
+        subst (λ v. IsOfWitness not.the_test v e) one (given_same of.the_test not.the_test says.0 e same says.2.given),
+        shown_same of.the_test not.the_test e same says.2.shows,
+      ))
