@@ -61,6 +61,16 @@ abbrev pub does_by : List Location → Known → Option Instr → List ℕ
 does_by locations known None = []
 does_by locations known (Some instr) = does_known locations known known.address instr
 
+-- the first of these again
+abbrev pub again : List ChainLink → List ℕ
+again [] = []
+again (link ∷ links) = codes "  " ++ (operation_name link.name ++ codes "  again\n")
+
+abbrev pub end_text : Shape → List ChainLink → List ℕ
+end_text shape.Cycle links = again links
+end_text shape.Stale links = []
+end_text shape.NotAtomic links = []
+
 -- ---- a chain; the file has its instructions in these lines
 
 module _ (t : Test) (lines : List (List ℕ)) where
@@ -76,16 +86,6 @@ module _ (t : Test) (lines : List (List ℕ)) where
     does = does_by t.locations link.known (instr_named t link.name);
     below = below_by link link.arrow;
   }
-
-  -- the first of these again
-  abbrev pub again : List ChainLink → List ℕ
-  again [] = []
-  again (link ∷ links) = codes "  " ++ (operation_name link.name ++ codes "  again\n")
-
-  abbrev pub end_text : Shape → List ChainLink → List ℕ
-  end_text shape.Cycle links = again links
-  end_text shape.Stale links = []
-  end_text shape.NotAtomic links = []
 
   abbrev pub chain_text : Chain → List ℕ
   chain_text chain = table_text (map link_row chain.links) ++ end_text chain.shape chain.links
@@ -178,16 +178,16 @@ module _ (t : Test) (lines : List (List ℕ)) where
   abbrev pub told_text : List ChainKind → List ℕ
   told_text kinds = flat_map (numbered_text kinds) (enumerate_from 0 kinds)
 
-  abbrev pub halves_told : List ChainKind → ℕ → Bool
-  halves_told kinds number =
-      nat_lt number (length kinds) && (is_told kinds number && list_any (halves_amo t) (told_chains (kind_at kinds number)))
+-- what is meant by an AMO that counts as a load, or as a store, where one does
+abbrev pub halves_told : Test → List ChainKind → ℕ → Bool
+halves_told t kinds number =
+    nat_lt number (length kinds) && (is_told kinds number && list_any (halves_amo t) (told_chains (kind_at kinds number)))
 
-  -- what is meant by an AMO that counts as a load, or as a store, where one does
-  abbrev pub amo_text : List ChainKind → List ℕ
-  amo_text kinds =
-      if list_any (halves_told kinds) (numbers_below (length kinds))
-      then codes "\nAn AMO is one operation that loads and stores at once: what orders either half orders all of it.\n"
-      else []
+abbrev pub amo_text : Test → List ChainKind → List ℕ
+amo_text t kinds =
+    if list_any (halves_told t kinds) (numbers_below (length kinds))
+    then codes "\nAn AMO is one operation that loads and stores at once: what orders either half orders all of it.\n"
+    else []
 
 -- ---- those that aren't told
 
@@ -225,4 +225,4 @@ heading_of count =
 abbrev pub contradictions_text : Test → (lines : List (List ℕ)) → List ChainKind → List ℕ
 contradictions_text t lines kinds =
     if length kinds == 0 then nothing_left
-    else heading_of (length kinds) ++ (told_text t lines kinds ++ (rest_text kinds ++ amo_text t lines kinds))
+    else heading_of (length kinds) ++ (told_text t lines kinds ++ (rest_text kinds ++ amo_text t kinds))

@@ -1,7 +1,7 @@
 //! Why an outcome is ruled out: the kinds of contradictions of a refutation, in print.
 
 ghost use Rattle.std.specs.Prelude.{◌≡◌, ◌≤◌, ◌<◌, ◌++◌, ◌==◌, codes, count_by, decimal, length, IfOk, OnOk};
-ghost use Rattle.std.specs.Prelude.{option_map, map, Some, if◌then◌else◌, string_bytes};
+ghost use Rattle.std.specs.Prelude.{false, map, option_map, Some, true, if◌then◌else◌, string_bytes};
 ghost use Rattle.std.specs.List.{enumerate_from, list_any};
 ghost use Rattle.fs_kinds.specs.Limits.{most_locations};
 ghost use Rattle.fs_kinds.specs.ReasonText.{operation_name};
@@ -15,7 +15,7 @@ ghost use Rattle.fs_app_why.specs.Contradictions.{has_new, headed, heading_of, i
 ghost use Rattle.fs_app_why.specs.Contradictions.{is_key_among, is_new_by, is_text, is_told, is_told_after};
 ghost use Rattle.fs_app_why.specs.Contradictions.{is_untold, kind_text, kinds_text, link_row};
 ghost use Rattle.fs_app_why.specs.Contradictions.{loaded_text, numbered_text, others_text};
-ghost use Rattle.fs_app_why.specs.Contradictions.{rest_by, rest_text, shape_text, told_text};
+ghost use Rattle.fs_app_why.specs.Contradictions.{rest_by, rest_text, shape_text, told_chains, told_text};
 ghost use Rattle.fs_app_why.specs.Tables.{table_text};
 ghost use Rattle.fs_app_why.specs.Words.{line_of, text_of_instr};
 
@@ -110,8 +110,8 @@ fn both_text(
     format!(in alloc; "{}{}", loaded.as_str(), stored.as_str())
 }
 
-fn loads(instr: Instr) -> bool
-    ensures { result ≡ is_loading instr }
+fn loads(instr: &Instr) -> bool
+    ensures { result ≡ is_loading instr.now }
 {
     matches!(
         instr,
@@ -119,8 +119,8 @@ fn loads(instr: Instr) -> bool
     )
 }
 
-fn stores(instr: Instr) -> bool
-    ensures { result ≡ is_storing instr }
+fn stores(instr: &Instr) -> bool
+    ensures { result ≡ is_storing instr.now }
 {
     matches!(
         instr,
@@ -133,11 +133,11 @@ fn does_there(
     locations: &[Location],
     at: &str,
     known: Known,
-    instr: Instr,
+    instr: &Instr,
 ) -> Result<String, AllocError>
     requires { length locations.now ≤ most_locations }
     ensures { IfOk result (λ text. string_bytes text
-        ≡ does_there locations.now at.now known (is_loading instr) (is_storing instr)) }
+        ≡ does_there locations.now at.now known (is_loading instr.now) (is_storing instr.now)) }
 {
     if !loads(instr) {
         return stored_text(alloc, locations, at, known);
@@ -153,11 +153,11 @@ fn does_known(
     alloc: Global,
     locations: &[Location],
     known: Known,
-    instr: Instr,
+    instr: &Instr,
 ) -> Result<String, AllocError>
     requires { length locations.now ≤ most_locations }
     ensures { IfOk result (λ text. string_bytes text
-        ≡ does_known locations.now known known.address instr) }
+        ≡ does_known locations.now known known.address instr.now) }
 {
     match known.address {
         Some(address) => {
@@ -179,7 +179,7 @@ fn does_by(
     ensures { IfOk result (λ text. string_bytes text ≡ does_by locations.now known instr) }
 {
     match instr {
-        Some(instr) => does_known(alloc, locations, known, instr),
+        Some(instr) => does_known(alloc, locations, known, &instr),
         None => Ok(String::new(alloc)),
     }
 }

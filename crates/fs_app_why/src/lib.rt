@@ -5,7 +5,6 @@
 mod alike;
 mod answered;
 mod arrows;
-mod certified;
 mod contradictions;
 mod ends;
 mod forbidden;
@@ -18,10 +17,11 @@ mod rows;
 mod table;
 mod told;
 mod trace;
+mod whole;
 mod without;
 mod words;
 
 pub use answered::why_answer;
-pub use certified::why_certified;
 pub use order::why_order;
 pub use possible::why_allowed;
+pub use whole::why_certified;
