@@ -58,22 +58,6 @@ says_allowed t kind.Vacuous why w allowed says = absurd (false≢true allowed)
 says_allowed t kind.Faulty why w allowed says = absurd (false≢true allowed)
 
 module _ (line : Line) (allowed : is_allowed line.said.kind ≡ true) where
-  why : List ℕ
-  why = string_bytes line.said.why
-
-  of_bytes : (bytes : List ℕ) → SaysOfBytes bytes line.said.kind why (witness_in line.said.witness)
-      → (v : Witness) × (witness_in line.said.witness ≡ Some v)
-  of_bytes bytes is =
-      let of = tested bytes line.said.kind why (witness_in line.said.witness) allowed is in
-      let says = says_allowed of.the_test line.said.kind why (witness_in line.said.witness) allowed of.says in
-      (says.0, says.1)
-
-  pub has_witness : (test : List ℕ) → IsJudged line test → (v : Witness) × (witness_in line.said.witness ≡ Some v)
-  has_witness test (inl is) = of_bytes test is
-  has_witness test (inr (none, inl (bytes, is))) = of_bytes bytes is
-  has_witness test (inr (none, inr (fault, names))) =
-      absurd (no_fault fault line.said.kind why (witness_in line.said.witness) allowed names)
-
   no_text : (t : Test) → Reads [] t → ⊥
   no_text t reads = absurd (let none = reads.has_form.has_tokens.after_title in cc)
 
@@ -84,8 +68,8 @@ module _ (line : Line) (allowed : is_allowed line.said.kind ≡ true) where
       → IsNotShown no_fences test w → ⊥
   is_shown test w (inr (none, rest)) has not = no_text not.the_test (subst (λ bytes. Reads bytes not.the_test) none not.reads)
   is_shown test w (inl is) has not =
-      let of = tested test line.said.kind why (witness_in line.said.witness) allowed is in
-      let says = says_allowed of.the_test line.said.kind why (witness_in line.said.witness) allowed of.says in
+      let of = tested test line.said.kind (string_bytes line.said.why) (witness_in line.said.witness) allowed is in
+      let says = says_allowed of.the_test line.said.kind (string_bytes line.said.why) (witness_in line.said.witness) allowed of.says in
       let one : says.0 ≡ w = some_once _ says.0 w says.1 has in
       let same = reads_once test of.the_test not.the_test of.reads not.reads in
       let e = says.2.execution in

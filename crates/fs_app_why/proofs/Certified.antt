@@ -1,5 +1,5 @@
 -- The witnesses of a certificate, and what is kept of them.
-use Rattle.std.proofs.Common.{◌≡◌, ℕ, zero, suc, true, List, [], ◌∷◌, ◌++◌, Option, None, Some, IsTrue, length, get_or, append_assoc, arith, refl, sym, ap, subst, unwrap_or, ◌∙◌}
+use Rattle.std.proofs.Common.{◌≡◌, ℕ, zero, suc, ◌+◌, true, List, [], ◌∷◌, ◌++◌, Option, None, Some, IsTrue, length, get_or, append_assoc, arith, refl, sym, ap, subst, unwrap_or, ◌∙◌}
 use Rattle.std.specs.List.{AllZip}
 use Rattle.std.specs.Prelude.{◌<◌, IsSomeAnd, MatchOption, slice_get}
 use Rattle.std.proofs.lemmas.Bool.{and_from, eq-eqb}
@@ -13,10 +13,11 @@ use Rattle.fs_kinds.specs.Slot.{is_same_slot}
 use Rattle.fs_model.specs.declared.test.Test.{Test}
 use Rattle.fs_model.specs.Witness.{Witness}
 use Rattle.fs_cert_evidence.specs.declared.witness.WitnessFile.{WitnessFile as File}
+use Rattle.fs_cert_evidence.specs.Shown.{IsShownBy}
 use Rattle.fs_cert_evidence.specs.WitnessFile.{KeepsWitness}
 use Rattle.fs_check.specs.declared.ordered.OrderedCandidate.{OrderedCandidate}
 use Rattle.fs_check.specs.Ordered.{execution_in}
-use Rattle.fs_app_why.specs.inner.Told.{IsOfFirst, NoneShows}
+use Rattle.fs_app_why.specs.inner.Told.{IsOfFirst, NoneBefore, NoneShows}
 use Rattle.fs_app_why.specs.Reordered.{IsFirstShown, IsToldOf}
 use Rattle.fs_app_why.specs.Why.{NoWitnessShows, TellsEntry, TellsFences}
 
@@ -61,6 +62,19 @@ kept_by : (files : List File) (ws : List Witness) (k : ℕ) (w : Witness) → Al
 kept_by files ws k w kept at =
     some_and (slice_get files k) (λ file. KeepsWitness file w)
     (subst (λ o. MatchOption o (Unit {0}) (λ y. IsSomeAnd (slice_get files k) (λ x. KeepsWitness x y))) at (AllZip-right KeepsWitness files ws kept k))
+
+-- none before the next one, where this one shows none either
+pub none_more : (t : Test) (p : List Entry) (files : List File) (n : ℕ) (item : File) → slice_get files n ≡ Some item → NoneBefore t p files n
+    → ((w : Witness) → KeepsWitness item w → IsShownBy t p w → ⊥) → NoneBefore t p files (n + 1)
+none_more t p [] n item at before not k file less there w keeps shown = absurd (cc)
+none_more t p (f ∷ files) zero item at before not zero file less there w keeps shown =
+    let same : file ≡ item = cc in
+    not w (subst (λ g. KeepsWitness g w) same keeps) shown
+none_more t p (f ∷ files) zero item at before not (suc k) file less there w keeps shown = absurd (omega (arith, less))
+none_more t p (f ∷ files) (suc n) item at before not zero file less there w keeps shown =
+    before zero file (omega arith) there w keeps shown
+none_more t p (f ∷ files) (suc n) item at before not (suc k) file less there w keeps shown =
+    none_more t p files n item at (λ i g low e. before (suc i) g (omega (arith, low)) e) not k file (omega (arith, less)) there w keeps shown
 
 -- what is told of the first file that shows the outcome is told of the first witness that does
 pub first_told : (t : Test) (p : List Entry) (files : List File) (ws : List Witness) (o : OrderedCandidate) → AllZip KeepsWitness files ws

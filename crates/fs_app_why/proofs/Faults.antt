@@ -7,7 +7,7 @@ use Rattle.fs_model.specs.declared.test.Test.{Test}
 use Rattle.fs_litmus.specs.Reads.{Reads}
 use Rattle.fs_litmus.specs.Faults.{IsBroken, IsTestFault}
 use Rattle.fs_litmus.proofs.FrontFaults.{unbroken}
-use Rattle.fs_cert_evidence.specs.Certificate.{Certificate}
+use Rattle.fs_cert_evidence.specs.Certificate.{Answer, Certificate, Fenced}
 use Rattle.fs_cert_evidence.specs.CertificateFile.{IsCertificateFile}
 use Rattle.fs_app_place_order.specs.Place.{IsBadFences}
 use Rattle.fs_app_place_order.proofs.Faults.{is_memory}
@@ -40,6 +40,15 @@ pub of_words : (bytes : List ℕ) (t : Test) (words : List (List ℕ)) (f : Faul
     → (f ≡ BadFence) ⊎ (f ≡ Memory) → f ≢ Memory
     → IsTestFault bytes f ⊎ ((f ≡ BadFence) × ((u : Test) × Reads bytes u × IsBadFences None u words))
 of_words bytes t words f reads bad other known = elim other [ inl e ↦ inr (e, (t, reads, bad e)) | inr e ↦ absurd (known e) ]
+
+pub of_answer : {T : Type 0} (bytes : List ℕ) (r : Result T Fault) (a : Answer) (cost : ℕ) (words : List (List ℕ)) → a ≡ Fenced cost words
+    → IfErr r (λ f. f ≢ Memory → IsTestFault bytes f ⊎ ((f ≡ BadFence) × ((t : Test) × Reads bytes t × IsBadFences None t words)))
+    → IfErr r (λ f. f ≢ Memory → IsTestFault bytes f ⊎ ((f ≡ BadFence) × IsBadAnswer bytes a))
+of_answer bytes (Ok x) a cost words is fault = tt
+of_answer bytes (Err f) a cost words is fault = λ known. elim (fault known) [
+  | inl e ↦ inl e
+  | inr bad ↦ inr (bad.0, subst (IsBadAnswer bytes) (sym is) bad.1)
+]
 
 -- ---- of certificates
 

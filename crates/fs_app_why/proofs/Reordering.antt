@@ -1,15 +1,14 @@
 -- An execution of a witness that is told is its own, or it reordered.
-use Rattle.std.proofs.Common.{◌≡◌, ◌∙◌, ℕ, ◌<◌, Bool, true, false, Option, None, Some, List, [], map, length, refl, sym, ap, subst, arith}
+use Rattle.std.proofs.Common.{◌≡◌, ◌∙◌, ℕ, ◌<◌, true, Option, None, Some, List, [], length, refl, sym, ap, subst, arith}
 use Rattle.std.proofs.lemmas.Bool.{and_parts, eqb-true, false≢true}
 use Rattle.std.proofs.lemmas.List.{ext_get_or}
 use Rattle.std.proofs.lemmas.List.FromFn.{get_or-map-range_with_len}
-use Rattle.std.specs.List.{list_all, slice_index_or}
+use Rattle.std.specs.List.{slice_index_or}
 use Rattle.fs_kinds.specs.declared.placement.Entry.{Entry}
 use Rattle.fs_model.specs.declared.test.Test.{Test}
 use Rattle.fs_model.specs.declared.step.Choice.{Choice}
 use Rattle.fs_model.specs.declared.step.Step.{Step}
 use Rattle.fs_model.specs.Execution.{Execution, pre_execution, code_of, registers_of}
-use Rattle.fs_model.specs.Numbers.{numbers_below}
 use Rattle.fs_model.specs.Operations.{PreExecution, operations, steps_of}
 use Rattle.fs_model.specs.Source.{source_in}
 use Rattle.fs_model.specs.Witness.{Witness, Chooses, IsOfWitness}

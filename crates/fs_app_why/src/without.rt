@@ -54,8 +54,9 @@ fn first_shown(
     ensures err { IsOkUnless result Memory }
 {
     for file in files {
-        if let Some(found) = nearer(alloc, test, placement, Some(slot), file)? {
-            return Ok(Some(found));
+        match nearer(alloc, test, placement, Some(slot), file)? {
+            Some(found) => return Ok(Some(found)),
+            None => {}
         }
     }
     Ok(None)

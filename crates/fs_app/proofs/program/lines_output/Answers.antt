@@ -1,13 +1,20 @@
-use Rattle.std.proofs.Common.{map, rules, string_bytes}
+use Rattle.std.proofs.Common.{map, rules, string_bytes, subst}
+use Rattle.fs_app.specs.Telling.{AreTold, IsTold}
 use Rattle.fs_app.proofs.program.lines_output.Goals as goal
 
 pub returns : goal.returns
-returns c = record {
-  lines = c.args.judged.now.lines.items;
-  tests = map (λ test. test.items) c.args.judged.now.tests.items;
-  judged = c.requires;
-  below = string_bytes c.in_ok-below.below;
-  told = c.in_ok-below.ensures;
-  text = search rules;
-  ends = search rules;
-}
+returns c =
+    let lines = c.args.judged.now.lines.items in
+    let tests = map (λ test. test.items) c.args.judged.now.tests.items in
+    let below = string_bytes c.in_ok-below.below in
+    record {
+      lines = lines;
+      tests = tests;
+      judged = c.requires;
+      below = below;
+      told = subst (λ these. IsTold c.args.test.now.why (AreTold these tests) below) c.deref-2.ensures.value
+          (subst (λ these. IsTold c.args.test.now.why (AreTold c.deref-2.result.now (map (λ test. test.items) these)) below)
+          c.deref-3.ensures.value c.in_ok-below.ensures);
+      text = search rules;
+      ends = search rules;
+    }

@@ -1,7 +1,5 @@
 use Rattle.std.proofs.Common.{IfNone, IfSome, List, ap, inl, inr, subst, ◌++◌, ◌∙◌}
 use Rattle.fs_kinds.specs.declared.placement.Entry.{Entry}
-use Rattle.fs_kinds.specs.Placement.{with_kind}
-use Rattle.fs_model.specs.Witness.{Witness}
 use Rattle.fs_check.specs.Ordered.{execution_in}
 use Rattle.fs_app_why.specs.inner.Told.{IsOfFirst, NoneShows}
 use Rattle.fs_app_why.specs.Reordered.{IsFirstShown, IsToldOf}
