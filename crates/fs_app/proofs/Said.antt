@@ -1,5 +1,5 @@
 -- A line that says of some bytes that their outcome is allowed has a witness, which gives an execution that shows it.
-use Rattle.std.proofs.Common.{◌≡◌, ◌∙◌, true, false, Option, None, Some, List, [], ℕ, inl, inr, ap, refl, string_bytes, subst, sym}
+use Rattle.std.proofs.Common.{◌≡◌, ◌∙◌, true, Option, None, Some, List, [], ℕ, inl, inr, ap, refl, string_bytes, subst, sym}
 use Rattle.std.proofs.lemmas.Bool.{false≢true}
 use Rattle.fs_kinds.specs.declared.fault.Fault.{Fault}
 use Rattle.fs_model.specs.declared.test.Test.{Test}
@@ -10,7 +10,6 @@ use Rattle.fs_model.specs.Witness.{IsOfWitness, Witness}
 use Rattle.fs_model_laws.proofs.FencedSame.{shows_same}
 use Rattle.fs_litmus.specs.Reads.{Reads}
 use Rattle.fs_litmus.proofs.ReadsOnce.{reads_once}
-use Rattle.fs_cert_evidence.specs.Shown.{IsShownBy}
 use Rattle.fs_app_test.specs.declared.said.Kind.{Kind}
 use Rattle.fs_app_test.specs.declared.said.Kind.TheVariants as kind
 use Rattle.fs_app_test.specs.declared.said.Line.{Line}
@@ -73,7 +72,10 @@ module _ (line : Line) (allowed : is_allowed line.said.kind ≡ true) where
       let one : says.0 ≡ w = some_once _ says.0 w says.1 has in
       let same = reads_once test of.the_test not.the_test of.reads not.reads in
       let e = says.2.execution in
-      not.shown (e, (
-        subst (λ v. IsOfWitness not.the_test v e) one (given_same of.the_test not.the_test says.0 e same says.2.given),
-        shown_same of.the_test not.the_test e same says.2.shows,
-      ))
+      not.shown (
+        e,
+        (
+          subst (λ v. IsOfWitness not.the_test v e) one (given_same of.the_test not.the_test says.0 e same says.2.given),
+          shown_same of.the_test not.the_test e same says.2.shows,
+        ),
+      )
