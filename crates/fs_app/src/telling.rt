@@ -115,7 +115,7 @@ fn is_allowed(kind: Kind) -> bool
     }
 }
 
-/// Appends what is told of a test that allows its outcome: below the name in its line an execution of the witness there.
+/// Appends what is told of a test that allows its outcome: below its name an execution of the witness in its line.
 fn push_shown(alloc: Global, line: &Line, test: &[u8], text: &mut String) -> Result<(), Fault>
     requires judged { IsJudged line.now test.now }
     requires allowed { is_allowed line.now.said.kind ≡ true }

@@ -11,8 +11,8 @@ ghost use Rattle.fs_app_why.specs.Why.{IsAnswerWhy};
 ghost use Rattle.fs_app_guarantees.specs.FencesTold.{FencesAreTold};
 
 /// A law: what `solve --why` tells below fences has an execution without each of them, and so has what `check --why`
-/// tells below a yes, whoever made the certificate. A certificate of the first version, which leaves ties open, may have
-/// none for a fence that costs nothing, at a slot that weighs nothing.
+/// tells below a yes, whoever made the certificate. A certificate of the first version, which leaves ties open, may
+/// have none for a fence that costs nothing, at a slot that weighs nothing.
 pub fn each_fence_is_told()
     ensures solved { (test prices lines certificate text : List ℕ) (status : Status)
         → IsCertified test prices lines status certificate → IsAnswerWhy test certificate text

@@ -81,10 +81,10 @@ fn answer_text(alloc: Global, test: &[u8], certificate: &Certificate) -> Result<
 }
 
 /// What is told of the answer of a certificate: of `none` an execution of the test with `rw,rw` in every slot, of which
-/// the first witness has the runs, sources and coherence orders; of each fence such an execution without it, of the first
-/// witness that has one, or none where no witness has one. The faults are `BadCertificate`, those of `read_test`, and
-/// `BadFence` where a word names no slot of the test. The cost is that of `why_allowed`, for each fence and each witness,
-/// and linear in the certificate.
+/// the first witness has the runs, sources and coherence orders; of each fence such an execution without it, of the
+/// first witness that has one, or none where no witness has one. The faults are `BadCertificate`, those of `read_test`,
+/// and `BadFence` where a word names no slot of the test. The cost is that of `why_allowed`, for each fence and each
+/// witness, and linear in the certificate.
 pub fn why_answer(alloc: Global, test: &[u8], certificate: &[u8]) -> Result<String, Fault>
     ensures told { IfOk result (λ text. IsAnswerWhy test.now certificate.now (string_bytes text)) }
     ensures fault { IfErr result (IsFirstWhyFault test.now certificate.now) }

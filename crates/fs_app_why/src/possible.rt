@@ -63,10 +63,9 @@ fn told(
 }
 
 /// What is told of a test that allows its outcome as it is written: an execution that shows it, in the order of memory.
-/// It is the one that is given by the choices of each hart and its order; or one of the same runs, sources and coherence
-/// orders, with more of program order where that can be kept. None where these give no such execution. The faults are
-/// those of `read_test`.
-/// The cost is at most quartic in the operations.
+/// It is the one that is given by the choices of each hart and its order; or one of the same runs, sources and
+/// coherence orders, with more of program order where that can be kept. None where these give no such execution. The
+/// faults are those of `read_test`. The cost is at most quartic in the operations.
 pub fn why_allowed(
     alloc: Global,
     test: &[u8],

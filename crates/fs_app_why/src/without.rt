@@ -182,8 +182,8 @@ fn entry_text(
     }
 }
 
-/// What is told of each fence, in the order of their slots: where one of the witnesses shows the outcome without it, that
-/// execution. The error is F19.
+/// What is told of each fence, in the order of their slots: where one of the witnesses shows the outcome without it, an
+/// execution of the first that does. The error is F19.
 pub(crate) fn fences_text(
     alloc: Global,
     test: &Test,
