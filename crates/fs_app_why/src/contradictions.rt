@@ -431,6 +431,27 @@ fn kind_text(
     }
 }
 
+/// The kind of this number, from 0, if it is told.
+fn numbered_text(
+    alloc: Global,
+    test: &Test,
+    lines: &[List<usize>],
+    kinds: &[ChainKind],
+    number: usize,
+    kind: &ChainKind,
+) -> Result<String, AllocError>
+    requires locations { length test.now.locations ≤ most_locations }
+    requires number { number < length kinds.now }
+    ensures { IfOk result (λ text. string_bytes text
+        ≡ numbered_text test.now lines.now kinds.now (number, kind.now)) }
+{
+    if is_told(kinds, number) {
+        kind_text(alloc, test, lines, number + 1, kind)
+    } else {
+        Ok(String::new(alloc))
+    }
+}
+
 /// The kinds that are told.
 fn told_text(
     alloc: Global,
@@ -443,10 +464,8 @@ fn told_text(
 {
     let mut text = String::new(alloc);
     for (number, kind) in kinds.iter().enumerate() {
-        if is_told(kinds, number) {
-            let told = kind_text(alloc, test, lines, number + 1, kind)?;
-            text.push_str(told.as_str())?;
-        }
+        let told = numbered_text(alloc, test, lines, kinds, number, kind)?;
+        text.push_str(told.as_str())?;
     }
     Ok(text)
 }

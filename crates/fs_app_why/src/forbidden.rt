@@ -14,7 +14,7 @@ ghost use Rattle.fs_cert_evidence.specs.Inferences.{inference_of};
 ghost use Rattle.fs_cert_json.specs.Kept.{KeepsCertificate, KeepsCycles};
 ghost use Rattle.fs_app_place_order.specs.Place.{IsBadFences};
 ghost use Rattle.fs_app_why.specs.Forbidden.{AreContradictionsTold, AreKinds, HasRunFault, IsForbiddenFault};
-ghost use Rattle.fs_app_why.specs.Forbidden.{IsForbiddenWhy, TellsForbidden, cycles_text, texts_of};
+ghost use Rattle.fs_app_why.specs.Forbidden.{IsForbiddenWhy, TellsForbidden, cycles_text};
 ghost use Rattle.fs_app_why.specs.Why.{IsBadAnswer};
 
 use crate::contradictions::contradictions_text;
@@ -25,7 +25,7 @@ use fs_cert_json::{Certificate, CertifiedAnswer, CertifiedCycles};
 use fs_instr::Instr;
 use fs_kinds::{Fault, List, Placement};
 use fs_litmus::{Test, read_fences, read_test};
-use fs_model::Name;
+use fs_model::{Code, Name};
 use fs_region_ends::{ChainKind, chains, kinds_of};
 use fs_region_refutation::Basis;
 use std::alloc::{AllocError, Global};
@@ -48,11 +48,11 @@ fn texts_of_code(alloc: Global, code: &[Instr]) -> Result<List<Name>, AllocError
 }
 
 /// The instructions in print, hart by hart.
-fn texts_of(alloc: Global, test: &Test) -> Result<Vec<List<Name>>, AllocError>
-    ensures { IfOk result (λ texts. texts.items ≡ texts_of test.now) }
+fn texts_of(alloc: Global, codes: &[Code]) -> Result<Vec<List<Name>>, AllocError>
+    ensures { IfOk result (λ texts. texts.items ≡ map (map instr_text) codes.now) }
 {
     let mut texts = Vec::new(alloc);
-    for code in test.codes.as_slice() {
+    for code in codes {
         texts.push(texts_of_code(alloc, code.as_slice())?)?;
     }
     Ok(texts)
@@ -72,7 +72,7 @@ fn inferred_kinds(
 {
     let basis = Basis::new(alloc, test)?;
     let chains = chains(alloc, &basis, placement, inferences)?;
-    let texts = texts_of(alloc, test)?;
+    let texts = texts_of(alloc, test.codes.as_slice())?;
     let kinds = kinds_of(alloc, &texts, chains)?;
     Ok(kinds)
 }
@@ -124,9 +124,8 @@ fn contradicted(
 ) -> Result<String, Fault>
     ensures told { (said : Cycles) → KeepsCycles cycles.now said → IfOk result (λ text.
         AreContradictionsTold test.now (map string_bytes fences.now) said (string_bytes text)) }
-    ensures fault { IfErr result (λ f. f ≢ Memory → IsTestFault test.now f
-        ⊎ ((f ≡ BadFence) × ((t : Tests) × Reads test.now t × IsBadFences None t (map string_bytes fences.now)))
-        ⊎ HasRunFault test.now f) }
+    ensures fault { IfErr result (λ f. f ≢ Memory → HasRunFault test.now f ⊎ (IsTestFault test.now f
+        ⊎ ((f ≡ BadFence) × ((t : Tests) × Reads test.now t × IsBadFences None t (map string_bytes fences.now))))) }
 {
     let read = read_test(alloc, test)?;
     let lines = lines_of(alloc, test)?;
@@ -142,7 +141,7 @@ fn forbidden_text(alloc: Global, test: &[u8], certificate: &Certificate) -> Resu
     ensures told { (c : Said) → KeepsCertificate certificate.now c → IfOk result (λ text.
         TellsForbidden test.now c.answer c.cycles (string_bytes text)) }
     ensures fault { (c : Said) → KeepsCertificate certificate.now c → IfErr result (λ f. f ≢ Memory
-        → IsTestFault test.now f ⊎ ((f ≡ BadFence) × IsBadAnswer test.now c.answer) ⊎ HasRunFault test.now f) }
+        → HasRunFault test.now f ⊎ (IsTestFault test.now f ⊎ ((f ≡ BadFence) × IsBadAnswer test.now c.answer))) }
 {
     match &certificate.answer {
         CertifiedAnswer::NoneForbids => Ok(String::new(alloc)),

@@ -1,6 +1,7 @@
 //! The walk over a refutation to its ends.
 
-ghost use Rattle.std.specs.Prelude.{◌≡◌, ◌++◌, ℕ, List as Items, map, true, IfOk, OnOk};
+ghost use Rattle.std.specs.Prelude.{◌≡◌, ◌++◌, ℕ, List as Items, map, true, IfOk, IsOkUnless, OnOk};
+ghost use Rattle.fs_kinds.specs.declared.fault.Fault.TheVariants.{Memory};
 ghost use Rattle.fs_model.specs.declared.step.Step.{Step};
 ghost use Rattle.fs_model.specs.declared.test.Test.{Test};
 ghost use Rattle.fs_model.specs.Shows.{is_outcome};
@@ -74,8 +75,9 @@ pub fn chains(
     placement: &Placement,
     inferences: &[Inference],
 ) -> Result<Vec<Chain>, Fault>
-    ensures { IfOk result (λ made. (runs : ℕ → Items (Items Step)) × AreItsRuns basis.now runs
+    ensures made { IfOk result (λ made. (runs : ℕ → Items (Items Step)) × AreItsRuns basis.now runs
         × (made.items ≡ chains_of basis.now placement.now (ends basis.now (roots basis.now runs) (map inference_of inferences.now)))) }
+    ensures err { IsOkUnless result Memory }
 {
     let truth = is_outcome(basis.test().quantifier);
     let mut made = Vec::new(alloc);

@@ -15,8 +15,8 @@ loop-index-init c =
       c.in_ok-push_all.ensures.of t c.in_ok-roots.ensures.of none,
     )
 
-pub returns-in_default : goal.returns-in_default
-returns-in_default c =
+pub returns-in_default-clause-made : goal.returns-in_default-clause-made
+returns-in_default-clause-made c =
     let t = c.args.basis.now in
     let p = c.args.placement.now in
     let is = c.args.inferences.now in
@@ -57,8 +57,8 @@ loop-index-preserved c =
       c.in_ok-push_all-2.ensures.of t c.in_ok-left_after.ensures.of parts.0,
     )
 
-pub returns : goal.returns
-returns c =
+pub returns-clause-made : goal.returns-clause-made
+returns-clause-made c =
     let t = c.args.basis.now in
     let p = c.args.placement.now in
     let is = c.args.inferences.now in
