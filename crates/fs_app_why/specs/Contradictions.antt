@@ -5,7 +5,6 @@ use Rattle.std.specs.Prelude.{length, map, codes, take, count_by, if◌then◌el
 use Rattle.std.specs.Fmt.{decimal}
 use Rattle.std.specs.List.{enumerate_from, flat_map, list_any, slice_index_or}
 use Rattle.fs_instr.specs.declared.instr.Instr.{Instr}
-use Rattle.fs_kinds.specs.declared.reason.OperationName.{OperationName as Name}
 use Rattle.fs_kinds.specs.ReasonText.{operation_name}
 use Rattle.fs_model.specs.declared.test.Location.{Location}
 use Rattle.fs_model.specs.declared.test.Test.{Test}
@@ -13,7 +12,7 @@ use Rattle.fs_model.specs.Forms.{is_loading, is_storing}
 use Rattle.fs_model.specs.Numbers.{is_same, numbers_below}
 use Rattle.fs_model.specs.Printed.{value_text}
 use Rattle.fs_region_ends.specs.declared.chain.Arrow.{Arrow}
-use Rattle.fs_region_ends.specs.declared.chain.Arrow.TheVariants.{Because, Forgotten, Pair, End}
+use Rattle.fs_region_ends.specs.declared.chain.Arrow.TheVariants.{End}
 use Rattle.fs_region_ends.specs.declared.chain.Chain.{Chain}
 use Rattle.fs_region_ends.specs.declared.chain.ChainLink.{ChainLink}
 use Rattle.fs_region_ends.specs.declared.chain.Shape.{Shape}

@@ -1,5 +1,5 @@
 -- What `--why` prints of an answer with fences: why the outcome is ruled out with them.
-use Rattle.std.specs.Prelude.{◌≡◌, ◌⊎◌, ℕ, List, [], ◌++◌, length, map, Option, None, Some}
+use Rattle.std.specs.Prelude.{◌≡◌, ℕ, List, [], ◌++◌, map, None, Some}
 use Rattle.fs_instr.specs.Writing.{instr_text}
 use Rattle.fs_kinds.specs.declared.fault.Fault.{Fault}
 use Rattle.fs_kinds.specs.declared.fault.Fault.TheVariants.{BadCertificate, BadFence, Memory}
