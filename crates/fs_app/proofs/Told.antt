@@ -5,7 +5,7 @@ use Rattle.std.proofs.lemmas.List.{append-nil}
 use Rattle.fs_app_io.specs.declared.status.Output.{Output}
 use Rattle.fs_app_io.specs.declared.status.Status.{Status}
 use Rattle.fs_app_solve.specs.Solve.{IsCertified}
-use Rattle.fs_app_why.specs.Why.{IsAnswerWhy}
+use Rattle.fs_app_why.specs.Forbidden.{IsCertifiedWhy}
 use Rattle.fs_app.specs.Answers.{IsSolvedAndTold, IsSolvedIn}
 use Rattle.fs_app_test.specs.declared.said.Line.{Line}
 use Rattle.fs_app.specs.Telling.{AreToldFrom, IsSolveWhy, IsTestTold, IsTold}
@@ -63,7 +63,7 @@ module _ (is_json why : Bool) (test prices lines : List ℕ) where
 
   pub solved_told : (output told : Output) (below certificate : List ℕ)
       → IsSolvedIn is_json test prices lines (string_bytes output.text) output.status
-      → IsCertified test prices lines output.status certificate → IsTold why (IsAnswerWhy test certificate) below
+      → IsCertified test prices lines output.status certificate → IsTold why (IsCertifiedWhy test certificate) below
       → string_bytes told.text ≡ string_bytes output.text ++ below → told.status ≡ output.status
       → IsSolvedAndTold is_json why test prices told
   solved_told output told below certificate answer certified is text status = record {
@@ -71,7 +71,7 @@ module _ (is_json why : Bool) (test prices lines : List ℕ) where
     shown = string_bytes output.text;
     below = below;
     answer = subst (IsSolvedIn is_json test prices lines (string_bytes output.text)) (sym status) answer;
-    told = retold why (IsAnswerWhy test certificate) (IsSolveWhy test prices lines told.status) below
+    told = retold why (IsCertifiedWhy test certificate) (IsSolveWhy test prices lines told.status) below
         (λ text of_certificate. record {
           certificate = certificate;
           certified = subst (λ (s : Status). IsCertified test prices lines s certificate) (sym status) certified;

@@ -13,7 +13,8 @@ use Rattle.fs_app_check.specs.Check.{IsChecked, AreOneVerdict}
 use Rattle.fs_app_test.specs.declared.said.Line.{Line}
 use Rattle.fs_app_test.specs.Status.{report_status}
 use Rattle.fs_app_test.specs.Report.{report_text, json_text}
-use Rattle.fs_app_why.specs.Why.{IsAnswerWhy, IsOrderWhy}
+use Rattle.fs_app_why.specs.Forbidden.{IsCertifiedWhy}
+use Rattle.fs_app_why.specs.Why.{IsOrderWhy}
 use Rattle.fs_app_command_line.specs.declared.command.Task.{Task}
 use Rattle.fs_app_command_line.specs.declared.command.Task.TheVariants as task
 use Rattle.fs_app_command_line.specs.declared.command.Test.{Test}
@@ -97,7 +98,7 @@ pub record AnswersCheck (check : Check) (papers : Papers) (output : Output) : Ty
   pub answer : IsChecked papers.test.bytes.items papers.prices.bytes.items papers.evidence.bytes.items lines output.status
   pub alike : AreOneVerdict lines object
   pub below : List ℕ
-  pub told : IsTold (check.why && is_yes output.status) (IsAnswerWhy papers.test.bytes.items papers.evidence.bytes.items) below
+  pub told : IsTold (check.why && is_yes output.status) (IsCertifiedWhy papers.test.bytes.items papers.evidence.bytes.items) below
   pub text : string_bytes output.text ≡ in_form check.json lines object ++ below
 
 -- The text, but for what is told below it, and the status are those of the same lines. Each says what is true of some

@@ -10,7 +10,8 @@ use Rattle.fs_app_test.specs.declared.said.Kind.TheVariants as kind
 use Rattle.fs_app_test.specs.declared.said.Line.{Line}
 use Rattle.fs_app_test.specs.Report.{shown_name}
 use Rattle.fs_app_test.specs.SaidVerdicts.{witness_in}
-use Rattle.fs_app_why.specs.Why.{IsAllowedWhy, IsAnswerWhy}
+use Rattle.fs_app_why.specs.Forbidden.{IsCertifiedWhy}
+use Rattle.fs_app_why.specs.Why.{IsAllowedWhy}
 
 -- this, where it is asked for; else nothing
 abbrev pub IsTold : (is_asked : Bool) → (List ℕ → Type 0) → (text : List ℕ) → Type 0
@@ -50,4 +51,4 @@ AreTold = AreToldFrom 0
 pub record IsSolveWhy (test prices lines : List ℕ) (status : Status) (text : List ℕ) : Type 0 where
   pub certificate : List ℕ
   pub certified : IsCertified test prices lines status certificate
-  pub told : IsAnswerWhy test certificate text
+  pub told : IsCertifiedWhy test certificate text

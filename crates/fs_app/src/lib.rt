@@ -19,5 +19,5 @@ pub use fs_app_test::{
     Expected, Kind, Line, Note, Said, expected_of, test_file, test_objects, test_report,
     vacuous_note,
 };
-pub use fs_app_why::{why_allowed, why_answer, why_order};
+pub use fs_app_why::{why_allowed, why_certified, why_order};
 pub use program::run;

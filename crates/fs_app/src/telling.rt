@@ -6,7 +6,8 @@ ghost use Rattle.fs_app_files.specs.Judging.{AreJudged, IsJudged};
 ghost use Rattle.fs_app_solve.specs.Solve.{IsCertified};
 ghost use Rattle.fs_app_test.specs.Report.{shown_name};
 ghost use Rattle.fs_app_test.specs.SaidVerdicts.{witness_in};
-ghost use Rattle.fs_app_why.specs.Why.{IsAnswerWhy, IsOrderWhy};
+ghost use Rattle.fs_app_why.specs.Forbidden.{IsCertifiedWhy};
+ghost use Rattle.fs_app_why.specs.Why.{IsOrderWhy};
 ghost use Rattle.fs_app.specs.Answers.{IsSolvedAndTold, IsSolvedIn};
 ghost use Rattle.fs_app.specs.Telling.{AreTold, IsBlock, IsTestTold, IsTold, is_allowed, is_yes};
 
@@ -14,7 +15,7 @@ use fs_app_error_messages::shown_name;
 use fs_app_files::Papers;
 use fs_app_io::{Output, Status};
 use fs_app_test::{Kind, Line};
-use fs_app_why::{why_allowed, why_answer, why_order};
+use fs_app_why::{why_allowed, why_certified, why_order};
 use fs_kinds::Fault;
 use std::alloc::{AllocError, Global};
 
@@ -62,12 +63,12 @@ pub(crate) fn answer_why(
     test: &[u8],
     certificate: &[u8],
 ) -> Result<String, Fault>
-    ensures { IfOk result (λ text. IsTold why (IsAnswerWhy test.now certificate.now) (string_bytes text)) }
+    ensures { IfOk result (λ text. IsTold why (IsCertifiedWhy test.now certificate.now) (string_bytes text)) }
 {
     if !why {
         return Ok(String::new(alloc));
     }
-    why_answer(alloc, test, certificate)
+    why_certified(alloc, test, certificate)
 }
 
 /// The output of `solve`, with what is told below it by this certificate of its answer.

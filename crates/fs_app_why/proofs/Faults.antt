@@ -11,6 +11,9 @@ use Rattle.fs_cert_evidence.specs.Certificate.{Answer, Certificate, Fenced}
 use Rattle.fs_cert_evidence.specs.CertificateFile.{IsCertificateFile}
 use Rattle.fs_app_place_order.specs.Place.{IsBadFences}
 use Rattle.fs_app_place_order.proofs.Faults.{is_memory}
+use Rattle.fs_model.specs.TooMany.{IsRunFault}
+use Rattle.fs_app_why.specs.Forbidden as forbidden
+use Rattle.fs_app_why.specs.Forbidden.{HasRunFault, IsForbiddenFault}
 use Rattle.fs_app_why.specs.Why.{IsBadAnswer, IsFirstWhyFault, of_certificate, of_test, of_fences, of_memory}
 
 -- bytes that read as a test are of the form
@@ -67,5 +70,47 @@ module _ (test certificate : List ℕ) where
     | inr n ↦ elim (h n) [
       | inl fault ↦ of_test c is fault
       | inr bad ↦ subst (IsFirstWhyFault test certificate) (sym bad.0) (of_fences c is bad.1)
+    ]
+  ]
+
+-- ---- of what rules the outcome out
+
+pub of_answer_or : {T : Type 0} (bytes : List ℕ) (P : Fault → Type 0) (r : Result T Fault) (a : Answer) (cost : ℕ) (words : List (List ℕ))
+    → a ≡ Fenced cost words
+    → IfErr r (λ f. f ≢ Memory → P f ⊎ (IsTestFault bytes f ⊎ ((f ≡ BadFence) × ((t : Test) × Reads bytes t × IsBadFences None t words))))
+    → IfErr r (λ f. f ≢ Memory → P f ⊎ (IsTestFault bytes f ⊎ ((f ≡ BadFence) × IsBadAnswer bytes a)))
+of_answer_or bytes P (Ok x) a cost words is fault = tt
+of_answer_or bytes P (Err f) a cost words is fault = λ known. elim (fault known) [
+  | inl e ↦ inl e
+  | inr rest ↦ inr (elim rest [
+    | inl e ↦ inl e
+    | inr bad ↦ inr (bad.0, subst (IsBadAnswer bytes) (sym is) bad.1)
+  ])
+]
+
+pub of_runs_or : {T : Type 0} (bytes : List ℕ) (t : Test) (r : Result T Fault) (Q : Fault → Type 0) → Reads bytes t
+    → IfErr r (λ f. f ≢ Memory → IsRunFault t f) → IfErr r (λ f. f ≢ Memory → HasRunFault bytes f ⊎ Q f)
+of_runs_or bytes t (Ok x) Q reads fault = tt
+of_runs_or bytes t (Err f) Q reads fault = λ known. inl (t, reads, fault known)
+
+module _ (test certificate : List ℕ) where
+  pub forbidden_certificate : (f : Fault) → (f ≡ BadCertificate → (c : Certificate) → IsCertificateFile certificate c → ⊥)
+      → (f ≡ BadCertificate) ⊎ (f ≡ Memory) → IsForbiddenFault test certificate f
+  forbidden_certificate f bad other = elim other [
+    | inl e ↦ subst (IsForbiddenFault test certificate) (sym e) (forbidden.of_certificate (bad e))
+    | inr e ↦ subst (IsForbiddenFault test certificate) (sym e) forbidden.of_memory
+  ]
+
+  pub forbidden_answered : (c : Certificate) (f : Fault) → IsCertificateFile certificate c
+      → (f ≢ Memory → HasRunFault test f ⊎ (IsTestFault test f ⊎ ((f ≡ BadFence) × IsBadAnswer test c.answer)))
+      → IsForbiddenFault test certificate f
+  forbidden_answered c f is h = elim (is_memory f) [
+    | inl e ↦ subst (IsForbiddenFault test certificate) (sym e) forbidden.of_memory
+    | inr n ↦ elim (h n) [
+      | inl runs ↦ forbidden.of_runs c is runs
+      | inr rest ↦ elim rest [
+        | inl fault ↦ forbidden.of_test c is fault
+        | inr bad ↦ subst (IsForbiddenFault test certificate) (sym bad.0) (forbidden.of_fences c is bad.1)
+      ]
     ]
   ]

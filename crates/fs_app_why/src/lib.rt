@@ -4,7 +4,10 @@
 
 mod alike;
 mod answered;
+mod arrows;
+mod contradictions;
 mod ends;
+mod forbidden;
 mod marks;
 mod nearer;
 mod order;
@@ -14,9 +17,11 @@ mod rows;
 mod table;
 mod told;
 mod trace;
+mod whole;
 mod without;
 mod words;
 
 pub use answered::why_answer;
 pub use order::why_order;
 pub use possible::why_allowed;
+pub use whole::why_certified;

@@ -152,14 +152,18 @@ fn instruction(alloc: Global, instr: Instr) -> Result<Name, AllocError>
     Ok(Name::new(text))
 }
 
-fn name_cell(alloc: Global, name: OperationName) -> Result<Name, AllocError>
+pub(crate) fn name_cell(alloc: Global, name: OperationName) -> Result<Name, AllocError>
     ensures { IfOk result (λ text. text ≡ operation_name name) }
 {
     let text = format!(in alloc; "{}", name)?;
     Ok(Name::new(text))
 }
 
-fn line_cell(alloc: Global, lines: &[List<usize>], name: OperationName) -> Result<Name, AllocError>
+pub(crate) fn line_cell(
+    alloc: Global,
+    lines: &[List<usize>],
+    name: OperationName,
+) -> Result<Name, AllocError>
     ensures { IfOk result (λ text. text ≡ codes "line " ++ decimal (line_of lines.now name)) }
 {
     let line = line_of(lines, name);

@@ -62,7 +62,7 @@ fn first_shown(
     Ok(None)
 }
 
-fn code_of(test: &Test, hart: u8) -> &[Instr]
+pub(crate) fn code_of(test: &Test, hart: u8) -> &[Instr]
     ensures { result.now ≡ slice_index_or test.now.codes hart [] }
 {
     let codes = test.codes.as_slice();
@@ -73,7 +73,7 @@ fn code_of(test: &Test, hart: u8) -> &[Instr]
     }
 }
 
-fn instr_text(alloc: Global, instr: Instr) -> Result<String, AllocError>
+pub(crate) fn instr_text(alloc: Global, instr: Instr) -> Result<String, AllocError>
     ensures { IfOk result (λ text. string_bytes text ≡ instr_text instr) }
 {
     let mut text = String::new(alloc);

@@ -1,0 +1,23 @@
+use Rattle.std.proofs.Common.{Err, ap}
+use Rattle.std.proofs.lemmas.Result.{IfErr-weaker, IfOk-weaker}
+use Rattle.fs_app_place_order.proofs.Faults.{IfErr-handed}
+use Rattle.fs_app_why.proofs.Faults.{forbidden_answered, forbidden_certificate}
+use Rattle.fs_app_why.proofs.forbidden.why_forbidden.Goals as goal
+
+pub returns-clause-told : goal.returns-clause-told
+returns-clause-told c =
+    let is = c.in_ok-certificate.ensures.ok in
+    IfOk-weaker c.forbidden_text.result _ _ (λ text told. record { said = is.0; file = is.1; tells = told })
+    (c.forbidden_text.ensures.told is.0 is.2)
+
+pub returns-clause-fault : goal.returns-clause-fault
+returns-clause-fault c =
+    let is = c.in_ok-certificate.ensures.ok in
+    IfErr-weaker c.forbidden_text.result _ _
+    (λ fault. forbidden_answered c.args.test.now c.args.certificate.now is.0 fault is.1)
+    (c.forbidden_text.ensures.fault is.0 is.2)
+
+pub returns-in_err-certificate-clause-fault : goal.returns-in_err-certificate-clause-fault
+returns-in_err-certificate-clause-fault c =
+    IfErr-handed c.from_residual.result _ _ c.from_residual.ensures.1
+    (forbidden_certificate _ _ _ (λ e. c.in_err-certificate.ensures.bad (ap (λ f. Err f) e)) c.in_err-certificate.ensures.err)

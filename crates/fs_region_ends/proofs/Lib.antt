@@ -1,0 +1,5 @@
+pub mod Linked
+pub mod Walked
+pub mod Ranges
+pub mod Places
+pub mod Turns
