@@ -1,2 +1,2 @@
 pub mod Told
-pub mod Said
+pub mod Spoken

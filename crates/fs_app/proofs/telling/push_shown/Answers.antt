@@ -3,7 +3,7 @@ use Rattle.fs_model.specs.Allows.{no_fences}
 use Rattle.fs_report.specs.Given.{given}
 use Rattle.fs_app_test.specs.SaidVerdicts.{witness_in}
 use Rattle.fs_app_why.specs.Why.{IsNotShown}
-use Rattle.fs_app.proofs.Said.{is_shown}
+use Rattle.fs_app.proofs.Spoken.{is_shown}
 use Rattle.fs_app.proofs.telling.push_shown.Goals as goal
 
 pub unreachable-requires-in-None : goal.unreachable-requires-in-None
