@@ -352,7 +352,7 @@ const TEST_WHY_HELP: &str =
     "Tell an execution of each outcome that is allowed, operation by operation; not with --json";
 
 const WITHOUT_HELP: &str =
-    "Tell an execution without each fence, or the one beside `none`; not with --json";
+    "Tell contradictions, and an execution without each fence, or that of `none`; not with --json";
 
 const SHELL_HELP: &str = "Which shell is to read it";
 

@@ -215,13 +215,15 @@ rest_text kinds =
 abbrev pub nothing_left : List ℕ
 nothing_left = codes "\nNo way to the outcome is left once its values are looked at: no order of memory is needed.\n"
 
+-- the first line of the heading
 abbrev pub heading_of : ℕ → List ℕ
 heading_of count =
-    if count == 1
-    then codes "\nEach way to the outcome has this contradiction, in which each\noperation is in memory before the next one, and the last before the first.\n"
-    else codes "\nEach way to the outcome has one of these contradictions, in which each\noperation is in memory before the next one, and the last before the first.\n"
+    if count == 1 then codes "\nEach way to the outcome has this contradiction, in which each\n"
+    else codes "\nEach way to the outcome has one of these contradictions, in which each\n"
 
 abbrev pub contradictions_text : Test → (lines : List (List ℕ)) → List ChainKind → List ℕ
 contradictions_text t lines kinds =
     if length kinds == 0 then nothing_left
-    else heading_of (length kinds) ++ (told_text t lines kinds ++ (rest_text kinds ++ amo_text t kinds))
+    else heading_of (length kinds)
+    ++ (codes "operation is in memory before the next one, and the last before the first.\n"
+    ++ (told_text t lines kinds ++ (rest_text kinds ++ amo_text t kinds)))

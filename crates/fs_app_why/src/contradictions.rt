@@ -585,13 +585,14 @@ fn rest_text(alloc: Global, kinds: &[ChainKind]) -> Result<String, AllocError>
     format!(in alloc; "\nand {}{}\n", more.as_str(), bare.as_str())
 }
 
+/// The first line of the heading.
 fn heading_of(count: usize) -> &'static str
     ensures { result.now ≡ heading_of count }
 {
     if count == 1 {
-        "\nEach way to the outcome has this contradiction, in which each\noperation is in memory before the next one, and the last before the first.\n"
+        "\nEach way to the outcome has this contradiction, in which each\n"
     } else {
-        "\nEach way to the outcome has one of these contradictions, in which each\noperation is in memory before the next one, and the last before the first.\n"
+        "\nEach way to the outcome has one of these contradictions, in which each\n"
     }
 }
 
@@ -614,7 +615,7 @@ pub(crate) fn contradictions_text(
     let told = told_text(alloc, test, lines, kinds)?;
     let rest = rest_text(alloc, kinds)?;
     format!(in alloc;
-        "{}{}{}{}",
+        "{}operation is in memory before the next one, and the last before the first.\n{}{}{}",
         heading_of(kinds.len()),
         told.as_str(),
         rest.as_str(),

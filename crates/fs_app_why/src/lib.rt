@@ -1,5 +1,6 @@
 //! What `--why` prints, from the bytes of the files to its text: an execution as it comes to memory, with the
-//! operations that overtake others of their hart.
+//! operations that overtake others of their hart; and why fences rule the outcome out, the contradictions of a
+//! certificate as chains of operations.
 #![tactic(auto)]
 
 mod alike;
