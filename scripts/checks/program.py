@@ -125,19 +125,46 @@ def told(test, block):
     return json.dumps({"choices": choices, "order": [name for name, _, _ in rows]})
 
 
+def faults_of_chain(block, placed):
+    """What is wrong with a contradiction that is told, where these fences are placed, by kind and line."""
+    names = re.findall(r"(?m)^  (P\d+:\d+) +line ", block)
+    arrows = re.findall(r"(?m)^    \|   (.*)$", block)
+    is_cycle, last = block.startswith("cycle "), block.rstrip().split("\n")[-1]
+    if is_cycle and (last != f"  {names[0]}  again" or len(arrows) != len(names)):
+        yield "it doesn't end where it began"
+    for arrow, name in zip(arrows, [*names[1:], names[0]]):
+        if (of := re.match(r"(P\d+:\d+) .*\((?:rf|co|fr)\)$", arrow)) and of[1] != name:
+            yield f"{arrow}, and {name} comes next"
+        if (fence := re.match(r"fence (\S+) before line (\d+) \(rule 4", arrow)) and fence.groups() not in placed:
+            yield f"{arrow}, and no such fence is in the answer"
+
+
+def check_contradictions(checks, path, head, blocks, placed):
+    """Of fences it is told why they rule the outcome out: in chains that hold together, by fences of the answer."""
+    is_told = bool(blocks) and re.match(r"Each way to the outcome has |No way to the outcome is left ", blocks[0])
+    checks.expect(f"whether contradictions are told of {path}", head.startswith("fenced"), bool(is_told))
+    chains = [block for block in blocks if re.match(r"(cycle|stale|not atomic) \d+", block)]
+    checks.expect(f"whether a chain is told of {path}", bool(is_told) and blocks[0].startswith("Each"), bool(chains))
+    for block in chains:
+        checks.expect(f"what is wrong with this of {path}: {block}", [], [*faults_of_chain(block, placed)])
+
+
 def check_why(checks):
     """The executions that `solve --why` tells of the examples, `order` accepts: of each fence one without it. And it
-    tells them in the same rows."""
+    tells them in the same rows. Before them it tells why the fences rule the outcome out."""
     for path in tests_of_examples():
         head, *blocks = rvfence("solve", path, PRICES, "--why", "-q").out.split("\n\n")
         fences, test = fences_of(head.split("\n")), model.read(path, model.test_of)
         cases = [(fence, [it for it in fences if it != fence]) for fence in fences]
+        told_of = [block for block in blocks if re.match(r"\S+ before P\d+:\d+ \(line |The outcome can be ", block)]
+        placed = {re.match(r"(\S+) before \S+ \(line (\d+),", it).groups() for it in told_of if " before P" in it[:20]}
+        check_contradictions(checks, path, head, [it for it in blocks if it not in told_of], placed)
         if head.startswith("none"):
             cases = [("all", [f"P{hart}:{at}=rw,rw" for hart, at in test.slots()])]
         else:
-            lines = [re.sub(r"(\S+) before (\S+) .*", r"\2=\1", block.split("\n")[0]) for block in blocks]
+            lines = [re.sub(r"(\S+) before (\S+) .*", r"\2=\1", block.split("\n")[0]) for block in told_of]
             checks.expect(f"the fences of which is told of {path}", fences, lines)
-        for (fence, words), block in zip(cases, blocks, strict=True):
+        for (fence, words), block in zip(cases, told_of, strict=True):
             witness = written(f"{checks.folder}/witness.json", told(test, block))
             said, rows = rvfence("order", path, witness, *words, "--why"), block.partition("memory:\n")[2]
             checks.expect(f"{path} without {fence}", f"yes\n\nIn the order of memory:\n{rows.rstrip()}\n", said.out)
