@@ -21,8 +21,7 @@ use Rattle.fs_cert_evidence.specs.Widths.{Width, width, is_within_width}
 use Rattle.fs_board_offers.proofs.Bounded.{rising-filled}
 use Rattle.fs_model_laws.proofs.ExactWidths.{exact}
 use Rattle.fs_model_laws.proofs.Weakening.{shows-weaker}
-use Rattle.fs_cert_evidence.specs.Evidence.{Shown, witness_in, widths_of}
-use Rattle.fs_cand_widths.specs.Witnesses.{IsWitnessAt}
+use Rattle.fs_cert_evidence.specs.Evidence.{Shown, witness_in, widths_of, IsWitnessAt}
 use Rattle.fs_board.specs.Growth.{AreWitnesses}
 use Rattle.fs_board_offers.specs.Breaks.{is_kept}
 use Rattle.fs_board.specs.inner.Breaks.{widths_in, is_bounded}

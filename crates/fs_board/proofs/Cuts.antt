@@ -12,8 +12,7 @@ use Rattle.fs_board_offers.specs.Offers.{slots}
 use Rattle.fs_board_offers.specs.Parts.{Part, slots_in_part}
 use Rattle.fs_board_offers.specs.Board.{Node, Status, Witnessed, Bounded, Event, CutWitness, CutBound, Closed, NotCovered, Cheaper, is_held_by, part_at}
 use Rattle.fs_board_offers.specs.Histories.{with_witnesses}
-use Rattle.fs_cert_evidence.specs.Evidence.{Shown, witness_in}
-use Rattle.fs_cand_widths.specs.Witnesses.{IsWitnessAt}
+use Rattle.fs_cert_evidence.specs.Evidence.{Shown, witness_in, IsWitnessAt}
 use Rattle.fs_board_offers.proofs.Leaves.{history-parts}
 use Rattle.fs_board.specs.Growth.{AreWitnesses}
 use Rattle.fs_board.specs.View.{Search, IsReplay}

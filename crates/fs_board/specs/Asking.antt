@@ -4,8 +4,7 @@ use Rattle.std.specs.Arc.{arc_value}
 use Rattle.fs_model.specs.Allows.{Allows}
 use Rattle.fs_model.specs.Execution.{Execution}
 use Rattle.fs_board_offers.specs.Trees.{IsPart}
-use Rattle.fs_cert_evidence.specs.Evidence.{ShowsForbidden, placement_in}
-use Rattle.fs_cand_widths.specs.Witnesses.{IsWitnessAt}
+use Rattle.fs_cert_evidence.specs.Evidence.{ShowsForbidden, placement_in, IsWitnessAt}
 use Rattle.fs_board_offers.specs.Offers.{slots}
 use Rattle.fs_board_offers.specs.Questions.{Question}
 use Rattle.fs_board.specs.declared.event.Event.{Event}

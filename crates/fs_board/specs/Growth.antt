@@ -5,8 +5,7 @@ use Rattle.fs_model.specs.declared.test.Test.{Test}
 use Rattle.fs_model.specs.Execution.{Execution}
 use Rattle.fs_board_offers.specs.Parts.{Part}
 use Rattle.fs_board_offers.specs.Board.{Board, Node, Status, Open}
-use Rattle.fs_cert_evidence.specs.Evidence.{Shown, Refuted, ShowsForbidden}
-use Rattle.fs_cand_widths.specs.Witnesses.{IsWitnessAt}
+use Rattle.fs_cert_evidence.specs.Evidence.{Shown, Refuted, ShowsForbidden, IsWitnessAt}
 
 -- the nodes, the bound with its cycles, the witnesses with their widths, and the greatest number that a node may have
 pub record Tree : Type 0 where

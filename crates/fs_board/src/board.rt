@@ -14,8 +14,7 @@ ghost use Rattle.fs_board_offers.specs.Board.{Seen, Closed, Held, is_open, is_he
 ghost use Rattle.fs_board_offers.specs.Board.{with_status};
 ghost use Rattle.fs_board_offers.specs.Histories.{Steps, IsHistory, with_witnesses};
 ghost use Rattle.fs_board.specs.Counts.{count_of};
-ghost use Rattle.fs_cert_evidence.specs.Evidence.{Shown, ShowsForbidden, witness_in, placement_in};
-ghost use Rattle.fs_cand_widths.specs.Witnesses.{IsWitnessAt};
+ghost use Rattle.fs_cert_evidence.specs.Evidence.{Shown, ShowsForbidden, witness_in, placement_in, IsWitnessAt};
 ghost use Rattle.fs_board_offers.specs.Bests.{is_best};
 ghost use Rattle.fs_board_offers.specs.Offers.{AreOffers, slots};
 ghost use Rattle.fs_board.specs.Growth.{AreWitnesses};

@@ -1,4 +1,5 @@
 pub mod Parts
+pub mod WitnessLists
 pub mod Handed
 pub mod Scouts
 pub mod Ends

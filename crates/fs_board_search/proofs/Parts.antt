@@ -13,8 +13,7 @@ use Rattle.fs_model.specs.Execution.{Execution}
 use Rattle.fs_model.specs.Allows.{Shows}
 use Rattle.fs_cert_evidence.specs.Shown.{IsShownBy}
 use Rattle.fs_board_offers.specs.Parts.{Part, Decision, floor, filled}
-use Rattle.fs_cert_evidence.specs.Evidence.{Shown}
-use Rattle.fs_cand_widths.specs.Witnesses.{IsWitnessAt}
+use Rattle.fs_cert_evidence.specs.Evidence.{Shown, IsWitnessAt}
 
 entry-same : (d : Decision) → is_none d.decided ≡ false → unwrap_or d.decided None ≡ unwrap_or d.decided (Some RwRw)
 entry-same d some = elim d.decided as (λ o. is_none o ≡ false → unwrap_or o None ≡ unwrap_or o (Some RwRw)) [

@@ -10,13 +10,13 @@ ghost use Rattle.fs_model.specs.Execution.{Execution};
 ghost use Rattle.fs_cert_evidence.specs.CandidateFaults.{IsCandidateFault};
 ghost use Rattle.fs_board_offers.specs.Parts.{slots_in_part};
 ghost use Rattle.fs_board.specs.Growth.{AreWitnesses};
-ghost use Rattle.fs_cand_widths.specs.Witnesses.{IsWitnessAt};
+ghost use Rattle.fs_cert_evidence.specs.Evidence.{IsWitnessAt};
 ghost use Rattle.fs_judge.specs.Verdicts.{IsVerdict};
 ghost use Rattle.fs_board_search.specs.Tries.{IsPostable};
 
+use crate::store::Store;
 use fs_board::Part;
 use fs_board_offers::Offers;
-use fs_board_plan::Store;
 use fs_cert_evidence::{Forbidden, Witness};
 use fs_judge::{Judge, Verdict};
 use fs_kinds::{Fault, Kind, Slot};

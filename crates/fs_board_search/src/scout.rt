@@ -10,8 +10,7 @@ ghost use Rattle.fs_board_offers.specs.Offers.{slots};
 ghost use Rattle.fs_board_offers.specs.Parts.{floor, is_undecided};
 ghost use Rattle.fs_board_offers.specs.Parts.{slots_in_part};
 ghost use Rattle.fs_model.specs.Execution.{Execution};
-ghost use Rattle.fs_cert_evidence.specs.Evidence.{placement_in};
-ghost use Rattle.fs_cand_widths.specs.Witnesses.{IsWitnessAt};
+ghost use Rattle.fs_cert_evidence.specs.Evidence.{placement_in, IsWitnessAt};
 ghost use Rattle.fs_board.specs.Growth.{AreWitnesses};
 ghost use Rattle.fs_board.specs.Asking.{Tells};
 ghost use Rattle.fs_board_search.specs.Tries.{IsPostable, IsTry, IsLast};
@@ -20,11 +19,12 @@ use crate::floor_and_filled::{
     forbidden_or_stored, is_filled_new, is_floor_allowed, is_floor_new, judge_floor,
     look_at_filled, stored_over_filled,
 };
+use crate::plan::{MOST_STEPS, cheapest_breaking};
+use crate::store::Store;
 use crate::taken::{Child, Taken, push_children};
 use crate::watch::Watch;
 use fs_board::{Decision, Event, Part, Reply};
 use fs_board_offers::{Offers, Question, is_same};
-use fs_board_plan::{MOST_STEPS, Store, cheapest_breaking};
 use fs_cert_evidence::{Forbidden, Witness};
 use fs_judge::{Judge, Problem, Verdict};
 use fs_kinds::{Fault, Kind, List, Placement, Slot};

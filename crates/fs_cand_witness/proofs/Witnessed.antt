@@ -37,8 +37,7 @@ use Rattle.fs_cand_witness.specs.Fencing.{is_fenced, orders_at}
 use Rattle.fs_cand_witness.proofs.Joined.{among, joined}
 use Rattle.fs_cand_witness.specs.Edges.{has_edge}
 use Rattle.fs_cand_witness.specs.Orders.{IsOrderBelow}
-use Rattle.fs_cert_evidence.specs.Evidence.{Shown, pairs_at, widths_of}
-use Rattle.fs_cand_widths.specs.Witnesses.{IsWitnessAt}
+use Rattle.fs_cert_evidence.specs.Evidence.{Shown, pairs_at, widths_of, IsWitnessAt}
 use Rattle.fs_cand_witness.specs.inner.Keeping.{width_in}
 use Rattle.fs_cand_witness.specs.Naming.{name_at}
 use Rattle.fs_cand_witness.specs.inner.Reading.{IsReadOff, chosen}

@@ -12,7 +12,7 @@ ghost use Rattle.fs_cert_evidence.specs.Judged.{is_judged};
 ghost use Rattle.fs_cand.specs.Candidates.{candidate_of, IsMade};
 ghost use Rattle.fs_cand_witness.specs.Edges.{has_edge};
 ghost use Rattle.fs_cand_witness.specs.Orders.{IsOrderBelow};
-ghost use Rattle.fs_cand_widths.specs.Witnesses.{IsWitnessAt};
+ghost use Rattle.fs_cert_evidence.specs.Evidence.{IsWitnessAt};
 ghost use Rattle.fs_cand_witness.specs.inner.Reading.{IsReadOff};
 
 use crate::choices::choices;

@@ -55,6 +55,12 @@ pub record IsWitnessFor (t : Test) (shown : Shown) (e : Execution) : Type 0 wher
   pub only : (other : Execution) → ShowsAs t [] shown.witness other → other ≡ e
   pub widths : shown.widths ≡ widths_of (width t e) (slots t)
 
+-- The same with the widths at any slots, as those of a placement; at the slots of the test it is IsWitnessFor.
+pub record IsWitnessAt (t : Test) (ss : List Slot) (shown : Shown) (e : Execution) : Type 0 where
+  pub shows : ShowsAs t [] shown.witness e
+  pub only : (other : Execution) → ShowsAs t [] shown.witness other → other ≡ e
+  pub widths : shown.widths ≡ widths_of (width t e) ss
+
 -- what comes with the placement shows that it forbids the outcome, and no fault is in the way of judging that
 pub record ShowsForbidden (t : Test) (f : Refuted) : Type 0 where
   pub forbid : Forbid t f.placement f.cycles

@@ -5,8 +5,7 @@ use Rattle.fs_kinds.specs.Placement.{slots_of}
 use Rattle.fs_model.specs.declared.test.Test.{Test}
 use Rattle.fs_model.specs.Execution.{Execution}
 use Rattle.fs_model.specs.Allows.{Shows, Allows}
-use Rattle.fs_cert_evidence.specs.Evidence.{Shown, ShowsForbidden}
-use Rattle.fs_cand_widths.specs.Witnesses.{IsWitnessAt}
+use Rattle.fs_cert_evidence.specs.Evidence.{Shown, ShowsForbidden, IsWitnessAt}
 use Rattle.fs_judge.specs.declared.verdict.Verdict.{Verdict}
 use Rattle.fs_judge.specs.declared.verdict.Verdict.TheVariants.{Allowed, Forbids}
 

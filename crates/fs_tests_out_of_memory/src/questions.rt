@@ -5,8 +5,7 @@ ghost use Rattle.fs_model.specs.Test.{IsBounded, IsTest};
 ghost use Rattle.fs_model.specs.Allows.{Allows};
 ghost use Rattle.fs_model.specs.Execution.{Execution};
 ghost use Rattle.fs_model.specs.Slots.{slots};
-ghost use Rattle.fs_cert_evidence.specs.Evidence.{ShowsForbidden, placement_in};
-ghost use Rattle.fs_cand_widths.specs.Witnesses.{IsWitnessAt};
+ghost use Rattle.fs_cert_evidence.specs.Evidence.{ShowsForbidden, placement_in, IsWitnessAt};
 ghost use Rattle.fs_board.specs.Growth.{AreWitnesses};
 
 use fs_board_offers::Question;

@@ -2,7 +2,7 @@ use Rattle.std.proofs.Common.{sym, subst}
 use Rattle.fs_kinds.specs.Placement.{slots_of}
 use Rattle.fs_board.specs.Growth.{AreWitnesses}
 use Rattle.fs_judge.specs.Verdicts.{IsVerdict}
-use Rattle.fs_board_plan.proofs.Parts.{one-more}
+use Rattle.fs_board_search.proofs.WitnessLists.{one-more}
 use Rattle.fs_board_search.proofs.floor_and_filled.forbidden_or_stored.Goals as goal
 
 pub returns-in_err-add-in-Allowed-clause-known : goal.returns-in_err-add-in-Allowed-clause-known

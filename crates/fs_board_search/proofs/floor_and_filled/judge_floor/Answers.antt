@@ -3,7 +3,7 @@ use Rattle.fs_kinds.specs.declared.slot.Slot.{Slot}
 use Rattle.fs_kinds.specs.Placement.{slots_of}
 use Rattle.fs_board_offers.specs.Parts.{slots_in_part}
 use Rattle.fs_board.specs.Growth.{AreWitnesses}
-use Rattle.fs_board_plan.proofs.Parts.{floor-slots}
+use Rattle.fs_board_search.proofs.WitnessLists.{floor-slots}
 use Rattle.fs_board_search.proofs.floor_and_filled.judge_floor.Goals as goal
 
 pub returns-in_err-forbidden_or_stored-clause-known : goal.returns-in_err-forbidden_or_stored-clause-known

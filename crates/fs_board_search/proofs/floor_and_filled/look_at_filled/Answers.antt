@@ -5,7 +5,7 @@ use Rattle.fs_kinds.specs.Placement.{slots_of}
 use Rattle.fs_board_offers.specs.Parts.{slots_in_part}
 use Rattle.fs_cert_evidence.specs.Evidence.{Shown}
 use Rattle.fs_judge.specs.Verdicts.{IsShownWith}
-use Rattle.fs_board_plan.proofs.Parts.{one-more, slots-filled}
+use Rattle.fs_board_search.proofs.WitnessLists.{one-more, slots-filled}
 use Rattle.fs_board_search.proofs.Parts.{made-at}
 use Rattle.fs_board_search.proofs.floor_and_filled.look_at_filled.Goals as goal
 

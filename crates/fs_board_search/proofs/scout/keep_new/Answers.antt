@@ -1,9 +1,8 @@
 use Rattle.std.proofs.Common.{sym, subst}
 use Rattle.fs_model.specs.Execution.{Execution}
-use Rattle.fs_cert_evidence.specs.Evidence.{Shown}
-use Rattle.fs_cand_widths.specs.Witnesses.{IsWitnessAt}
+use Rattle.fs_cert_evidence.specs.Evidence.{Shown, IsWitnessAt}
 use Rattle.fs_board.specs.Growth.{AreWitnesses}
-use Rattle.fs_board_plan.proofs.Parts.{one-more}
+use Rattle.fs_board_search.proofs.WitnessLists.{one-more}
 use Rattle.fs_board_search.proofs.scout.keep_new.Goals as goal
 
 pub returns-in_err-keep : goal.returns-in_err-keep

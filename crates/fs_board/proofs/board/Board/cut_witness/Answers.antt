@@ -4,8 +4,7 @@ use Rattle.fs_model.specs.Execution.{Execution}
 use Rattle.fs_board_offers.specs.Parts.{Part}
 use Rattle.fs_board_offers.specs.Offers.{slots}
 use Rattle.fs_board_offers.specs.Board.{CutWitness, NotCovered, Witnessed}
-use Rattle.fs_cert_evidence.specs.Evidence.{Shown, witness_in}
-use Rattle.fs_cand_widths.specs.Witnesses.{IsWitnessAt}
+use Rattle.fs_cert_evidence.specs.Evidence.{Shown, witness_in, IsWitnessAt}
 use Rattle.fs_board.specs.Growth.{board_of}
 use Rattle.fs_board.specs.View.{Search}
 use Rattle.fs_board_offers.specs.Breaks.{is_kept}

@@ -8,7 +8,7 @@ use Rattle.fs_cert_evidence.specs.Shown.{IsShownBy}
 use Rattle.fs_board_offers.specs.Questions.{Question}
 use Rattle.fs_judge.specs.Verdicts.{IsVerdict}
 use Rattle.fs_board_search.proofs.Handed.{candidates-handed}
-use Rattle.fs_board_plan.proofs.Parts.{floor-slots}
+use Rattle.fs_board_search.proofs.WitnessLists.{floor-slots}
 use Rattle.fs_board_search.proofs.Parts.{leaf-shown, made-at}
 use Rattle.fs_board_search.proofs.scout.Scout.last_verdict.Goals as goal
 

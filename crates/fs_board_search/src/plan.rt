@@ -14,7 +14,7 @@ use fs_kinds::{Entry, Kind, List, Placement, Slot};
 use std::alloc::{AllocError, Global};
 
 /// So many steps are made before a plan is given up.
-pub const MOST_STEPS: usize = 50_000;
+pub(crate) const MOST_STEPS: usize = 50_000;
 
 /// The number of a slot that is decided, and the options that are left to try there, a bit for each.
 #[derive(Clone, Copy)]
@@ -353,7 +353,7 @@ fn put_all(placement: &mut Placement, entries: &[Entry])
 
 /// The cheapest placement at the part's slots that breaks all stored witnesses, of several the first. None where there
 /// is none, and where it isn't found in the steps that are left. What the part decides doesn't matter.
-pub fn cheapest_breaking(
+pub(crate) fn cheapest_breaking(
     alloc: Global,
     store: &Store,
     offers: &Offers,

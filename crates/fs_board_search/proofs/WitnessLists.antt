@@ -10,8 +10,7 @@ use Rattle.fs_model.specs.declared.test.Test.{Test}
 use Rattle.fs_model.specs.Execution.{Execution}
 use Rattle.fs_board_offers.specs.Parts.{Part, filled_with, floor, slots_in_part}
 use Rattle.fs_model_laws.proofs.Places.{at-append}
-use Rattle.fs_cert_evidence.specs.Evidence.{Shown}
-use Rattle.fs_cand_widths.specs.Witnesses.{IsWitnessAt}
+use Rattle.fs_cert_evidence.specs.Evidence.{Shown, IsWitnessAt}
 use Rattle.fs_board.specs.Growth.{AreWitnesses}
 
 pub slots-filled : (kind : Option Kind) (part : Part) → slots_of (filled_with kind part) ≡ slots_in_part part

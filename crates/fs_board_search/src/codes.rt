@@ -16,7 +16,7 @@ const WRITE: Classes = Classes {
 
 /// Four bits for each of 48 slots, as many as a test may have. Of slots past these nothing is kept.
 #[derive(Clone, Copy)]
-pub struct Codes {
+pub(crate) struct Codes {
     words: [u64; 3],
 }
 
@@ -63,7 +63,7 @@ impl Codes {
     }
 
     /// What a placement orders at each slot.
-    pub fn of_placement(entries: &[Entry]) -> Codes {
+    pub(crate) fn of_placement(entries: &[Entry]) -> Codes {
         let mut codes = Codes::new();
         for (slot, entry) in entries.iter().enumerate() {
             codes.put(slot, bits_of_kind(entry.kind));
@@ -81,7 +81,7 @@ impl Codes {
     }
 
     /// What an execution keeps at each slot.
-    pub fn of_widths(widths: &[Pairs]) -> Codes {
+    pub(crate) fn of_widths(widths: &[Pairs]) -> Codes {
         let mut codes = Codes::new();
         for (slot, pairs) in widths.iter().enumerate() {
             codes.put(slot, bits(*pairs));
@@ -90,7 +90,7 @@ impl Codes {
     }
 
     /// Has the other one each bit at each slot?
-    pub fn is_within(&self, other: &Codes) -> bool {
+    pub(crate) fn is_within(&self, other: &Codes) -> bool {
         self.words[0] & !other.words[0] == 0
             && self.words[1] & !other.words[1] == 0
             && self.words[2] & !other.words[2] == 0

@@ -37,7 +37,7 @@ impl Model for Known {
 
 /// The witnesses that a search has met, the newest last.
 #[derive(Drop)]
-pub struct Store {
+pub(crate) struct Store {
     known: Vec<Known>,
 }
 
@@ -54,7 +54,7 @@ impl Model for Store {
 /// it, what its least break lacks to the greatest number, its number, and the breakable slots as bits. The least one is
 /// tried first.
 #[derive(Clone, Copy, PartialEq, Eq, PartialOrd, Ord)]
-pub struct Unbroken {
+pub(crate) struct Unbroken {
     slots: u32,
     lack: u64,
     number: usize,
@@ -63,7 +63,7 @@ pub struct Unbroken {
 
 impl Unbroken {
     /// The number of the last slot that is breakable. None where there is none.
-    pub fn last_place(&self) -> Option<usize> {
+    pub(crate) fn last_place(&self) -> Option<usize> {
         last_of(self.places)
     }
 
@@ -98,7 +98,7 @@ fn least_break(offers: &Offers, slot: Slot, kept: Pairs) -> u64 {
 }
 
 /// What the placement costs. At the highest costs that is far below what never is.
-pub fn cost(offers: &Offers, placement: &[Entry]) -> u64 {
+pub(crate) fn cost(offers: &Offers, placement: &[Entry]) -> u64 {
     u64::try_from(fs_board_offers::cost(offers, placement)).unwrap_or(NEVER)
 }
 
@@ -137,7 +137,7 @@ impl Known {
 
 impl Store {
     /// No witness yet.
-    pub fn new(alloc: Global) -> Store
+    pub(crate) fn new(alloc: Global) -> Store
         ensures { result ≡ [] }
     {
         Store {
@@ -146,13 +146,13 @@ impl Store {
     }
 
     /// Has a stored witness these widths?
-    pub fn has_widths(&self, witness: &Witness) -> bool {
+    pub(crate) fn has_widths(&self, witness: &Witness) -> bool {
         let codes = Codes::of_widths(witness.widths.as_slice());
         self.known.iter().any(|known| codes.is_within(&known.kept) && known.kept.is_within(&codes))
     }
 
     /// Stores a witness. The decisions are those of any node. At `Err` nothing is changed.
-    pub fn keep(
+    pub(crate) fn keep(
         &mut self,
         alloc: Global,
         offers: &Offers,
@@ -173,7 +173,7 @@ impl Store {
     }
 
     /// Stores a witness, and hands it out. At `Err` nothing is changed.
-    pub fn add(
+    pub(crate) fn add(
         &mut self,
         alloc: Global,
         offers: &Offers,
@@ -191,7 +191,7 @@ impl Store {
     }
 
     /// The newest witness that shows the outcome with this placement.
-    pub fn newest_over(&self, placement: &[Entry]) -> Option<&Arc<Witness>>
+    pub(crate) fn newest_over(&self, placement: &[Entry]) -> Option<&Arc<Witness>>
         ensures { IfSome result (λ w. (k : ℕ) × (slice_get self.now k ≡ Some (arc_value w.now))) }
     {
         let codes = Codes::of_placement(placement);
@@ -235,7 +235,7 @@ impl Store {
 
     /// The witnesses that show the outcome under a node's least placement: those first that are breakable at the fewest
     /// slots, and of these those whose least break is the highest.
-    pub fn unbroken(
+    pub(crate) fn unbroken(
         &self,
         alloc: Global,
         floor: &Codes,
@@ -253,7 +253,7 @@ impl Store {
 
     /// Witnesses that bound the node of this part and cost too much to break together, taken greedily: each that shares
     /// no breakable slot with those taken. None where that doesn't close the node, with this bound.
-    pub fn pick(
+    pub(crate) fn pick(
         &self,
         alloc: Global,
         offers: &Offers,
@@ -284,7 +284,7 @@ impl Store {
     /// fences late, so what has one earlier is closed at equal cost. The first of the slots taken it is, since at equal
     /// cost nothing is closed before the earlier slots are decided as the best placement has them. None where no stored
     /// witness shows the outcome there, or no fence breaks it. The cost is that of `pick`.
-    pub fn slot_to_split(
+    pub(crate) fn slot_to_split(
         &self,
         alloc: Global,
         best: Option<&Arc<Forbidden>>,
@@ -305,7 +305,7 @@ impl Store {
 
     /// What these witnesses don't keep at the slot of this number: a bit for each set of pairs, by the bits of the
     /// pairs.
-    pub fn lacks(&self, unbroken: &[Unbroken], place: usize) -> u16 {
+    pub(crate) fn lacks(&self, unbroken: &[Unbroken], place: usize) -> u16 {
         let mut lacks: u16 = 0;
         for found in unbroken {
             if let Some(known) = self.known.get(found.number) {
@@ -316,7 +316,7 @@ impl Store {
     }
 
     /// The witnesses, the newest last.
-    pub fn witnesses(&self, alloc: Global) -> Result<Vec<Arc<Witness>>, AllocError>
+    pub(crate) fn witnesses(&self, alloc: Global) -> Result<Vec<Arc<Witness>>, AllocError>
         ensures { IfOk result (λ all. map arc_value all.items ≡ self.now) }
     {
         let mut all = Vec::new(alloc);
@@ -343,14 +343,14 @@ fn breaks_of(
 
 /// What breaking the witnesses that were taken costs, with the node's least placement, and where they are breakable.
 #[derive(Clone, Copy)]
-pub struct Sum {
+pub(crate) struct Sum {
     total: u64,
     places: u64,
 }
 
 impl Sum {
     /// A least placement of this cost, and no witness yet.
-    pub fn of(cost: u64) -> Sum {
+    pub(crate) fn of(cost: u64) -> Sum {
         Sum {
             total: cost,
             places: 0,
@@ -358,37 +358,37 @@ impl Sum {
     }
 
     /// Does the witness share no breakable slot with those that were taken?
-    pub fn is_apart(&self, found: &Unbroken) -> bool {
+    pub(crate) fn is_apart(&self, found: &Unbroken) -> bool {
         found.places & self.places == 0
     }
 
     /// Takes one more.
-    pub fn add(&mut self, found: &Unbroken) {
+    pub(crate) fn add(&mut self, found: &Unbroken) {
         self.total = self.total.saturating_add(NEVER.saturating_sub(found.lack));
         self.places |= found.places;
     }
 
     /// Does so much close the node?
-    pub fn passes(&self, limit: &Limit) -> bool {
+    pub(crate) fn passes(&self, limit: &Limit) -> bool {
         limit.cost < self.total || limit.is_enough && limit.cost == self.total
     }
 }
 
 /// What a node must cost to be closed: at least so much, or more.
 #[derive(Clone, Copy)]
-pub struct Limit {
+pub(crate) struct Limit {
     cost: u64,
     is_enough: bool,
 }
 
 impl Limit {
     /// No cost closes a node but what can't be had at all.
-    pub fn never() -> Limit {
+    pub(crate) fn never() -> Limit {
         Limit::below(NEVER)
     }
 
     /// So much closes a node.
-    pub fn below(cost: u64) -> Limit {
+    pub(crate) fn below(cost: u64) -> Limit {
         Limit {
             cost,
             is_enough: true,
@@ -396,7 +396,7 @@ impl Limit {
     }
 
     /// More than this closes a node.
-    pub fn up_to(cost: u64) -> Limit {
+    pub(crate) fn up_to(cost: u64) -> Limit {
         Limit {
             cost,
             is_enough: false,

@@ -1,8 +1,8 @@
 use Rattle.std.proofs.Common.{map, Some, sym, ap, ◌∙◌}
 use Rattle.std.specs.Arc.{arc_value}
 use Rattle.std.proofs.lemmas.List.{map-append}
-use Rattle.fs_board_plan.proofs.Parts.{picked-more}
-use Rattle.fs_board_plan.proofs.store.Store.take.Goals as goal
+use Rattle.fs_board_search.proofs.WitnessLists.{picked-more}
+use Rattle.fs_board_search.proofs.store.Store.take.Goals as goal
 
 pub returns : goal.returns
 returns c = λ t ss all each.
