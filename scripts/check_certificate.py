@@ -811,75 +811,55 @@ def runs_slot_between(slot, a, b):
                                      for step in a.run.steps)
 
 
+def is_fenced(preserved, a, b):
+    """Is there a fence between them that orders them: a written one, or a placed one?"""
+    written = any(step.instruction.form == 'fence' and orders(step.instruction.pairs, a, b) for step in between(a, b))
+    return written or any(orders(pairs, a, b) and runs_slot_between(slot, a, b) for slot, pairs in preserved.placed)
+
+
+RULES = [
+    # 1: overlapping addresses: a store comes after what accesses its word before
+    lambda preserved, a, b: b.stores and a.address == b.address,
+    # 2: two loads of a word, no store to it between them, from different sources
+    lambda preserved, a, b: (a.loads and b.loads and a.address == b.address
+                             and preserved.rf[a] is not preserved.rf[b]
+                             and not any(m.stores and m.address == a.address for m in between(a, b))),
+    # 3: a load returns what an AMO or sc.w stored
+    lambda preserved, a, b: a.instruction.form in ('amo', 'sc') and b.loads and preserved.rf[b] is a,
+    is_fenced,
+    # 5 to 7: annotations; in the last both are RCsc
+    lambda preserved, a, b: a.is_acquire(),
+    lambda preserved, a, b: b.is_release(),
+    lambda preserved, a, b: (a.is_acquire() or a.is_release()) and (b.is_acquire() or b.is_release()),
+    # 8: a is paired with b
+    lambda preserved, a, b: (a, b) in a.run.pairs,
+    # 9 and 10: by address and by data
+    lambda preserved, a, b: b.address_depends(a),
+    lambda preserved, a, b: b.data_depends(a),
+    # 11: b is a store, and a conditional branch between them depends on a
+    lambda preserved, a, b: b.stores and any(
+        step.instruction.form == 'branch' and step.depends(a, *step.instruction.plain) for step in between(a, b)),
+    # 12: b returns what a store m between them stored, and m depends on a by its address or data
+    lambda preserved, a, b: b.loads and any(
+        m is preserved.rf[b] and (m.address_depends(a) or m.data_depends(a)) for m in between(a, b)),
+    # 13: b is a store, and the address of an instruction between them depends on a
+    lambda preserved, a, b: b.stores and any(step.address_depends(a) for step in between(a, b)),
+]
+
+
 class Preserved:
     """The thirteen rules, for a source of each load (`rf`) and a placement."""
 
     def __init__(self, rf, slots, placement):
         self.rf = rf
         self.placed = [(slot, PAIRS[kind]) for slot, kind in zip(slots, placement) if kind is not None]
-        self.rules = [getattr(self, 'rule_%d' % number) for number in range(1, 14)]
 
     def rule(self, number, a, b):
         """Does this rule put a before b?"""
-        return po(a, b) and self.rules[number - 1](a, b)
+        return po(a, b) and RULES[number - 1](self, a, b)
 
     def ppo(self, a, b):
-        return po(a, b) and any(rule(a, b) for rule in self.rules)
-
-    def rule_1(self, a, b):
-        """Overlapping addresses: a store comes after what accesses its word before."""
-        return b.stores and a.address == b.address
-
-    def rule_2(self, a, b):
-        """Two loads of a word, no store to it between them, from different sources."""
-        return (a.loads and b.loads and a.address == b.address and self.rf[a] is not self.rf[b]
-                and not any(m.stores and m.address == a.address for m in between(a, b)))
-
-    def rule_3(self, a, b):
-        """A load returns what an AMO or sc.w stored."""
-        return a.instruction.form in ('amo', 'sc') and b.loads and self.rf[b] is a
-
-    def rule_4(self, a, b):
-        """A fence between them: a written one, or a placed one."""
-        written = any(step.instruction.form == 'fence' and orders(step.instruction.pairs, a, b)
-                      for step in between(a, b))
-        return written or any(orders(pairs, a, b) and runs_slot_between(slot, a, b) for slot, pairs in self.placed)
-
-    def rule_5(self, a, b):
-        return a.is_acquire()
-
-    def rule_6(self, a, b):
-        return b.is_release()
-
-    def rule_7(self, a, b):
-        """Both have RCsc annotations."""
-        return (a.is_acquire() or a.is_release()) and (b.is_acquire() or b.is_release())
-
-    def rule_8(self, a, b):
-        """a is paired with b."""
-        return (a, b) in a.run.pairs
-
-    def rule_9(self, a, b):
-        return b.address_depends(a)
-
-    def rule_10(self, a, b):
-        return b.data_depends(a)
-
-    def rule_11(self, a, b):
-        """b is a store, and a conditional branch between them depends on a."""
-        return b.stores and any(step.instruction.form == 'branch' and step.depends(a, *step.instruction.plain)
-                                  for step in between(a, b))
-
-    def rule_12(self, a, b):
-        """b returns what a store m between them stored, and m depends on a by its address or data."""
-        if not b.loads:
-            return False
-        m = self.rf[b]
-        return po(a, m) and po(m, b) and (m.address_depends(a) or m.data_depends(a))
-
-    def rule_13(self, a, b):
-        """b is a store, and the address of an instruction between them depends on a."""
-        return b.stores and any(step.address_depends(a) for step in between(a, b))
+        return po(a, b) and any(rule(self, a, b) for rule in RULES)
 
 
 # --- Candidates that show the outcome (MODEL 15) -----------------------------------------------------------------
