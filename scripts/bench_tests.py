@@ -68,8 +68,6 @@ def test_of(name, lines, outcome, words=''):
     return test_text(name, entries, [hart.cells for hart in harts], f'exists {outcome}'), fences
 
 
-# --- Tests that grow ---------------------------------------------------------------------------------------------
-
 def number(text, sizes):
     """A number that is written with the sizes: `3`, `n`, `n-1` or `2n`."""
     times, size, more = re.fullmatch(r'(\d*)([ns]?)([-+]\d+)?', text).groups()
@@ -127,8 +125,6 @@ def families():
     return {name: text for name, (text, _) in of_table('grown').items()}
 
 
-# --- Tests whose search takes long -------------------------------------------------------------------------------
-
 def at_least(count, atoms):
     """That so many of these are true."""
     if count == 1:
@@ -157,8 +153,6 @@ def long_searches():
                (4, 3, 4), (4, 3, 8), (4, 3, 12)]
     return {name: grown[name] for name in names} | {'votes-%d-%d-%d' % each: votes(*each) for each in numbers}
 
-
-# --- Large files -------------------------------------------------------------------------------------------------
 
 PARTS = {'⏎': '\n', 'HEAD': 'RISCV T\n', 'BODY': '{ 0:x6=x; }\nP0 ;\nlw x5,0(x6) ;\n', 'TAIL': 'exists (0:x5=0)\n'}
 TINY = PARTS['HEAD'] + PARTS['BODY'] + PARTS['TAIL']

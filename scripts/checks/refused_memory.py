@@ -38,8 +38,6 @@ def refusing(library, command, number=0, **options):
         return said, int(read(count.name) or 0)
 
 
-# --- Command lines -----------------------------------------------------------------------------------------------
-
 def is_as(said, whole):
     """Is this what the whole run says, but perhaps for some of its messages?"""
     left = iter(MESSAGE.findall(whole.err))
@@ -100,8 +98,6 @@ def refuse(check, library, words, status, is_together):
             check(f"{name}: request {at} of {most} refused", is_right, wrong)
     print(f"{name}: {at} requests refused, of these {faults} with the fault", flush=True)
 
-
-# --- The calls of fs_tests_out_of_memory --------------------------------------------------------------------------
 
 def are_built():
     """Is the program that makes the calls by themselves built, and no source newer?"""

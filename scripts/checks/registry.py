@@ -9,8 +9,7 @@ import sys
 import tempfile
 import traceback
 
-from counting import Counts
-from running import TOP
+from running import TOP, Counts
 
 # What a check needs: nothing that is built, the gate (which it is, or what that has built), the program, or that and
 # what else the gate has built.

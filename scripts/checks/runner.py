@@ -14,8 +14,7 @@ import sys
 import tempfile
 
 from checks.registry import BUILT, GATE, NOTHING, PROGRAM
-from counting import Counts
-from running import TOP, ran, read
+from running import TOP, Counts, ran, read
 
 COUNTS = re.compile(r"(?m)^(\d+) passed, (\d+) failed$")
 TELLING = re.compile(r"(?im)^.*(?:fail|error).*$")
