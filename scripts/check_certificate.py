@@ -288,8 +288,7 @@ def joined(stack, right, signs):
 
 
 class TestReader:
-    """Reads a test from first to last, by its tokens. Where the form breaks, that is its fault; else the least of those
-    noted is."""
+    """Reads a test by its tokens. Where the form breaks, that is its fault; else the least of those noted is."""
 
     def __init__(self, text, line, last):
         self.words, self.lines = [], []         # the tokens, and the line of each

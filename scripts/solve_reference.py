@@ -115,8 +115,7 @@ OTHER_RULES = (1, 4, 5, 6, 7, 8, 9, 10, 11, 13)
 
 class Fences:
     """What the runs alone decide: the edges of the rules that look at no source, and those of a fence at each slot.
-    Both are within a hart, so they are worked out once for each run; `known` has them, with the hart's operations
-    counted from 0."""
+    `known` has both, which are within a hart, for each run, with its operations counted from 0."""
 
     def __init__(self, operations, slots, known):
         size = len(operations.of_harts)

@@ -89,8 +89,7 @@ def stores_of(run):
 
 
 def is_vacuous(test):
-    """Is there no last word for each location, one that some runs store there or else the one that it begins with, so
-    that with these runs the outcome is true?"""
+    """Is the outcome true with no runs and last words, which these runs store, or else the location begins with?"""
     ends = [{(tuple(run.registers), stores_of(run)) for run in runs} for runs in runs_of(test)]
     for each in itertools.product(*ends):
         registers, stored = [end for end, _ in each], frozenset().union(*[stores for _, stores in each])

@@ -1,9 +1,8 @@
 """Compares `rvfence solve` with scripts/solve_reference.py on known tests at lists of a few kinds, by
 scripts/transcripts/known.table, and on the tests and price lists that scripts/litmus.py makes.
 
-With 1, 4 and 16 workers it must print the same bytes, and write the same certificate beside an answer, to which `check`
-says yes. (In no test do others join the first worker; crates/fs_tests_search has such.) What differs is printed with the
-test."""
+With 1, 4 and 16 workers it must print the same bytes, and beside an answer write the same certificate, to which `check`
+says yes. (In no test do others join the first worker; crates/fs_tests_search has such.)"""
 import itertools
 import os
 

@@ -89,8 +89,7 @@ def before(*closed, size=None, is_ignored=True):
 
 
 def check_readers(checks):
-    """Each file of each command in turn is one that fails: missing, a folder, a device whose reads fail, and one that
-    may not be read."""
+    """Each file of each command in turn is missing, a folder, a device whose reads fail, or may not be read."""
     locked = written(f"{checks.folder}/locked", "RISCV T\n")
     os.chmod(locked, 0)
     others = {"user": NOBODY, "group": NOBODY, "extra_groups": []} if os.geteuid() == 0 else {}
@@ -109,8 +108,7 @@ def check_readers(checks):
 
 
 def check_inputs(checks):
-    """Standard input that is closed, a folder, open for writing alone, or a connection that breaks behind some bytes,
-    in place of their end."""
+    """Standard input that is closed, a folder, open for writing alone, or a connection that breaks before its end."""
     for command, (words, _) in checks.commands.items():
         words = [words[0], "stdin", *words[2:]]
         failed = unread("stdin", UNREAD)
@@ -127,8 +125,7 @@ def check_inputs(checks):
 
 
 def check_outputs(checks):
-    """Standard output that is closed, full, open for reading alone, or a pipe that nobody reads; and one that takes
-    some bytes."""
+    """Standard output that is closed, full, open for reading alone, a pipe that nobody reads, or takes some bytes."""
     for command, (words, answer) in checks.commands.items():
         checks.expect(f"{command}: all is well", answer, checks.run(words))
         checks.expect(f"{command}: standard output is closed", UNWRITTEN, checks.run(words, preexec_fn=before(1)))
@@ -240,8 +237,8 @@ def check_two_runs(checks):
 
 
 def check_ended_runs(checks):
-    """A run that a signal ends at each of its calls leaves what was there, or the whole; and one file beside it at
-    most, which no later run minds."""
+    """A run that a signal ends at a call leaves what was there, or the whole, and at most a file that no later run
+    minds."""
     whole = read(checks.certificate)
     for call, kept, number in itertools.product(HELD, (OLD, None), (signal.SIGTERM, signal.SIGKILL)):
         with folder_with(checks, kept) as (folder, path):
@@ -257,8 +254,8 @@ def check_ended_runs(checks):
 
 
 def check_modes(checks):
-    """A certificate has the mode of the file that it replaces, from the first moment on; else that of a new file. So
-    it is where a mode can't be given, too."""
+    """A certificate has the mode of the file that it replaces, from the first moment on, else that of a new file; where
+    a mode can't be given, too."""
     whole = read(checks.certificate)
 
     def mode_of(path):
@@ -290,8 +287,7 @@ def check_modes(checks):
 
 
 def hindering(checks, call, error, count=1000, name=""):
-    """The settings of a run in which the first so many of these calls fail with this error, those at files of this
-    name."""
+    """The settings of a run in which the first so many of these calls, at files of this name, fail with this error."""
     return {**os.environ, "HINDER_CALL": call, "HINDER_ERROR": str(error), "HINDER_COUNT": str(count),
             "HINDER_NAME": name, "LD_PRELOAD": checks.hinder}
 

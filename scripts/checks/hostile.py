@@ -59,8 +59,7 @@ class Runner:
         signal.signal(signal.SIGALRM, lambda *_: os.kill(self.child, signal.SIGKILL))
 
     def run(self, text, words):
-        """A run with this standard input and these words. Its answer is the line of its fault, or what it says, and of
-        `place` READ."""
+        """A run with this input and words. Its answer is its fault's line, what it says, or of `place` READ."""
         flags = [os.O_RDONLY, *[os.O_WRONLY | os.O_CREAT | os.O_TRUNC] * 2]
         actions = [(os.POSIX_SPAWN_OPEN, at, self.paths[at], flags[at], 0o600) for at in range(3)]
         written(self.paths[0], text)
@@ -86,8 +85,7 @@ def answer_of(command, said, error):
 
 
 def is_message(fault, text):
-    """Is the text a message of the fault whose line this is (docs/FORMAT.md, section 14)? Where the line has a number,
-    so has the place."""
+    """Is the text a message of this fault (docs/FORMAT.md, section 14)? Where a line has a number, so has the place."""
     if fault == b"fault F20 ReadFault":
         return SAID["unread"].fullmatch(text)
     line = re.search(rb" line (\d+)$", fault)

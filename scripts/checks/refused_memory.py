@@ -30,8 +30,7 @@ TEST = f"{EXAMPLES}/MP.litmus"      # on standard input
 
 
 def refusing(library, command, number=0, **options):
-    """What a run of the command says whose request of this number is refused (0 refuses nothing), and how many requests
-    it makes."""
+    """What a run says whose request of this number is refused (0 refuses nothing), and how many requests it makes."""
     with tempfile.NamedTemporaryFile() as count:
         settings = {**os.environ, "REFUSE_AT": str(number), "REFUSE_COUNT": count.name, "LD_PRELOAD": library}
         said = ran(command, env=settings, **options)
@@ -70,9 +69,8 @@ def count_requests(check, library, words, most):
 
 
 def refuse(check, library, words, status, is_together):
-    """Refuses each request of a command line in turn. Which number a request has, and how many there are, differs from
-    run to run where the search has several threads: so each number is then refused up to the most requests that any
-    run has made, and some more."""
+    """Refuses each request of a command line in turn. With several threads the number of a request, and of all, differs
+    from run to run: so each is then refused up to the most that any run has made, and some more."""
     def run(number):
         with tempfile.TemporaryDirectory() as folder, open(TEST, "rb") as test:
             path = f"{folder}/cert.json"

@@ -18,9 +18,8 @@ NOTHING, GATE, PROGRAM, BUILT = "nothing", "the gate", "the program", "the progr
 
 @dataclasses.dataclass(frozen=True)
 class Check:
-    """A check. `seconds` is about what it takes of processor time, and None where that has no limit. Its words are
-    numbers that may be given, each with the one that it is else, and options; those of `quick` are given where there is
-    no gate."""
+    """A check. `seconds` is about what it takes of processor time, None where that has no limit. Its words are numbers,
+    each with the one that it is else, and options; those of `quick` are given where there is no gate."""
 
     name: str
     seconds: int | None

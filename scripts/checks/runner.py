@@ -120,8 +120,7 @@ def run_rows(rows, report):
 
 
 def jobs_of_gate():
-    """How many proofs go on side by side, as in a build. (By itself rt reckons with more memory than a proof takes, and
-    leaves processors idle.)"""
+    """How many proofs go on side by side, as in a build. (By itself rt leaves processors idle, for want of memory.)"""
     return ran(["bash", "-c", f". {TOP}/scripts/build.sh && jobs_at_once"]).out.strip()
 
 
