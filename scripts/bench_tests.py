@@ -99,11 +99,6 @@ def expanded(text, sizes):
     return re.sub(r'(some|every|two|)«(.*?)(?:;([^;»]*))?»', each, text)
 
 
-def sizes_of(text):
-    """The sizes of a test: a range, or numbers."""
-    return numbers(text, {}) if '..' in text else map(int, text.split(','))
-
-
 def of_table(name):
     """The tests of a stored table, and the lines of their fences, by their names."""
     found = {}
@@ -111,7 +106,8 @@ def of_table(name):
     for title, block in re.findall(r'(?m)^## (.+)\n((?:.+\n)+)', table):
         kind, *ranges = title.split()
         lines = [line for line in block.splitlines() if not line.startswith('# ')]
-        for each in itertools.product(*map(sizes_of, ranges)):
+        sizes = [numbers(it, {}) if '..' in it else map(int, it.split(',')) for it in ranges]
+        for each in itertools.product(*sizes):
             sizes, title = dict(zip('ns', each)), '-'.join([kind, *map(str, each)])
             words, *harts, outcome = [expanded(line, sizes) for line in lines]
             parts = [hart.split(': ', 1) for hart in harts]
