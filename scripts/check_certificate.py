@@ -602,17 +602,9 @@ class NoRun(Exception):
 class GoesAstray(NoRun):
     """A run accesses an address of no location, at this position."""
 
-    def __init__(self, position):
-        super().__init__()
-        self.position = position
-
 
 class ChoicesEnd(NoRun):
     """The choices are too few: a word for a load at this address comes next, or else success or failure, as can be."""
-
-    def __init__(self, address, results):
-        super().__init__()
-        self.address, self.results = address, results
 
 
 class Step:
@@ -736,7 +728,8 @@ def ends_over(test, hart, words, choices=()):
     except GoesAstray as astray:
         yield astray
     except ChoicesEnd as end:
-        for choice in end.results or sorted(words[end.address]):
+        address, results = end.args
+        for choice in results or sorted(words[address]):
             yield from ends_over(test, hart, words, choices + (choice,))
 
 

@@ -27,7 +27,7 @@ class Fault(Exception):
 def refuse_runs(test, words):
     """Raises the first fault of a hart whose loads take these words. Of runs no more is kept than where they end."""
     for hart in range(len(test.code)):
-        ends = [end.position if isinstance(end, model.GoesAstray) else None
+        ends = [end.args[0] if isinstance(end, model.GoesAstray) else None
                 for end in itertools.islice(model.ends_over(test, hart, words), MOST_RUNS + 1)]
         if len(ends) > MOST_RUNS:
             raise Fault('fault F13 TooManyTraces')
