@@ -96,12 +96,6 @@ def has_cycle(rows):
     return False
 
 
-def order_of(rows):
-    """An order of the numbers that goes the way of each edge. There must be no cycle."""
-    numbers = range(len(rows))
-    return graphlib.TopologicalSorter({b: [a for a in numbers if rows[a] >> b & 1] for b in numbers}).static_order()
-
-
 def rows_where(operations, is_edge):
     """A row for each of these operations, counted from 0. No edge enters an initial store: these are on no cycle."""
     return [sum(1 << at for at, b in enumerate(operations) if b is not a and is_edge(a, b)) for a in operations]
@@ -177,8 +171,9 @@ class Live:
 
     def witness(self, placement):
         """An execution under this placement, as a witness file has it."""
-        operations = self.candidate.operations
-        order = [operations.of_harts[number].name for number in order_of(self.under(placement))]
+        operations, rows = self.candidate.operations, self.under(placement)
+        before = {b: [a for a, row in enumerate(rows) if row >> b & 1] for b in range(len(rows))}
+        order = [operations.of_harts[number].name for number in graphlib.TopologicalSorter(before).static_order()]
         return {'choices': [list(run.choices) for run in operations.runs], 'order': order}
 
 
