@@ -63,19 +63,14 @@ ESCAPE = re.compile('%s%s|(?P<half>%s)|%s' % (HALF % '89abAB', HALF % 'c-fC-F', 
 """An escape of a JSON text: both halves of a surrogate pair, half of one by itself, or another."""
 
 
-def depth_of(text):
-    """How many lists and objects stand in one another in a JSON text."""
-    brackets = re.sub(r'"(?:[^"\\]|\\.)*"|[^][{}"]+|"', '', text, flags=re.DOTALL)
-    return max(itertools.accumulate(1 if bracket in '[{' else -1 for bracket in brackets), default=0)
-
-
 def json_of(data):
     """The value that these bytes write, RFC 8259 in UTF-8; of a doubled key the last one counts. Else a ValueError.
     Half a surrogate pair is no text, wherever it stands; Python would take it."""
     text = data.decode('utf-8')
     if any(escape['half'] for escape in ESCAPE.finditer(text)):
         raise ValueError('half a surrogate pair')
-    if depth_of(text) > 127:
+    brackets = re.sub(r'"(?:[^"\\]|\\.)*"|[^][{}"]+|"', '', text, flags=re.DOTALL)
+    if max(itertools.accumulate(1 if bracket in '[{' else -1 for bracket in brackets), default=0) > 127:
         raise ValueError('too deep')
     return json.loads(text, parse_int=number_of_json, parse_float=number_of_json, parse_constant=number_of_json)
 

@@ -126,21 +126,15 @@ def end_of(words, raw, said, error):
     return "" if is_right else f"status {status} with {said[:80]!r} and {error[:200]!r}"
 
 
-def complaint(wanted, found, limits):
-    """What is wrong with a run, or nothing."""
-    is_wanted = wanted == found.answer if isinstance(wanted, str) else wanted.fullmatch(found.answer)
-    wrong = [found.end, "" if found.end or is_wanted else f"{found.answer}, and {wanted} is wanted",
-             f"{found.seconds:.1f} seconds" if found.seconds > limits[0] else "",
-             f"{found.memory // 1_000_000} MB" if found.memory > limits[1] else ""]
-    return "; ".join(filter(None, wrong))
-
-
 def tally_of(runs, limits):
     """What came of runs, each a name, the answer that is wanted, and what was found."""
     count, failed, seconds, memory = 0, [], 0.0, 0
     for count, (name, wanted, found) in enumerate(runs, 1):
-        wrong = complaint(wanted, found, limits)
-        failed += [(name, wrong)] if wrong else []
+        is_wanted = wanted == found.answer if isinstance(wanted, str) else wanted.fullmatch(found.answer)
+        wrong = [found.end, "" if found.end or is_wanted else f"{found.answer}, and {wanted} is wanted",
+                 f"{found.seconds:.1f} seconds" if found.seconds > limits[0] else "",
+                 f"{found.memory // 1_000_000} MB" if found.memory > limits[1] else ""]
+        failed += [(name, "; ".join(filter(None, wrong)))] if any(wrong) else []
         seconds, memory = max(seconds, found.seconds), max(memory, found.memory)
     return Tally(count, failed, seconds, memory)
 

@@ -61,13 +61,6 @@ def is_left_well(said, words, path):
     return path not in words or said.status not in (0, 1)
 
 
-def count_requests(check, library, words, most):
-    """Looks whether a command line, which ends with status 0, makes no more requests than these."""
-    said, requests = refusing(library, [program(), *words], cwd=TOP)
-    is_right = said.status == 0 and 0 < requests <= most
-    check(f"{' '.join(words)}: at most {most} requests", is_right, f"{requests}, and status {said.status}")
-
-
 def refuse(check, library, words, status, is_together):
     """Refuses each request of a command line in turn. With several threads the number of a request, and of all, differs
     from run to run: so each is then refused up to the most that any run has made, and some more."""
@@ -140,8 +133,10 @@ def try_part(check, library, part):
 def check(run):
     library = compiled("checks/refuse.c", run.folder, "-shared", "-fPIC")
     for way, number, *words in map(str.split, rows("refused")):
-        if way == "most":
-            count_requests(run.check, library, words, int(number))
+        if way == "most":                       # it ends with status 0, and makes no more requests than these
+            said, requests = refusing(library, [program(), *words], cwd=TOP)
+            is_right = said.status == 0 and 0 < requests <= int(number)
+            run.check(f"{' '.join(words)}: at most {number} requests", is_right, f"{requests}, status {said.status}")
         else:
             refuse(run.check, library, words, int(number), way == "together")
     if run.options.quick and not are_built():
