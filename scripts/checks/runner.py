@@ -141,7 +141,7 @@ def run_gate(of_gate, of_program, report):
     """Runs the steps of the gate one after another, and those of the program: beside them where the one in bin/ is of
     the sources as they are, since the gate holds it against what it builds, else when they have ended. Returns the
     program that was looked at."""
-    # as many proofs side by side as in a build (by itself rt leaves processors idle, for want of memory)
+    # as many proofs at once as in a build (rt reckons with more memory than they take, and leaves processors idle)
     os.environ.setdefault("RT_JOBS", ran(["bash", "-c", f". {TOP}/scripts/build.sh && jobs_at_once"]).out.strip())
     program = program_to_check(False)
     if os.path.dirname(program) == f"{TOP}/bin":
