@@ -68,8 +68,6 @@ def test_of(name, lines, outcome, words=''):
     return test_text(name, entries, [hart.cells for hart in harts], f'exists {outcome}'), fences
 
 
-# --- Tests that grow ---------------------------------------------------------------------------------------------
-
 def number(text, sizes):
     """A number that is written with the sizes: `3`, `n`, `n-1` or `2n`."""
     times, size, more = re.fullmatch(r'(\d*)([ns]?)([-+]\d+)?', text).groups()
@@ -101,11 +99,6 @@ def expanded(text, sizes):
     return re.sub(r'(some|every|two|)«(.*?)(?:;([^;»]*))?»', each, text)
 
 
-def sizes_of(text):
-    """The sizes of a test: a range, or numbers."""
-    return numbers(text, {}) if '..' in text else map(int, text.split(','))
-
-
 def of_table(name):
     """The tests of a stored table, and the lines of their fences, by their names."""
     found = {}
@@ -113,7 +106,8 @@ def of_table(name):
     for title, block in re.findall(r'(?m)^## (.+)\n((?:.+\n)+)', table):
         kind, *ranges = title.split()
         lines = [line for line in block.splitlines() if not line.startswith('# ')]
-        for each in itertools.product(*map(sizes_of, ranges)):
+        sizes = [numbers(it, {}) if '..' in it else map(int, it.split(',')) for it in ranges]
+        for each in itertools.product(*sizes):
             sizes, title = dict(zip('ns', each)), '-'.join([kind, *map(str, each)])
             words, *harts, outcome = [expanded(line, sizes) for line in lines]
             parts = [hart.split(': ', 1) for hart in harts]
@@ -126,8 +120,6 @@ def families():
     """The texts of all tests that grow, by their names."""
     return {name: text for name, (text, _) in of_table('grown').items()}
 
-
-# --- Tests whose search takes long -------------------------------------------------------------------------------
 
 def at_least(count, atoms):
     """That so many of these are true."""
@@ -157,8 +149,6 @@ def long_searches():
                (4, 3, 4), (4, 3, 8), (4, 3, 12)]
     return {name: grown[name] for name in names} | {'votes-%d-%d-%d' % each: votes(*each) for each in numbers}
 
-
-# --- Large files -------------------------------------------------------------------------------------------------
 
 PARTS = {'⏎': '\n', 'HEAD': 'RISCV T\n', 'BODY': '{ 0:x6=x; }\nP0 ;\nlw x5,0(x6) ;\n', 'TAIL': 'exists (0:x5=0)\n'}
 TINY = PARTS['HEAD'] + PARTS['BODY'] + PARTS['TAIL']

@@ -63,19 +63,14 @@ ESCAPE = re.compile('%s%s|(?P<half>%s)|%s' % (HALF % '89abAB', HALF % 'c-fC-F', 
 """An escape of a JSON text: both halves of a surrogate pair, half of one by itself, or another."""
 
 
-def depth_of(text):
-    """How many lists and objects stand in one another in a JSON text."""
-    brackets = re.sub(r'"(?:[^"\\]|\\.)*"|[^][{}"]+|"', '', text, flags=re.DOTALL)
-    return max(itertools.accumulate(1 if bracket in '[{' else -1 for bracket in brackets), default=0)
-
-
 def json_of(data):
     """The value that these bytes write, RFC 8259 in UTF-8; of a doubled key the last one counts. Else a ValueError.
     Half a surrogate pair is no text, wherever it stands; Python would take it."""
     text = data.decode('utf-8')
     if any(escape['half'] for escape in ESCAPE.finditer(text)):
         raise ValueError('half a surrogate pair')
-    if depth_of(text) > 127:
+    brackets = re.sub(r'"(?:[^"\\]|\\.)*"|[^][{}"]+|"', '', text, flags=re.DOTALL)
+    if max(itertools.accumulate(1 if bracket in '[{' else -1 for bracket in brackets), default=0) > 127:
         raise ValueError('too deep')
     return json.loads(text, parse_int=number_of_json, parse_float=number_of_json, parse_constant=number_of_json)
 
@@ -288,8 +283,7 @@ def joined(stack, right, signs):
 
 
 class TestReader:
-    """Reads a test from first to last, by its tokens. Where the form breaks, that is its fault; else the least of those
-    noted is."""
+    """Reads a test by its tokens. Where the form breaks, that is its fault; else the least of those noted is."""
 
     def __init__(self, text, line, last):
         self.words, self.lines = [], []         # the tokens, and the line of each
@@ -603,17 +597,9 @@ class NoRun(Exception):
 class GoesAstray(NoRun):
     """A run accesses an address of no location, at this position."""
 
-    def __init__(self, position):
-        super().__init__()
-        self.position = position
-
 
 class ChoicesEnd(NoRun):
     """The choices are too few: a word for a load at this address comes next, or else success or failure, as can be."""
-
-    def __init__(self, address, results):
-        super().__init__()
-        self.address, self.results = address, results
 
 
 class Step:
@@ -737,7 +723,8 @@ def ends_over(test, hart, words, choices=()):
     except GoesAstray as astray:
         yield astray
     except ChoicesEnd as end:
-        for choice in end.results or sorted(words[end.address]):
+        address, results = end.args
+        for choice in results or sorted(words[address]):
             yield from ends_over(test, hart, words, choices + (choice,))
 
 
@@ -811,75 +798,55 @@ def runs_slot_between(slot, a, b):
                                      for step in a.run.steps)
 
 
+def is_fenced(preserved, a, b):
+    """Is there a fence between them that orders them: a written one, or a placed one?"""
+    written = any(step.instruction.form == 'fence' and orders(step.instruction.pairs, a, b) for step in between(a, b))
+    return written or any(orders(pairs, a, b) and runs_slot_between(slot, a, b) for slot, pairs in preserved.placed)
+
+
+RULES = [
+    # 1: overlapping addresses: a store comes after what accesses its word before
+    lambda preserved, a, b: b.stores and a.address == b.address,
+    # 2: two loads of a word, no store to it between them, from different sources
+    lambda preserved, a, b: (a.loads and b.loads and a.address == b.address
+                             and preserved.rf[a] is not preserved.rf[b]
+                             and not any(m.stores and m.address == a.address for m in between(a, b))),
+    # 3: a load returns what an AMO or sc.w stored
+    lambda preserved, a, b: a.instruction.form in ('amo', 'sc') and b.loads and preserved.rf[b] is a,
+    is_fenced,
+    # 5 to 7: annotations; in the last both are RCsc
+    lambda preserved, a, b: a.is_acquire(),
+    lambda preserved, a, b: b.is_release(),
+    lambda preserved, a, b: (a.is_acquire() or a.is_release()) and (b.is_acquire() or b.is_release()),
+    # 8: a is paired with b
+    lambda preserved, a, b: (a, b) in a.run.pairs,
+    # 9 and 10: by address and by data
+    lambda preserved, a, b: b.address_depends(a),
+    lambda preserved, a, b: b.data_depends(a),
+    # 11: b is a store, and a conditional branch between them depends on a
+    lambda preserved, a, b: b.stores and any(
+        step.instruction.form == 'branch' and step.depends(a, *step.instruction.plain) for step in between(a, b)),
+    # 12: b returns what a store m between them stored, and m depends on a by its address or data
+    lambda preserved, a, b: b.loads and any(
+        m is preserved.rf[b] and (m.address_depends(a) or m.data_depends(a)) for m in between(a, b)),
+    # 13: b is a store, and the address of an instruction between them depends on a
+    lambda preserved, a, b: b.stores and any(step.address_depends(a) for step in between(a, b)),
+]
+
+
 class Preserved:
     """The thirteen rules, for a source of each load (`rf`) and a placement."""
 
     def __init__(self, rf, slots, placement):
         self.rf = rf
         self.placed = [(slot, PAIRS[kind]) for slot, kind in zip(slots, placement) if kind is not None]
-        self.rules = [getattr(self, 'rule_%d' % number) for number in range(1, 14)]
 
     def rule(self, number, a, b):
         """Does this rule put a before b?"""
-        return po(a, b) and self.rules[number - 1](a, b)
+        return po(a, b) and RULES[number - 1](self, a, b)
 
     def ppo(self, a, b):
-        return po(a, b) and any(rule(a, b) for rule in self.rules)
-
-    def rule_1(self, a, b):
-        """Overlapping addresses: a store comes after what accesses its word before."""
-        return b.stores and a.address == b.address
-
-    def rule_2(self, a, b):
-        """Two loads of a word, no store to it between them, from different sources."""
-        return (a.loads and b.loads and a.address == b.address and self.rf[a] is not self.rf[b]
-                and not any(m.stores and m.address == a.address for m in between(a, b)))
-
-    def rule_3(self, a, b):
-        """A load returns what an AMO or sc.w stored."""
-        return a.instruction.form in ('amo', 'sc') and b.loads and self.rf[b] is a
-
-    def rule_4(self, a, b):
-        """A fence between them: a written one, or a placed one."""
-        written = any(step.instruction.form == 'fence' and orders(step.instruction.pairs, a, b)
-                      for step in between(a, b))
-        return written or any(orders(pairs, a, b) and runs_slot_between(slot, a, b) for slot, pairs in self.placed)
-
-    def rule_5(self, a, b):
-        return a.is_acquire()
-
-    def rule_6(self, a, b):
-        return b.is_release()
-
-    def rule_7(self, a, b):
-        """Both have RCsc annotations."""
-        return (a.is_acquire() or a.is_release()) and (b.is_acquire() or b.is_release())
-
-    def rule_8(self, a, b):
-        """a is paired with b."""
-        return (a, b) in a.run.pairs
-
-    def rule_9(self, a, b):
-        return b.address_depends(a)
-
-    def rule_10(self, a, b):
-        return b.data_depends(a)
-
-    def rule_11(self, a, b):
-        """b is a store, and a conditional branch between them depends on a."""
-        return b.stores and any(step.instruction.form == 'branch' and step.depends(a, *step.instruction.plain)
-                                  for step in between(a, b))
-
-    def rule_12(self, a, b):
-        """b returns what a store m between them stored, and m depends on a by its address or data."""
-        if not b.loads:
-            return False
-        m = self.rf[b]
-        return po(a, m) and po(m, b) and (m.address_depends(a) or m.data_depends(a))
-
-    def rule_13(self, a, b):
-        """b is a store, and the address of an instruction between them depends on a."""
-        return b.stores and any(step.address_depends(a) for step in between(a, b))
+        return po(a, b) and any(rule(self, a, b) for rule in RULES)
 
 
 # --- Candidates that show the outcome (MODEL 15) -----------------------------------------------------------------

@@ -159,12 +159,6 @@ def contract_of(path, function):
     return named or sys.exit(f"definitions: {file} has no contract of {function}")
 
 
-def size(node):
-    """How many lines a definition has, or a type."""
-    file, name = node
-    return len(type_lines(file, name) if file.endswith(".rt") else items_of(file)[1][name])
-
-
 def needed_by(name):
     """All definitions and types that the contracts of this name rest on, or the definitions in `MEANINGS`."""
     if name in MEANINGS:
@@ -178,7 +172,8 @@ def all_needed(names):
 
 
 def size_of(nodes):
-    return sum(map(size, nodes))
+    """How many lines definitions and types have."""
+    return sum(len(type_lines(*it) if it[0].endswith(".rt") else items_of(it[0])[1][it[1]]) for it in nodes)
 
 
 def lines_by_file(nodes):

@@ -136,8 +136,7 @@ class Maker:
         return {key: prices[key] for key in sorted(prices)}
 
     def make(self):
-        """The bytes of a test and of prices. Most tests have final states that are there without fences and not with
-        all."""
+        """The bytes of a test and of prices. Most have final states that are there without fences and not with all."""
         tries = self.chance.choice([1, 20, 20, 20])
         while True:
             codes = self.codes()

@@ -1,9 +1,10 @@
 """Runs the program, and other commands, for the checks from outside and the benches: with a limit of processor time,
 standard input, files and limits on what a run may use, and many side by side. What else the machine does takes no
-processor time of a run, so no check fails by it."""
+processor time of a run, so no check fails by it. And counts what passed and what failed."""
 import collections
 import concurrent.futures
 import contextlib
+import difflib
 import functools
 import json
 import os
@@ -14,6 +15,7 @@ import signal
 import subprocess
 import sys
 import tempfile
+import threading
 
 TOP = os.path.dirname(os.path.dirname(os.path.realpath(__file__)))
 EXAMPLES = f"{TOP}/examples"
@@ -22,6 +24,7 @@ PRICE_LISTS = ["prices.json", "prices-linux.json", "prices-all.json"]
 LONGEST = 60                        # seconds of processor time that a run may take
 HANGING = 30                        # it is waited for so many times as long by the clock, in case it takes none
 NO_END = 124                        # the status of a run that took longer, as of `timeout`
+LONGEST_LINE = 400                  # of what a check that failed shows
 
 # What a run prints on its outputs, as text, and its status, which is negative where a signal ended it. Bytes that
 # aren't UTF-8 are kept.
@@ -132,17 +135,15 @@ def rows(name, group=""):
     return [line for line in text.split("\n") if line and not line.startswith("#")]
 
 
-def repeated(found):
-    """What stands for a text and how many times it comes."""
-    text, count = found[1], int(found[2])
-    if "#" in text or "§" in text:
-        return "".join(text.replace("#", str(at)).replace("§", f"{at:x}") for at in range(count))
-    return text * count
-
-
 def expanded(text):
     """The text of a row: «TEXT×N» is TEXT N times, in which # and § are the number of the time, from 0, in decimal and
     hexadecimal digits; ⏎ is a line end, and ␍ a return."""
+    def repeated(found):
+        text, count = found[1], int(found[2])
+        if "#" in text or "§" in text:
+            return "".join(text.replace("#", str(at)).replace("§", f"{at:x}") for at in range(count))
+        return text * count
+
     return re.sub("«(.*?)×([0-9]+)»", repeated, text.replace("⏎", "\n").replace("␍", "\r"), flags=re.S)
 
 
@@ -185,3 +186,51 @@ def stored_answers(command):
     """The transcripts of examples/answers/ of this command, by the words behind it."""
     blocks = text_of(f"{EXAMPLES}/answers/{command}.transcripts").split(f"$ rvfence {command} ")[1:]
     return {tuple(words.split()): rest for words, rest in (it.removesuffix("\n\n").split("\n", 1) for it in blocks)}
+
+
+class Counts:
+    """What passed and what failed, which threads may count at once. Of the checks that fail the first are shown."""
+
+    def __init__(self, most_shown=40):
+        self.lock = threading.Lock()
+        self.most_shown = most_shown
+        self.passed = self.failed = 0
+
+    def check(self, name, is_right, found=""):
+        """Counts a check; where it isn't right, `found` says why not."""
+        with self.lock:
+            self.passed += bool(is_right)
+            self.failed += not is_right
+            if not is_right and self.failed <= self.most_shown:
+                print(f"FAILED {name}{': ' if found else ''}{found}", flush=True)
+        return bool(is_right)
+
+    def expect(self, name, wanted, found):
+        """Counts a check that passes where the two are the same."""
+        return self.check(name, wanted == found, "" if wanted == found else difference(wanted, found))
+
+    def end(self):
+        """Prints the last line, and gives the exit status: 0 only where there was a check, and all passed."""
+        print(f"{self.passed} passed, {self.failed} failed", flush=True)
+        return 0 if self.passed and not self.failed else 1
+
+
+def shown(value):
+    """The value in few letters."""
+    text = repr(value)
+    return text if len(text) < LONGEST_LINE else f"{text[:LONGEST_LINE // 2]} .. {text[-LONGEST_LINE // 4:]}"
+
+
+def difference(wanted, found):
+    """What is wanted and what was found: of texts of several lines, those that differ."""
+    if not (isinstance(wanted, str) and isinstance(found, str) and "\n" in wanted + found):
+        return f"{shown(found)}, and {shown(wanted)} is wanted"
+    lines = difflib.ndiff(wanted.splitlines(), found.splitlines())
+    changed = [f"    {line[:LONGEST_LINE]}" for line in lines if line[0] in "-+"]
+    return "\n".join(["- is wanted, + was found", *changed[:40]])
+
+
+def usage(text):
+    """Ends the run, which was called with other words than it takes."""
+    print(f"usage: {text}", file=sys.stderr)
+    sys.exit(2)

@@ -27,7 +27,7 @@ class Fault(Exception):
 def refuse_runs(test, words):
     """Raises the first fault of a hart whose loads take these words. Of runs no more is kept than where they end."""
     for hart in range(len(test.code)):
-        ends = [end.position if isinstance(end, model.GoesAstray) else None
+        ends = [end.args[0] if isinstance(end, model.GoesAstray) else None
                 for end in itertools.islice(model.ends_over(test, hart, words), MOST_RUNS + 1)]
         if len(ends) > MOST_RUNS:
             raise Fault('fault F13 TooManyTraces')
@@ -96,12 +96,6 @@ def has_cycle(rows):
     return False
 
 
-def order_of(rows):
-    """An order of the numbers that goes the way of each edge. There must be no cycle."""
-    numbers = range(len(rows))
-    return graphlib.TopologicalSorter({b: [a for a in numbers if rows[a] >> b & 1] for b in numbers}).static_order()
-
-
 def rows_where(operations, is_edge):
     """A row for each of these operations, counted from 0. No edge enters an initial store: these are on no cycle."""
     return [sum(1 << at for at, b in enumerate(operations) if b is not a and is_edge(a, b)) for a in operations]
@@ -115,8 +109,7 @@ OTHER_RULES = (1, 4, 5, 6, 7, 8, 9, 10, 11, 13)
 
 class Fences:
     """What the runs alone decide: the edges of the rules that look at no source, and those of a fence at each slot.
-    Both are within a hart, so they are worked out once for each run; `known` has them, with the hart's operations
-    counted from 0."""
+    `known` has both, which are within a hart, for each run, with its operations counted from 0."""
 
     def __init__(self, operations, slots, known):
         size = len(operations.of_harts)
@@ -178,8 +171,9 @@ class Live:
 
     def witness(self, placement):
         """An execution under this placement, as a witness file has it."""
-        operations = self.candidate.operations
-        order = [operations.of_harts[number].name for number in order_of(self.under(placement))]
+        operations, rows = self.candidate.operations, self.under(placement)
+        before = {b: [a for a, row in enumerate(rows) if row >> b & 1] for b in range(len(rows))}
+        order = [operations.of_harts[number].name for number in graphlib.TopologicalSorter(before).static_order()]
         return {'choices': [list(run.choices) for run in operations.runs], 'order': order}
 
 

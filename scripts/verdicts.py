@@ -89,8 +89,7 @@ def stores_of(run):
 
 
 def is_vacuous(test):
-    """Is there no last word for each location, one that some runs store there or else the one that it begins with, so
-    that with these runs the outcome is true?"""
+    """Is the outcome true with no runs and last words, which these runs store, or else the location begins with?"""
     ends = [{(tuple(run.registers), stores_of(run)) for run in runs} for runs in runs_of(test)]
     for each in itertools.product(*ends):
         registers, stored = [end for end, _ in each], frozenset().union(*[stores for _, stores in each])
@@ -162,13 +161,10 @@ class Listing(Shown):
 
     def states(self, placement):
         """The final states of the executions with these fences."""
-        def word_of(candidate, place):
-            if type(place) is int:
-                return last_word(candidate, place)
-            return candidate.operations.runs[place[0]].registers[place[1]]
-
-        return sorted({tuple(word_of(live.candidate, place) for place in self.places)
-                       for live in self.live if live.survives(placement)})
+        candidates = [live.candidate for live in self.live if live.survives(placement)]
+        return sorted({tuple(last_word(each, place) if type(place) is int
+                             else each.operations.runs[place[0]].registers[place[1]] for place in self.places)
+                       for each in candidates})
 
     def answer(self, placement, printed):
         """What `states` is to say of the test with these fences, which is printed so (docs/FORMAT.md, section 15)."""

@@ -38,8 +38,6 @@ def asked(command, *words):
     return rvfence(command, '-q', *words, cwd=EXAMPLES)
 
 
-# --- Answers by another way --------------------------------------------------------------------------------------
-
 def by_certificate(test, prices):
     """The program's answer, where scripts/check_certificate.py says yes to its certificate."""
     with tempfile.TemporaryDirectory() as folder:
@@ -73,8 +71,6 @@ def by_reference(command, *words):
         return Said('', f'{fault}\n', 2)
     return listing.answer((None,) * len(listing.test.slots()), asked('place', *words).out)
 
-
-# --- Files -------------------------------------------------------------------------------------------------------
 
 def shown(said):
     """The transcript of an answer, without the execution beside `none`."""

@@ -28,12 +28,6 @@ def places_in(value):
         yield from places_in(value[key])
 
 
-def begins_at_least(cycle):
-    """Does the cycle begin at its least operation, by hart and then by instruction?"""
-    names = [tuple(map(int, name[1:].split(':'))) for name, _ in cycle]
-    return names[0] == min(names)
-
-
 def kind_of(value):
     """Values of one kind stand for one another: of texts names, fences, letters and causes are kinds."""
     return type(value), isinstance(value, str) and (':' in value, '=' in value, len(value) == 1)
@@ -92,8 +86,9 @@ def certified(run):
         judge, wanted = Judge(test, prices), Said(f'yes\n{said.out}', '', 0)
         judge_both(run, what, (test, prices, path), judge, wanted)
         cert = json.loads(read(path))
-        cycles = [item for item in cert['cycles'] if type(item[0]) is list]
-        late = [cycle for cycle in cycles if not begins_at_least(cycle)]
+        cycles = [[tuple(map(int, name[1:].split(':'))) for name, _ in item]        # by hart and instruction
+                  for item in cert['cycles'] if type(item[0]) is list]
+        late = [cycle for cycle in cycles if cycle[0] != min(cycle)]
         run.expect(f'cycles that begin after their least operation, {what}', [], late)
         found.append((what, test, prices, judge, cert))
         if name == 'prices.json':

@@ -1,9 +1,8 @@
 """Compares `rvfence solve` with scripts/solve_reference.py on known tests at lists of a few kinds, by
 scripts/transcripts/known.table, and on the tests and price lists that scripts/litmus.py makes.
 
-With 1, 4 and 16 workers it must print the same bytes, and write the same certificate beside an answer, to which `check`
-says yes. (In no test do others join the first worker; crates/fs_tests_search has such.) What differs is printed with the
-test."""
+With 1, 4 and 16 workers it must print the same bytes, and beside an answer write the same certificate, to which `check`
+says yes. (In no test do others join the first worker; crates/fs_tests_search has such.)"""
 import itertools
 import os
 
@@ -12,19 +11,6 @@ import solve_reference as reference
 from litmus import Maker
 from running import EXAMPLES, read, rows, rvfence, written
 from verdicts import is_same
-
-
-def compare_workers(run, name, files, found):
-    """Compares what is said by so many workers with this, and their certificates."""
-    certificates, path = set(), run.path("certificate.json")
-    for workers in ("1", "4", "16"):
-        said = rvfence("solve", "-q", *files, "--workers", workers, "--cert", path)
-        run.expect(f"{name} by {workers} workers", found, said)
-        if os.path.exists(path):
-            certificates.add(read(path))
-            run.expect(f"the certificate of {name}", (f"yes\n{found.out}", "", 0), rvfence("check", *files, path))
-            os.remove(path)
-    run.expect(f"how many certificates {name} has", int(found.status < 2), len(certificates))
 
 
 def compare(run, name, data, prices):
@@ -36,7 +22,15 @@ def compare(run, name, data, prices):
     run.kinds[f"fenced by {out.count('fence ')}" if first.startswith("fenced") else first.split(" {")[0]] += 1
     texts = [data.decode(), prices.decode(), f"\nwanted: {wanted}", f"\nfound:  {found}"]
     run.check(name, is_same(test, wanted, found), "".join(texts))
-    compare_workers(run, name, files, found)
+    certificates, path = set(), run.path("certificate.json")
+    for workers in ("1", "4", "16"):
+        said = rvfence("solve", "-q", *files, "--workers", workers, "--cert", path)
+        run.expect(f"{name} by {workers} workers", found, said)
+        if os.path.exists(path):
+            certificates.add(read(path))
+            run.expect(f"the certificate of {name}", (f"yes\n{found.out}", "", 0), rvfence("check", *files, path))
+            os.remove(path)
+    run.expect(f"how many certificates {name} has", int(found.status < 2), len(certificates))
 
 
 def check(run):

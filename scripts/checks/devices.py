@@ -2,9 +2,9 @@
 are interrupted; and where two runs at once write one certificate, each held at each of its calls (by hinder.c).
 
 What can't be read is F20 and what can't be written F21, with status 2, and of F20 a line says which file it is, and
-why; what is on standard output is a beginning of the answer; status 0 or 1 comes only where the whole answer was
-written. No signal ends a run where a file may not grow further. A certificate stands under its name whole or not at
-all, with the mode of what was there; what was there stays where it can't be written, and so does each other file."""
+why; on standard output is a beginning of the answer; status 0 or 1 comes only where all was written. No signal ends a
+run where a file may not grow further. A certificate stands under its name whole or not at all, with the mode of what
+was there; that stays where it can't be written, and so does each other file."""
 import contextlib
 import errno
 import itertools
@@ -24,7 +24,7 @@ UNWRITTEN = Said("", "fault F21 WriteFault\n", 2)
 OLD = b"old"
 NOBODY = 65534
 STREAMS = [[0], [1], [2], [0, 1], [0, 2], [1, 2], [0, 1, 2]]
-# Store buffering in the printed form, an execution of it, and its answer.
+# store buffering in the printed form, an execution of it, and its answer
 SB = text_of(f"{transcripts.FOLDER}/files/printed.litmus")
 SB_WITNESS = '{"choices":[[0],[0]],"order":["P0:1","P1:1","P0:0","P1:0"]}'
 SB_ANSWER = Said("fenced 18\nfence P0 1 w,r\nfence P1 1 w,r\n", "", 0)
@@ -69,10 +69,9 @@ class Checks:
 def folder_with(checks, kept):
     """A folder in which this is kept where a certificate is to be written, if anything is; and that path."""
     with tempfile.TemporaryDirectory(dir=checks.folder) as folder:
-        path = f"{folder}/kept.json"
         if kept is not None:
-            written(path, kept)
-        yield folder, path
+            written(f"{folder}/kept.json", kept)
+        yield folder, f"{folder}/kept.json"
 
 
 def before(*closed, size=None, is_ignored=True):
@@ -89,11 +88,8 @@ def before(*closed, size=None, is_ignored=True):
     return prepare
 
 
-# --- Readers ---------------------------------------------------------------------------------------------------------
-
 def check_readers(checks):
-    """Each file of each command in turn is one that fails: missing, a folder, a device whose reads fail, and one that
-    may not be read."""
+    """Each file of each command in turn is missing, a folder, a device whose reads fail, or may not be read."""
     locked = written(f"{checks.folder}/locked", "RISCV T\n")
     os.chmod(locked, 0)
     others = {"user": NOBODY, "group": NOBODY, "extra_groups": []} if os.geteuid() == 0 else {}
@@ -112,8 +108,7 @@ def check_readers(checks):
 
 
 def check_inputs(checks):
-    """Standard input that is closed, a folder, open for writing alone, or a connection that breaks behind some bytes,
-    in place of their end."""
+    """Standard input that is closed, a folder, open for writing alone, or a connection that breaks before its end."""
     for command, (words, _) in checks.commands.items():
         words = [words[0], "stdin", *words[2:]]
         failed = unread("stdin", UNREAD)
@@ -129,11 +124,8 @@ def check_inputs(checks):
             checks.expect(f"{command}: a connection that breaks after {size} bytes", failed, found)
 
 
-# --- Standard output -------------------------------------------------------------------------------------------------
-
 def check_outputs(checks):
-    """Standard output that is closed, full, open for reading alone, or a pipe that nobody reads; and one that takes
-    some bytes."""
+    """Standard output that is closed, full, open for reading alone, a pipe that nobody reads, or takes some bytes."""
     for command, (words, answer) in checks.commands.items():
         checks.expect(f"{command}: all is well", answer, checks.run(words))
         checks.expect(f"{command}: standard output is closed", UNWRITTEN, checks.run(words, preexec_fn=before(1)))
@@ -171,13 +163,10 @@ def check_errors(checks):
         checks.check(f"standard error takes {size} bytes, ignored: {is_ignored}", is_right, (found, wanted))
 
 
-# --- Certificates ----------------------------------------------------------------------------------------------------
-
 def check_certificates(checks):
-    """A certificate on a disk that takes each number of bytes and no more, where that is a write that fails and where
-    it is a signal: what was there stays, and where nothing was, nothing is. With room for all it is there. The same
-    where streams are closed, so that the certificate is opened under the number of one of them: neither the answer nor
-    a fault's line comes into it, and the status tells."""
+    """A certificate on a disk that takes each number of bytes and no more, by a write that fails and by a signal: what
+    was there stays, if anything. With room for all it is there. The same where streams are closed, so that it is opened
+    under the number of one of them: neither the answer nor a fault's line comes into it, and the status tells."""
     whole = read(checks.certificate)
     for size, kept, is_ignored in itertools.product(range(len(whole) + 1), (OLD, None), (True, False)):
         wanted = (SB_ANSWER, whole) if size == len(whole) else (UNWRITTEN, kept)
@@ -199,8 +188,6 @@ def certified(checks, kept, size, is_ignored, closed=()):
         beside = [name for name in os.listdir(folder) if name != "kept.json"]
         return found, beside or (read(path) if os.path.exists(path) else None)
 
-
-# --- Two runs at once, and calls that are interrupted ----------------------------------------------------------------
 
 # each call of a run at the file that it writes, and at one beside it
 HELD = ["statx", "open", "write", "rename", "unlink"]
@@ -250,8 +237,8 @@ def check_two_runs(checks):
 
 
 def check_ended_runs(checks):
-    """A run that a signal ends at each of its calls leaves what was there, or the whole; and one file beside it at
-    most, which no later run minds."""
+    """A run that a signal ends at a call leaves what was there, or the whole, and at most a file that no later run
+    minds."""
     whole = read(checks.certificate)
     for call, kept, number in itertools.product(HELD, (OLD, None), (signal.SIGTERM, signal.SIGKILL)):
         with folder_with(checks, kept) as (folder, path):
@@ -267,8 +254,8 @@ def check_ended_runs(checks):
 
 
 def check_modes(checks):
-    """A certificate has the mode of the file that it replaces, from the first moment on; else that of a new file. So
-    it is where a mode can't be given, too."""
+    """A certificate has the mode of the file that it replaces, from the first moment on, else that of a new file; where
+    a mode can't be given, too."""
     whole = read(checks.certificate)
 
     def mode_of(path):
@@ -300,8 +287,7 @@ def check_modes(checks):
 
 
 def hindering(checks, call, error, count=1000, name=""):
-    """The settings of a run in which the first so many of these calls fail with this error, those at files of this
-    name."""
+    """The settings of a run in which the first so many of these calls, at files of this name, fail with this error."""
     return {**os.environ, "HINDER_CALL": call, "HINDER_ERROR": str(error), "HINDER_COUNT": str(count),
             "HINDER_NAME": name, "LD_PRELOAD": checks.hinder}
 

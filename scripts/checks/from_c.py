@@ -44,12 +44,6 @@ def check_printed(run):
         run.expect(code, wanted, "; ".join(filter(None, (row.split("|")[at].strip() for row in cells))))
 
 
-def check_refused(run, data, wanted):
-    said = ran([f"{TOP}/scripts/from-c", "-"], stdin=data)
-    why = said.err.removeprefix("scripts/from-c: -:").strip()
-    run.check(f"{data!r} is refused", why.startswith(wanted) and said[::2] == ("", 2), said)
-
-
 def check_changed(run, number):
     """An example of which some bytes are changed."""
     chance = random.Random(f"from-c {number}")
@@ -69,5 +63,7 @@ def check(run):
     check_printed(run)
     files = [(f"{HEAD}{code}}}\nexists (true)", wanted) for code, wanted in pairs("refused")]
     for data, wanted in [*files, *pairs("refused files"), (b"\xff", "'utf-8'")]:
-        check_refused(run, data, wanted)
+        said = ran([f"{TOP}/scripts/from-c", "-"], stdin=data)
+        why = said.err.removeprefix("scripts/from-c: -:").strip()
+        run.check(f"{data!r} is refused", why.startswith(wanted) and said[::2] == ("", 2), said)
     side_by_side(lambda number: check_changed(run, number), range(CHANGED))

@@ -59,8 +59,7 @@ class Runner:
         signal.signal(signal.SIGALRM, lambda *_: os.kill(self.child, signal.SIGKILL))
 
     def run(self, text, words):
-        """A run with this standard input and these words. Its answer is the line of its fault, or what it says, and of
-        `place` READ."""
+        """A run with this input and words. Its answer is its fault's line, what it says, or of `place` READ."""
         flags = [os.O_RDONLY, *[os.O_WRONLY | os.O_CREAT | os.O_TRUNC] * 2]
         actions = [(os.POSIX_SPAWN_OPEN, at, self.paths[at], flags[at], 0o600) for at in range(3)]
         written(self.paths[0], text)
@@ -86,8 +85,7 @@ def answer_of(command, said, error):
 
 
 def is_message(fault, text):
-    """Is the text a message of the fault whose line this is (docs/FORMAT.md, section 14)? Where the line has a number,
-    so has the place."""
+    """Is the text a message of this fault (docs/FORMAT.md, section 14)? Where a line has a number, so has the place."""
     if fault == b"fault F20 ReadFault":
         return SAID["unread"].fullmatch(text)
     line = re.search(rb" line (\d+)$", fault)
@@ -128,21 +126,15 @@ def end_of(words, raw, said, error):
     return "" if is_right else f"status {status} with {said[:80]!r} and {error[:200]!r}"
 
 
-def complaint(wanted, found, limits):
-    """What is wrong with a run, or nothing."""
-    is_wanted = wanted == found.answer if isinstance(wanted, str) else wanted.fullmatch(found.answer)
-    wrong = [found.end, "" if found.end or is_wanted else f"{found.answer}, and {wanted} is wanted",
-             f"{found.seconds:.1f} seconds" if found.seconds > limits[0] else "",
-             f"{found.memory // 1_000_000} MB" if found.memory > limits[1] else ""]
-    return "; ".join(filter(None, wrong))
-
-
 def tally_of(runs, limits):
     """What came of runs, each a name, the answer that is wanted, and what was found."""
     count, failed, seconds, memory = 0, [], 0.0, 0
     for count, (name, wanted, found) in enumerate(runs, 1):
-        wrong = complaint(wanted, found, limits)
-        failed += [(name, wrong)] if wrong else []
+        is_wanted = wanted == found.answer if isinstance(wanted, str) else wanted.fullmatch(found.answer)
+        wrong = [found.end, "" if found.end or is_wanted else f"{found.answer}, and {wanted} is wanted",
+                 f"{found.seconds:.1f} seconds" if found.seconds > limits[0] else "",
+                 f"{found.memory // 1_000_000} MB" if found.memory > limits[1] else ""]
+        failed += [(name, "; ".join(filter(None, wrong)))] if any(wrong) else []
         seconds, memory = max(seconds, found.seconds), max(memory, found.memory)
     return Tally(count, failed, seconds, memory)
 

@@ -210,8 +210,7 @@ PLACES = {name: (before.encode(), after.encode()) for name, before, after
 
 
 def floods():
-    """A mebibyte of each sign of the table: bare; after a good beginning, to the end; and after a good beginning and
-    before what ends the test well."""
+    """A mebibyte of each sign of the table: bare; after a good beginning; and between that and a good end."""
     for line in rows("hostile", "floods"):
         escaped, *answers = map(str.strip, line.split(" | "))
         sign = escaped.encode().decode("unicode_escape").encode("latin-1")
@@ -251,8 +250,7 @@ def noise():
 
 
 def samples():
-    """Tests for the commands that read them as `place` does: every beginning of MP, MP with some bytes changed,
-    floods and noise, and sizes."""
+    """Tests for the commands that read them as `place` does: some of each kind."""
     yield from (case for case in beginnings() if case[0].endswith(" of MP.litmus"))
     yield from itertools.islice(bytes_changed(), 0, None, 7)
     yield from itertools.islice(tokens_changed(), 0, None, 7)
@@ -298,8 +296,7 @@ def values_changed(whole):
 
 
 def parts_changed(value, mark, place="all"):
-    """The value with the mark in place of itself and of each of its parts, and with an entry less or more, each with
-    a name."""
+    """By a name each, the value with the mark in place of itself or one of its parts, or with an entry less or more."""
     yield place, mark
     if isinstance(value, dict):
         for key in value:
@@ -397,8 +394,7 @@ def refutations():
 
 
 def huge_certificates():
-    """Certificates of SB of 100 MB, most of them by one part again and again. What it is known for is said beside
-    each."""
+    """Certificates of SB of 100 MB, most of them by one part again and again."""
     yield from rewritten("huge certificates", stored("SB"))
     signs = (b"[", b'{"tree":', b'"', b"0", b"\0", b"\xff")
     yield from flooded("flooded certificates", signs, CERTIFICATE, HUGE)

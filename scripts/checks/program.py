@@ -27,8 +27,7 @@ def check_transcripts(checks):
 
 
 def check_examples(checks):
-    """The examples: a first line `$ rvfence WORD..`, which runs in examples/, and then the transcript. And each test
-    that is printed is printed as it is."""
+    """The examples: a line `$ rvfence WORD..`, run in examples/, and the transcript. A printed test prints the same."""
     for name in sorted(os.listdir(f"{EXAMPLES}/answers")):
         if name.endswith(".txt"):
             command, wanted = text_of(f"{EXAMPLES}/answers/{name}").rstrip("\n").split("\n", 1)
@@ -193,8 +192,7 @@ def verdict_of(found):
 
 
 def check_objects(checks):
-    """With `--json` `solve` and `check` say what they say without, of each test of the examples and each
-    certificate."""
+    """With `--json` `solve` and `check` say what they say without, of each example and each certificate."""
     for test in [*tests_of_examples(), *glob.glob(f"{EXAMPLES}/tests/*.litmus")]:
         plain, said = rvfence("solve", test, PRICES), rvfence("solve", test, PRICES, "--json")
         checks.expect(f"the object of the answer for {test}", plain, lines_of(plain, said, answer_of))

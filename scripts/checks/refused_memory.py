@@ -30,15 +30,12 @@ TEST = f"{EXAMPLES}/MP.litmus"      # on standard input
 
 
 def refusing(library, command, number=0, **options):
-    """What a run of the command says whose request of this number is refused (0 refuses nothing), and how many requests
-    it makes."""
+    """What a run says whose request of this number is refused (0 refuses nothing), and how many requests it makes."""
     with tempfile.NamedTemporaryFile() as count:
         settings = {**os.environ, "REFUSE_AT": str(number), "REFUSE_COUNT": count.name, "LD_PRELOAD": library}
         said = ran(command, env=settings, **options)
         return said, int(read(count.name) or 0)
 
-
-# --- Command lines -----------------------------------------------------------------------------------------------
 
 def is_as(said, whole):
     """Is this what the whole run says, but perhaps for some of its messages?"""
@@ -64,17 +61,9 @@ def is_left_well(said, words, path):
     return path not in words or said.status not in (0, 1)
 
 
-def count_requests(check, library, words, most):
-    """Looks whether a command line, which ends with status 0, makes no more requests than these."""
-    said, requests = refusing(library, [program(), *words], cwd=TOP)
-    is_right = said.status == 0 and 0 < requests <= most
-    check(f"{' '.join(words)}: at most {most} requests", is_right, f"{requests}, and status {said.status}")
-
-
 def refuse(check, library, words, status, is_together):
-    """Refuses each request of a command line in turn. Which number a request has, and how many there are, differs from
-    run to run where the search has several threads: so each number is then refused up to the most requests that any
-    run has made, and some more."""
+    """Refuses each request of a command line in turn. With several threads the number of a request, and of all, differs
+    from run to run: so each is then refused up to the most that any run has made, and some more."""
     def run(number):
         with tempfile.TemporaryDirectory() as folder, open(TEST, "rb") as test:
             path = f"{folder}/cert.json"
@@ -100,8 +89,6 @@ def refuse(check, library, words, status, is_together):
             check(f"{name}: request {at} of {most} refused", is_right, wrong)
     print(f"{name}: {at} requests refused, of these {faults} with the fault", flush=True)
 
-
-# --- The calls of fs_tests_out_of_memory --------------------------------------------------------------------------
 
 def are_built():
     """Is the program that makes the calls by themselves built, and no source newer?"""
@@ -146,8 +133,10 @@ def try_part(check, library, part):
 def check(run):
     library = compiled("checks/refuse.c", run.folder, "-shared", "-fPIC")
     for way, number, *words in map(str.split, rows("refused")):
-        if way == "most":
-            count_requests(run.check, library, words, int(number))
+        if way == "most":                       # it ends with status 0, and makes no more requests than these
+            said, requests = refusing(library, [program(), *words], cwd=TOP)
+            is_right = said.status == 0 and 0 < requests <= int(number)
+            run.check(f"{' '.join(words)}: at most {number} requests", is_right, f"{requests}, status {said.status}")
         else:
             refuse(run.check, library, words, int(number), way == "together")
     if run.options.quick and not are_built():

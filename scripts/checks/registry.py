@@ -9,8 +9,7 @@ import sys
 import tempfile
 import traceback
 
-from counting import Counts
-from running import TOP
+from running import TOP, Counts
 
 # What a check needs: nothing that is built, the gate (which it is, or what that has built), the program, or that and
 # what else the gate has built.
@@ -19,9 +18,8 @@ NOTHING, GATE, PROGRAM, BUILT = "nothing", "the gate", "the program", "the progr
 
 @dataclasses.dataclass(frozen=True)
 class Check:
-    """A check. `seconds` is about what it takes of processor time, and None where that has no limit. Its words are
-    numbers that may be given, each with the one that it is else, and options; those of `quick` are given where there is
-    no gate."""
+    """A check. `seconds` is about what it takes of processor time, None where that has no limit. Its words are numbers,
+    each with the one that it is else, and options; those of `quick` are given where there is no gate."""
 
     name: str
     seconds: int | None

@@ -14,8 +14,7 @@ import sys
 import tempfile
 
 from checks.registry import BUILT, GATE, NOTHING, PROGRAM
-from counting import Counts
-from running import TOP, ran, read
+from running import TOP, Counts, ran, read
 
 COUNTS = re.compile(r"(?m)^(\d+) passed, (\d+) failed$")
 TELLING = re.compile(r"(?im)^.*(?:fail|error).*$")
@@ -120,12 +119,6 @@ def run_rows(rows, report):
                 step.stop()
 
 
-def jobs_of_gate():
-    """How many proofs go on side by side, as in a build. (By itself rt reckons with more memory than a proof takes, and
-    leaves processors idle.)"""
-    return ran(["bash", "-c", f". {TOP}/scripts/build.sh && jobs_at_once"]).out.strip()
-
-
 def program_to_check(is_built):
     """The program that the gate has built, or else what there is; nothing where that isn't up to date."""
     if is_built:
@@ -148,7 +141,8 @@ def run_gate(of_gate, of_program, report):
     """Runs the steps of the gate one after another, and those of the program: beside them where the one in bin/ is of
     the sources as they are, since the gate holds it against what it builds, else when they have ended. Returns the
     program that was looked at."""
-    os.environ.setdefault("RT_JOBS", jobs_of_gate())
+    # as many proofs at once as in a build (rt reckons with more memory than they take, and leaves processors idle)
+    os.environ.setdefault("RT_JOBS", ran(["bash", "-c", f". {TOP}/scripts/build.sh && jobs_at_once"]).out.strip())
     program = program_to_check(False)
     if os.path.dirname(program) == f"{TOP}/bin":
         for step in of_program:
