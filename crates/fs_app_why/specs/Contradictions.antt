@@ -20,7 +20,7 @@ use Rattle.fs_region_ends.specs.declared.chain.Shape.TheVariants as shape
 use Rattle.fs_region_ends.specs.declared.fences.Fence.{Fence}
 use Rattle.fs_region_ends.specs.declared.fences.Fence.TheVariants.{Placed, Written}
 use Rattle.fs_region_ends.specs.declared.known.Known.{Known}
-use Rattle.fs_region_ends.specs.Kinds.{ChainKind}
+use Rattle.fs_region_ends.specs.Kinds.{ChainKind, told_links}
 use Rattle.fs_app_why.specs.declared.table.Row.{Row}
 use Rattle.fs_app_why.specs.Arrows.{arrow_text, counts_before, counts_behind, if_amo, instr_named}
 use Rattle.fs_app_why.specs.Tables.{table_text}
@@ -87,7 +87,7 @@ module _ (t : Test) (lines : List (List ℕ)) where
   }
 
   abbrev pub chain_text : Chain → List ℕ
-  chain_text chain = table_text (map link_row chain.links) ++ end_text chain.shape chain.links
+  chain_text chain = table_text (map link_row (told_links chain)) ++ end_text chain.shape (told_links chain)
 
 -- ---- a fence of the chain orders an AMO by one of its halves
 

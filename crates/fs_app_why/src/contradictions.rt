@@ -28,7 +28,7 @@ use fs_app_test::value_text;
 use fs_instr::Instr;
 use fs_kinds::{List, OperationName};
 use fs_model::{Location, Name, Test};
-use fs_region_ends::{Arrow, Chain, ChainKind, ChainLink, Fence, Known, Shape};
+use fs_region_ends::{Arrow, Chain, ChainKind, ChainLink, Fence, Known, Shape, told_links};
 use std::alloc::{AllocError, Global};
 
 /// Up to so many kinds are all told.
@@ -278,10 +278,10 @@ fn chain_text(
     requires { length test.now.locations ≤ most_locations }
     ensures { IfOk result (λ text. string_bytes text ≡ chain_text test.now lines.now chain.now) }
 {
-    let links = chain.links.as_slice();
-    let rows = link_rows(alloc, test, lines, links)?;
+    let links = told_links(alloc, chain)?;
+    let rows = link_rows(alloc, test, lines, &links)?;
     let mut text = table_text(alloc, &rows)?;
-    let end = end_text(alloc, chain.shape, links)?;
+    let end = end_text(alloc, chain.shape, &links)?;
     text.push_str(end.as_str())?;
     Ok(text)
 }

@@ -1,5 +1,5 @@
 -- Kinds of chains: those that are the same but for the harts are one.
-use Rattle.std.specs.Prelude.{ℕ, ◌+◌, ◌*◌, ◌==◌, nat_lt, Bool, false, ◌&&◌, ◌||◌, not, Option, None, Some, unwrap_or, List, [], ◌∷◌, ◌++◌, drop, fold, length, min, slice_set, take, if◌then◌else◌}
+use Rattle.std.specs.Prelude.{ℕ, ◌+◌, ◌-◌, ◌*◌, ◌==◌, nat_lt, Bool, false, ◌&&◌, ◌||◌, not, Option, None, Some, unwrap_or, List, [], ◌∷◌, ◌++◌, drop, fold, length, min, slice_set, take, if◌then◌else◌}
 use Rattle.std.specs.List.{insert, list_all, list_any, position, slice_index_or, zip}
 use Rattle.std.specs.Option.{option_or}
 use Rattle.std.specs.Str.{bytes_eq}
@@ -75,6 +75,30 @@ normal_links other links = links
 
 abbrev pub normal : Chain → Chain
 normal chain = record { shape = chain.shape; links = normal_links chain.shape chain.links }
+
+-- ---- from where it is told: what overwrites comes last, of a value that was read (fr) or else of a store (co)
+
+abbrev pub is_for : Cause → ChainLink → Bool
+is_for cause link = arrow_number link.arrow == rank cause
+
+-- for each of the links the one before it, that of the first being the last
+abbrev pub before_each : List ChainLink → List ChainLink
+before_each links = turned (length links - 1) links
+
+-- the first link to which one of this cause leads
+abbrev pub behind : Cause → List ChainLink → Option ℕ
+behind cause links = position (is_for cause) (before_each links)
+
+-- where there is neither the first of all
+abbrev pub start : List ChainLink → ℕ
+start links = unwrap_or (option_or (behind FromReads links) (behind Coherence links)) 0
+
+abbrev pub told_by : Shape → List ChainLink → List ChainLink
+told_by shape.Cycle links = turned (start links) links
+told_by other links = links
+
+abbrev pub told_links : Chain → List ChainLink
+told_links chain = told_by chain.shape chain.links
 
 -- ---- the same chain
 

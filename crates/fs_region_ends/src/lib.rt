@@ -13,4 +13,5 @@ pub use chain::{Arrow, Chain, ChainLink, Shape};
 pub use fences::{Fence, fence_orders};
 pub use kinds::{ChainKind, kinds_of};
 pub use known::Known;
+pub use likeness::told_links;
 pub use walk::chains;

@@ -1,12 +1,12 @@
 //! Chains that are the same, or the same but for their harts.
 
 ghost use Rattle.std.specs.Prelude.{◌≡◌, ◌≤◌, ◌++◌, [], drop, length, take, IfOk};
-ghost use Rattle.std.specs.List.{list_all, slice_index_or, zip};
+ghost use Rattle.std.specs.List.{list_all, position, slice_index_or, zip};
 ghost use Rattle.fs_cert_evidence.specs.Regions.{same_name};
-ghost use Rattle.fs_region_ends.specs.Kinds.{are_alike, are_same, arrow_number, have_one_form, is_less, is_less_links};
-ghost use Rattle.fs_region_ends.specs.Kinds.{is_lesser, is_lesser_by, is_like_link, is_renamed, is_same_link};
-ghost use Rattle.fs_region_ends.specs.Kinds.{name_number, number_by, rank, shape_number, share_harts, text_at};
-ghost use Rattle.fs_region_ends.specs.Kinds.{turned, turns};
+ghost use Rattle.fs_region_ends.specs.Kinds.{are_alike, are_same, arrow_number, have_one_form, is_for, is_less};
+ghost use Rattle.fs_region_ends.specs.Kinds.{is_less_links, is_lesser, is_lesser_by, is_like_link, is_renamed};
+ghost use Rattle.fs_region_ends.specs.Kinds.{is_same_link, name_number, number_by, rank, shape_number, share_harts};
+ghost use Rattle.fs_region_ends.specs.Kinds.{start, text_at, told_links, turned, turns};
 
 use crate::chain::{Arrow, Chain, ChainLink, Shape};
 use fs_cert_evidence::Cause;
@@ -194,6 +194,45 @@ pub(crate) fn turned(
     let mut made = Vec::from_slice(alloc, &links[from..])?;
     made.extend_from_slice(&links[..from])?;
     Ok(made)
+}
+
+/// Does this cause lead from the operation to the next one?
+fn is_for(cause: Cause, link: &ChainLink) -> bool
+    ensures { result ≡ is_for cause link.now }
+{
+    arrow_number(link.arrow) == rank(cause)
+}
+
+/// The number of the first link of this cause.
+fn found_for(cause: Cause, links: &[ChainLink]) -> Option<usize>
+    ensures { result ≡ position (is_for cause) links.now }
+{
+    links.iter().position(|link| is_for(cause, link))
+}
+
+/// The number of the link from which a cycle is told.
+fn start(alloc: Global, links: &[ChainLink]) -> Result<usize, AllocError>
+    ensures start { IfOk result (λ from. from ≡ start links.now) }
+    ensures within { IfOk result (λ from. from ≤ length links.now) }
+{
+    let before = turned(alloc, links, links.len().saturating_sub(1))?;
+    let from = found_for(Cause::FromReads, &before)
+        .or(found_for(Cause::Coherence, &before))
+        .unwrap_or(0);
+    Ok(from)
+}
+
+/// The links of the chain as they are told: those of a cycle so that what overwrites comes last, of a value that was
+/// read or else of a store. Linear in the links.
+pub fn told_links(alloc: Global, chain: &Chain) -> Result<Vec<ChainLink>, AllocError>
+    ensures { IfOk result (λ links. links.items ≡ told_links chain.now) }
+{
+    let links = chain.links.as_slice();
+    let from = match chain.shape {
+        Shape::Cycle => start(alloc, links)?,
+        Shape::Stale | Shape::NotAtomic => 0,
+    };
+    turned(alloc, links, from)
 }
 
 /// How many links there are from which a chain of so many may be told.
