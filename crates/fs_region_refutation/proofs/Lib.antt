@@ -4,6 +4,7 @@ pub mod Each
 pub mod Listed
 pub mod Lists
 pub mod Pairs
+mod Quiet
 pub mod Regions
 pub mod Rises
 pub mod Whole

@@ -107,6 +107,18 @@ searched xs pair (Err i) inside parted up =
       | inr e ↦ sym e
     ]
 
+among_no : (pairs : List Pair) → length pairs ≡ 0 → (pair : Option Pair) → is_among pairs pair ≡ false
+among_no [] none None = refl
+among_no [] none (Some pair) = refl
+among_no (x ∷ xs) none pair = absurd (omega (arith, none))
+
+-- none has one of no pairs
+pub kept_none : {X : Type 0} (h : X → Option Pair) (pairs : List Pair) → length pairs ≡ 0 → (xs : List X)
+    → [] ≡ filter (λ x. is_among pairs (h x)) xs
+kept_none h pairs none [] = refl
+kept_none h pairs none (x ∷ xs) =
+    kept_none h pairs none xs ∙ ap (λ b. cond b (x ∷ filter (λ x. is_among pairs (h x)) xs) (filter (λ x. is_among pairs (h x)) xs)) (sym (among_no pairs none (h x)))
+
 -- ---- what agrees with some of the others
 
 no_same : (n : Option ℕ) → is_same n None ≡ false

@@ -1,7 +1,7 @@
 //! What the members of a region may end with where one hart has this run or that: asked for all of its runs at once, so
 //! that what the other harts may do is looked at once.
 
-ghost use Rattle.std.specs.Prelude.{◌≡◌, ◌&&◌, not, map, slice_get, unwrap_or, IfOk};
+ghost use Rattle.std.specs.Prelude.{◌≡◌, ◌&&◌, not, true, Some, map, slice_get, unwrap_or, IfOk};
 ghost use Rattle.std.specs.List.{list_any, zip};
 ghost use Rattle.fs_model.specs.Condition.{condition_of};
 ghost use Rattle.fs_model.specs.declared.test.Test.{Test};
@@ -111,6 +111,28 @@ fn may_be_stored(region: &Region<'_>, names: &[OperationName], location: u8, end
     names.iter().any(|name| any_stores_such(region.runs(name.hart), *name, location, ending))
 }
 
+/// Is the location marked?
+fn is_marked(marks: &[bool], location: u8) -> bool
+    ensures { result ≡ true → slice_get marks.now location ≡ Some true }
+{
+    match marks.get(usize::from(location)) {
+        Some(mark) => *mark,
+        None => false,
+    }
+}
+
+/// May such a word be stored there under one of the last names of the other harts?
+fn others_may(region: &Region<'_>, names: &Names, location: u8, ending: Ending) -> bool
+    ensures { (t : Test) → AreNames t (region_of region.now) names.now
+        → result ≡ list_any (λ a. list_any (stores_such location (is_ending ending) a)
+        ((region_of region.now).runs a.hart)) names.now.last.others }
+{
+    if is_marked(&names.others_quiet, location) {
+        return false;
+    }
+    may_be_stored(region, names.last.others.as_slice(), location, ending)
+}
+
 /// Does the run store at the location under the name, which is a hart's?
 fn stores_under(basis: &Basis, run: &Lone, name: OperationName, location: u8) -> bool
     ensures { result ≡ stores_under basis.now location run.now.steps name }
@@ -172,12 +194,16 @@ fn ends_each(
         ≡ ends_each basis.now names.now.hart (region_of region.now) location ending) }
 {
     let runs = region.runs(names.hart);
-    let stored = may_be_stored(region, names.last.others.as_slice(), location, ending);
+    let stored = others_may(region, names, location, ending);
     if stored {
         let marks = same_each(alloc, runs, true)?;
         return Ok(marks);
     }
     let begins = may_stay(basis, region, names.all.others.as_slice(), location, ending);
+    if is_marked(&names.own_quiet, location) {
+        let marks = same_each(alloc, runs, begins)?;
+        return Ok(marks);
+    }
     let marks = runs
         .iter()
         .map(|run| ends_with(basis, names, location, ending, begins, run))
@@ -257,7 +283,8 @@ fn joined(
 }
 
 /// With which runs of the hart may the condition have this truth value? Its depth is bounded by that of the test's
-/// condition. An atom takes the runs of a hart times its names, for each of the harts once.
+/// condition. An atom takes the runs of a hart times its names, for each of the harts once; of a location at which no run
+/// stores it takes the runs of the hart.
 fn may_each(
     alloc: Global,
     basis: &Basis,
@@ -296,6 +323,27 @@ fn may_each(
     }
 }
 
+/// How many atoms of the condition speak of locations?
+fn location_atoms(condition: &Outcome) -> usize {
+    match condition {
+        Outcome::LocationIs { .. } => 1,
+        Outcome::Deny(denied) => location_atoms(denied),
+        Outcome::Both(left, right) => location_atoms(left).saturating_add(location_atoms(right)),
+        Outcome::Either(left, right) => location_atoms(left).saturating_add(location_atoms(right)),
+        _ => 0,
+    }
+}
+
+/// Do so many atoms of the wanted conditions speak of locations that it is worth while to ask of each location once
+/// whether something is stored there?
+fn has_many(basis: &Basis, region: &Region<'_>) -> bool {
+    let mut atoms: usize = 0;
+    for wanted in region.wanted.iter() {
+        atoms = atoms.saturating_add(location_atoms(wanted.condition));
+    }
+    atoms / 2 > basis.test().locations.len()
+}
+
 /// With which runs of the hart may each wanted condition have its truth value?
 pub(crate) fn may_all_each(
     alloc: Global,
@@ -308,7 +356,7 @@ pub(crate) fn may_all_each(
         ≡ map (may_all_with basis.now hart (region_of region.now) (region_of region.now).wanted)
         ((region_of region.now).runs hart)) }
 {
-    let names = parted_names(alloc, basis, region, hart)?;
+    let names = parted_names(alloc, basis, region, hart, has_many(basis, region))?;
     let mut marks = same_each(alloc, region.runs(hart), true)?;
     for wanted in region.wanted.iter() {
         let more = may_each(alloc, basis, region, &names, wanted.condition, wanted.truth)?;

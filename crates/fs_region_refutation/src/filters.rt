@@ -162,7 +162,7 @@ fn is_among(pairs: &[(u32, u32)], pair: Option<(u32, u32)>) -> bool
     }
 }
 
-/// Those whose access at the position has one of the pairs.
+/// Those whose access at the position has one of the pairs. In constant time where there is none.
 fn keep_among<'a>(
     alloc: Global,
     runs: &[&'a Lone],
@@ -174,6 +174,9 @@ fn keep_among<'a>(
     ensures { IfOk result (λ kept.
         kept ≡ filter (λ run. is_among pairs.now (pair_at access at run.now.steps)) runs.now) }
 {
+    if pairs.is_empty() {
+        return Ok(List::new(Vec::new(alloc)));
+    }
     let kept = runs
         .iter()
         .copied()

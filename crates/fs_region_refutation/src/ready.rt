@@ -6,12 +6,13 @@ ghost use Rattle.std.specs.List.{slice_index_or};
 ghost use Rattle.fs_kinds.specs.declared.fault.Fault.TheVariants.{Memory};
 ghost use Rattle.fs_model.specs.Test.{IsBounded};
 ghost use Rattle.fs_region_runs.specs.Alone.{IsRun};
+ghost use Rattle.fs_region_runs.specs.Beside.{IsBeside};
 ghost use Rattle.fs_region_refutation.specs.Runs.{all_asked, asked_of, lone_of, AreReady, AreRunsOfEach, HasProgramOf};
 
 use fs_hart::{Steps, Trace};
 use fs_kinds::{Fault, List};
 use fs_model::Test;
-use fs_region_runs::Lone;
+use fs_region_runs::{Doings, Lone};
 use std::alloc::{AllocError, Global};
 use std::sync::Arc;
 
@@ -23,27 +24,36 @@ fn copy(alloc: Global, trace: &Trace) -> Result<Trace, AllocError>
     Ok(Trace { steps, registers })
 }
 
-/// A run of the hart.
-fn lone(alloc: Global, test: &Arc<Test>, hart: u8, trace: &Trace) -> Result<Lone, Fault>
+/// A run of the hart: the one of this number among those whose doings are listed.
+fn lone(
+    alloc: Global,
+    test: &Arc<Test>,
+    hart: u8,
+    trace: &Trace,
+    doings: &Arc<Doings>,
+    number: usize,
+) -> Result<Lone, Fault>
     requires bounded { IsBounded (arc_value test.now) }
     requires run { IsRun (arc_value test.now) hart trace.now }
+    requires beside { IsBeside (arc_value doings.now) number trace.now.steps }
     ensures ok { IfOk result (λ lone. lone ≡ lone_of (arc_value test.now) hart trace.now) }
     ensures err { IsOkUnless result Memory }
 {
     let trace = copy(alloc, trace)?;
-    Lone::new(alloc, test, hart, trace)
+    Lone::new(alloc, test, hart, trace, doings, number)
 }
 
-/// Runs of the hart, in their order.
+/// Runs of the hart, in their order. What they do is listed once for all of them.
 fn ready(alloc: Global, test: &Arc<Test>, hart: u8, traces: &[Trace]) -> Result<List<Lone>, Fault>
     requires bounded { IsBounded (arc_value test.now) }
     requires runs { All (IsRun (arc_value test.now) hart) traces.now }
     ensures ok { IfOk result (λ runs. runs ≡ map (lone_of (arc_value test.now) hart) traces.now) }
     ensures err { IsOkUnless result Memory }
 {
+    let doings = Arc::new(alloc, Doings::new(alloc, test, hart, traces)?)?;
     let mut runs = Vec::new(alloc);
-    for trace in traces {
-        runs.push(lone(alloc, test, hart, trace)?)?;
+    for (number, trace) in traces.iter().enumerate() {
+        runs.push(lone(alloc, test, hart, trace, &doings, number)?)?;
     }
     Ok(List::new(runs))
 }

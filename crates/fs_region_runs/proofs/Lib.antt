@@ -1,5 +1,6 @@
 mod Accesses
 mod Asked
+pub mod Columns
 mod Found
 mod Listed
 mod Named

@@ -2,6 +2,7 @@
 #![tactic(auto)]
 
 mod choice;
+mod doings;
 mod idle;
 mod laws;
 mod lone;
@@ -10,6 +11,7 @@ mod rules;
 mod source;
 mod tables;
 
+pub use doings::{Doing, Doings};
 pub use laws::{listed_are_runs, sources_serve_three};
 pub use lone::Lone;
 pub use naming::{is_name, names};

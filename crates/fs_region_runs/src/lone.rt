@@ -1,6 +1,6 @@
 //! One run of one hart.
 
-ghost use Rattle.std.specs.Prelude.{◌≡◌, [], IfOk, IsOkUnless};
+ghost use Rattle.std.specs.Prelude.{◌≡◌, [], Some, IfOk, IsOkUnless};
 ghost use Rattle.std.specs.Arc.{arc_value};
 ghost use Rattle.std.specs.Option.{option_copied};
 ghost use Rattle.fs_kinds.specs.declared.fault.Fault.TheVariants.{Memory};
@@ -14,9 +14,12 @@ ghost use Rattle.fs_cert_evidence.specs.Regions.{Region, step_at, address_at, lo
 ghost use Rattle.fs_cert_evidence.specs.Musts.{traces_of, number_of, is_rule};
 ghost use Rattle.fs_cert_evidence.specs.Splits.{chosen_at};
 ghost use Rattle.fs_region_runs.specs.Alone.{IsRun, Knows, execution_of};
+ghost use Rattle.fs_region_runs.specs.declared.doings.Doing.{Doing};
+ghost use Rattle.fs_region_runs.specs.Beside.{doing_of, IsBeside};
 ghost use Rattle.fs_region_runs.specs.inner.Ordered.{IsOwn, number_from, is_unnamed, count_as_one};
 
 use crate::choice::choice_number;
+use crate::doings::{Doing, Doings};
 use crate::idle::{candidate_of, code_of};
 use crate::naming::is_name;
 use crate::rules::{Returned, is_ordered};
@@ -45,12 +48,16 @@ struct Made {
 
 /// One run of one hart of a test, made ready to be asked what it does at each position of the code, and which rules of
 /// preserved program order hold in it. It keeps the run, its operations and dependencies, and registers for each hart,
-/// and shares them with the same run of tests with the same program. Contracts see the test, the hart and the steps.
+/// and shares them with the same run of tests with the same program; and what it does at each position with other runs
+/// of the hart. Contracts see the test, the hart and the steps.
 #[derive(Drop)]
 pub struct Lone {
     test: Arc<Test>,
     hart: u8,
     made: Arc<Made>,
+    // What runs of the hart do, and the number of this one among them.
+    doings: Arc<Doings>,
+    number: usize,
 }
 
 /// The same test.
@@ -67,6 +74,7 @@ impl Model for Lone {
     ghost use Rattle.fs_model.specs.Operations.{steps_of};
     ghost use Rattle.fs_hart.specs.Steps.{steps_in};
     ghost use Rattle.fs_region_runs.specs.Alone.{RunOf};
+    ghost use Rattle.fs_region_runs.specs.Beside.{IsBeside};
     ghost use Rattle.fs_region_runs.specs.inner.Tables.{IsReady};
 
     ghost Value = { RunOf };
@@ -80,15 +88,25 @@ impl Model for Lone {
     ghost coded = { Prim.hlevel (codes, outcome.the_row.coded) };
 
     ghost invariant = { λ l. IsReady (arc_value l.test) l.hart (arc_value l.made).candidate
-        (arc_value l.made).places.items (arc_value l.made).numbers.items };
+        (arc_value l.made).places.items (arc_value l.made).numbers.items
+        × IsBeside (arc_value l.doings) l.number (steps_of (steps_in (arc_value l.made).candidate.traces) l.hart) };
 }
 
 impl Lone {
-    /// The hart's run, whose registers are those at its end. The test is bounded. The cost: for each position of the
-    /// code the steps of the run and its operations, and what `Candidate::new` takes. The error is F19.
-    pub fn new(alloc: Global, test: &Arc<Test>, hart: u8, trace: Trace) -> Result<Lone, Fault>
+    /// The hart's run, whose registers are those at its end: the one of this number among those whose doings are
+    /// listed, if it is one of them. The test is bounded. The cost: for each position of the code the steps of the run
+    /// and its operations, and what `Candidate::new` takes. The error is F19.
+    pub fn new(
+        alloc: Global,
+        test: &Arc<Test>,
+        hart: u8,
+        trace: Trace,
+        doings: &Arc<Doings>,
+        number: usize,
+    ) -> Result<Lone, Fault>
         requires test { IsBounded (arc_value test.now) }
         requires run { IsRun (arc_value test.now) hart trace }
+        requires beside { IsBeside (arc_value doings.now) number trace.steps }
         ensures ok { IfOk result (λ lone.
             lone ≡ record { test = arc_value test.now; hart = hart; steps = trace.steps }) }
         ensures err { IsOkUnless result Memory }
@@ -108,6 +126,8 @@ impl Lone {
             test: shared(test)?,
             hart,
             made: Arc::new(alloc, made)?,
+            doings: Arc::try_clone(doings)?,
+            number,
         })
     }
 
@@ -121,6 +141,8 @@ impl Lone {
             test: shared(test)?,
             hart: self.hart,
             made: Arc::try_clone(&self.made)?,
+            doings: Arc::try_clone(&self.doings)?,
+            number: self.number,
         })
     }
 
@@ -145,25 +167,41 @@ impl Lone {
         step_of(self.steps(), listed_at(&self.made.places, at))
     }
 
+    /// What the run does at this position of the code, where it is listed.
+    fn listed(&self, at: u8) -> Option<&Doing>
+        ensures { (doing : Doing) → option_copied result ≡ Some doing → doing ≡ doing_of self.now.steps at }
+    {
+        self.doings.at(at, self.number)
+    }
+
     /// The address that the run accesses at this position of the code. In constant time.
     pub fn address_at(&self, at: u8) -> Option<u32>
         ensures { result ≡ address_at self.now.steps at }
     {
-        self.step_at(at)?.address
+        match self.listed(at) {
+            Some(doing) => doing.address,
+            None => self.step_at(at)?.address,
+        }
     }
 
     /// The word that it loads there. In constant time.
     pub fn loaded_at(&self, at: u8) -> Option<u32>
         ensures { result ≡ loaded_at self.now.steps at }
     {
-        self.step_at(at)?.loaded
+        match self.listed(at) {
+            Some(doing) => doing.loaded,
+            None => self.step_at(at)?.loaded,
+        }
     }
 
     /// The word that it stores there. In constant time.
     pub fn stored_at(&self, at: u8) -> Option<u32>
         ensures { result ≡ stored_at self.now.steps at }
     {
-        self.step_at(at)?.stored
+        match self.listed(at) {
+            Some(doing) => doing.stored,
+            None => self.step_at(at)?.stored,
+        }
     }
 
     /// Does it load there? In constant time.

@@ -7,7 +7,7 @@ use fs_hart::{Choice, Run, trace_of};
 use fs_instr::Reg;
 use fs_kinds::{Fault, Limit, OperationName, Placement};
 use fs_litmus::{Test, read_test};
-use fs_region_runs::{Lone, Source, Sourced, names};
+use fs_region_runs::{Doings, Lone, Source, Sourced, names};
 use fs_tests_shared::{ANNOTATED, CO_RR, FORWARDED, LRSC, MPA, SB, placement_of, told};
 use std::alloc::{AllocError, Global};
 use std::sync::Arc;
@@ -19,7 +19,8 @@ fn lone_of(alloc: Global, test: &Arc<Test>, hart: u8, choices: &[Choice]) -> Res
 {
     if usize::from(hart) < test.codes.len() {
         if let Run::Whole(trace) = trace_of(alloc, test, hart, choices)? {
-            return Lone::new(alloc, test, hart, trace);
+            let doings = Arc::new(alloc, Doings::none(alloc))?;
+            return Lone::new(alloc, test, hart, trace, &doings, 0);
         }
     }
     Err(Fault::TooBig {

@@ -1,5 +1,5 @@
 -- What is asked of each run of a hart, with all that is left of the other harts.
-use Rattle.std.specs.Prelude.{◌≡◌, ℕ, ◌==◌, nat_lt, Bool, ◌&&◌, ◌||◌, not, List, map, filter, length, if◌then◌else◌}
+use Rattle.std.specs.Prelude.{◌≡◌, ℕ, ◌==◌, nat_lt, Bool, true, ◌&&◌, ◌||◌, not, Some, List, map, filter, length, slice_get, if◌then◌else◌}
 use Rattle.std.specs.List.{list_all, list_any}
 use Rattle.fs_kinds.specs.declared.reason.OperationName.{OperationName as Name}
 use Rattle.fs_model.specs.declared.test.Test.{Test}
@@ -30,9 +30,28 @@ pub record IsParted (hart : ℕ) (all : List Name) (parted : Parted) : Type 0 wh
   pub own : parted.own ≡ of_hart hart all
   pub others : parted.others ≡ of_others hart all
 
+-- it stores at the location under one of these names
+abbrev pub stores_there : List Name → ℕ → List Step → Bool
+stores_there ns location run = list_any (λ a. accesses_at stored_at a.at location run) ns
+
+-- no run stores there under these names of its hart
+abbrev pub own_are_quiet : List (List Step) → List Name → ℕ → Bool
+own_are_quiet runs ns location = not (list_any (stores_there ns location) runs)
+
+-- the same of names of many harts
+abbrev pub others_are_quiet : Region → List Name → ℕ → Bool
+others_are_quiet region ns location =
+    not (list_any (λ a. list_any (accesses_at stored_at a.at location) (region.runs a.hart)) ns)
+
+-- of what is marked this is true
+abbrev pub AreMarks : (ℕ → Bool) → List Bool → Type 0
+AreMarks test marks = (location : ℕ) → slice_get marks location ≡ Some true → test location ≡ true
+
 pub record AreNames (t : Test) (region : Region) (parted : Names) : Type 0 where
   pub all : IsParted parted.hart (names t) parted.all
   pub last : IsParted parted.hart (filter (is_last t region) (names t)) parted.last
+  pub own : AreMarks (own_are_quiet (region.runs parted.hart) parted.all.own) parted.own_quiet.items
+  pub others : AreMarks (others_are_quiet region parted.last.others) parted.others_quiet.items
 
 -- ---- one run of a hart
 

@@ -14,7 +14,7 @@ returns-in-Some-Some c = λ region.
     let candidate = c.deref.result.now.candidate in
     let alone : IsAlone run.test run.hart run.steps candidate =
     subst (λ (made : Made). IsAlone run.test run.hart run.steps made.candidate) (sym c.deref.ensures)
-    (subst (λ (r : RunOf). IsAlone r.test r.hart r.steps (arc_value c.self.inside.made).candidate) c.self.view_is c.self.invariant.alone) in
+    (subst (λ (r : RunOf). IsAlone r.test r.hart r.steps (arc_value c.self.inside.made).candidate) c.self.view_is c.self.invariant.0.alone) in
     c.rule.ensures (initial_words c.args.self.now.test) alone.made
     ∙ is_pair c.args.self.now candidate alone region c.args.load c.args.store c.from.result c.from-in-Some-Some.result
     (sym c.number_of.ensures ∙ c.in-Some-Some.is-0 ∙ ap Some (sym c.from.ensures))

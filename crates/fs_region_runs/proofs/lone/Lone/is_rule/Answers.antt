@@ -13,7 +13,7 @@ returns-in-Some-Some c = λ region one two r e.
     let candidate = c.deref.result.now.candidate in
     let alone : IsAlone c.args.self.now.test c.args.self.now.hart c.args.self.now.steps candidate =
     subst (λ (made : Made). IsAlone c.args.self.now.test c.args.self.now.hart c.args.self.now.steps made.candidate) (sym c.deref.ensures)
-    (subst (λ (run : RunOf). IsAlone run.test run.hart run.steps (arc_value c.self.inside.made).candidate) c.self.view_is c.self.invariant.alone) in
+    (subst (λ (run : RunOf). IsAlone run.test run.hart run.steps (arc_value c.self.inside.made).candidate) c.self.view_is c.self.invariant.0.alone) in
     let first = sym c.number_of.ensures ∙ c.in-Some-Some.is-0 ∙ ap Some (sym c.from-a.ensures) in
     let second = sym c.number_of-2.ensures ∙ c.in-Some-Some.is-1 ∙ ap Some (sym c.from-b.ensures) in
     c.is_ordered.ensures (initial_words c.args.self.now.test) alone.made (known_source c.args.self.now.test region (execution_of c.args.self.now))

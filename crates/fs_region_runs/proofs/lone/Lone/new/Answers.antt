@@ -7,7 +7,9 @@ use Rattle.fs_model.specs.Execution.{code_of}
 use Rattle.fs_model.specs.Operations.{steps_of}
 use Rattle.fs_hart.specs.declared.trace.Trace.{Trace}
 use Rattle.fs_hart.specs.Steps.{steps_in}
+use Rattle.fs_region_runs.specs.declared.doings.Doings.{Doings}
 use Rattle.fs_region_runs.specs.declared.lone.Made.{Made}
+use Rattle.fs_region_runs.specs.Beside.{IsBeside}
 use Rattle.fs_region_runs.specs.Alone.{RunOf}
 use Rattle.fs_region_runs.specs.inner.Tables.{IsAlone, IsReady}
 use Rattle.fs_region_runs.proofs.Ready.{own_run, short_run, few_operations, ready}
@@ -36,14 +38,19 @@ invariant_of-result c =
     let alone : IsAlone (arc_value c.args.test.now) c.args.hart c.args.trace.steps c.in_ok-candidate.candidate =
     subst (λ (t : Test). IsAlone t c.args.hart c.args.trace.steps c.in_ok-candidate.candidate) c.deref.ensures c.in_ok-candidate.ensures.ok in
     let made = arc_value c.in_ok-new.field-0 in
-    subst (λ (t : Test). IsReady t c.args.hart made.candidate made.places.items made.numbers.items) (sym c.in_ok-shared.ensures)
-    (subst (λ (m : Made). IsReady (arc_value c.args.test.now) c.args.hart m.candidate m.places.items m.numbers.items) (sym c.in_ok-new.ensures.ok)
-    (ready (arc_value c.args.test.now) c.args.hart c.args.trace.steps c.in_ok-candidate.candidate alone c.requires.test c.requires.run.steps
-    c.code_of-positions.result.now c.steps_of-steps.result.now c.as_slice-operations.result.now c.in_ok-places.places.items c.in_ok-numbers.numbers.items
-    (c.code_of-positions.ensures ∙ ap (λ (t : Test). code_of t c.args.hart) c.deref-2.ensures)
-    (c.steps_of-steps.ensures ∙ ap (λ (traces : List Trace). steps_of (steps_in traces) c.args.hart) c.as_slice.ensures
-    ∙ own_run (arc_value c.args.test.now) c.args.hart c.args.trace.steps c.in_ok-candidate.candidate alone)
-    c.as_slice-operations.ensures c.in_ok-places.ensures c.in_ok-numbers.ensures))
+    let own = own_run (arc_value c.args.test.now) c.args.hart c.args.trace.steps c.in_ok-candidate.candidate alone in (
+      subst (λ (t : Test). IsReady t c.args.hart made.candidate made.places.items made.numbers.items) (sym c.in_ok-shared.ensures)
+          (subst (λ (m : Made). IsReady (arc_value c.args.test.now) c.args.hart m.candidate m.places.items m.numbers.items) (sym c.in_ok-new.ensures.ok)
+          (ready (arc_value c.args.test.now) c.args.hart c.args.trace.steps c.in_ok-candidate.candidate alone c.requires.test c.requires.run.steps
+          c.code_of-positions.result.now c.steps_of-steps.result.now c.as_slice-operations.result.now c.in_ok-places.places.items c.in_ok-numbers.numbers.items
+          (c.code_of-positions.ensures ∙ ap (λ (t : Test). code_of t c.args.hart) c.deref-2.ensures)
+          (c.steps_of-steps.ensures ∙ ap (λ (traces : List Trace). steps_of (steps_in traces) c.args.hart) c.as_slice.ensures
+          ∙ own_run (arc_value c.args.test.now) c.args.hart c.args.trace.steps c.in_ok-candidate.candidate alone)
+          c.as_slice-operations.ensures c.in_ok-places.ensures c.in_ok-numbers.ensures)),
+      subst (λ (doings : Doings). IsBeside doings c.args.number (steps_of (steps_in made.candidate.traces) c.args.hart)) (sym c.in_ok-try_clone.ensures)
+          (subst (λ (m : Made). IsBeside (arc_value c.args.doings.now) c.args.number (steps_of (steps_in m.candidate.traces) c.args.hart)) (sym c.in_ok-new.ensures.ok)
+          (subst (λ (run : List Step). IsBeside (arc_value c.args.doings.now) c.args.number run) (sym own) c.requires.beside)),
+    )
 
 pub returns-clause-ok : goal.returns-clause-ok
 returns-clause-ok c =

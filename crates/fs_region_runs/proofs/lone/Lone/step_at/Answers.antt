@@ -17,7 +17,7 @@ returns c =
     let run = steps_of (steps_in (arc_value c.self.inside.made).candidate.traces) c.self.inside.hart in
     let same : steps_of (steps_in (arc_value c.self.inside.made).candidate.traces) c.self.inside.hart ≡ c.args.self.now.steps = ap (λ (r : RunOf). r.steps) c.self.view_is in
     let place : c.listed_at.result ≡ place_of (steps_of (steps_in (arc_value c.self.inside.made).candidate.traces) c.self.inside.hart) c.args.at =
-    c.listed_at.ensures ∙ ap (λ (table : List (Option ℕ)). listed_at table c.args.at) (c.deref-2.ensures.value ∙ ap (λ (made : Made). made.places.items) c.deref.ensures) ∙ c.self.invariant.tables.placed c.args.at in
+    c.listed_at.ensures ∙ ap (λ (table : List (Option ℕ)). listed_at table c.args.at) (c.deref-2.ensures.value ∙ ap (λ (made : Made). made.places.items) c.deref.ensures) ∙ c.self.invariant.0.tables.placed c.args.at in
     c.step_of.ensures
     ∙ ap (λ (steps : List Step). option_and_then (slice_get steps) c.listed_at.result) (c.steps.ensures ∙ sym same)
     ∙ ap (option_and_then (slice_get (steps_of (steps_in (arc_value c.self.inside.made).candidate.traces) c.self.inside.hart))) place
