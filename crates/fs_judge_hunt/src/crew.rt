@@ -148,9 +148,7 @@ impl Chase<'_> {
         let Some(search) = search else {
             return Ok(Found::GaveUp);
         };
-        let found = self
-            .hunter
-            .found(alloc, field, &search, hunted, self.most)?;
+        let found = self.hunter.found(alloc, field, &search, hunted, self.most)?;
         kept.put(search);
         Ok(found)
     }

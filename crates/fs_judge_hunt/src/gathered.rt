@@ -90,10 +90,7 @@ impl Gathering {
 }
 
 /// The whole search, with all that was hunted in pieces of it, and what it comes to. Nothing where the whole is missing.
-pub(crate) fn gathered(
-    alloc: Global,
-    left: Left,
-) -> Result<(Option<Search>, Hunted), AllocError> {
+pub(crate) fn gathered(alloc: Global, left: Left) -> Result<(Option<Search>, Hunted), AllocError> {
     let Left { pieces, learned } = left;
     let mut gathering = Gathering {
         whole: None,

@@ -171,7 +171,11 @@ impl Hunter {
         self.runs.has_many_stores
     }
 
-    pub(crate) fn field<'a>(&'a self, fenced: &'a [Vec<Rule>], placement: &'a Placement) -> Field<'a> {
+    pub(crate) fn field<'a>(
+        &'a self,
+        fenced: &'a [Vec<Rule>],
+        placement: &'a Placement,
+    ) -> Field<'a> {
         let entries = placement.as_slice();
         Field {
             harts: &self.runs.harts,
